@@ -1,0 +1,4 @@
+pub mod MarkerLemmas
+pub mod FrameLemmas
+pub mod WritingLemmas
+pub mod ReadingLemmas

@@ -1,0 +1,5 @@
+use Rattle.bgp_codec.proofs.ReadingLemmas.{fault_law}
+use Rattle.bgp_codec.proofs.laws.one_message_or_fault.Goals as goal
+
+pub returns : goal.returns
+returns c = fault_law

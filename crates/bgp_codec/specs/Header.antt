@@ -1,0 +1,67 @@
+-- The header of a message and its checks (RFC 4271 sections 4.1 and 6.1).
+use Rattle.std.specs.Prelude.{◌≡◌, ℕ, ◌≤◌, nat_le, nat_eq, ◌==◌, ◌&&◌, Bool, not, List, [], ◌∷◌, length, take, slice_index, Option, Some, None, if◌then◌else◌}
+use Rattle.std.specs.List.{starts_with}
+use Rattle.std.specs.Int.{w16, from_be_bytes}
+use Rattle.marker_lanes.specs.Marker.{marker}
+use Rattle.bgp_codec.specs.declared.fault.Fault.{Fault}
+
+-- a fault with its code, subcode and data
+abbrev pub fault_of : ℕ → ℕ → List ℕ → Fault
+fault_of code sub extra = record { code = code; sub = sub; extra = extra }
+
+-- the Marker is all ones
+unfoldable pub begins_with_marker : List ℕ → Bool
+begins_with_marker octets = starts_with nat_eq octets marker
+
+-- the field Length, as it stands and as a number
+abbrev pub length_octets : List ℕ → List ℕ
+length_octets octets = slice_index octets 16 ∷ slice_index octets 17 ∷ []
+
+abbrev pub length_field : List ℕ → ℕ
+length_field octets = from_be_bytes w16 (length_octets octets)
+
+-- the field Type
+abbrev pub kind_field : List ℕ → ℕ
+kind_field octets = slice_index octets 18
+
+abbrev pub is_message_len : ℕ → Bool
+is_message_len len = nat_le 19 len && nat_le len 4096
+
+abbrev pub is_kind : ℕ → Bool
+is_kind kind = nat_le 1 kind && nat_le kind 4
+
+-- which lengths a type may have: OPEN 29 or more, UPDATE 23 or more, NOTIFICATION 21 or more, KEEPALIVE 19
+abbrev pub length_fits : ℕ → ℕ → Bool
+length_fits kind len =
+    if kind == 1 then nat_le 29 len
+    else if kind == 2 then nat_le 23 len
+    else if kind == 3 then nat_le 21 len
+    else len == 19
+
+-- the first check that fails in a header of nineteen octets, whatever stands behind it
+unfoldable pub header_fault : List ℕ → Option Fault
+header_fault octets =
+    if not (begins_with_marker octets) then Some (fault_of 1 1 [])
+    else if not (is_message_len (length_field octets)) then Some (fault_of 1 2 (length_octets octets))
+    else if not (is_kind (kind_field octets)) then Some (fault_of 1 3 (kind_field octets ∷ []))
+    else if not (length_fits (kind_field octets) (length_field octets)) then Some (fault_of 1 2 (length_octets octets))
+    else None
+
+-- a frame: the octets of one message whose header is good, and whose Length is their number
+pub record IsFrame (octets : List ℕ) : Type 0 where
+  pub has_header : 19 ≤ length octets
+  pub good : header_fault octets ≡ None
+  pub whole : length octets ≡ length_field octets
+
+-- the checks of a header and its Length look at the first nineteen octets alone, and a good Length is 19 to 4096
+pub record IsItsFront (n : ℕ) (octets : List ℕ) : Type 0 where
+  pub same_fault : header_fault (take n octets) ≡ header_fault octets
+  pub same_length : length_field (take n octets) ≡ length_field octets
+  pub bounds : header_fault octets ≡ None → (19 ≤ length_field octets) × (length_field octets ≤ 4096)
+
+abbrev pub HeaderIsItsFront : Type 0
+HeaderIsItsFront = (n : ℕ) (octets : List ℕ) → 19 ≤ n → IsItsFront n octets
+
+-- the data of a header's fault has at most two octets
+abbrev pub HeaderFaultIsShort : Type 0
+HeaderFaultIsShort = (octets : List ℕ) (fault : Fault) → header_fault octets ≡ Some fault → length fault.extra ≤ 2

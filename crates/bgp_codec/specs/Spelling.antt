@@ -1,0 +1,55 @@
+-- How each message is spelt (RFC 4271 section 4), and the one spelling that is written.
+use Rattle.std.specs.Prelude.{◌≡◌, ℕ, ◌+◌, ◌≤◌, ◌<◌, List, [], ◌∷◌, ◌++◌, length, slice_index}
+use Rattle.std.specs.Int.{w16, to_be_bytes}
+use Rattle.marker_lanes.specs.Marker.{marker}
+use Rattle.bgp_codec.specs.declared.message.Message.{Message}
+use Rattle.bgp_codec.specs.declared.message.Message.TheVariants.{NoticeMsg, AliveMsg}
+use Rattle.bgp_codec.specs.declared.notice.Notice.{Notice}
+use Rattle.bgp_codec.specs.declared.rule.Rule.{Rule}
+
+-- each element is an octet
+abbrev pub IsOctets : List ℕ → Type 0
+IsOctets octets = (i : ℕ) → slice_index octets i < 256
+
+-- section 4.1: the Marker, the length of the whole message in two octets, the type
+unfoldable pub header_of : ℕ → ℕ → List ℕ
+header_of kind body_len = marker ++ to_be_bytes w16 (19 + body_len) ++ kind ∷ []
+
+-- a header, and the body
+unfoldable pub framed : ℕ → List ℕ → List ℕ
+framed kind body = header_of kind (length body) ++ body
+
+-- the type of a message
+abbrev pub kind_of : Message → ℕ
+kind_of (NoticeMsg notice) = 3
+kind_of AliveMsg = 4
+
+-- section 4.5: the error code, the error subcode, the data
+abbrev pub notice_octets : Notice → List ℕ
+notice_octets notice = notice.code ∷ notice.sub ∷ notice.extra
+
+-- these octets are a body of the message, under the rule
+abbrev pub SpellsBody : Rule → List ℕ → Message → Type 0
+SpellsBody rule body (NoticeMsg notice) = body ≡ notice_octets notice
+SpellsBody rule body AliveMsg = body ≡ []
+
+-- these octets spell the message, under the rule: a header and a body of it, at most 4096 octets in all
+pub record Spells (rule : Rule) (octets : List ℕ) (message : Message) : Type 0 where
+  pub body : List ℕ
+  pub spelt : SpellsBody rule body message
+  pub fits : 19 + length body ≤ 4096
+  pub whole : octets ≡ framed (kind_of message) body
+
+-- each field is one that can be read, and each part fits its own length field
+abbrev pub IsWritable : Rule → Message → Type 0
+IsWritable rule (NoticeMsg notice) = Unit {0}
+IsWritable rule AliveMsg = Unit {0}
+
+-- the body that is written
+abbrev pub written_body : Message → List ℕ
+written_body (NoticeMsg notice) = notice_octets notice
+written_body AliveMsg = []
+
+-- the one spelling that is written
+abbrev pub written : Message → List ℕ
+written message = framed (kind_of message) (written_body message)

@@ -1,0 +1,81 @@
+//! The header of a message, and its checks (RFC 4271 sections 4.1 and 6.1).
+
+ghost use Rattle.std.specs.Prelude.{◌≡◌, IfOk, IfErr, Some, None};
+ghost use Rattle.bgp_codec.specs.Header.{header_fault, length_field, kind_field, length_fits, is_message_len, is_kind, begins_with_marker};
+
+use crate::fault::Fault;
+use crate::kind::Header;
+use crate::octets::Octets;
+use marker_lanes::is_marker;
+use std::alloc::Global;
+
+// Whether a message of this type may have this length.
+fn fits_kind(kind: u8, len: u16) -> bool
+    ensures { result ≡ length_fits kind len }
+{
+    match kind {
+        1 => len >= 29,
+        2 => len >= 23,
+        3 => len >= 21,
+        _ => len == 19,
+    }
+}
+
+fn is_message_len(len: u16) -> bool
+    ensures { result ≡ is_message_len len }
+{
+    19 <= len && len <= 4096
+}
+
+fn is_kind(kind: u8) -> bool
+    ensures { result ≡ is_kind kind }
+{
+    1 <= kind && kind <= 4
+}
+
+fn begins_with_marker(octets: &[u8; 19]) -> bool
+    ensures { result ≡ begins_with_marker octets.now }
+{
+    let marker: &[u8; 16] = octets.first_chunk().unwrap();
+    is_marker(marker)
+}
+
+/// The header of a message, or the first of its checks that fails: Marker, Length, Type, and that
+/// the length fits the type. It takes no memory.
+#[tactic(auto, unfolding(crate::specs::Header::header_fault))]
+pub fn header(alloc: Global, octets: &[u8; 19]) -> Result<Header, Fault>
+    ensures good { IfOk result (λ header. (header_fault octets.now ≡ None) × (header.len ≡ length_field octets.now) × (header.kind ≡ kind_field octets.now)) }
+    ensures fault { IfErr result (λ fault. header_fault octets.now ≡ Some fault) }
+{
+    let (high, low, kind) = (octets[16], octets[17], octets[18]);
+    let len = u16::from_be_bytes([high, low]);
+    if !begins_with_marker(octets) {
+        return Err(Fault {
+            code: 1,
+            sub: 1,
+            extra: Octets::short(alloc, &[]),
+        });
+    }
+    if !is_message_len(len) {
+        return Err(Fault {
+            code: 1,
+            sub: 2,
+            extra: Octets::short(alloc, &[high, low]),
+        });
+    }
+    if !is_kind(kind) {
+        return Err(Fault {
+            code: 1,
+            sub: 3,
+            extra: Octets::short(alloc, &[kind]),
+        });
+    }
+    if !fits_kind(kind, len) {
+        return Err(Fault {
+            code: 1,
+            sub: 2,
+            extra: Octets::short(alloc, &[high, low]),
+        });
+    }
+    Ok(Header { len, kind })
+}

@@ -1,0 +1,39 @@
+//! The laws of the definitions: each is the contract of a function with an empty body. A proof
+//! above this crate calls the function whose law it needs.
+
+ghost use Rattle.bgp_codec.specs.Header.{HeaderIsItsFront, HeaderFaultIsShort};
+ghost use Rattle.bgp_codec.specs.Faults.{OneMessageOrFault, FaultFitsAMessage, WrittenIsSpelt, WrittenIsRead};
+
+/// A frame has a message exactly where it has no fault, and then only one.
+///
+/// Premise: the frame's type is one that is read so far.
+pub fn one_message_or_fault()
+    ensures { OneMessageOrFault }
+{}
+
+/// What is written for a message that is writable and fits 4096 octets is a spelling of it, under
+/// a rule that names nobody.
+pub fn written_is_spelt()
+    ensures { WrittenIsSpelt }
+{}
+
+/// What is written for a message that is writable and fits 4096 octets is a frame, and reads as
+/// that message, under a rule that names nobody.
+pub fn written_is_read()
+    ensures { WrittenIsRead }
+{}
+
+/// The checks of a header and its Length look at the first nineteen octets alone.
+pub fn header_is_its_front()
+    ensures { HeaderIsItsFront }
+{}
+
+/// The data of a header's fault has at most two octets.
+pub fn header_fault_is_short()
+    ensures { HeaderFaultIsShort }
+{}
+
+/// The NOTIFICATION of every fault of a frame fits a message: its data has at most 4075 octets.
+pub fn fault_fits_a_message()
+    ensures { FaultFitsAMessage }
+{}

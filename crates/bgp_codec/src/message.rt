@@ -1,0 +1,27 @@
+//! A message as a value.
+
+ghost use Rattle.std.specs.Prelude.{◌≡◌, ◌↔◌, IsTrue};
+ghost use Rattle.bgp_codec.specs.Spelling.{IsWritable};
+
+use crate::notice::Notice;
+use crate::rule::Rule;
+
+/// A BGP-4 message (RFC 4271 section 4). OPEN and UPDATE come as further variants.
+#[derive(Debug, Drop)]
+pub enum Message {
+    /// NOTIFICATION, type 3.
+    NoticeMsg(Notice),
+    /// KEEPALIVE, type 4.
+    AliveMsg,
+}
+
+/// Whether each field is one that a reader under the same rule, with nobody named, can answer, and
+/// each part fits its own length field. The length of the whole is [`crate::encode`]'s to judge.
+pub fn is_writable(message: &Message, _rule: &Rule) -> bool
+    ensures { IsTrue result ↔ IsWritable _rule.now message.now }
+{
+    match message {
+        Message::NoticeMsg(_) => true,
+        Message::AliveMsg => true,
+    }
+}

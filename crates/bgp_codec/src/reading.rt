@@ -1,0 +1,44 @@
+//! From octets to messages.
+
+ghost use Rattle.std.specs.Prelude.{◌≡◌, ◌⊎◌, IfOk, IfErr, IfSome, Err};
+ghost use Rattle.bgp_codec.specs.Header.{IsFrame, kind_field};
+ghost use Rattle.bgp_codec.specs.Spelling.{Spells};
+ghost use Rattle.bgp_codec.specs.Faults.{reading, fault};
+
+use crate::fault::CodecError;
+use crate::message::Message;
+use crate::notice::read_notice;
+use crate::rule::Rule;
+use std::alloc::Global;
+
+#[tactic(auto, unfolding(crate::specs::Faults::reading))]
+fn read(alloc: Global, frame: &[u8], _rule: &Rule) -> Result<Message, CodecError>
+    requires { IsFrame frame.now }
+    ensures { (result ≡ reading _rule.now frame.now) ⊎ (result ≡ Err CodecError.Memory) }
+{
+    let (_, body) = frame.split_at(19);
+    match frame[18] {
+        3 => read_notice(alloc, body),
+        4 => Ok(Message::AliveMsg),
+        kind => Err(CodecError::NotYet { kind }),
+    }
+}
+
+/// The message that a frame spells, or its first fault. A frame is the octets of one message whose
+/// header is good and whose length is theirs.
+///
+/// It refuses with the frame's first fault, with [`CodecError::NotYet`] for a type that is not
+/// read yet, or with [`CodecError::Memory`] where a growth was refused.
+pub fn decode(alloc: Global, frame: &[u8], rule: &Rule) -> Result<Message, CodecError>
+    requires { IsFrame frame.now }
+    // What is answered is spelt so.
+    ensures spelt { IfOk result (λ message. Spells rule.now frame.now message) }
+
+    // A fault is the first one, and it is answered unless its own data met want of memory.
+    ensures fault { IfSome (fault rule.now frame.now) (λ first. (result ≡ Err (CodecError.Fault first)) ⊎ (result ≡ Err CodecError.Memory)) }
+    // Which message or refusal it is.
+    ensures exact { (result ≡ reading rule.now frame.now) ⊎ (result ≡ Err CodecError.Memory) }
+    ensures not_yet { IfErr result (λ error. (error ≡ CodecError.Memory) ⊎ (error ≡ CodecError.NotYet (kind_field frame.now))) }
+{
+    read(alloc, frame, rule)
+}

@@ -1,0 +1,78 @@
+//! From messages to octets.
+
+ghost use Rattle.std.specs.Prelude.{◌≡◌, ◌+◌, ◌<◌, ◌≤◌, ◌∷◌, [], ◌++◌, ◌⊎◌, ◌↔◌, IfErr, OnOk, OnErr, IsErrOf, IsOk, length, vec_len, vec_capacity};
+ghost use Rattle.bgp_codec.specs.Spelling.{IsWritable, header_of, kind_of, written_body, written};
+
+use crate::fault::CodecError;
+use crate::message::Message;
+use crate::notice::put_notice;
+use crate::rule::Rule;
+
+const MARKER: [u8; 16] = [0xff; 16];
+
+// Appends the header of a message with so many octets behind it, for which there is room.
+fn put_header(out: &mut Vec<u8>, kind: u8, body_len: usize)
+    requires fits { body_len ≤ 4077 }
+    requires room { vec_len out.old + 19 ≤ vec_capacity out.old }
+    ensures items { out.new.items ≡ out.old.items ++ header_of kind body_len }
+    ensures len { vec_len out.new ≡ vec_len out.old + 19 }
+    ensures capacity { vec_capacity out.old ≤ vec_capacity out.new }
+{
+    let [high, low] = (19 + body_len as u16).to_be_bytes();
+    out.extend_from_slice(&MARKER).unwrap();
+    out.push_reserved(high);
+    out.push_reserved(low);
+    out.push_reserved(kind);
+}
+
+// How many octets the body has that is written.
+fn body_len(message: &Message) -> usize
+    ensures { result ≡ length (written_body message.now) }
+{
+    match message {
+        Message::NoticeMsg(notice) => 2 + notice.extra.len(),
+        Message::AliveMsg => 0,
+    }
+}
+
+fn kind_of(message: &Message) -> u8
+    ensures { result ≡ kind_of message.now }
+{
+    match message {
+        Message::NoticeMsg(_) => 3,
+        Message::AliveMsg => 4,
+    }
+}
+
+fn put_body(out: &mut Vec<u8>, message: &Message)
+    requires { vec_len out.old + length (written_body message.now) ≤ vec_capacity out.old }
+    ensures { out.new.items ≡ out.old.items ++ written_body message.now }
+{
+    match message {
+        Message::NoticeMsg(notice) => put_notice(out, notice),
+        Message::AliveMsg => {}
+    }
+}
+
+/// Appends the one spelling of a message that is written.
+///
+/// It refuses a message of more than 4096 octets with [`CodecError::TooLong`], and with
+/// [`CodecError::Memory`] only where the vector had no room and a growth was refused. A refused
+/// call leaves the vector and its capacity as they were.
+pub fn encode(message: &Message, rule: &Rule, out: &mut Vec<u8>) -> Result<(), CodecError>
+    requires { IsWritable rule.now message.now }
+    ensures ok { OnOk result (out.new.items ≡ out.old.items ++ written message.now) }
+    ensures too_long { IsErrOf result CodecError.TooLong ↔ (4096 < length (written message.now)) }
+    // Want of memory is answered only where room was missing.
+    ensures only { IfErr result (λ error. (error ≡ CodecError.TooLong) ⊎ ((error ≡ CodecError.Memory) × (vec_capacity out.old < vec_len out.old + length (written message.now)))) }
+    ensures err { OnErr result ((out.new.items ≡ out.old.items) × (vec_capacity out.new ≡ vec_capacity out.old)) }
+{
+    let len = body_len(message);
+    if len > 4077 {
+        return Err(CodecError::TooLong);
+    }
+    out.reserve(19 + len)?;
+    put_header(out, kind_of(message), len);
+    put_body(out, message);
+    Ok(())
+}

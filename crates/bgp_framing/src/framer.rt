@@ -1,0 +1,160 @@
+//! The octets of a stream that are not used yet.
+
+ghost use Rattle.std.specs.Prelude.{◌≡◌, ◌+◌, ◌≤◌, [], ◌++◌, length, drop, false, IfOk, vec_len, vec_capacity};
+ghost use Rattle.bgp_codec.specs.Header.{length_field};
+ghost use Rattle.bgp_framing.specs.Held.{Held, IsNext, is_waiting, HasFrame, with_octets};
+
+use bgp_codec::laws::header_is_its_front;
+use bgp_codec::{Fault, header};
+use std::alloc::{AllocError, Global};
+use std::marker::Model;
+
+/// The most octets that are held at once: a message less one octet, and a piece of 4096.
+const MOST_HELD: usize = 8191;
+
+/// What stands in front of the octets held.
+#[derive(Debug, Drop)]
+pub enum Next {
+    /// A whole message, from one place in the octets held to another.
+    Whole(usize, usize),
+    /// Neither a whole message nor a fault.
+    More,
+    /// A faulty header. It stays in front until [`Framer::clear`].
+    Bad(Fault),
+}
+
+/// What was fed and not used yet, and the room that it has for it.
+#[derive(Debug, Drop)]
+pub struct Framer {
+    octets: Vec<u8>,
+    // How many of them were used.
+    used: usize,
+}
+
+impl Model for Framer {
+    ghost use Rattle.std.specs.Prelude.{◌≤◌, drop, vec_capacity, vec_len};
+    ghost use Rattle.bgp_framing.specs.Held.{Held};
+
+    ghost Value = { Held };
+
+    ghost view = { λ framer. record { octets = drop framer.used framer.octets.items; room = vec_capacity framer.octets } };
+
+    ghost invariant = { λ framer. (8191 ≤ vec_capacity framer.octets) × (framer.used ≤ vec_len framer.octets) };
+}
+
+// What stands in front of these octets.
+fn next_of(alloc: Global, octets: &[u8]) -> Next
+    ensures { IsNext octets.now result }
+{
+    header_is_its_front();
+    let Some(first) = octets.first_chunk::<19>() else {
+        return Next::More;
+    };
+    match header(alloc, first) {
+        Err(fault) => Next::Bad(fault),
+        Ok(header) => {
+            let len = header.len as usize;
+            if octets.len() < len {
+                Next::More
+            } else {
+                Next::Whole(0, len)
+            }
+        }
+    }
+}
+
+// Moves the octets behind the first `used` to the front, once for all that was used.
+fn take_away(octets: &mut Vec<u8>, used: usize)
+    requires { used ≤ vec_len octets.old }
+    ensures items { octets.new.items ≡ drop used octets.old.items }
+    ensures len { vec_len octets.new + used ≡ vec_len octets.old }
+    ensures capacity { vec_capacity octets.new ≡ vec_capacity octets.old }
+{
+    let left = octets.len() - used;
+    octets.copy_within(used.., 0);
+    octets.truncate(left);
+}
+
+// Appends a piece for which there is room, and leaves the room as it was.
+fn put_behind(octets: &mut Vec<u8>, piece: &[u8])
+    requires { vec_len octets.old + length piece.now ≤ vec_capacity octets.old }
+    ensures items { octets.new.items ≡ octets.old.items ++ piece.now }
+    ensures capacity { vec_capacity octets.new ≡ vec_capacity octets.old }
+{
+    for octet in piece {
+        octets.push_reserved(*octet);
+    }
+}
+
+impl Framer {
+    /// A framer that holds nothing, with room for all that it will hold: at least 8191 octets. It
+    /// is refused only where memory was.
+    pub fn new(alloc: Global) -> Result<Framer, AllocError>
+        ensures empty { IfOk result (λ framer. framer.octets ≡ []) }
+        ensures room { IfOk result (λ framer. 8191 ≤ framer.room) }
+    {
+        Ok(Framer {
+            octets: Vec::with_capacity(alloc, MOST_HELD)?,
+            used: 0,
+        })
+    }
+
+    /// What stands in front. It stays the same until octets are fed, dropped or cleared.
+    pub fn next(&self) -> Next
+        ensures { IsNext self.now.octets result }
+    {
+        next_of(*self.octets.allocator(), self.bytes())
+    }
+
+    /// Whether a whole message or a faulty header stands in front.
+    pub fn is_waiting(&self) -> bool
+        ensures { result ≡ is_waiting self.now.octets }
+    {
+        !matches!(self.next(), Next::More)
+    }
+
+    /// The octets held. The places that [`Next::Whole`] names are places in them.
+    pub fn bytes(&self) -> &[u8]
+        ensures { result.now ≡ self.now.octets }
+    {
+        let (_, held) = self.octets.split_at(self.used);
+        held
+    }
+
+    /// How many octets are held.
+    pub fn rest_len(&self) -> usize
+        ensures { result ≡ length self.now.octets }
+    {
+        self.octets.len() - self.used
+    }
+
+    /// Adds a piece of the stream, of at most 4096 octets, behind those held. It takes no memory.
+    pub fn feed(&mut self, piece: &[u8])
+        requires piece_fits { length piece.now ≤ 4096 }
+        requires none_waits { is_waiting self.old.octets ≡ false }
+        ensures { self.new ≡ with_octets self.old (self.old.octets ++ piece.now) }
+    {
+        header_is_its_front();
+        take_away(&mut self.octets, self.used);
+        self.used = 0;
+        put_behind(&mut self.octets, piece);
+    }
+
+    /// Takes away the message in front.
+    pub fn drop_front(&mut self)
+        requires { HasFrame self.old.octets }
+        ensures { self.new ≡ with_octets self.old (drop (length_field self.old.octets) self.old.octets) }
+    {
+        let at = self.used;
+        let len = u16::from_be_bytes([self.octets[at + 16], self.octets[at + 17]]);
+        self.used += len as usize;
+    }
+
+    /// Takes away all that is held, a fault with it.
+    pub fn clear(&mut self)
+        ensures { self.new ≡ with_octets self.old [] }
+    {
+        self.octets.clear();
+        self.used = 0;
+    }
+}

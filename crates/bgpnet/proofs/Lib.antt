@@ -1,0 +1,3 @@
+pub mod PrintingLemmas
+pub mod TextLemmas
+pub mod WritingLemmas

@@ -1,0 +1,81 @@
+-- What is printed for a stream of messages.
+use Rattle.std.specs.Prelude.{◌≡◌, ℕ, ◌<◌, ◌≤◌, nat_le, nat_lt, ◌==◌, ◌||◌, ◌&&◌, not, Bool, List, [], ◌∷◌, ◌++◌, length, codes, filter, Option, Some, None, Result, Ok, Err, if◌then◌else◌, ◌⊎◌, MatchResult}
+use Rattle.hex.specs.Hex.{decode_of}
+use Rattle.bgp_codec.specs.declared.fault.CodecError.{CodecError}
+use Rattle.bgp_codec.specs.declared.fault.CodecError.TheVariants as errors
+use Rattle.bgp_codec.specs.declared.fault.Fault.{Fault}
+use Rattle.bgp_codec.specs.declared.message.Message.{Message}
+use Rattle.bgp_codec.specs.declared.rule.Rule.{Rule}
+use Rattle.bgp_codec.specs.Header.{header_fault}
+use Rattle.bgp_codec.specs.Faults.{reading}
+use Rattle.bgp_framing.specs.Frames.{Splits}
+use Rattle.bgpnet.specs.Lines.{line, message_line, fault_lines, truncated_line, not_yet_line}
+
+-- a text, and the status that the program ends with
+pub record Output : Type 0 where
+  pub text : List ℕ
+  pub status : ℕ
+
+abbrev pub output : List ℕ → ℕ → Output
+output text status = record { text = text; status = status }
+
+abbrev pub behind : List ℕ → Output → Output
+behind text more = output (text ++ more.text) more.status
+
+-- what is printed for want of memory
+abbrev pub memory_output : Output
+memory_output = output (codes "memory\n") 3
+
+-- for a rest of so many octets that may still become a message: nothing, or that it is cut short
+abbrev pub short_output : ℕ → Output
+short_output n = if n == 0 then output [] 0 else output (truncated_line n) 1
+
+abbrev pub fault_or_short : Option Fault → ℕ → Output
+fault_or_short (Some fault) n = output (fault_lines fault) 1
+fault_or_short None n = short_output n
+
+-- for a rest: the fault of its header where it has one
+unfoldable pub rest_output : List ℕ → Output
+rest_output rest = if nat_lt (length rest) 19 then short_output (length rest) else fault_or_short (header_fault rest) (length rest)
+
+-- for what a frame reads as, and what comes after it
+abbrev pub read_output : Result Message CodecError → Output → Output
+read_output (Ok m) more = behind (line (message_line m)) more
+read_output (Err (errors.Fault fault)) more = output (fault_lines fault) 1
+read_output (Err (errors.NotYet kind)) more = output (not_yet_line kind) 1
+read_output (Err errors.TooLong) more = memory_output
+read_output (Err errors.Memory) more = memory_output
+
+-- for frames and a rest
+unfoldable pub frames_output : Rule → List (List ℕ) → List ℕ → Output
+frames_output rule [] rest = rest_output rest
+frames_output rule (frame ∷ frames) rest = read_output (reading rule frame) (frames_output rule frames rest)
+
+-- for a stream: it is split into frames and a rest
+abbrev pub StreamGives : Rule → List ℕ → Output → Type 0
+StreamGives rule octets out = (frames : List (List ℕ)) × (rest : List ℕ) × Splits octets frames rest × (out ≡ frames_output rule frames rest)
+
+abbrev pub is_blank : ℕ → Bool
+is_blank octet = (octet == 32) || ((octet == 9) || ((octet == 13) || (octet == 10)))
+
+-- for a text in hex, its blanks (space, tab, CR, LF) skipped
+abbrev pub HexGives : Rule → List ℕ → Output → Type 0
+HexGives rule input out =
+    MatchResult (decode_of (filter (λ octet. not (is_blank octet)) input)) (λ octets. StreamGives rule octets out) (λ _. out ≡ output (codes "bad hex\n") 1)
+
+-- for an input, which may be too long
+abbrev pub DecodeGives : Rule → List ℕ → Output → Type 0
+DecodeGives rule input out = (16777216 < length input × (out ≡ output (codes "refused 0 N6\n") 1)) ⊎ ((length input ≤ 16777216) × HexGives rule input out)
+
+-- what the program prints: that, or that memory ran out
+abbrev pub Prints : Rule → List ℕ → Output → Type 0
+Prints rule input out = DecodeGives rule input out ⊎ (out ≡ memory_output)
+
+-- new is old and what is printed for a frame: with no status more follows, else that is all
+abbrev pub PutsFrame : Rule → List ℕ → List ℕ → List ℕ → Option ℕ → Type 0
+PutsFrame rule frame old new None = (text : List ℕ) × (new ≡ old ++ text) × ((more : Output) → read_output (reading rule frame) more ≡ behind text more)
+PutsFrame rule frame old new (Some status) = (text : List ℕ) × (new ≡ old ++ text) × ((more : Output) → read_output (reading rule frame) more ≡ output text status)
+
+-- new is old and what is printed for a rest of so many octets
+abbrev pub PutsShort : ℕ → List ℕ → List ℕ → ℕ → Type 0
+PutsShort n old new status = (new ≡ old ++ (short_output n).text) × (status ≡ (short_output n).status)

@@ -1,0 +1,75 @@
+//! `bgpnet decode`: a stream of BGP octets in hex, as lines.
+
+ghost use Rattle.std.specs.Prelude.{◌≡◌, ◌⊎◌, IfOk, OnOk, OnErr, true, filter, not};
+ghost use Rattle.bgpnet.specs.Decoding.{output, is_blank, DecodeGives};
+ghost use Rattle.bgpnet.specs.Engine.{Printed, PrintedFront};
+
+use super::{INPUT_LIMIT, InputError, read_input, want_of_memory, write_out};
+use crate::channel::{IoStopped, Sink, Source};
+use crate::status::REFUSED;
+use crate::stream::stream_output;
+use bgp_codec::Rule;
+use hex::FromHexError;
+use std::alloc::{AllocError, Global};
+
+fn is_blank(octet: u8) -> bool
+    ensures { result ≡ is_blank octet }
+{
+    octet == b' ' || octet == b'\t' || octet == b'\r' || octet == b'\n'
+}
+
+// Takes the blanks out of a text, in its place.
+fn remove_blanks(text: &mut Vec<u8>)
+    ensures { text.new.items ≡ filter (λ octet. not (is_blank octet)) text.old.items }
+{
+    text.retain(|octet| !is_blank(*octet));
+}
+
+// What is printed for an input, and the status.
+fn decode_output(alloc: Global, rule: &Rule, input: Vec<u8>) -> Result<(Vec<u8>, u8), AllocError>
+    ensures { IfOk result (λ printed. DecodeGives rule.now input.items (output printed.0.items printed.1)) }
+{
+    if input.len() > INPUT_LIMIT {
+        return Ok((Vec::from_slice(alloc, b"refused 0 N6\n")?, REFUSED));
+    }
+    let mut digits = input;
+    remove_blanks(&mut digits);
+    match hex::decode(alloc, digits) {
+        Ok(octets) => stream_output(alloc, rule, octets.as_slice()),
+        Err(FromHexError::OutOfMemory) => Err(AllocError),
+        Err(_) => Ok((Vec::from_slice(alloc, b"bad hex\n")?, REFUSED)),
+    }
+}
+
+/// Reads a stream in hex, writes a line for each message, or the first fault and its NOTIFICATION,
+/// and answers the status.
+///
+/// Where memory is refused it writes `memory` alone and answers 3. It stops only where a read or a
+/// write failed, and then what was written is a beginning of the text.
+pub fn decode_stream<S: Source, T: Sink>(
+    alloc: Global,
+    rule: &Rule,
+    source: &mut S,
+    sink: &mut T,
+) -> Result<u8, IoStopped>
+    // What is written is what is printed for what was read, and nothing else.
+    ensures done { IfOk result (λ status. Printed rule.now (S.remaining source.old) (T.contents sink.old) (T.contents sink.new) status) }
+    // It answers a status only where no read and no write failed, and stops only where one did.
+    ensures unfailed { OnOk result ((S.failed source.new ≡ S.failed source.old) × (T.failed sink.new ≡ T.failed sink.old)) }
+    ensures failed { OnErr result ((S.failed source.new ≡ true) ⊎ (T.failed sink.new ≡ true)) }
+    // A failed read or write leaves a beginning of the text.
+    ensures stopped { OnErr result (PrintedFront rule.now (S.remaining source.old) (T.contents sink.old) (T.contents sink.new)) }
+{
+    let input = match read_input(alloc, source) {
+        Ok(input) => input,
+        Err(InputError::Memory) => return want_of_memory(sink),
+        Err(InputError::Stopped) => return Err(IoStopped),
+    };
+    match decode_output(alloc, rule, input) {
+        Ok((text, status)) => {
+            write_out(sink, text.as_slice())?;
+            Ok(status)
+        }
+        Err(_) => want_of_memory(sink),
+    }
+}

@@ -1,0 +1,82 @@
+//! The lines that messages and faults are printed as.
+
+ghost use Rattle.std.specs.Prelude.{◌≡◌, ◌++◌, ◌∷◌, [], ◌≤◌, length, IfOk, OnOk};
+ghost use Rattle.bgp_codec.specs.Spelling.{written};
+ghost use Rattle.bgpnet.specs.Lines.{line, message_line, notice_line, notice_of, fault_lines, truncated_line, not_yet_line};
+
+use crate::texts::{put_decimal, put_hex, put_hex_or_dash, put_len};
+use bgp_codec::{Fault, Message, NOBODY, Notice, encode, notice_of};
+use std::alloc::{AllocError, Global};
+
+/// Appends the line of a message.
+#[tactic(auto, unfolding(crate::specs::Lines::message_line))]
+pub fn put_message(out: &mut Vec<u8>, message: &Message) -> Result<(), AllocError>
+    ensures { OnOk result (out.new.items ≡ out.old.items ++ line (message_line message.now)) }
+{
+    match message {
+        Message::NoticeMsg(notice) => put_notice(out, notice),
+        Message::AliveMsg => out.extend_from_slice(b"keepalive\n"),
+    }
+}
+
+#[tactic(auto, unfolding(crate::specs::Lines::notice_line))]
+fn put_notice(out: &mut Vec<u8>, notice: &Notice) -> Result<(), AllocError>
+    ensures { OnOk result (out.new.items ≡ out.old.items ++ line (notice_line notice.now)) }
+{
+    out.extend_from_slice(b"notification ")?;
+    put_decimal(out, u32::from(notice.code))?;
+    out.extend_from_slice(b" ")?;
+    put_decimal(out, u32::from(notice.sub))?;
+    out.extend_from_slice(b" ")?;
+    put_hex_or_dash(out, notice.extra.as_slice())?;
+    out.extend_from_slice(b"\n")
+}
+
+// The octets of the NOTIFICATION that tells of a fault.
+fn notice_octets(alloc: Global, fault: &Fault) -> Result<Vec<u8>, AllocError>
+    requires { length fault.now.extra ≤ 4075 }
+    ensures { IfOk result (λ octets. octets.items ≡ written (notice_of fault.now)) }
+{
+    let notice = notice_of(alloc, fault).map_err(|_| AllocError)?;
+    let mut octets = Vec::new(alloc);
+    match encode(&Message::NoticeMsg(notice), &NOBODY, &mut octets) {
+        Ok(()) => Ok(octets),
+        Err(_) => Err(AllocError),
+    }
+}
+
+/// Appends the two lines of a fault: its codes, and its NOTIFICATION in hex.
+#[tactic(auto, unfolding(crate::specs::Lines::fault_lines))]
+pub fn put_fault(alloc: Global, out: &mut Vec<u8>, fault: &Fault) -> Result<(), AllocError>
+    requires { length fault.now.extra ≤ 4075 }
+    ensures { OnOk result (out.new.items ≡ out.old.items ++ fault_lines fault.now) }
+{
+    let octets = notice_octets(alloc, fault)?;
+    out.extend_from_slice(b"fault ")?;
+    put_decimal(out, u32::from(fault.code))?;
+    out.extend_from_slice(b" ")?;
+    put_decimal(out, u32::from(fault.sub))?;
+    out.extend_from_slice(b"\n")?;
+    put_hex(out, octets.as_slice())?;
+    out.extend_from_slice(b"\n")
+}
+
+/// Appends the line of a rest of so many octets that is no whole message.
+#[tactic(auto, unfolding(crate::specs::Lines::truncated_line))]
+pub fn put_truncated(out: &mut Vec<u8>, len: usize) -> Result<(), AllocError>
+    ensures { OnOk result (out.new.items ≡ out.old.items ++ truncated_line len) }
+{
+    out.extend_from_slice(b"truncated ")?;
+    put_len(out, len)?;
+    out.extend_from_slice(b"\n")
+}
+
+/// Appends the line of a message of a type that is not read yet.
+#[tactic(auto, unfolding(crate::specs::Lines::not_yet_line))]
+pub fn put_not_yet(out: &mut Vec<u8>, kind: u8) -> Result<(), AllocError>
+    ensures { OnOk result (out.new.items ≡ out.old.items ++ not_yet_line kind) }
+{
+    out.extend_from_slice(b"not yet ")?;
+    put_decimal(out, u32::from(kind))?;
+    out.extend_from_slice(b"\n")
+}

@@ -1,0 +1,23 @@
+//! What the program writes for what it reads, row by row, through `run_with`.
+
+mod decode;
+mod failures;
+
+use crate::channel::Watched;
+use crate::command_line::run_with;
+use std::alloc::{AllocError, Global};
+
+/// Sixteen octets of ones.
+pub const MARKER: &str = "ffffffff ffffffff ffffffff ffffffff ";
+
+/// What the program writes and its status, for these words and this input.
+pub fn answer(
+    alloc: Global,
+    words: &[&str],
+    input: &[u8],
+) -> Result<(Vec<u8>, Option<u8>), AllocError> {
+    let mut reader = Watched::new(input);
+    let mut writer = Watched::new(Vec::new(alloc));
+    let status = run_with(alloc, words, &mut reader, &mut writer).ok();
+    Ok((writer.into_inner(), status))
+}

@@ -1,0 +1,39 @@
+use super::*;
+
+// A run of ones that may be cut short by one octet.
+fn ones_with(octet: u8, at: usize) -> [u8; 100] {
+    let mut octets = [0xff; 100];
+    if at < 100 {
+        octets[at] = octet;
+    }
+    octets
+}
+
+#[test]
+fn runs_of_ones(rt: HostRuntime) {
+    assert_eq!(rt; ones_run(&[]), 0);
+    assert_eq!(rt; ones_run(&[0xff; 17]), 17);
+    assert_eq!(rt; ones_run(&[0xff, 0xff, 0, 0xff]), 2);
+}
+
+#[test]
+fn a_run_ends_at_the_first_other_octet(rt: HostRuntime) {
+    for len in 0..=100usize {
+        let whole = ones_with(0xff, 0);
+        assert_eq!(rt; ones_run(&whole[..len]), len);
+        for at in 0..len {
+            let octets = ones_with(0x7f, at);
+            assert_eq!(rt; ones_run(&octets[..len]), at);
+        }
+    }
+}
+
+#[test]
+fn sixteen_ones_are_a_marker(rt: HostRuntime) {
+    assert!(rt; is_marker(&[0xff; 16]));
+    for at in 0..16usize {
+        let mut octets = [0xff; 16];
+        octets[at] = 0xfe;
+        assert!(rt; !is_marker(&octets), "octet {at}");
+    }
+}
