@@ -89,11 +89,7 @@ fn a_fault_is_told(rt: HostRuntime) -> Result<(), Fail> {
         sub: 3,
         extra: Octets::short(alloc, &[5]),
     };
-    let notice = match notice_of(alloc, &fault) {
-        Ok(notice) => notice,
-        Err(_) => return Err(Fail),
-    };
-    let message = Message::NoticeMsg(notice);
+    let message = Message::NoticeMsg(notice_of(alloc, &fault)?);
     assert!(rt; is_writable(&message, &NOBODY));
     let mut out = vec![in alloc; 7u8]?;
     assert!(rt; encode(&message, &NOBODY, &mut out).is_ok());

@@ -1,3 +1,4 @@
+pub mod DigitLemmas
 pub mod PrintingLemmas
 pub mod TextLemmas
 pub mod WritingLemmas

@@ -16,7 +16,7 @@ pub one_more_octet : (old front one out octets : List ℕ) (at octet : ℕ) → 
 unfolding encode_with
 one_more_octet old front one out octets at octet ef eo eu et =
     let digits : encode_lower (take (at + 1) octets) ≡ encode_lower (take at octets) ++ slice_index lower_digits (octet / 16) ∷ slice_index lower_digits (octet % 16) ∷ [] =
-        ap encode_lower et ∙ encode_with-append lower_digits (take at octets) (octet ∷ []) in
+    ap encode_lower et ∙ encode_with-append lower_digits (take at octets) (octet ∷ []) in
     rw (eu, eo, ef, digits) (simp append_assoc)
 
 -- no digits for no octets

@@ -12,6 +12,7 @@
 
 mod channel;
 mod command_line;
+mod digits;
 mod engines;
 mod lines;
 mod status;

@@ -6,6 +6,7 @@ ghost use Rattle.bgpnet.specs.Engine.{Printed, PrintedFront};
 
 use super::{INPUT_LIMIT, InputError, read_input, want_of_memory, write_out};
 use crate::channel::{IoStopped, Sink, Source};
+use crate::digits::read_hex;
 use crate::status::REFUSED;
 use crate::stream::stream_output;
 use bgp_codec::Rule;
@@ -34,7 +35,7 @@ fn decode_output(alloc: Global, rule: &Rule, input: Vec<u8>) -> Result<(Vec<u8>,
     }
     let mut digits = input;
     remove_blanks(&mut digits);
-    match hex::decode(alloc, digits) {
+    match read_hex(alloc, digits.as_slice()) {
         Ok(octets) => stream_output(alloc, rule, octets.as_slice()),
         Err(FromHexError::OutOfMemory) => Err(AllocError),
         Err(_) => Ok((Vec::from_slice(alloc, b"bad hex\n")?, REFUSED)),

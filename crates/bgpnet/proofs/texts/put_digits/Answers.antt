@@ -10,10 +10,10 @@ pub loop-octet-preserved : goal.loop-octet-preserved
 loop-octet-preserved c =
     record {
       items =
-        one_more_octet c.args.out.now.items c.loop-octet.out.items c.push_reserved.new.self.items c.push_reserved-in-loop-octet.new.self.items c.args.octets.now c.loop-octet.octet-index
-        (get_or c.args.octets.now c.loop-octet.octet-index 0) c.loop-octet.invariant.items
-        (rw c.digit.ensures at c.push_reserved.ensures.items) (rw c.digit-in-loop-octet.ensures at c.push_reserved-in-loop-octet.ensures.items)
-        (take_more c.args.octets.now c.loop-octet.octet-index 0 c.loop-octet-test.true);
+          one_more_octet c.args.out.now.items c.loop-octet.out.items c.push_reserved.new.self.items c.push_reserved-in-loop-octet.new.self.items c.args.octets.now c.loop-octet.octet-index
+          (get_or c.args.octets.now c.loop-octet.octet-index 0) c.loop-octet.invariant.items
+          (rw c.digit.ensures at c.push_reserved.ensures.items) (rw c.digit-in-loop-octet.ensures at c.push_reserved-in-loop-octet.ensures.items)
+          (take_more c.args.octets.now c.loop-octet.octet-index 0 c.loop-octet-test.true);
       room = omega (arith, c.loop-octet.invariant.room, c.push_reserved.ensures.len, c.push_reserved.ensures.capacity, c.push_reserved-in-loop-octet.ensures.len, c.push_reserved-in-loop-octet.ensures.capacity, c.loop-octet-test.true);
     }
 

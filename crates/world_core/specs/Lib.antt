@@ -1,0 +1,2 @@
+pub mod Duo
+pub mod InOrder
