@@ -98,6 +98,12 @@ long_notice bytes frame e =
     let long : 21 ≤ length_field bytes = leb-true 21 (length_field bytes) fits in
     omega (arith, length-drop 19 bytes)
 
+pub long_open : (bytes : List ℕ) → IsFrame bytes → kind_field bytes ≡ 1 → 10 ≤ length (drop 19 bytes)
+long_open bytes frame e =
+    let fits : length_fits 1 (length_field bytes) ≡ true = subst (λ (k : ℕ). length_fits k (length_field bytes) ≡ true) e (good_header bytes frame.good).fits in
+    let long : 29 ≤ length_field bytes = leb-true 29 (length_field bytes) fits in
+    omega (arith, length-drop 19 bytes)
+
 pub no_body : (bytes : List ℕ) → IsFrame bytes → kind_field bytes ≡ 4 → drop 19 bytes ≡ []
 no_body bytes frame e =
     let fits : length_fits 4 (length_field bytes) ≡ true = subst (λ (k : ℕ). length_fits k (length_field bytes) ≡ true) e (good_header bytes frame.good).fits in

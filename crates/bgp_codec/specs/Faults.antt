@@ -4,8 +4,10 @@ use Rattle.bgp_codec.specs.declared.fault.Fault.{Fault}
 use Rattle.bgp_codec.specs.declared.fault.CodecError.{CodecError}
 use Rattle.bgp_codec.specs.declared.fault.CodecError.TheVariants as errors
 use Rattle.bgp_codec.specs.declared.message.Message.{Message}
-use Rattle.bgp_codec.specs.declared.message.Message.TheVariants.{NoticeMsg, AliveMsg}
+use Rattle.bgp_codec.specs.declared.message.Message.TheVariants.{OpenMsg, NoticeMsg, AliveMsg}
 use Rattle.bgp_codec.specs.declared.rule.Rule.{Rule}
+use Rattle.bgp_codec.specs.declared.open.Open.{Open}
+use Rattle.bgp_codec.specs.Opens.{open_reading}
 use Rattle.bgp_codec.specs.Header.{header_fault, kind_field, IsFrame}
 use Rattle.bgp_codec.specs.Spelling.{IsOctets, Spells, IsWritable, written}
 
@@ -13,9 +15,14 @@ use Rattle.bgp_codec.specs.Spelling.{IsOctets, Spells, IsWritable, written}
 abbrev pub notice_reading : List ℕ → Result Message CodecError
 notice_reading body = Ok (NoticeMsg (record { code = slice_index body 0; sub = slice_index body 1; extra = drop 2 body }))
 
+abbrev pub open_message : Result Open CodecError → Result Message CodecError
+open_message (Ok message) = Ok (OpenMsg message)
+open_message (Err e) = Err e
+
 abbrev pub body_reading : Rule → ℕ → List ℕ → Result Message CodecError
 body_reading rule kind body =
-    if kind == 3 then notice_reading body
+    if kind == 1 then open_message (open_reading rule body)
+    else if kind == 3 then notice_reading body
     else if kind == 4 then Ok AliveMsg
     else Err (errors.NotYet kind)
 
@@ -39,9 +46,16 @@ or_else (Some first) other = Some first
 abbrev pub fault : Rule → List ℕ → Option Fault
 fault rule octets = or_else (header_fault octets) (fault_in (reading rule octets))
 
+-- why a frame is refused: its first fault, or that its type is not read yet, or for want of memory
+abbrev pub RefusesAs : Rule → List ℕ → CodecError → Type 0
+RefusesAs rule octets (errors.Fault first) = fault rule octets ≡ Some first
+RefusesAs rule octets errors.TooLong = ⊥
+RefusesAs rule octets errors.Memory = Unit {0}
+RefusesAs rule octets (errors.NotYet kind) = (kind ≡ 2) × (kind_field octets ≡ 2)
+
 -- the types that are read so far
 abbrev pub IsRead : ℕ → Type 0
-IsRead kind = (kind ≡ 3) ⊎ (kind ≡ 4)
+IsRead kind = (kind ≡ 1) ⊎ ((kind ≡ 3) ⊎ (kind ≡ 4))
 
 -- a frame of a type that is read has a message exactly where it has no fault, and then only one
 abbrev pub OneMessageOrFault : Type 0

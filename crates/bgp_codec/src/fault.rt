@@ -1,7 +1,7 @@
 //! What is wrong with a message, and why a call of this crate refuses one.
 
 use crate::octets::Octets;
-use std::alloc::AllocError;
+use std::alloc::{AllocError, AllocFailed};
 use thiserror::Error;
 
 /// A fault as a NOTIFICATION names it (RFC 4271 sections 4.5 and 6).
@@ -39,6 +39,17 @@ impl From<AllocError> for CodecError {
     ghost from_gives = { λ _ error. error ≡ Memory };
 
     fn from(_error: AllocError) -> CodecError {
+        CodecError::Memory
+    }
+}
+
+impl<T: Drop> From<AllocFailed<T>> for CodecError {
+    ghost use Rattle.std.specs.Prelude.{◌≡◌};
+    ghost use Rattle.bgp_codec.specs.declared.fault.CodecError.TheVariants.{Memory};
+
+    ghost from_gives = { λ _ error. error ≡ Memory };
+
+    fn from(_error: AllocFailed<T>) -> CodecError {
         CodecError::Memory
     }
 }

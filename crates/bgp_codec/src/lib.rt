@@ -17,21 +17,25 @@
 
 mod fault;
 mod head;
+mod items;
 mod kind;
 pub mod laws;
 mod message;
 mod notice;
 mod octets;
+mod open;
 mod reading;
 mod rule;
 mod writing;
 
 pub use fault::{CodecError, Fault};
 pub use head::header;
+pub use items::Items;
 pub use kind::Header;
 pub use message::{Message, is_writable};
 pub use notice::{Notice, notice_of};
 pub use octets::Octets;
+pub use open::{Cap, Open};
 pub use reading::decode;
 pub use rule::{Asn, NOBODY, Rule, Width};
 pub use writing::encode;

@@ -4,11 +4,14 @@ ghost use Rattle.std.specs.Prelude.{◌≡◌, ◌↔◌, IsTrue};
 ghost use Rattle.bgp_codec.specs.Spelling.{IsWritable};
 
 use crate::notice::Notice;
+use crate::open::{Open, fits};
 use crate::rule::Rule;
 
-/// A BGP-4 message (RFC 4271 section 4). OPEN and UPDATE come as further variants.
+/// A BGP-4 message (RFC 4271 section 4). UPDATE comes as a further variant.
 #[derive(Debug, Drop)]
 pub enum Message {
+    /// OPEN, type 1.
+    OpenMsg(Open),
     /// NOTIFICATION, type 3.
     NoticeMsg(Notice),
     /// KEEPALIVE, type 4.
@@ -21,6 +24,7 @@ pub fn is_writable(message: &Message, _rule: &Rule) -> bool
     ensures { IsTrue result ↔ IsWritable _rule.now message.now }
 {
     match message {
+        Message::OpenMsg(message) => fits(message),
         Message::NoticeMsg(_) => true,
         Message::AliveMsg => true,
     }

@@ -1,23 +1,25 @@
 //! From octets to messages.
 
 ghost use Rattle.std.specs.Prelude.{◌≡◌, ◌⊎◌, IfOk, IfErr, IfSome, Err};
-ghost use Rattle.bgp_codec.specs.Header.{IsFrame, kind_field};
+ghost use Rattle.bgp_codec.specs.Header.{IsFrame};
 ghost use Rattle.bgp_codec.specs.Spelling.{Spells};
-ghost use Rattle.bgp_codec.specs.Faults.{reading, fault};
+ghost use Rattle.bgp_codec.specs.Faults.{reading, fault, RefusesAs};
 
 use crate::fault::CodecError;
 use crate::message::Message;
 use crate::notice::read_notice;
+use crate::open::read_open;
 use crate::rule::Rule;
 use std::alloc::Global;
 
 #[tactic(auto, unfolding(crate::specs::Faults::reading))]
-fn read(alloc: Global, frame: &[u8], _rule: &Rule) -> Result<Message, CodecError>
+fn read(alloc: Global, frame: &[u8], rule: &Rule) -> Result<Message, CodecError>
     requires { IsFrame frame.now }
-    ensures { (result ≡ reading _rule.now frame.now) ⊎ (result ≡ Err CodecError.Memory) }
+    ensures { (result ≡ reading rule.now frame.now) ⊎ (result ≡ Err CodecError.Memory) }
 {
     let (_, body) = frame.split_at(19);
     match frame[18] {
+        1 => Ok(Message::OpenMsg(read_open(alloc, body, rule)?)),
         3 => read_notice(alloc, body),
         4 => Ok(Message::AliveMsg),
         kind => Err(CodecError::NotYet { kind }),
@@ -38,7 +40,7 @@ pub fn decode(alloc: Global, frame: &[u8], rule: &Rule) -> Result<Message, Codec
     ensures fault { IfSome (fault rule.now frame.now) (λ first. (result ≡ Err (CodecError.Fault first)) ⊎ (result ≡ Err CodecError.Memory)) }
     // Which message or refusal it is.
     ensures exact { (result ≡ reading rule.now frame.now) ⊎ (result ≡ Err CodecError.Memory) }
-    ensures not_yet { IfErr result (λ error. (error ≡ CodecError.Memory) ⊎ (error ≡ CodecError.NotYet (kind_field frame.now))) }
+    ensures refused { IfErr result (RefusesAs rule.now frame.now) }
 {
     read(alloc, frame, rule)
 }

@@ -143,3 +143,75 @@ fn laws_are_called(_rt: HostRuntime) {
     laws::header_fault_is_short();
     laws::fault_fits_a_message();
 }
+
+// An OPEN of RFC 4271 section 4.2 with a capability of RFC 5492: what is written is the standard's
+// layout, and what is read back is the same.
+#[test]
+fn an_open_is_written_and_read(rt: HostRuntime) -> Result<(), Fail> {
+    let alloc = rt.alloc();
+    let mut caps = Vec::new(alloc);
+    caps.push(Cap {
+        code: 65,
+        value: Octets::short(alloc, &[0, 0, 253, 233]),
+    })?;
+    let mut params = Vec::new(alloc);
+    params.push(Items::from_vec(caps))?;
+    params.push(Items::new(alloc))?;
+    let message = Message::OpenMsg(Open {
+        asn: 65001,
+        hold: 90,
+        id: 0x0a00_0001,
+        params: Items::from_vec(params),
+    });
+    assert!(rt; is_writable(&message, &NOBODY));
+    let mut out = Vec::new(alloc);
+    assert!(rt; encode(&message, &NOBODY, &mut out).is_ok());
+    let wanted = marked(
+        alloc,
+        b"\x00\x27\x01\x04\xfd\xe9\x00\x5a\x0a\x00\x00\x01\x0a\x02\x06\x41\x04\x00\x00\xfd\xe9\x02\x00",
+    )?;
+    assert_eq!(rt; out.as_slice(), wanted.as_slice());
+    Ok(())
+}
+
+// What cannot be read is not writable: a hold time of 1, an identifier of a network of the future,
+// a value of 256 octets, parameters of 256 octets.
+#[test]
+fn opens_that_are_not_writable(rt: HostRuntime) -> Result<(), Fail> {
+    let alloc = rt.alloc();
+    for (hold, id, value_len, wanted) in [
+        (90u16, 0x0a00_0001u32, 251usize, true),
+        (1, 0x0a00_0001, 0, false),
+        (90, 0xe000_0001, 0, false),
+        (90, 0x0a00_0001, 252, false),
+        (90, 0x0a00_0001, 256, false),
+    ] {
+        let mut caps = Vec::new(alloc);
+        caps.push(Cap {
+            code: 1,
+            value: Octets::from_vec(vec![in alloc; 7u8; value_len]?),
+        })?;
+        let mut params = Vec::new(alloc);
+        params.push(Items::from_vec(caps))?;
+        let message = Message::OpenMsg(Open {
+            asn: 1,
+            hold,
+            id,
+            params: Items::from_vec(params),
+        });
+        assert_eq!(rt;
+            is_writable(&message, &NOBODY),
+            wanted,
+            "{hold} {id} {value_len}"
+        );
+    }
+    Ok(())
+}
+
+#[test]
+fn items_give_their_vec_back(rt: HostRuntime) -> Result<(), Fail> {
+    let items = Items::from_vec(vec![in rt.alloc(); 1u8, 2]?);
+    assert_eq!(rt; items.as_slice(), [1u8, 2].as_slice());
+    assert_eq!(rt; items.into_vec().as_slice(), [1u8, 2].as_slice());
+    Ok(())
+}

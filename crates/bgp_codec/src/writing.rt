@@ -6,6 +6,7 @@ ghost use Rattle.bgp_codec.specs.Spelling.{IsWritable, header_of, kind_of, writt
 use crate::fault::CodecError;
 use crate::message::Message;
 use crate::notice::put_notice;
+use crate::open::{params_len, put_open};
 use crate::rule::Rule;
 
 const MARKER: [u8; 16] = [0xff; 16];
@@ -26,10 +27,12 @@ fn put_header(out: &mut Vec<u8>, kind: u8, body_len: usize)
 }
 
 // How many octets the body has that is written.
-fn body_len(message: &Message) -> usize
+fn body_len(message: &Message, rule: &Rule) -> usize
+    requires { IsWritable rule.now message.now }
     ensures { result ≡ length (written_body message.now) }
 {
     match message {
+        Message::OpenMsg(message) => 10 + params_len(message.params.as_slice()),
         Message::NoticeMsg(notice) => 2 + notice.extra.len(),
         Message::AliveMsg => 0,
     }
@@ -39,16 +42,19 @@ fn kind_of(message: &Message) -> u8
     ensures { result ≡ kind_of message.now }
 {
     match message {
+        Message::OpenMsg(_) => 1,
         Message::NoticeMsg(_) => 3,
         Message::AliveMsg => 4,
     }
 }
 
-fn put_body(out: &mut Vec<u8>, message: &Message)
-    requires { vec_len out.old + length (written_body message.now) ≤ vec_capacity out.old }
+fn put_body(out: &mut Vec<u8>, message: &Message, rule: &Rule)
+    requires fit { IsWritable rule.now message.now }
+    requires room { vec_len out.old + length (written_body message.now) ≤ vec_capacity out.old }
     ensures { out.new.items ≡ out.old.items ++ written_body message.now }
 {
     match message {
+        Message::OpenMsg(message) => put_open(out, message),
         Message::NoticeMsg(notice) => put_notice(out, notice),
         Message::AliveMsg => {}
     }
@@ -67,12 +73,12 @@ pub fn encode(message: &Message, rule: &Rule, out: &mut Vec<u8>) -> Result<(), C
     ensures only { IfErr result (λ error. (error ≡ CodecError.TooLong) ⊎ ((error ≡ CodecError.Memory) × (vec_capacity out.old < vec_len out.old + length (written message.now)))) }
     ensures err { OnErr result ((out.new.items ≡ out.old.items) × (vec_capacity out.new ≡ vec_capacity out.old)) }
 {
-    let len = body_len(message);
+    let len = body_len(message, rule);
     if len > 4077 {
         return Err(CodecError::TooLong);
     }
     out.reserve(19 + len)?;
     put_header(out, kind_of(message), len);
-    put_body(out, message);
+    put_body(out, message, rule);
     Ok(())
 }

@@ -34,6 +34,12 @@ pub seven_texts : (r : Result (Unit {0}) AllocError) (old a b c d e f g p q s t 
 seven_texts (Ok x) old a b c d e f g p q s t u v w ea eb ec ed ee ef eg = rw (eg, ef, ee, ed, ec, eb, ea) (simp append_assoc)
 seven_texts (Err x) old a b c d e f g p q s t u v w ea eb ec ed ee ef eg = tt
 
+-- eight of them
+pub eight_texts : (r : Result (Unit {0}) AllocError) (old a b c d e f g h p q s t u v w x : List ℕ) → a ≡ old ++ p → b ≡ a ++ q → c ≡ b ++ s → d ≡ c ++ t → e ≡ d ++ u → f ≡ e ++ v → g ≡ f ++ w
+    → h ≡ cond (is_ok r) (g ++ x) g → OnOk r (h ≡ old ++ ((p ++ (q ++ (s ++ (t ++ (u ++ (v ++ w)))))) ++ x))
+eight_texts (Ok y) old a b c d e f g h p q s t u v w x ea eb ec ed ee ef eg eh = rw (eh, eg, ef, ee, ed, ec, eb, ea) (simp append_assoc)
+eight_texts (Err y) old a b c d e f g h p q s t u v w x ea eb ec ed ee ef eg eh = tt
+
 -- the same as two lines
 pub two_lines : (r : Result (Unit {0}) AllocError) (old p q s t u v w g : List ℕ) → OnOk r (g ≡ old ++ ((p ++ (q ++ (s ++ (t ++ (u ++ v))))) ++ w))
     → OnOk r (g ≡ old ++ (((p ++ (q ++ (s ++ t))) ++ u) ++ (v ++ w)))

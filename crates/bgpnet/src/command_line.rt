@@ -6,27 +6,38 @@ use crate::channel::{IoStopped, Sink, Source};
 use crate::engines::decode::decode_stream;
 use crate::engines::{want_of_memory, write_out};
 use crate::status::{DONE, USAGE};
-use bgp_codec::NOBODY;
+use bgp_codec::{Rule, Width};
 use clap::error::ErrorKind;
-use clap::{Command, Error};
+use clap::{Arg, Command, Error};
 use std::alloc::{AllocError, Global};
 
 // What the words ask for.
 #[derive(Debug, Drop)]
 enum Asked {
-    Decode,
+    // Decode, with the speaker's number where `--peer` names it.
+    Decode(Option<u16>),
     // A text to write, and the status to end with.
     Text(String, u8),
 }
 
 fn parse(alloc: Global, words: &[&str]) -> Result<Asked, Error> {
-    let decode = Command::new(alloc, "decode").about("Prints the messages of a stream in hex");
+    let peer = Arg::new(alloc, "peer")
+        .long("peer")
+        .value_name("AS")
+        .value_parser(clap::value_parser!(u16).range(1..))
+        .help("Checks an OPEN's number against AS, 1 to 65535");
+    let decode = Command::new(alloc, "decode")
+        .about("Prints the messages of a stream in hex")
+        .arg(peer)?;
     let command = Command::new(alloc, "bgpnet")
         .about("Decodes BGP-4 messages")
         .subcommand_required(true)
         .subcommand(decode)?;
-    command.try_get_matches_from(words)?;
-    Ok(Asked::Decode)
+    let matches = command.try_get_matches_from(words)?;
+    let peer = matches
+        .subcommand_matches("decode")
+        .and_then(|found| found.get_one::<u16>("peer"));
+    Ok(Asked::Decode(peer))
 }
 
 fn read_words(alloc: Global, words: &[&str]) -> Result<Asked, AllocError> {
@@ -55,7 +66,13 @@ pub fn run_with<S: Source, T: Sink>(
     ensures failed { OnErr result ((S.failed reader.new ≡ true) ⊎ (T.failed writer.new ≡ true)) }
 {
     match read_words(alloc, words) {
-        Ok(Asked::Decode) => decode_stream(alloc, &NOBODY, reader, writer),
+        Ok(Asked::Decode(peer)) => {
+            let rule = Rule {
+                width: Width::Two,
+                peer: peer.map(u32::from),
+            };
+            decode_stream(alloc, &rule, reader, writer)
+        }
         Ok(Asked::Text(text, status)) => {
             write_out(writer, text.as_bytes())?;
             Ok(status)

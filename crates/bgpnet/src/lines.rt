@@ -1,11 +1,12 @@
 //! The lines that messages and faults are printed as.
 
 ghost use Rattle.std.specs.Prelude.{◌≡◌, ◌++◌, ◌∷◌, [], ◌≤◌, length, IfOk, OnOk};
+ghost use Rattle.std.specs.List.{flat_map};
 ghost use Rattle.bgp_codec.specs.Spelling.{written};
-ghost use Rattle.bgpnet.specs.Lines.{line, message_line, notice_line, notice_of, fault_lines, truncated_line, not_yet_line};
+ghost use Rattle.bgpnet.specs.Lines.{line, message_line, open_line, cap_text, param_text, notice_line, notice_of, fault_lines, truncated_line, not_yet_line};
 
-use crate::texts::{put_decimal, put_hex, put_hex_or_dash, put_len};
-use bgp_codec::{Fault, Message, NOBODY, Notice, encode, notice_of};
+use crate::texts::{put_address, put_decimal, put_hex, put_hex_or_dash, put_len};
+use bgp_codec::{Cap, Fault, Items, Message, NOBODY, Notice, Open, encode, notice_of};
 use std::alloc::{AllocError, Global};
 
 /// Appends the line of a message.
@@ -14,9 +15,55 @@ pub fn put_message(out: &mut Vec<u8>, message: &Message) -> Result<(), AllocErro
     ensures { OnOk result (out.new.items ≡ out.old.items ++ line (message_line message.now)) }
 {
     match message {
+        Message::OpenMsg(message) => put_open(out, message),
         Message::NoticeMsg(notice) => put_notice(out, notice),
         Message::AliveMsg => out.extend_from_slice(b"keepalive\n"),
     }
+}
+
+// Appends a capability.
+#[tactic(auto, unfolding(crate::specs::Lines::cap_text))]
+fn put_cap(out: &mut Vec<u8>, cap: &Cap) -> Result<(), AllocError>
+    ensures { OnOk result (out.new.items ≡ out.old.items ++ cap_text cap.now) }
+{
+    out.extend_from_slice(b" cap ")?;
+    put_decimal(out, u32::from(cap.code))?;
+    out.extend_from_slice(b" ")?;
+    put_hex_or_dash(out, cap.value.as_slice())
+}
+
+// Appends the capabilities of a parameter.
+fn put_param(out: &mut Vec<u8>, caps: &[Cap]) -> Result<(), AllocError>
+    ensures { OnOk result (out.new.items ≡ out.old.items ++ param_text caps.now) }
+{
+    for cap in caps {
+        put_cap(out, cap)?;
+    }
+    Ok(())
+}
+
+// Appends the capabilities of all parameters.
+fn put_params(out: &mut Vec<u8>, params: &[Items<Cap>]) -> Result<(), AllocError>
+    ensures { OnOk result (out.new.items ≡ out.old.items ++ flat_map param_text params.now) }
+{
+    for caps in params {
+        put_param(out, caps.as_slice())?;
+    }
+    Ok(())
+}
+
+#[tactic(auto, unfolding(crate::specs::Lines::open_line))]
+fn put_open(out: &mut Vec<u8>, message: &Open) -> Result<(), AllocError>
+    ensures { OnOk result (out.new.items ≡ out.old.items ++ line (open_line message.now)) }
+{
+    out.extend_from_slice(b"open as ")?;
+    put_decimal(out, u32::from(message.asn))?;
+    out.extend_from_slice(b" hold ")?;
+    put_decimal(out, u32::from(message.hold))?;
+    out.extend_from_slice(b" id ")?;
+    put_address(out, message.id)?;
+    put_params(out, message.params.as_slice())?;
+    out.extend_from_slice(b"\n")
 }
 
 #[tactic(auto, unfolding(crate::specs::Lines::notice_line))]

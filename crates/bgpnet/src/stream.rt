@@ -6,7 +6,7 @@ ghost use Rattle.bgpnet.specs.Decoding.{output, StreamGives, PutsFrame, PutsShor
 
 use crate::lines::{put_fault, put_message, put_not_yet, put_truncated};
 use crate::status::{DONE, REFUSED};
-use bgp_codec::laws::header_fault_is_short;
+use bgp_codec::laws::{fault_fits_a_message, header_fault_is_short};
 use bgp_codec::{CodecError, Rule, decode};
 use bgp_framing::laws::{splits_behind_a_frame, splits_into_nothing, splits_once};
 use bgp_framing::{Framer, Next};
@@ -22,16 +22,21 @@ fn put_frame(
     requires { IsFrame frame.now }
     ensures { IfOk result (PutsFrame rule.now frame.now out.old.items out.new.items) }
 {
+    fault_fits_a_message();
     match decode(alloc, frame, rule) {
         Ok(message) => {
             put_message(out, &message)?;
             Ok(None)
         }
+        Err(CodecError::Fault(fault)) => {
+            put_fault(alloc, out, &fault)?;
+            Ok(Some(REFUSED))
+        }
         Err(CodecError::NotYet { kind }) => {
             put_not_yet(out, kind)?;
             Ok(Some(REFUSED))
         }
-        Err(_) => Err(AllocError),
+        Err(CodecError::TooLong | CodecError::Memory) => Err(AllocError),
     }
 }
 

@@ -2,7 +2,7 @@
 
 ghost use Rattle.std.specs.Prelude.{◌≡◌, ◌+◌, ◌*◌, ◌<◌, ◌≤◌, ◌∷◌, [], ◌++◌, length, codes, decimal, slice_index, vec_len, vec_capacity, OnOk};
 ghost use Rattle.hex.specs.Hex.{encode_lower, lower_digits};
-ghost use Rattle.bgpnet.specs.Lines.{hex_or_dash};
+ghost use Rattle.bgpnet.specs.Lines.{hex_or_dash, address_text};
 
 use itoa::Buffer;
 use std::alloc::AllocError;
@@ -15,6 +15,20 @@ pub fn put_decimal(out: &mut Vec<u8>, number: u32) -> Result<(), AllocError>
 {
     let mut buffer = Buffer::new();
     out.extend_from_slice(buffer.format(number).as_bytes())
+}
+
+/// Appends an address as its four octets, with dots between them.
+#[tactic(auto, unfolding(crate::specs::Lines::address_text))]
+pub fn put_address(out: &mut Vec<u8>, address: u32) -> Result<(), AllocError>
+    ensures { OnOk result (out.new.items ≡ out.old.items ++ address_text address) }
+{
+    put_decimal(out, address / 0x0100_0000)?;
+    out.extend_from_slice(b".")?;
+    put_decimal(out, address / 0x0001_0000 % 256)?;
+    out.extend_from_slice(b".")?;
+    put_decimal(out, address / 0x0100 % 256)?;
+    out.extend_from_slice(b".")?;
+    put_decimal(out, address % 256)
 }
 
 /// Appends a number of octets in decimal digits.

@@ -84,7 +84,85 @@ fn one_message(rt: HostRuntime) -> Result<(), Fail> {
         (
             "an OPEN",
             "001d 01 04 fde9 005a 0a000001 00",
-            "not yet 1\n",
+            "open as 65001 hold 90 id 10.0.0.1\n",
+            0,
+        ),
+        (
+            "an OPEN of version 3",
+            "001d 01 03 fde9 005a 0a000001 00",
+            "fault 2 1\nffffffffffffffffffffffffffffffff00170302010004\n",
+            1,
+        ),
+        (
+            "an OPEN with a hold time of 2",
+            "001d 01 04 fde9 0002 0a000001 00",
+            "fault 2 6\nffffffffffffffffffffffffffffffff0015030206\n",
+            1,
+        ),
+        (
+            "an OPEN with a hold time of 3",
+            "001d 01 04 fde9 0003 0a000001 00",
+            "open as 65001 hold 3 id 10.0.0.1\n",
+            0,
+        ),
+        (
+            "an OPEN with a hold time of 0",
+            "001d 01 04 fde9 0000 0a000001 00",
+            "open as 65001 hold 0 id 10.0.0.1\n",
+            0,
+        ),
+        (
+            "an OPEN with an identifier of a network of the future",
+            "001d 01 04 fde9 005a e0000001 00",
+            "fault 2 3\nffffffffffffffffffffffffffffffff0015030203\n",
+            1,
+        ),
+        (
+            "an OPEN with the last identifier",
+            "001d 01 04 fde9 005a dfffffff 00",
+            "open as 65001 hold 90 id 223.255.255.255\n",
+            0,
+        ),
+        (
+            "an OPEN with an identifier of zeros",
+            "001d 01 04 fde9 005a 00ffffff 00",
+            "fault 2 3\nffffffffffffffffffffffffffffffff0015030203\n",
+            1,
+        ),
+        (
+            "an OPEN that says more parameters than there are",
+            "001d 01 04 fde9 005a 0a000001 01",
+            "fault 2 0\nffffffffffffffffffffffffffffffff0015030200\n",
+            1,
+        ),
+        (
+            "an OPEN with capability 65",
+            "0025 01 04 fde9 005a 0a000001 08 0206 4104 0000fde9",
+            "open as 65001 hold 90 id 10.0.0.1 cap 65 0000fde9\n",
+            0,
+        ),
+        (
+            "an OPEN with two parameters and an empty capability",
+            "0027 01 04 fde9 005a 0a000001 0a 0202 0200 0204 0600 0100",
+            "open as 65001 hold 90 id 10.0.0.1 cap 2 - cap 6 - cap 1 -\n",
+            0,
+        ),
+        (
+            "an OPEN with a parameter of kind 1",
+            "001f 01 04 fde9 005a 0a000001 02 0100",
+            "fault 2 4\nffffffffffffffffffffffffffffffff0015030204\n",
+            1,
+        ),
+        (
+            "an OPEN with a parameter cut short",
+            "001f 01 04 fde9 005a 0a000001 02 0201",
+            "fault 2 0\nffffffffffffffffffffffffffffffff0015030200\n",
+            1,
+        ),
+        (
+            "an OPEN with a capability cut short",
+            "0021 01 04 fde9 005a 0a000001 04 0202 4101",
+            "fault 2 0\nffffffffffffffffffffffffffffffff0015030200\n",
             1,
         ),
         ("an UPDATE", "0017 02 0000 0000", "not yet 2\n", 1),
@@ -138,6 +216,40 @@ fn a_faulty_marker(rt: HostRuntime) -> Result<(), Fail> {
     Ok(())
 }
 
+// An OPEN is checked against the speaker that is named (RFC 4271 section 6.2: Bad Peer AS), behind
+// its version and before its hold time.
+#[test]
+fn a_named_speaker(rt: HostRuntime) -> Result<(), Fail> {
+    let alloc = rt.alloc();
+    for (peer, tail, text, status) in [
+        (
+            "65001",
+            "001d 01 04 fde9 005a 0a000001 00",
+            "open as 65001 hold 90 id 10.0.0.1\n",
+            0,
+        ),
+        (
+            "65002",
+            "001d 01 04 fde9 0002 0a000001 00",
+            "fault 2 2\nffffffffffffffffffffffffffffffff0015030202\n",
+            1,
+        ),
+        (
+            "65002",
+            "001d 01 03 fde9 005a 0a000001 00",
+            "fault 2 1\nffffffffffffffffffffffffffffffff00170302010004\n",
+            1,
+        ),
+        ("1", "0013 04", "keepalive\n", 0),
+    ] {
+        let input = format!(in alloc; "{MARKER}{tail}")?;
+        let (out, got) = answer(alloc, &["decode", "--peer", peer], input.as_bytes())?;
+        assert_eq!(rt; out.as_slice(), text.as_bytes(), "{peer} {tail}");
+        assert_eq!(rt; got, Some(status));
+    }
+    Ok(())
+}
+
 // A stream of more than one piece: 1000 messages of 37 octets, and a rest.
 #[test]
 fn a_long_stream(rt: HostRuntime) -> Result<(), Fail> {
@@ -179,7 +291,11 @@ fn words(rt: HostRuntime) -> Result<(), Fail> {
         (&["--help"], 0),
         (&["decode", "--help"], 0),
         (&["encode"], 2),
-        (&["decode", "--peer", "1"], 2),
+        (&["decode", "--peer", "0"], 2),
+        (&["decode", "--peer", "65536"], 2),
+        (&["decode", "--peer", "1x"], 2),
+        (&["decode", "--peer"], 2),
+        (&["decode", "--peer", "1", "--peer", "2"], 2),
         (&["decode", "more"], 2),
     ] {
         let (out, got) = answer(rt.alloc(), words, b"")?;

@@ -1,0 +1,144 @@
+-- OPEN: its parts, how they are spelt, and its first fault (RFC 4271 sections 4.2 and 6.2, RFC 5492 section 4).
+use Rattle.std.specs.Prelude.{◌≡◌, ℕ, zero, suc, ◌+◌, ◌*◌, ◌^◌, ◌/◌, ◌≤◌, ◌<◌, nat_lt, nat_le, ◌==◌, ◌||◌, ◌&&◌, not, Bool, true, false, List, [], ◌∷◌, ◌++◌, length, take, drop, slice_index, Option, Some, None, Result, Ok, Err, if◌then◌else◌, ◌⊎◌}
+use Rattle.std.specs.List.{flat_map, AllByRecursion}
+use Rattle.std.specs.Int.{w16, w32, to_be_bytes, from_be_bytes}
+use Rattle.bgp_codec.specs.declared.fault.CodecError.{CodecError}
+use Rattle.bgp_codec.specs.declared.fault.CodecError.TheVariants as errors
+use Rattle.bgp_codec.specs.declared.open.Cap.{Cap}
+use Rattle.bgp_codec.specs.declared.open.Open.{Open}
+use Rattle.bgp_codec.specs.declared.rule.Rule.{Rule}
+use Rattle.bgp_codec.specs.Header.{fault_of}
+
+-- ---- spelling
+
+-- one octet of length, and that many octets
+abbrev pub short_string : List ℕ → List ℕ
+short_string octets = length octets ∷ octets
+
+-- RFC 5492: the code of a capability, and its value
+abbrev pub cap_octets : Cap → List ℕ
+cap_octets cap = cap.code ∷ short_string cap.value
+
+-- a parameter of kind 2: its capabilities
+abbrev pub param_octets : List Cap → List ℕ
+param_octets caps = 2 ∷ short_string (flat_map cap_octets caps)
+
+-- version 4, AS, hold time, identifier, parameters
+abbrev pub open_octets : Open → List ℕ
+open_octets o = 4 ∷ (to_be_bytes w16 o.asn ++ (to_be_bytes w16 o.hold ++ (to_be_bytes w32 o.id ++ short_string (flat_map param_octets o.params))))
+
+abbrev pub CapFits : Cap → Type 0
+CapFits cap = length cap.value < 256
+
+abbrev pub ParamFits : List Cap → Type 0
+ParamFits caps = AllByRecursion CapFits caps × (length (flat_map cap_octets caps) < 256)
+
+abbrev pub is_hold_time : ℕ → Bool
+is_hold_time hold = (hold == 0) || nat_le 3 hold
+
+-- an address whose first octet is 1 to 223
+abbrev pub is_unicast : ℕ → Bool
+is_unicast address = nat_le 1 (address / 2 ^ 24) && nat_le (address / 2 ^ 24) 223
+
+-- the fields are those that may be read
+pub record OpenFits (o : Open) : Type 0 where
+  pub asn : o.asn < 2 ^ 16
+  pub hold : o.hold < 2 ^ 16
+  pub hold_time : is_hold_time o.hold ≡ true
+  pub id : o.id < 2 ^ 32
+  pub unicast : is_unicast o.id ≡ true
+  pub params : AllByRecursion ParamFits o.params
+  pub all : length (flat_map param_octets o.params) < 256
+
+-- the number is the peer's, where a peer is named
+abbrev pub is_peer : Option ℕ → ℕ → Bool
+is_peer None asn = true
+is_peer (Some peer) asn = asn == peer
+
+-- these octets are an OPEN's body, under the rule
+pub record SpellsOpen (rule : Rule) (body : List ℕ) (o : Open) : Type 0 where
+  pub fits : OpenFits o
+  pub peer : is_peer rule.peer o.asn ≡ true
+  pub whole : body ≡ open_octets o
+
+-- ---- the first fault, from left to right
+
+-- a fault of an OPEN without data
+abbrev pub open_fault : ℕ → CodecError
+open_fault sub = errors.Fault (fault_of 2 sub [])
+
+infixl 10 ◌>>=◌
+abbrev pub ◌>>=◌ : {A B : Type 0} → Result A CodecError → (A → Result B CodecError) → Result B CodecError
+(Ok x) >>= f = f x
+(Err e) >>= f = Err e
+
+-- a value in front, its length at 1 and its octets from 2, and what follows it
+abbrev pub value_at : List ℕ → Result (List ℕ × List ℕ) CodecError
+value_at [] = Err (open_fault 0)
+value_at (kind ∷ []) = Err (open_fault 0)
+value_at (kind ∷ len ∷ rest) = if nat_lt (length rest) len then Err (open_fault 0) else Ok (take len rest, drop len rest)
+
+abbrev pub cap_of : ℕ → List ℕ → Cap
+cap_of code value = record { code = code; value = value }
+
+abbrev pub in_front : {A : Type 0} → A → Result (List A) CodecError → Result (List A) CodecError
+in_front x (Ok xs) = Ok (x ∷ xs)
+in_front x (Err e) = Err e
+
+-- the capabilities that fill octets, of which there are at most so many
+unfoldable pub caps_in : ℕ → List ℕ → Result (List Cap) CodecError
+caps_in n [] = Ok []
+caps_in zero (code ∷ rest) = Err (open_fault 0)
+caps_in (suc n) (code ∷ rest) = value_at (code ∷ rest) >>= λ v. in_front (cap_of code v.0) (caps_in n v.1)
+
+abbrev pub caps_reading : List ℕ → Result (List Cap) CodecError
+caps_reading octets = caps_in (length octets) octets
+
+-- a parameter's value is inside, its kind is 2, its capabilities fill it
+abbrev pub param_reading : ℕ → List ℕ → Result (List Cap) CodecError
+param_reading kind value = if kind == 2 then caps_reading value else Err (open_fault 4)
+
+unfoldable pub params_in : ℕ → List ℕ → Result (List (List Cap)) CodecError
+params_in n [] = Ok []
+params_in zero (kind ∷ rest) = Err (open_fault 0)
+params_in (suc n) (kind ∷ rest) = value_at (kind ∷ rest) >>= λ v. param_reading kind v.0 >>= λ caps. in_front caps (params_in n v.1)
+
+abbrev pub params_reading : List ℕ → Result (List (List Cap)) CodecError
+params_reading octets = params_in (length octets) octets
+
+-- the fields of a body of at least ten octets
+abbrev pub asn_field : List ℕ → ℕ
+asn_field body = from_be_bytes w16 (slice_index body 1 ∷ slice_index body 2 ∷ [])
+
+abbrev pub hold_field : List ℕ → ℕ
+hold_field body = from_be_bytes w16 (slice_index body 3 ∷ slice_index body 4 ∷ [])
+
+abbrev pub id_field : List ℕ → ℕ
+id_field body = from_be_bytes w32 (slice_index body 5 ∷ slice_index body 6 ∷ slice_index body 7 ∷ slice_index body 8 ∷ [])
+
+abbrev pub open_of : List ℕ → List (List Cap) → Open
+open_of body params = record { asn = asn_field body; hold = hold_field body; id = id_field body; params = params }
+
+-- version, AS, hold time, identifier, that the parameters fill the rest, then the parameters
+unfoldable pub open_reading : Rule → List ℕ → Result Open CodecError
+open_reading rule body =
+    if not (slice_index body 0 == 4) then Err (errors.Fault (fault_of 2 1 (0 ∷ 4 ∷ [])))
+    else if not (is_peer rule.peer (asn_field body)) then Err (open_fault 2)
+    else if not (is_hold_time (hold_field body)) then Err (open_fault 6)
+    else if not (is_unicast (id_field body)) then Err (open_fault 3)
+    else if not (length body == 10 + slice_index body 9) then Err (open_fault 0)
+    else params_reading (drop 10 body) >>= λ params. Ok (open_of body params)
+
+-- ---- what a reader of the code answers
+
+-- an error other than want of memory is what reading gives
+abbrev pub Fails : {Y : Type 0} → CodecError → Result Y CodecError → Type 0
+Fails errors.Memory read = Unit {0}
+Fails (errors.Fault first) read = read ≡ Err (errors.Fault first)
+Fails errors.TooLong read = ⊥
+Fails (errors.NotYet kind) read = ⊥
+
+-- what was answered, seen by view, is what reading gives, unless memory ran out
+abbrev pub Gives : {X Y : Type 0} → (X → Y) → Result X CodecError → Result Y CodecError → Type 0
+Gives view (Ok x) read = read ≡ Ok (view x)
+Gives view (Err e) read = Fails e read

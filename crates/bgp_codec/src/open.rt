@@ -1,0 +1,270 @@
+//! OPEN (RFC 4271 section 4.2, RFC 5492 section 4): its fields, its reader and its writer.
+
+ghost use Rattle.std.specs.Prelude.{◌≡◌, ◌+◌, ◌-◌, ◌^◌, ◌≤◌, ◌<◌, ◌++◌, ◌∷◌, ◌↔◌, IsTrue, length, min, vec_len, vec_capacity};
+ghost use Rattle.std.specs.List.{flat_map, AllByRecursion};
+ghost use Rattle.bgp_codec.specs.Opens.{cap_octets, param_octets, open_octets, CapFits, ParamFits, OpenFits, Gives, value_at, caps_reading, param_reading, params_reading, open_reading, open_fault, is_peer, is_hold_time, is_unicast};
+
+use crate::fault::{CodecError, Fault};
+use crate::items::Items;
+use crate::octets::Octets;
+use crate::rule::{Asn, Rule};
+use std::alloc::Global;
+
+/// What a speaker says that it can do (RFC 5492 section 4).
+#[derive(Debug, Drop)]
+pub struct Cap {
+    /// The number that IANA gives it: 65 is four-octet AS numbers.
+    pub code: u8,
+    /// At most 255 octets, whose meaning depends on the code.
+    pub value: Octets,
+}
+
+/// What an OPEN says (RFC 4271 section 4.2).
+#[derive(Debug, Drop)]
+pub struct Open {
+    /// The speaker's number.
+    pub asn: u16,
+    /// The hold time that it offers, in seconds: 0, or 3 and more.
+    pub hold: u16,
+    /// Its identifier, an address whose first octet is 1 to 223.
+    pub id: u32,
+    /// The capabilities of each parameter of kind 2, in their order.
+    pub params: Items<Items<Cap>>,
+}
+
+// The fault of an OPEN with this subcode and no data.
+fn fault(alloc: Global, sub: u8) -> CodecError
+    ensures { result ≡ open_fault sub }
+{
+    CodecError::Fault(Fault {
+        code: 2,
+        sub,
+        extra: Octets::short(alloc, &[]),
+    })
+}
+
+// The value in front, its length at 1 and its octets from 2, and what follows it.
+fn read_value(alloc: Global, octets: &[u8]) -> Result<(&[u8], &[u8]), CodecError>
+    ensures { Gives (λ read. (read.0.now, read.1.now)) result (value_at octets.now) }
+{
+    match octets {
+        [] | [_] => Err(fault(alloc, 0)),
+        [_, len, rest @ ..] => {
+            let len = *len as usize;
+            if rest.len() < len {
+                return Err(fault(alloc, 0));
+            }
+            Ok(rest.split_at(len))
+        }
+    }
+}
+
+// The capabilities that fill these octets.
+fn read_caps(alloc: Global, octets: &[u8]) -> Result<Items<Cap>, CodecError>
+    ensures { Gives (λ caps. caps) result (caps_reading octets.now) }
+{
+    let mut caps = Vec::new(alloc);
+    let mut left = octets;
+    'caps: while !left.is_empty() {
+        let (value, rest) = read_value(alloc, left)?;
+        let value = Octets::from_slice(alloc, value)?;
+        let code = left[0];
+        caps.push(Cap { code, value })?;
+        left = rest;
+    }
+    Ok(Items::from_vec(caps))
+}
+
+// The capabilities of a parameter with this kind and value.
+fn read_param(alloc: Global, kind: u8, value: &[u8]) -> Result<Items<Cap>, CodecError>
+    ensures { Gives (λ caps. caps) result (param_reading kind value.now) }
+{
+    if kind != 2 {
+        return Err(fault(alloc, 4));
+    }
+    read_caps(alloc, value)
+}
+
+// The parameters that fill these octets.
+fn read_params(alloc: Global, octets: &[u8]) -> Result<Items<Items<Cap>>, CodecError>
+    ensures { Gives (λ params. params) result (params_reading octets.now) }
+{
+    let mut params = Vec::new(alloc);
+    let mut left = octets;
+    'params: while !left.is_empty() {
+        let (value, rest) = read_value(alloc, left)?;
+        params.push(read_param(alloc, left[0], value)?)?;
+        left = rest;
+    }
+    Ok(Items::from_vec(params))
+}
+
+// Whether a number is the peer's, where a peer is named.
+fn is_peer(peer: Option<Asn>, asn: u16) -> bool
+    ensures { result ≡ is_peer peer asn }
+{
+    match peer {
+        None => true,
+        Some(peer) => u32::from(asn) == peer,
+    }
+}
+
+fn is_hold_time(hold: u16) -> bool
+    ensures { result ≡ is_hold_time hold }
+{
+    hold == 0 || hold >= 3
+}
+
+fn is_unicast(address: u32) -> bool
+    ensures { result ≡ is_unicast address }
+{
+    let first = address / 0x0100_0000;
+    1 <= first && first <= 223
+}
+
+// The OPEN of a body: version at 0, AS at 1, hold time at 3, identifier at 5, the length of the
+// parameters at 9, the parameters from 10.
+#[tactic(auto, unfolding(crate::specs::Opens::open_reading))]
+pub(crate) fn read_open(alloc: Global, body: &[u8], rule: &Rule) -> Result<Open, CodecError>
+    requires { 10 ≤ length body.now }
+    ensures { Gives (λ read. read) result (open_reading rule.now body.now) }
+{
+    let asn = u16::from_be_bytes([body[1], body[2]]);
+    let hold = u16::from_be_bytes([body[3], body[4]]);
+    let id = u32::from_be_bytes([body[5], body[6], body[7], body[8]]);
+    if body[0] != 4 {
+        return Err(CodecError::Fault(Fault {
+            code: 2,
+            sub: 1,
+            extra: Octets::short(alloc, &[0, 4]),
+        }));
+    }
+    if !is_peer(rule.peer, asn) {
+        return Err(fault(alloc, 2));
+    }
+    if !is_hold_time(hold) {
+        return Err(fault(alloc, 6));
+    }
+    if !is_unicast(id) {
+        return Err(fault(alloc, 3));
+    }
+    if body.len() != 10 + body[9] as usize {
+        return Err(fault(alloc, 0));
+    }
+    let (_, params) = body.split_at(10);
+    let params = read_params(alloc, params)?;
+    Ok(Open {
+        asn,
+        hold,
+        id,
+        params,
+    })
+}
+
+// How many octets the capabilities have that are written, as far as a `usize` counts.
+fn caps_len(caps: &[Cap]) -> usize
+    ensures { result ≡ min (2 ^ 64 - 1) (length (flat_map cap_octets caps.now)) }
+{
+    let mut len = 0usize;
+    for cap in caps {
+        len = len.saturating_add(2).saturating_add(cap.value.len());
+    }
+    len
+}
+
+// How many octets the parameters have that are written, as far as a `usize` counts.
+pub(crate) fn params_len(params: &[Items<Cap>]) -> usize
+    ensures { result ≡ min (2 ^ 64 - 1) (length (flat_map param_octets params.now)) }
+{
+    let mut len = 0usize;
+    for caps in params {
+        len = len
+            .saturating_add(2)
+            .saturating_add(caps_len(caps.as_slice()));
+    }
+    len
+}
+
+// Whether each value fits its one octet of length.
+fn caps_fit(caps: &[Cap]) -> bool
+    ensures { IsTrue result ↔ AllByRecursion CapFits caps.now }
+{
+    for cap in caps {
+        if cap.value.len() > 255 {
+            return false;
+        }
+    }
+    true
+}
+
+// Whether each parameter fits its one octet of length, and so do its capabilities.
+fn params_fit(params: &[Items<Cap>]) -> bool
+    ensures { IsTrue result ↔ AllByRecursion ParamFits params.now }
+{
+    for caps in params {
+        let caps = caps.as_slice();
+        if !caps_fit(caps) || caps_len(caps) > 255 {
+            return false;
+        }
+    }
+    true
+}
+
+// Whether each field is one that a reader can answer, and each part fits its own length field.
+pub(crate) fn fits(message: &Open) -> bool
+    ensures { IsTrue result ↔ OpenFits message.now }
+{
+    let _asn = message.asn;
+    let params = message.params.as_slice();
+    is_hold_time(message.hold)
+        && is_unicast(message.id)
+        && params_fit(params)
+        && params_len(params) < 256
+}
+
+// Appends the capabilities, for which there is room.
+fn put_caps(out: &mut Vec<u8>, caps: &[Cap])
+    requires fit { AllByRecursion CapFits caps.now }
+    requires room { vec_len out.old + length (flat_map cap_octets caps.now) ≤ vec_capacity out.old }
+    ensures items { out.new.items ≡ out.old.items ++ flat_map cap_octets caps.now }
+    ensures capacity { vec_capacity out.old ≤ vec_capacity out.new }
+{
+    for cap in caps {
+        out.push_reserved(cap.code);
+        out.push_reserved(cap.value.len() as u8);
+        out.extend_from_slice(cap.value.as_slice()).unwrap();
+    }
+}
+
+// Appends the parameters, for which there is room.
+fn put_params(out: &mut Vec<u8>, params: &[Items<Cap>])
+    requires fit { AllByRecursion ParamFits params.now }
+    requires room { vec_len out.old + length (flat_map param_octets params.now) ≤ vec_capacity out.old }
+    ensures items { out.new.items ≡ out.old.items ++ flat_map param_octets params.now }
+{
+    for caps in params {
+        let caps = caps.as_slice();
+        out.push_reserved(2);
+        out.push_reserved(caps_len(caps) as u8);
+        put_caps(out, caps);
+    }
+}
+
+// Appends the body of an OPEN, for which there is room.
+pub(crate) fn put_open(out: &mut Vec<u8>, message: &Open)
+    requires fit { OpenFits message.now }
+    requires room { vec_len out.old + length (open_octets message.now) ≤ vec_capacity out.old }
+    ensures { out.new.items ≡ out.old.items ++ open_octets message.now }
+{
+    let [asn_high, asn_low] = message.asn.to_be_bytes();
+    let [hold_high, hold_low] = message.hold.to_be_bytes();
+    let params = message.params.as_slice();
+    out.push_reserved(4);
+    out.push_reserved(asn_high);
+    out.push_reserved(asn_low);
+    out.push_reserved(hold_high);
+    out.push_reserved(hold_low);
+    out.extend_from_slice(&message.id.to_be_bytes()).unwrap();
+    out.push_reserved(params_len(params) as u8);
+    put_params(out, params);
+}

@@ -1,0 +1,3 @@
+mod Dialling
+mod Hearing
+mod Meaning

@@ -1,0 +1,39 @@
+//! What the state of an end says of its history, for every history of dials, hangings up and signs.
+
+ghost use Rattle.link_epoch.specs.Histories.{EpochIsGreatest, HeardIsGreatest, HeardIsShut, HeardIsShutAnywhere, JoinedWhereDialledAndHeard, NumbersRise, JoinsAtItsOwnNumber, OffersAboveTheOwn, ClosesAtItsOwnNumber};
+
+/// `epoch` is the greatest number that the end has dialled, 0 where it has dialled none.
+pub fn epoch_is_greatest_dialled()
+    ensures { EpochIsGreatest }
+{}
+
+/// Each number that an end dials is above all that it has dialled before.
+pub fn numbers_dialled_rise()
+    ensures { NumbersRise }
+{}
+
+/// `heard` is the greatest number that the peer has dialled, as far as the end has heard; 0 at first.
+pub fn heard_is_greatest_heard()
+    ensures { HeardIsGreatest }
+{}
+
+/// The number heard counts as shut exactly where the peer shut it while it was the greatest that the
+/// peer had dialled; of a peer that shuts no number above those that it has dialled, where it shut it
+/// at all. Nothing is said of numbers below the one heard.
+pub fn heard_is_shut_where_it_was_shut()
+    ensures as_the_greatest { HeardIsShut }
+    ensures at_all { HeardIsShutAnywhere }
+{}
+
+/// An end is joined exactly where it dialled its number, heard it, and has not hung up since.
+pub fn joined_where_dialled_and_heard()
+    ensures { JoinedWhereDialledAndHeard }
+{}
+
+/// What a sign means: it joins, is an offer or closes exactly at these numbers and phases, and is
+/// nothing else.
+pub fn signs_mean()
+    ensures joins { JoinsAtItsOwnNumber }
+    ensures offers { OffersAboveTheOwn }
+    ensures closes { ClosesAtItsOwnNumber }
+{}

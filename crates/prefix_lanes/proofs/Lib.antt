@@ -1,0 +1,4 @@
+mod BitLists
+mod Candidates
+mod OneAnswer
+mod Prefixes

@@ -1,0 +1,119 @@
+//! A table of prefixes.
+
+ghost use Rattle.std.specs.Prelude.{◌≡◌, ◌<◌, ◌≤◌, ◌↔◌, ◌++◌, [], ◌∷◌, length, OnOk, OnErr, IsTrue, MatchOption};
+ghost use Rattle.prefix_lanes.specs.Covering.{IsLongest};
+
+use crate::prefix::Prefix;
+use std::alloc::{AllocError, Global};
+use std::marker::Model;
+use thiserror::Error;
+
+/// How many prefixes a table holds at most.
+pub const CAPACITY: usize = 64;
+
+/// Why a table did not take a prefix. The table is as it was.
+#[derive(Debug, PartialEq, Eq, Drop, Error)]
+pub enum CoverError {
+    /// It holds as many as it can.
+    #[error("the table is full")]
+    TableFull,
+    /// A growth was refused.
+    #[error("out of memory")]
+    Memory,
+}
+
+/// Prefixes in the order in which they were pushed.
+#[derive(Drop)]
+pub struct CoverTable {
+    entries: Vec<Prefix>,
+}
+
+impl Model for CoverTable {
+    ghost use Rattle.std.specs.Prelude.{List, length, ◌≤◌};
+    ghost use Rattle.prefix_lanes.specs.Bits.{PrefixView};
+
+    ghost Value = { List PrefixView };
+
+    ghost view = { λ a. a.entries.items };
+
+    ghost invariant = { λ a. length a.entries.items ≤ 64 };
+}
+
+impl CoverTable {
+    /// A table with no prefix. Takes no memory.
+    pub fn new(alloc: Global) -> CoverTable
+        ensures { result ≡ [] }
+    {
+        CoverTable {
+            entries: Vec::new(alloc),
+        }
+    }
+
+    /// The prefixes, the first pushed first.
+    pub fn as_slice(&self) -> &[Prefix]
+        ensures value { result.now ≡ self.now }
+        ensures few { length self.now ≤ 64 }
+    {
+        self.entries.as_slice()
+    }
+
+    /// Adds a prefix at the end. Refused `TableFull` exactly where 64 are there, else `Memory` where
+    /// the growth was refused; neither changes the table.
+    pub fn push(&mut self, prefix: Prefix) -> Result<(), CoverError>
+        ensures ok { OnOk result (self.new ≡ self.old ++ prefix ∷ []) }
+        ensures full { (result ≡ Err CoverError.TableFull) ↔ (64 ≤ length self.old) }
+        ensures err { OnErr result (self.new ≡ self.old) }
+    {
+        if self.entries.len() >= CAPACITY {
+            return Err(CoverError::TableFull);
+        }
+        match self.entries.push(prefix) {
+            Ok(()) => Ok(()),
+            Err(_) => Err(CoverError::Memory),
+        }
+    }
+
+    /// The place of the longest entry that covers the prefix, counted from 0; the first of those of
+    /// one length. `None` exactly where no entry covers it.
+    pub fn longest(&self, prefix: &Prefix) -> Option<usize>
+        ensures { IsLongest self.now prefix.now result }
+    {
+        longest_in(self.entries.as_slice(), prefix)
+    }
+}
+
+/// An entry that covers: its place and its length.
+#[derive(Clone, Copy)]
+struct Candidate {
+    place: usize,
+    len: u8,
+}
+
+/// The place of the longest of these that covers the prefix, the first of those of one length.
+fn longest_in(entries: &[Prefix], prefix: &Prefix) -> Option<usize>
+    ensures { IsLongest entries.now prefix.now result }
+{
+    let mut best: Option<Candidate> = None;
+    for (place, entry) in entries.iter().enumerate() {
+        if entry.covers(prefix) && is_longer(entry.len(), &best) {
+            best = Some(Candidate {
+                place,
+                len: entry.len(),
+            });
+        }
+    }
+    match best {
+        Some(candidate) => Some(candidate.place),
+        None => None,
+    }
+}
+
+/// Whether an entry of this length is longer than the best so far, if there is one.
+fn is_longer(len: u8, best: &Option<Candidate>) -> bool
+    ensures { IsTrue result ↔ MatchOption best.now (Unit {0}) (λ candidate. candidate.len < len) }
+{
+    match best {
+        Some(candidate) => candidate.len < len,
+        None => true,
+    }
+}

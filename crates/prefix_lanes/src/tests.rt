@@ -1,0 +1,165 @@
+use super::*;
+use std::alloc::Global;
+use std::test::Fail;
+
+/// The mask of each length, as network masks are usually written.
+#[rattlefmt::skip]
+const MASKS: [u32; 33] = [
+    0x0000_0000,
+    0x8000_0000, 0xc000_0000, 0xe000_0000, 0xf000_0000, 0xf800_0000, 0xfc00_0000, 0xfe00_0000, 0xff00_0000,
+    0xff80_0000, 0xffc0_0000, 0xffe0_0000, 0xfff0_0000, 0xfff8_0000, 0xfffc_0000, 0xfffe_0000, 0xffff_0000,
+    0xffff_8000, 0xffff_c000, 0xffff_e000, 0xffff_f000, 0xffff_f800, 0xffff_fc00, 0xffff_fe00, 0xffff_ff00,
+    0xffff_ff80, 0xffff_ffc0, 0xffff_ffe0, 0xffff_fff0, 0xffff_fff8, 0xffff_fffc, 0xffff_fffe, 0xffff_ffff,
+];
+
+fn prefix(addr: u32, len: u8) -> Result<Prefix, &'static str> {
+    Prefix::new(addr, len).ok_or("no prefix is that long")
+}
+
+/// Each length keeps its first bits and clears the others.
+#[test]
+fn lengths(rt: HostRuntime) -> Result<(), Fail> {
+    for len in 0..33u8 {
+        let all = prefix(u32::MAX, len)?;
+        assert_eq!(rt; all.addr(), MASKS[usize::from(len)], "at {len}");
+        assert_eq!(rt; all.len(), len);
+        assert_eq!(rt; all.is_empty(), len == 0);
+        assert_eq!(rt; prefix(0, len)?.addr(), 0, "at {len}");
+        let some = prefix(0xa5a5_a5a5, len)?;
+        assert_eq!(rt;
+            some.addr(),
+            0xa5a5_a5a5 & MASKS[usize::from(len)],
+            "at {len}"
+        );
+        assert_eq!(rt; prefix(some.addr(), len)?, some, "at {len}");
+    }
+    assert_eq!(rt; Prefix::new(0, 33), None);
+    assert_eq!(rt; Prefix::new(u32::MAX, 255), None);
+    Ok(())
+}
+
+/// 10.1.255.0/17 is 10.1.128.0/17.
+#[test]
+fn trailing_bits(rt: HostRuntime) -> Result<(), Fail> {
+    assert_eq!(rt; prefix(0x0a01_ff00, 17)?, prefix(0x0a01_8000, 17)?);
+    assert!(rt; prefix(0x0a01_8000, 17)? != prefix(0x0a01_8000, 18)?);
+    assert!(rt; prefix(0x0a00_0000, 16)? < prefix(0x0a01_0000, 8 + 8)?);
+    assert!(rt; prefix(0x0a00_0000, 8)? < prefix(0x0a00_0000, 16)?);
+    Ok(())
+}
+
+#[test]
+fn covers(rt: HostRuntime) -> Result<(), Fail> {
+    let cases = [
+        ("a longer one", 0x0a00_0000, 8, 0x0a01_0000, 16, true),
+        ("itself", 0x0a01_0000, 16, 0x0a01_0000, 16, true),
+        ("a shorter one", 0x0a01_0000, 16, 0x0a00_0000, 8, false),
+        (
+            "one that begins otherwise",
+            0x0a00_0000,
+            8,
+            0x0b00_0000,
+            8,
+            false,
+        ),
+        (
+            "one that differs in the last bit",
+            0x0a00_0000,
+            32,
+            0x0a00_0001,
+            32,
+            false,
+        ),
+        (
+            "one that differs behind the bits",
+            0x0a00_0000,
+            31,
+            0x0a00_0001,
+            32,
+            true,
+        ),
+        (
+            "one that differs in the eighth bit",
+            0x0a00_0000,
+            8,
+            0x0b00_0000,
+            16,
+            false,
+        ),
+        ("all, having no bits", 0, 0, 0xffff_ffff, 32, true),
+        ("none with bits by none", 0x8000_0000, 1, 0, 0, false),
+    ];
+    for (name, addr, len, other, other_len, want) in cases {
+        let covers = prefix(addr, len)?.covers(&prefix(other, other_len)?);
+        assert_eq!(rt; covers, want, "{name}");
+    }
+    Ok(())
+}
+
+#[test]
+fn masks(rt: HostRuntime) {
+    let mut words = [0xa5a5_a5a5; 33];
+    let mut lens = [0; 33];
+    let mut want = [0; 33];
+    for i in 0..33usize {
+        lens[i] = i as u8;
+        want[i] = 0xa5a5_a5a5 & MASKS[i];
+    }
+    assert!(rt; lens.iter().all(|len| *len <= 32));
+    mask_all(&mut words, &lens);
+    assert_eq!(rt; words, want);
+    mask_all(&mut [], &[]);
+}
+
+fn table(alloc: Global, entries: &[(u32, u8)]) -> Result<CoverTable, Fail> {
+    let mut table = CoverTable::new(alloc);
+    for (addr, len) in entries {
+        table.push(prefix(*addr, *len)?)?;
+    }
+    Ok(table)
+}
+
+/// The longest that covers, the first among equals.
+#[test]
+fn longest(rt: HostRuntime) -> Result<(), Fail> {
+    let two = table(rt.alloc(), &[(0x0a00_0000, 8), (0x0a01_0000, 16)])?;
+    assert_eq!(rt; two.longest(&prefix(0x0a01_0200, 24)?), Some(1));
+    assert_eq!(rt; two.longest(&prefix(0x0a02_0000, 16)?), Some(0));
+    assert_eq!(rt; two.longest(&prefix(0x0a00_0000, 7)?), None);
+    assert_eq!(rt; two.longest(&prefix(0x0b00_0000, 8)?), None);
+    assert_eq!(rt; two.as_slice().len(), 2);
+
+    let same = [
+        (0, 0),
+        (0x0a01_0000, 16),
+        (0x0a00_0000, 8),
+        (0x0a01_0000, 16),
+        (0x0a02_0000, 16),
+    ];
+    let same = table(rt.alloc(), &same)?;
+    assert_eq!(rt; same.longest(&prefix(0x0a01_0000, 16)?), Some(1));
+    assert_eq!(rt; same.longest(&prefix(0x0b00_0000, 8)?), Some(0));
+    assert_eq!(rt; CoverTable::new(rt.alloc()).longest(&prefix(0, 0)?), None);
+    Ok(())
+}
+
+/// 64 entries fit; a further one is refused and changes nothing.
+#[test]
+fn full(rt: HostRuntime) -> Result<(), Fail> {
+    let mut table = CoverTable::new(rt.alloc());
+    for i in 0..64u32 {
+        assert_eq!(rt; table.push(prefix(i << 8, 24)?), Ok(()), "at {i}");
+    }
+    assert_eq!(rt; table.push(prefix(0, 0)?), Err(CoverError::TableFull));
+    assert_eq!(rt; table.as_slice().len(), CAPACITY);
+    assert_eq!(rt; table.longest(&prefix(63 << 8, 32)?), Some(63));
+    assert_eq!(rt; table.longest(&prefix(64 << 8, 24)?), None);
+    Ok(())
+}
+
+#[test]
+fn laws() {
+    a_prefix_is_its_bits();
+    masking_clears_bits();
+    the_longest_is_one();
+}

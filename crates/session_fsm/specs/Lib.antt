@@ -1,0 +1,4 @@
+pub mod Table
+pub mod Timers
+pub mod Runs
+pub mod Laws

@@ -1,0 +1,120 @@
+//! One session: its attributes and its timers.
+
+ghost use Rattle.std.specs.Prelude.{◌≡◌};
+ghost use Rattle.session_fsm.specs.Table.{SessionView, opening, IsHoldTime, IsGoodEvent, on_event, kept_alive};
+ghost use Rattle.session_fsm.specs.Timers.{ticked, runs_out};
+ghost use Rattle.session_fsm.specs.declared.state.State.TheVariants.{Established};
+
+mod table;
+
+use crate::actions::Actions;
+use crate::config::SessionConfig;
+use crate::event::FsmEvent;
+use crate::state::State;
+use std::marker::Model;
+
+/// The session of a router with one peer.
+#[derive(Clone, Copy, Debug, PartialEq, Eq)]
+pub struct Session {
+    config: SessionConfig,
+    state: State,
+    hold_time: u16,
+    connect_retry_timer: u16,
+    hold_timer: u16,
+    keepalive_timer: u16,
+    restart_timer: u16,
+}
+
+impl Model for Session {
+    ghost use Rattle.session_fsm.specs.Table.{SessionView};
+
+    ghost Value = { SessionView };
+
+    ghost view = { λ a. record { config = a.config; state = a.state; hold_time = a.hold_time; connect_retry_timer = a.connect_retry_timer; hold_timer = a.hold_timer; keepalive_timer = a.keepalive_timer; restart_timer = a.restart_timer } };
+
+    ghost inverse = { λ d. record { config = d.config; state = d.state; hold_time = d.hold_time; connect_retry_timer = d.connect_retry_timer; hold_timer = d.hold_timer; keepalive_timer = d.keepalive_timer; restart_timer = d.restart_timer } };
+}
+
+impl Session {
+    /// A session in Idle, with all timers stopped. `is_hold_time` is the test of its condition.
+    pub fn new(config: SessionConfig) -> Session
+        requires { IsHoldTime config.hold }
+        ensures { result ≡ opening config }
+    {
+        Session {
+            config,
+            state: State::Idle,
+            hold_time: 0,
+            connect_retry_timer: 0,
+            hold_timer: 0,
+            keepalive_timer: 0,
+            restart_timer: 0,
+        }
+    }
+
+    /// The state.
+    pub fn state(&self) -> State
+        ensures { result ≡ self.now.state }
+    {
+        self.state
+    }
+
+    /// The settings that it was made with.
+    pub fn config(&self) -> SessionConfig
+        ensures { result ≡ self.now.config }
+    {
+        self.config
+    }
+
+    /// An event happens: answers what the router is to do (RFC 4271 section 8.2.2).
+    pub fn on(&mut self, event: FsmEvent) -> Actions
+        requires { IsGoodEvent event }
+        ensures session { self.new ≡ (on_event self.old event).session }
+        ensures actions { result ≡ (on_event self.old event).actions }
+    {
+        match self.state {
+            State::Idle => self.on_idle(event),
+            State::Connect => self.on_connect(event),
+            State::Active => self.on_active(event),
+            State::OpenSent => self.on_open_sent(event),
+            State::OpenConfirm => self.on_open_confirm(event),
+            State::Established => self.on_established(event),
+        }
+    }
+
+    /// A second passes: answers the event of the timer that runs out, if one does. The caller gives
+    /// it to `on`. Where the HoldTimer and the KeepaliveTimer run out together, only the HoldTimer's
+    /// event comes.
+    pub fn tick(&mut self) -> Option<FsmEvent>
+        ensures event { result ≡ runs_out self.old }
+        ensures session { self.new ≡ ticked self.old }
+    {
+        let event = if self.hold_timer == 1 {
+            Some(FsmEvent::HoldTimerExpires)
+        } else if self.keepalive_timer == 1 {
+            Some(FsmEvent::KeepaliveTimerExpires)
+        } else if self.connect_retry_timer == 1 {
+            Some(FsmEvent::ConnectRetryTimerExpires)
+        } else if self.restart_timer == 1 {
+            Some(FsmEvent::AutomaticStart)
+        } else {
+            None
+        };
+        self.connect_retry_timer = self.connect_retry_timer.saturating_sub(1);
+        self.hold_timer = self.hold_timer.saturating_sub(1);
+        self.keepalive_timer = self.keepalive_timer.saturating_sub(1);
+        self.restart_timer = self.restart_timer.saturating_sub(1);
+        event
+    }
+
+    /// An UPDATE was sent, so the next KEEPALIVE is due a third of the hold time from now.
+    pub fn update_sent(&mut self)
+        requires { self.old.state ≡ Established }
+        ensures { self.new ≡ kept_alive self.old }
+    {
+        self.keepalive_timer = self.hold_time / 3;
+    }
+}
+
+#[cfg(test)]
+mod tests;
