@@ -15,7 +15,7 @@ use Rattle.world_core.specs.declared.event.DuoEvent.{DuoEvent}
 use Rattle.world_core.specs.declared.event.DuoEvent.TheVariants.{Send, Put, Take, Handle}
 use Rattle.world_core.specs.declared.event.Stepped.TheVariants.{Did, Nothing}
 use Rattle.world_core.specs.Duo.{End, Ends, opening, empty_end, is_update, has_frame, sends, puts, handles, gains_piece, loses_piece, end_put, end_handle, end_step, end_take, taken, unless_waiting, step, run, end_of, other}
-use Rattle.world_core.specs.InOrder.{Begins, InOrder, AlwaysInOrder, NoFaultWaits}
+use Rattle.world_core.specs.SentAndActed.{Begins, ActsInOrder, AlwaysInOrder, NoFaultWaits}
 
 -- what a sent is what b acted on, what b holds, what stands in the pipe, and what waits in the outbox
 pub record Carried (a b : End) : Type 0 where
@@ -241,5 +241,5 @@ handled law now sent pipe acted acts outbox held rest end v h is ea eh =
     let n : length_field held ≡ end = f.1 in
     rw (← v, eh, ea) (rw has (rw n refl))
 
-pub play_end : (duo last : Ends) (i : ℕ) (events : List DuoEvent) → run duo (drop i events) ≡ last → length events ≤ i → InOrder last → InOrder duo
-play_end duo last i events e h o = let none : drop i events ≡ [] = drop_all i events h in subst InOrder (sym e ∙ ap (run duo) none) o
+pub play_end : (duo last : Ends) (i : ℕ) (events : List DuoEvent) → run duo (drop i events) ≡ last → length events ≤ i → ActsInOrder last → ActsInOrder duo
+play_end duo last i events e h o = let none : drop i events ≡ [] = drop_all i events h in subst ActsInOrder (sym e ∙ ap (run duo) none) o

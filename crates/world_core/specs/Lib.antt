@@ -1,2 +1,2 @@
 pub mod Duo
-pub mod InOrder
+pub mod SentAndActed

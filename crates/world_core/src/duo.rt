@@ -2,7 +2,7 @@
 
 ghost use Rattle.std.specs.Prelude.{◌≡◌, ◌≤◌, ◌⊎◌, ◌↔◌, length, IfOk, IfErr, OnErr, IsErrOf, IsTrue, Err, Ok};
 ghost use Rattle.world_core.specs.Duo.{Step, made, step, opening, end_of, is_update, run};
-ghost use Rattle.world_core.specs.InOrder.{InOrder};
+ghost use Rattle.world_core.specs.SentAndActed.{ActsInOrder};
 
 use crate::event::{DuoEvent, DuoFault, Side, Stepped};
 use crate::laws::always_in_order;
@@ -118,7 +118,7 @@ impl Duo {
     /// once each, however the octets were cut.
     pub fn play(alloc: Global, cut: usize, events: &[DuoEvent]) -> Result<Duo, DuoFault>
         ensures ends { IfOk result (λ duo. duo ≡ run (opening cut) events.now) }
-        ensures in_order { IfOk result (λ duo. InOrder duo) }
+        ensures in_order { IfOk result (λ duo. ActsInOrder duo) }
     {
         always_in_order();
         let mut duo = Duo::new(alloc, cut)?;

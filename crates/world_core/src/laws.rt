@@ -1,6 +1,6 @@
 //! The laws of two ends, over every list of events.
 
-ghost use Rattle.world_core.specs.InOrder.{AlwaysInOrder, NoFaultWaits};
+ghost use Rattle.world_core.specs.SentAndActed.{AlwaysInOrder, NoFaultWaits};
 
 use bgp_codec::laws::header_is_its_front;
 use bgp_framing::laws::{splits_in_pieces, splits_into_nothing, splits_once};

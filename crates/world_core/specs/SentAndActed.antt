@@ -12,12 +12,12 @@ abbrev pub Begins : List (List ℕ) → List (List ℕ) → Type 0
 Begins front all = (rest : List (List ℕ)) × (all ≡ front ++ rest)
 
 -- what each side acted on is a beginning of what the other sent, and all that was sent are frames of type UPDATE
-abbrev pub InOrder : Ends → Type 0
-InOrder ends = (side : Side) → Begins (end_of ends side).acted (end_of ends (other side)).sent × AllByRecursion (λ frame. IsTrue (is_update frame)) (end_of ends side).sent
+abbrev pub ActsInOrder : Ends → Type 0
+ActsInOrder ends = (side : Side) → Begins (end_of ends side).acted (end_of ends (other side)).sent × AllByRecursion (λ frame. IsTrue (is_update frame)) (end_of ends side).sent
 
 -- after every list of events, however the octets were cut
 abbrev pub AlwaysInOrder : Type 0
-AlwaysInOrder = (cut : ℕ) (events : List DuoEvent) → InOrder (run (opening cut) events)
+AlwaysInOrder = (cut : ℕ) (events : List DuoEvent) → ActsInOrder (run (opening cut) events)
 
 -- and no faulty header ever stands in front: what waits is a whole message
 abbrev pub NoFaultWaits : Type 0

@@ -1,0 +1,53 @@
+//! The laws of network runs, before any router stands on them.
+//!
+//! A pure model of routers that speak BGP-4 (RFC 4271) over links whose connections come and go, record snapshots by
+//! markers (Chandy and Lamport 1985) and choose routes by rank (Griffin, Shepherd and Wilfong 2002), and what holds in
+//! every run of it. The definitions stand in `specs/`; each law is a function with an empty body, and its one contract is
+//! that law. So the crate has no code that runs: a crate with code shows that each of its calls is a step of this model,
+//! and then has the laws.
+//!
+//! The laws speak of any type of messages, prefixes and paths, and of any choice among paths: what messages tell and how
+//! a router chooses stands in the network that each law is given.
+//!
+//! Left out: the session machine's timers, octets within a message, stamps, limits of numbers; that anything arrives,
+//! ends or settles.
+#![tactic(auto)]
+
+pub mod examples;
+pub mod links;
+pub mod network_links;
+pub mod octets;
+pub mod offers;
+pub mod orders;
+#[cfg(test)]
+mod orders_tests;
+pub mod places;
+pub mod quiet;
+pub mod recordings;
+pub mod routes;
+pub mod sessions;
+#[cfg(test)]
+mod tests;
+pub mod wrong_twins;
+
+pub use links::{first_in_first_out, joined_heard_its_own, link_runs_go_on};
+pub use network_links::network_runs_are_link_runs;
+pub use octets::{Framing, octets_are_entries};
+pub use offers::{
+    close_loses_the_recording, offer_runs_are_network_runs, one_offer_a_number, outcome_is_one,
+    outcome_tells, settled_outcome_is_stable_and_stays,
+};
+pub use orders::{
+    JournalLines, Routers, WholeLines, causal_orders_are_runs, causal_orders_end_alike,
+    gathered_events_are_stamped, gathered_is_one, gathered_stamps_rise, gathering_lifts,
+    journals_can_be_gathered, offers_stand, puts_come_earlier, runs_are_causal_orders,
+    runs_have_their_cuts, runs_pass_through_cuts, sorting_by_stamp_gathers,
+    sorting_by_stamp_then_router_gathers, stamps_change_no_item, stamps_give_causal_orders,
+    stamps_give_the_collectors_order, steps_are_takes_in_order, takes_have_their_puts,
+    threads_are_a_run,
+};
+pub use places::{recorded_at_one_event, recordings_make_a_cut};
+pub use quiet::{settled_stays, unfinished_snapshots_hold};
+pub use recordings::consistent_cut;
+pub use routes::{network_runs_go_on, settled_is_stable};
+pub use sessions::sessions_are_link_runs;

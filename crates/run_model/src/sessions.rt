@@ -1,0 +1,15 @@
+//! Sessions: their states and the moves of their ends.
+ghost use Rattle.run_model.specs.Sessions.{SessionRunsGoOn, SessionsMakeALinkRun, SessionsFit, UpIsEstablished};
+
+/// Events that are a run from where a run of sessions ends make a longer run (`on`). A run of sessions is, by the moves of each event, a run of link ends (`run`), so that every law of link ends holds of
+/// it; each end is always as its session's state says (`fits`); and it is up exactly where its session is Established
+/// (`up`).
+///
+/// Premises: all sessions begin in Idle, and each event is one that `MayCome` allows. It does not say which message a
+/// session accepts, nor anything of timers.
+pub fn sessions_are_link_runs<M>()
+    ensures on { SessionRunsGoOn M }
+    ensures run { SessionsMakeALinkRun M }
+    ensures fits { SessionsFit M }
+    ensures up { UpIsEstablished M }
+{}

@@ -1,0 +1,48 @@
+//! Each law at a type of messages, prefixes and paths.
+ghost use Rattle.std.specs.Prelude.{◌≡◌, length, ◌∷◌, [], List, ℕ};
+
+use super::{
+    Framing, close_loses_the_recording, consistent_cut, first_in_first_out, joined_heard_its_own,
+    link_runs_go_on, network_runs_are_link_runs, network_runs_go_on, octets_are_entries,
+    offer_runs_are_network_runs, one_offer_a_number, outcome_is_one, outcome_tells,
+    recorded_at_one_event, recordings_make_a_cut, sessions_are_link_runs, settled_is_stable,
+    settled_outcome_is_stable_and_stays, settled_stays, unfinished_snapshots_hold,
+};
+
+/// Messages of one octet, each a frame.
+struct OneOctet;
+
+impl Framing<u8> for OneOctet {
+    ghost is_frame = { λ octets. length octets ≡ 1 };
+
+    ghost is_good = { λ message. Unit {0} };
+
+    ghost written = { λ message. message ∷ [] };
+}
+
+#[test]
+fn laws_of_links_at_a_type() {
+    link_runs_go_on::<u8>();
+    first_in_first_out::<u8>();
+    joined_heard_its_own::<u8>();
+    octets_are_entries::<u8, OneOctet>();
+    sessions_are_link_runs::<u8>();
+}
+
+#[test]
+fn laws_of_snapshots_at_a_type() {
+    consistent_cut::<u8>();
+    network_runs_are_link_runs::<u8, u8, u32>();
+    network_runs_go_on::<u8, u8, u32>();
+    settled_is_stable::<u8, u8, u32>();
+    settled_stays::<u8, u8, u32>();
+    recorded_at_one_event::<u8, u8, u32>();
+    offer_runs_are_network_runs::<u8, u8, u32>();
+    one_offer_a_number::<u8, u8, u32>();
+    close_loses_the_recording::<u8, u8, u32>();
+    outcome_is_one::<u8, u8, u32>();
+    outcome_tells::<u8, u8, u32>();
+    settled_outcome_is_stable_and_stays::<u8, u8, u32>();
+    recordings_make_a_cut::<u8, u8, u32>();
+    unfinished_snapshots_hold::<u8, u8, u32>();
+}
