@@ -6,11 +6,12 @@
 //! written is read again as the same message.
 //!
 //! The definitions stand in `specs/`: `Header` (the header and its checks), `Spelling` (how each
-//! message is spelt, and the one spelling that is written), `Faults` (the first fault of a
-//! frame). The laws that tie them together are the public functions of [`laws`].
+//! message is spelt, and the one spelling that is written), `Opens` (the body of an OPEN),
+//! `Faults` (the first fault of a frame). The laws that tie them together are the public
+//! functions of [`laws`].
 //!
-//! Read so far: the header of all four types, NOTIFICATION and KEEPALIVE. A good frame of type
-//! OPEN or UPDATE is answered [`CodecError::NotYet`].
+//! Read so far: the header of all four types, OPEN, NOTIFICATION and KEEPALIVE. A good frame of
+//! type UPDATE is answered [`CodecError::NotYet`].
 //!
 //! Left out: framing (which octets are one message), sessions, and every use of a message.
 #![tactic(auto)]
