@@ -9,8 +9,8 @@
 //! The laws speak of any type of messages, prefixes and paths, and of any choice among paths: what messages tell and how
 //! a router chooses stands in the network that each law is given.
 //!
-//! Left out: the session machine's timers, octets within a message, stamps, limits of numbers; that anything arrives,
-//! ends or settles.
+//! Left out: the session machine's timers, what the octets of a message mean, the limits of numbers and stamps; that
+//! anything arrives, ends or settles.
 #![tactic(auto)]
 
 pub mod examples;
