@@ -1,14 +1,14 @@
 -- A frame is its marker, length, type and body, joined.
-use Rattle.std.proofs.Common.{◌≡◌, ℕ, zero, suc, ◌+◌, ◌-◌, ◌^◌, ◌<◌, ◌≤◌, Bool, true, false, cond, List, [], ◌∷◌, ◌++◌, length, get_or, take, drop, drop-cons, Option, Some, None, refl, sym, ap, subst, ◌∙◌, append_assoc, arith, inl, inr, ◌⊎◌}
-use Rattle.std.specs.Prelude.{slice_index, nat_le, nat_eq, not, replicate, ◌==◌, ◌&&◌}
-use Rattle.std.specs.Int.{w16, to_be_bytes, from_be_bytes}
+use Rattle.std.proofs.Common.{◌≡◌, ℕ, zero, suc, ◌+◌, ◌^◌, ◌<◌, ◌≤◌, Bool, true, false, cond, List, [], ◌∷◌, ◌++◌, length, get_or, take, drop, drop-cons, Option, Some, None, refl, sym, ap, subst, ◌∙◌, append_assoc, arith, inl, inr, ◌⊎◌}
+use Rattle.std.specs.Prelude.{nat_le, nat_eq, not, replicate, ◌&&◌}
+use Rattle.std.specs.Int.{w16, to_be_bytes}
 use Rattle.std.proofs.lemmas.Bool.{leb-true, eqb-true}
 use Rattle.std.specs.Cmp.Lexicographic.{pointwise}
-use Rattle.std.proofs.lemmas.List.{nil_from_length, get_or-take, take-take, take-append-drop, length-append, length-drop}
+use Rattle.std.proofs.lemmas.List.{nil_from_length, get_or-take, take-take, take-append-drop, length-drop}
 use Rattle.std.proofs.lemmas.Nat.{be_bytes_2, from_be_bytes-to_be_bytes_2}
 use Rattle.marker_lanes.specs.Marker.{marker}
 use Rattle.bgp_codec.specs.declared.fault.Fault.{Fault}
-use Rattle.bgp_codec.specs.Header.{HeaderIsItsFront, IsItsFront, header_fault, begins_with_marker, length_field, length_octets, kind_field, is_message_len, is_kind, length_fits, fault_of, IsFrame}
+use Rattle.bgp_codec.specs.Header.{HeaderIsItsFront, header_fault, begins_with_marker, length_field, length_octets, kind_field, is_message_len, is_kind, length_fits, fault_of, IsFrame}
 use Rattle.bgp_codec.specs.Spelling.{IsOctets, framed, header_of}
 use Rattle.bgp_codec.proofs.MarkerLemmas.{marker_front}
 
@@ -102,6 +102,12 @@ pub long_open : (bytes : List ℕ) → IsFrame bytes → kind_field bytes ≡ 1 
 long_open bytes frame e =
     let fits : length_fits 1 (length_field bytes) ≡ true = subst (λ (k : ℕ). length_fits k (length_field bytes) ≡ true) e (good_header bytes frame.good).fits in
     let long : 29 ≤ length_field bytes = leb-true 29 (length_field bytes) fits in
+    omega (arith, length-drop 19 bytes)
+
+pub long_update : (bytes : List ℕ) → IsFrame bytes → kind_field bytes ≡ 2 → 4 ≤ length (drop 19 bytes)
+long_update bytes frame e =
+    let fits : length_fits 2 (length_field bytes) ≡ true = subst (λ (k : ℕ). length_fits k (length_field bytes) ≡ true) e (good_header bytes frame.good).fits in
+    let long : 23 ≤ length_field bytes = leb-true 23 (length_field bytes) fits in
     omega (arith, length-drop 19 bytes)
 
 pub no_body : (bytes : List ℕ) → IsFrame bytes → kind_field bytes ≡ 4 → drop 19 bytes ≡ []

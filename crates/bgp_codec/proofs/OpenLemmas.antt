@@ -1,165 +1,197 @@
--- Capabilities and parameters, one more at a time.
-use Rattle.std.proofs.Common.{◌≡◌, ℕ, zero, suc, ◌+◌, ◌<◌, ◌≤◌, Bool, true, false, cond, List, [], ◌∷◌, ◌++◌, length, take, drop, get_or, Result, Ok, Err, refl, sym, ap, subst, ◌∙◌, append_assoc, eq-eqb, arith}
-use Rattle.std.specs.Prelude.{nat_lt, ◌==◌}
-use Rattle.std.proofs.lemmas.Bool.{eqb-true}
-use Rattle.std.proofs.lemmas.List.{append-nil, length-drop}
-use Rattle.bgp_codec.specs.declared.fault.CodecError.{CodecError}
-use Rattle.bgp_codec.specs.declared.fault.CodecError.TheVariants as errors
+-- A capability and a parameter in front: what is read is spelt so, and what is spelt so is read.
+use Rattle.std.proofs.Common.{◌≡◌, ℕ, ◌+◌, ◌<◌, ◌≤◌, Bool, true, false, cond, List, [], ◌∷◌, ◌++◌, length, take, drop, Result, Ok, Err, refl, sym, ap, subst, ◌∙◌, arith}
+use Rattle.std.specs.Prelude.{nat_lt, ◌==◌, not, slice_index}
+use Rattle.std.specs.List.{flat_map, AllByRecursion}
+use Rattle.std.proofs.lemmas.Bool.{eqb-true, le-ltb, ltb-false}
+use Rattle.std.proofs.lemmas.List.{length-append, length-drop, length-take-le, take_at, drop_at, take-append-drop}
+use Rattle.bgp_codec.specs.declared.fault.Fault.{Fault}
 use Rattle.bgp_codec.specs.declared.open.Cap.{Cap}
-use Rattle.bgp_codec.specs.Opens.{◌>>=◌, value_at, cap_of, in_front, caps_in, caps_reading, param_reading, params_in, params_reading, open_fault, Fails, Gives}
+use Rattle.bgp_codec.specs.Reading.{◌>>=◌}
+use Rattle.bgp_codec.specs.Spelling.{IsOctets}
+use Rattle.bgp_codec.specs.Opens.{value_at, cap_of, cap_at, caps_reading, param_at, params_reading, open_fault, cap_octets, param_octets, CapFits, ParamFits}
+use Rattle.bgp_codec.proofs.OctetLemmas.{octets_front, octets_tail, octets_behind}
+use Rattle.bgp_codec.proofs.EachLemmas.{Shortens, Takes, GivesBack, past_test, each_takes, each_again, each_written, each_whole}
 
--- what was read, before what is read
-abbrev pub with_front : {A : Type 0} → List A → Result (List A) CodecError → Result (List A) CodecError
-with_front front (Ok rest) = Ok (front ++ rest)
-with_front front (Err e) = Err e
+-- ---- a value in front
 
-pub front_none : {A : Type 0} (r : Result (List A) CodecError) → r ≡ with_front [] r
-front_none (Ok xs) = refl
-front_none (Err e) = refl
+-- its octets are inside
+pub record HasValue (octets value rest : List ℕ) : Type 0 where
+  pub shorter : length rest + 2 ≤ length octets
+  pub size : length value ≡ slice_index octets 1
+  pub whole : octets ≡ slice_index octets 0 ∷ (length value ∷ (value ++ rest))
 
-pub front_more : {A : Type 0} (front : List A) (x : A) (r : Result (List A) CodecError) → with_front front (in_front x r) ≡ with_front (front ++ x ∷ []) r
-front_more front x (Ok xs) = ap Ok (sym (append_assoc front (x ∷ []) xs))
-front_more front x (Err e) = refl
-
--- what follows a value is shorter by two at least
-guarded : {A : Type 0} (b : Bool) (e : CodecError) (x y : A) → (let r : Result A CodecError = cond b (Err e) (Ok x) in r ≡ Ok y) → (b ≡ false) × (x ≡ y)
-guarded true e x y q = absurd cc
-guarded false e x y q = (refl, cc)
-
-value_shorter : (octets : List ℕ) (value rest : List ℕ) → value_at octets ≡ Ok (value, rest) → length rest + 2 ≤ length octets
-value_shorter [] value rest e = absurd cc
-value_shorter (k ∷ []) value rest e = absurd cc
-value_shorter (k ∷ len ∷ more) value rest e =
-    let g = guarded (nat_lt (length more) len) (open_fault 0) (take len more, drop len more) (value, rest) e in
+has_value : (octets value rest : List ℕ) → value_at octets ≡ Ok (value, rest) → HasValue octets value rest
+has_value [] value rest e = absurd cc
+has_value (k ∷ []) value rest e = absurd cc
+has_value (k ∷ len ∷ more) value rest e =
+    let g = past_test (nat_lt (length more) len) (open_fault 0) (take len more, drop len more) (value, rest) e in
+    let inside : len ≤ length more = ltb-false (length more) len g.0 in
+    let v : take len more ≡ value = ap (λ (p : List ℕ × List ℕ). p.0) g.1 in
     let r : drop len more ≡ rest = ap (λ (p : List ℕ × List ℕ). p.1) g.1 in
-    let n : length (drop len more) ≤ length more = omega (arith, length-drop len more) in
-    omega (arith, ap length r, n)
+    let size : length value ≡ len = ap length (sym v) ∙ length-take-le len more inside in
+    let joined : more ≡ value ++ rest = sym (take-append-drop len more) ∙ ap (λ (ys : List ℕ). ys ++ drop len more) v ∙ ap (λ (ys : List ℕ). value ++ ys) r in
+    record {
+      shorter = omega (arith, ap length r, length-drop len more);
+      size = size;
+      whole = ap (λ (ys : List ℕ). k ∷ (len ∷ ys)) joined ∙ ap (λ (n : ℕ). k ∷ (n ∷ (value ++ rest))) (sym size);
+    }
+
+-- the octets of a value that is inside are octets
+pub record AreOctets (value rest : List ℕ) : Type 0 where
+  pub in_value : IsOctets value
+  pub in_rest : IsOctets rest
+  pub small : length value < 256
+
+value_octets : (octets value rest : List ℕ) → IsOctets octets → value_at octets ≡ Ok (value, rest) → AreOctets value rest
+value_octets [] value rest are e = absurd cc
+value_octets (k ∷ []) value rest are e = absurd cc
+value_octets (k ∷ len ∷ more) value rest are e =
+    let h = has_value (k ∷ len ∷ more) value rest e in
+    let g = past_test (nat_lt (length more) len) (open_fault 0) (take len more, drop len more) (value, rest) e in
+    let behind : IsOctets more = octets_tail len more (octets_tail k (len ∷ more) are) in
+    record {
+      in_value = subst IsOctets (ap (λ (p : List ℕ × List ℕ). p.0) g.1) (octets_front len more behind);
+      in_rest = subst IsOctets (ap (λ (p : List ℕ × List ℕ). p.1) g.1) (octets_behind len more behind);
+      small = omega (arith, h.size, are 1);
+    }
+
+-- it is read as it was spelt
+value_again : (kind : ℕ) (value rest : List ℕ) → value_at (kind ∷ (length value ∷ (value ++ rest))) ≡ Ok (value, rest)
+value_again kind value rest =
+    let long : nat_lt (length (value ++ rest)) (length value) ≡ false = le-ltb (length (value ++ rest)) (length value) (omega (arith, length-append value rest)) in
+    rw (long, take_at value rest (length value) refl, drop_at value rest (length value) refl) refl
+
+-- ---- a capability
+
+-- its one spelling
+abbrev pub SpellsCap : List ℕ → Cap → Type 0
+SpellsCap octets cap = (octets ≡ cap_octets cap) × CapFits cap
+
+-- the capability of a value, and what follows it
+abbrev pub with_code : ℕ → List ℕ × List ℕ → Result (Cap × List ℕ) Fault
+with_code code v = Ok (cap_of code v.0, v.1)
+
+cap_found : (octets : List ℕ) (r : Result (List ℕ × List ℕ) Fault) (cap : Cap) (rest : List ℕ) → (r >>= with_code (slice_index octets 0)) ≡ Ok (cap, rest)
+    → (value : List ℕ) × (r ≡ Ok (value, rest)) × (cap_of (slice_index octets 0) value ≡ cap)
+cap_found octets (Err f) cap rest e = absurd cc
+cap_found octets (Ok v) cap rest e =
+    let both : (cap_of (slice_index octets 0) v.0, v.1) ≡ (cap, rest) = cc in
+    (v.0, ap (λ (r : List ℕ). let p : Result (List ℕ × List ℕ) Fault = Ok (v.0, r) in p) (ap (λ (p : Cap × List ℕ). p.1) both), ap (λ (p : Cap × List ℕ). p.0) both)
+
+-- what follows it is shorter
+pub cap_shortens : Shortens cap_at
+cap_shortens octets cap rest e =
+    let f = cap_found octets (value_at octets) cap rest e in
+    let h = has_value octets f.0 rest f.1 in
+    omega (arith, h.shorter)
+
+cap_takes : Takes IsOctets cap_at SpellsCap
+cap_takes octets cap rest are e =
+    let f = cap_found octets (value_at octets) cap rest e in
+    let h = has_value octets f.0 rest f.1 in
+    let o = value_octets octets f.0 rest are f.1 in
+    let one = cap_of (slice_index octets 0) f.0 in (
+      cap_octets one,
+      subst (SpellsCap (cap_octets one)) f.2 (refl, o.small),
+      o.in_rest,
+      h.whole,
+    )
+
+cap_again : GivesBack (λ octets. Unit {0}) cap_at SpellsCap
+cap_again front cap rest are s = (
+  ap (λ (xs : List ℕ). cap_at (xs ++ rest)) s.0
+      ∙ ap (λ (r : Result (List ℕ × List ℕ) Fault). r >>= with_code cap.code) (value_again cap.code cap.value rest),
+  tt,
+)
 
 -- ---- capabilities
 
-caps_bind : (n m code : ℕ) (r : Result (List ℕ × List ℕ) CodecError) → ((v : List ℕ × List ℕ) → r ≡ Ok v → caps_in n v.1 ≡ caps_in m v.1)
-    → (r >>= λ v. in_front (cap_of code v.0) (caps_in n v.1)) ≡ (r >>= λ v. in_front (cap_of code v.0) (caps_in m v.1))
-caps_bind n m code (Ok v) h = ap (in_front (cap_of code v.0)) (h v refl)
-caps_bind n m code (Err e) h = refl
+-- what is read is spelt so
+pub caps_takes : (octets : List ℕ) (caps : List Cap) → IsOctets octets → caps_reading octets ≡ Ok caps → (octets ≡ flat_map cap_octets caps) × AllByRecursion CapFits caps
+caps_takes octets caps are e =
+    each_whole CapFits SpellsCap cap_octets octets caps (λ front cap spelt. spelt) (each_takes IsOctets cap_at SpellsCap octets caps cap_shortens cap_takes are e)
 
--- enough turns are as good as more
-caps_enough : (n m : ℕ) (octets : List ℕ) → length octets ≤ n → length octets ≤ m → caps_in n octets ≡ caps_in m octets
-unfolding caps_in
-caps_enough zero zero [] h k = refl
-caps_enough zero (suc m) [] h k = refl
-caps_enough (suc n) zero [] h k = refl
-caps_enough (suc n) (suc m) [] h k = refl
-caps_enough zero m (x ∷ xs) h k = absurd (omega arith)
-caps_enough (suc n) zero (x ∷ xs) h k = absurd (omega arith)
-caps_enough (suc n) (suc m) (x ∷ xs) h k =
-    caps_bind n m x (value_at (x ∷ xs)) (λ v e. let s = value_shorter (x ∷ xs) v.0 v.1 e in caps_enough n m v.1 (omega (arith, s)) (omega (arith, s)))
+-- what is spelt so is read
+pub caps_again : (caps : List Cap) → AllByRecursion CapFits caps → caps_reading (flat_map cap_octets caps) ≡ Ok caps
+caps_again caps fit =
+    each_again (λ octets. Unit {0}) cap_at SpellsCap (flat_map cap_octets caps) caps cap_shortens cap_again tt (each_written CapFits SpellsCap cap_octets caps (λ cap fits. (refl, fits)) fit)
 
-pub caps_none : caps_reading [] ≡ Ok []
-unfolding caps_in
-caps_none = refl
+-- ---- a parameter
 
--- one capability, and what is read of the rest
-pub caps_step : (x : ℕ) (xs value rest : List ℕ) → value_at (x ∷ xs) ≡ Ok (value, rest) → caps_reading (x ∷ xs) ≡ in_front (cap_of x value) (caps_reading rest)
-unfolding caps_in
-caps_step x xs value rest e =
-    let s = value_shorter (x ∷ xs) value rest e in
-    let more : caps_in (length xs) rest ≡ caps_reading rest = caps_enough (length xs) (length rest) rest (omega (arith, s)) (omega arith) in
-    ap (λ (r : Result (List ℕ × List ℕ) CodecError). r >>= λ v. in_front (cap_of x v.0) (caps_in (length xs) v.1)) e ∙ ap (in_front (cap_of x value)) more
+-- its one spelling
+abbrev pub SpellsParam : List ℕ → List Cap → Type 0
+SpellsParam octets caps = (octets ≡ param_octets caps) × ParamFits caps
 
-pub caps_fault : (x : ℕ) (xs : List ℕ) (e : CodecError) → value_at (x ∷ xs) ≡ Err e → caps_reading (x ∷ xs) ≡ Err e
-unfolding caps_in
-caps_fault x xs e h = ap (λ (r : Result (List ℕ × List ℕ) CodecError). r >>= λ v. in_front (cap_of x v.0) (caps_in (length xs) v.1)) h
+-- the value of a parameter that is read, its kind being 2
+pub record HasCaps (octets : List ℕ) (caps : List Cap) (rest : List ℕ) : Type 0 where
+  pub value : List ℕ
+  pub value_is : value_at octets ≡ Ok (value, rest)
+  pub kind : slice_index octets 0 ≡ 2
+  pub caps_are : caps_reading value ≡ Ok caps
+
+-- capabilities, and what follows them
+abbrev pub with_rest : List ℕ → List Cap → Result (List Cap × List ℕ) Fault
+with_rest rest caps = Ok (caps, rest)
+
+caps_found : (r : Result (List Cap) Fault) (v : List ℕ) (caps : List Cap) (rest : List ℕ) → (r >>= with_rest v) ≡ Ok (caps, rest) → (r ≡ Ok caps) × (v ≡ rest)
+caps_found (Err f) v caps rest e = absurd cc
+caps_found (Ok cs) v caps rest e =
+    let both : (cs, v) ≡ (caps, rest) = cc in (ap (λ (p : List Cap × List ℕ). let q : Result (List Cap) Fault = Ok p.0 in q) both, ap (λ (p : List Cap × List ℕ). p.1) both)
+
+kind_found : (b : Bool) (f : Fault) (r q : Result (List Cap × List ℕ) Fault) (caps : List Cap) (rest : List ℕ) → cond (not b) (Err f) r ≡ Ok (caps, rest) → (b ≡ true) × (r ≡ Ok (caps, rest))
+kind_found true f r q caps rest e = (refl, e)
+kind_found false f r q caps rest e = absurd cc
+
+param_found : (octets : List ℕ) (r : Result (List ℕ × List ℕ) Fault) (caps : List Cap) (rest : List ℕ) → value_at octets ≡ r
+    → (r >>= λ v. cond (not (slice_index octets 0 == 2)) (Err (open_fault 4)) (caps_reading v.0 >>= with_rest v.1)) ≡ Ok (caps, rest) → HasCaps octets caps rest
+param_found octets (Err f) caps rest is e = absurd cc
+param_found octets (Ok v) caps rest is e =
+    let k = kind_found (slice_index octets 0 == 2) (open_fault 4) _ (Ok (caps, rest)) caps rest e in
+    let c = caps_found (caps_reading v.0) v.1 caps rest k.1 in
+    record {
+      value = v.0;
+      value_is = is ∙ ap (λ (r : List ℕ). let p : Result (List ℕ × List ℕ) Fault = Ok (v.0, r) in p) c.1;
+      kind = eqb-true (slice_index octets 0) 2 k.0;
+      caps_are = c.0;
+    }
+
+-- what follows it is shorter
+pub param_shortens : Shortens param_at
+param_shortens octets caps rest e =
+    let p = param_found octets (value_at octets) caps rest refl e in
+    let h = has_value octets p.value rest p.value_is in
+    omega (arith, h.shorter)
+
+param_takes : Takes IsOctets param_at SpellsParam
+param_takes octets caps rest are e =
+    let p = param_found octets (value_at octets) caps rest refl e in
+    let h = has_value octets p.value rest p.value_is in
+    let o = value_octets octets p.value rest are p.value_is in
+    let c = caps_takes p.value caps o.in_value p.caps_are in (
+      param_octets caps,
+      (refl, (c.1, omega (arith, ap length c.0, o.small))),
+      o.in_rest,
+      h.whole ∙ ap (λ (k : ℕ). k ∷ (length p.value ∷ (p.value ++ rest))) p.kind ∙ ap (λ (v : List ℕ). 2 ∷ (length v ∷ (v ++ rest))) c.0,
+    )
+
+param_again : GivesBack (λ octets. Unit {0}) param_at SpellsParam
+param_again front caps rest are s =
+    let value = flat_map cap_octets caps in (
+      ap (λ (xs : List ℕ). param_at (xs ++ rest)) s.0
+          ∙ ap (λ (r : Result (List ℕ × List ℕ) Fault). r >>= λ v. (caps_reading v.0 >>= with_rest v.1)) (value_again 2 value rest)
+          ∙ ap (λ (r : Result (List Cap) Fault). r >>= with_rest rest) (caps_again caps s.1.0),
+      tt,
+    )
 
 -- ---- parameters
 
-params_bind : (n m kind : ℕ) (r : Result (List ℕ × List ℕ) CodecError) → ((v : List ℕ × List ℕ) → r ≡ Ok v → params_in n v.1 ≡ params_in m v.1)
-    → (r >>= λ v. param_reading kind v.0 >>= λ caps. in_front caps (params_in n v.1)) ≡ (r >>= λ v. param_reading kind v.0 >>= λ caps. in_front caps (params_in m v.1))
-params_bind n m kind (Ok v) h = ap (λ (r : Result (List (List Cap)) CodecError). param_reading kind v.0 >>= λ caps. in_front caps r) (h v refl)
-params_bind n m kind (Err e) h = refl
+-- what is read is spelt so
+pub params_takes : (octets : List ℕ) (params : List (List Cap)) → IsOctets octets → params_reading octets ≡ Ok params → (octets ≡ flat_map param_octets params) × AllByRecursion ParamFits params
+params_takes octets params are e =
+    each_whole ParamFits SpellsParam param_octets octets params (λ front caps spelt. spelt) (each_takes IsOctets param_at SpellsParam octets params param_shortens param_takes are e)
 
-params_enough : (n m : ℕ) (octets : List ℕ) → length octets ≤ n → length octets ≤ m → params_in n octets ≡ params_in m octets
-unfolding params_in
-params_enough zero zero [] h k = refl
-params_enough zero (suc m) [] h k = refl
-params_enough (suc n) zero [] h k = refl
-params_enough (suc n) (suc m) [] h k = refl
-params_enough zero m (x ∷ xs) h k = absurd (omega arith)
-params_enough (suc n) zero (x ∷ xs) h k = absurd (omega arith)
-params_enough (suc n) (suc m) (x ∷ xs) h k =
-    params_bind n m x (value_at (x ∷ xs)) (λ v e. let s = value_shorter (x ∷ xs) v.0 v.1 e in params_enough n m v.1 (omega (arith, s)) (omega (arith, s)))
-
-pub params_none : params_reading [] ≡ Ok []
-unfolding params_in
-params_none = refl
-
-pub params_step : (x : ℕ) (xs value rest : List ℕ) → value_at (x ∷ xs) ≡ Ok (value, rest)
-    → params_reading (x ∷ xs) ≡ (param_reading x value >>= λ caps. in_front caps (params_reading rest))
-unfolding params_in
-params_step x xs value rest e =
-    let s = value_shorter (x ∷ xs) value rest e in
-    let more : params_in (length xs) rest ≡ params_reading rest = params_enough (length xs) (length rest) rest (omega (arith, s)) (omega arith) in
-    ap (λ (r : Result (List ℕ × List ℕ) CodecError). r >>= λ v. param_reading x v.0 >>= λ caps. in_front caps (params_in (length xs) v.1)) e
-    ∙ ap (λ (r : Result (List (List Cap)) CodecError). param_reading x value >>= λ caps. in_front caps r) more
-
-pub params_fault : (x : ℕ) (xs : List ℕ) (e : CodecError) → value_at (x ∷ xs) ≡ Err e → params_reading (x ∷ xs) ≡ Err e
-unfolding params_in
-params_fault x xs e h = ap (λ (r : Result (List ℕ × List ℕ) CodecError). r >>= λ v. param_reading x v.0 >>= λ caps. in_front caps (params_in (length xs) v.1)) h
-
--- ---- as the loops know it: what is left is not empty
-
-pub caps_go_on : (octets left value rest : List ℕ) (front : List Cap) (code : ℕ) → (length left ≡ 0 → ⊥) → code ≡ get_or left 0 0 → value_at left ≡ Ok (value, rest)
-    → caps_reading octets ≡ with_front front (caps_reading left) → caps_reading octets ≡ with_front (front ++ cap_of code value ∷ []) (caps_reading rest)
-caps_go_on octets [] value rest front code some k e inv = absurd (some refl)
-caps_go_on octets (x ∷ xs) value rest front code some k e inv =
-    inv ∙ ap (with_front front) (caps_step x xs value rest e ∙ ap (λ (c : ℕ). in_front (cap_of c value) (caps_reading rest)) (sym k))
-    ∙ front_more front (cap_of code value) (caps_reading rest)
-
-pub caps_stop : (octets left : List ℕ) (front : List Cap) (e : CodecError) → (length left ≡ 0 → ⊥) → caps_reading octets ≡ with_front front (caps_reading left)
-    → Fails e (value_at left) → Fails e (caps_reading octets)
-caps_stop octets [] front e some inv h = absurd (some refl)
-caps_stop octets (x ∷ xs) front errors.Memory some inv h = tt
-caps_stop octets (x ∷ xs) front (errors.Fault f) some inv h = inv ∙ ap (with_front front) (caps_fault x xs (errors.Fault f) h)
-caps_stop octets (x ∷ xs) front errors.TooLong some inv h = h
-caps_stop octets (x ∷ xs) front (errors.NotYet k) some inv h = h
-
-pub caps_end : (octets left : List ℕ) (front : List Cap) → length left ≡ 0 → caps_reading octets ≡ with_front front (caps_reading left) → caps_reading octets ≡ Ok front
-caps_end octets [] front none inv = inv ∙ ap (with_front front) caps_none ∙ ap Ok (append-nil front)
-caps_end octets (x ∷ xs) front none inv = absurd (omega arith)
-
-pub params_go_on : (octets left value rest : List ℕ) (front : List (List Cap)) (caps : List Cap) (kind : ℕ) → (length left ≡ 0 → ⊥) → kind ≡ get_or left 0 0 → value_at left ≡ Ok (value, rest)
-    → param_reading kind value ≡ Ok caps
-    → params_reading octets ≡ with_front front (params_reading left) → params_reading octets ≡ with_front (front ++ caps ∷ []) (params_reading rest)
-params_go_on octets [] value rest front caps kind some k e r inv = absurd (some refl)
-params_go_on octets (x ∷ xs) value rest front caps kind some k e r inv =
-    let here : param_reading x value ≡ Ok caps = ap (λ (n : ℕ). param_reading n value) (sym k) ∙ r in
-    inv ∙ ap (with_front front) (params_step x xs value rest e ∙ ap (λ (p : Result (List Cap) CodecError). p >>= λ cs. in_front cs (params_reading rest)) here)
-    ∙ front_more front caps (params_reading rest)
-
-pub params_stop : (octets left : List ℕ) (front : List (List Cap)) (e : CodecError) → (length left ≡ 0 → ⊥) → params_reading octets ≡ with_front front (params_reading left)
-    → Fails e (value_at left) → Fails e (params_reading octets)
-params_stop octets [] front e some inv h = absurd (some refl)
-params_stop octets (x ∷ xs) front errors.Memory some inv h = tt
-params_stop octets (x ∷ xs) front (errors.Fault f) some inv h = inv ∙ ap (with_front front) (params_fault x xs (errors.Fault f) h)
-params_stop octets (x ∷ xs) front errors.TooLong some inv h = h
-params_stop octets (x ∷ xs) front (errors.NotYet k) some inv h = h
-
-pub param_stop : (octets left value rest : List ℕ) (front : List (List Cap)) (kind : ℕ) (e : CodecError) → (length left ≡ 0 → ⊥) → kind ≡ get_or left 0 0 → value_at left ≡ Ok (value, rest)
-    → params_reading octets ≡ with_front front (params_reading left) → Fails e (param_reading kind value) → Fails e (params_reading octets)
-param_stop octets [] value rest front kind e some k v inv h = absurd (some refl)
-param_stop octets (x ∷ xs) value rest front kind errors.Memory some k v inv h = tt
-param_stop octets (x ∷ xs) value rest front kind (errors.Fault f) some k v inv h =
-    let here : param_reading x value ≡ Err (errors.Fault f) = ap (λ (n : ℕ). param_reading n value) (sym k) ∙ h in
-    inv ∙ ap (with_front front) (params_step x xs value rest v ∙ ap (λ (p : Result (List Cap) CodecError). p >>= λ cs. in_front cs (params_reading rest)) here)
-param_stop octets (x ∷ xs) value rest front kind errors.TooLong some k v inv h = h
-param_stop octets (x ∷ xs) value rest front kind (errors.NotYet j) some k v inv h = h
-
-pub params_end : (octets left : List ℕ) (front : List (List Cap)) → length left ≡ 0 → params_reading octets ≡ with_front front (params_reading left) → params_reading octets ≡ Ok front
-params_end octets [] front none inv = inv ∙ ap (with_front front) params_none ∙ ap Ok (append-nil front)
-params_end octets (x ∷ xs) front none inv = absurd (omega arith)
-
--- the test of a loop over what is left
-pub some_left : (n : ℕ) → false ≡ (n == 0) → n ≡ 0 → ⊥
-some_left n f e = let t = eq-eqb n 0 e in absurd (let both = f ∙ t in cc)
-
-pub none_left : (n : ℕ) → true ≡ (n == 0) → n ≡ 0
-none_left n t = eqb-true n 0 (sym t)
+-- what is spelt so is read
+pub params_again : (params : List (List Cap)) → AllByRecursion ParamFits params → params_reading (flat_map param_octets params) ≡ Ok params
+params_again params fit =
+    each_again (λ octets. Unit {0}) param_at SpellsParam (flat_map param_octets params) params param_shortens param_again tt
+    (each_written ParamFits SpellsParam param_octets params (λ caps fits. (refl, fits)) fit)

@@ -1,29 +1,34 @@
 -- What is read is spelt so, and what is spelt so is read.
-use Rattle.std.proofs.Common.{◌≡◌, ℕ, zero, suc, ◌+◌, ◌-◌, ◌^◌, ◌<◌, ◌≤◌, Bool, true, false, cond, List, [], ◌∷◌, ◌++◌, length, get_or, take, drop, drop-cons, eq-eqb, Option, Some, None, Result, Ok, Err, refl, sym, ap, subst, ◌∙◌, arith, inl, inr, ◌⊎◌}
+use Rattle.std.proofs.Common.{◌≡◌, ℕ, ◌+◌, ◌≤◌, Bool, true, false, cond, List, [], ◌∷◌, ◌++◌, length, drop, eq-eqb, Option, Some, None, Result, Ok, Err, refl, sym, ap, subst, ◌∙◌, arith, inl, inr, ◌⊎◌}
+use Rattle.std.specs.Int.{w16, to_be_bytes}
 use Rattle.std.specs.Prelude.{slice_index, ◌==◌, ◌≢◌, ◌&&◌, nat_le, IfOk, IfErr, IfSome}
 use Rattle.std.proofs.lemmas.Bool.{eqb-true, leb-true, le-leb}
-use Rattle.std.proofs.lemmas.List.{length-drop}
+use Rattle.std.proofs.lemmas.List.{length-drop, length-append}
 use Rattle.bgp_codec.specs.declared.fault.Fault.{Fault}
 use Rattle.bgp_codec.specs.declared.fault.CodecError.{CodecError}
 use Rattle.bgp_codec.specs.declared.fault.CodecError.TheVariants as errors
 use Rattle.bgp_codec.specs.declared.message.Message.{Message}
-use Rattle.bgp_codec.specs.declared.message.Message.TheVariants.{OpenMsg, NoticeMsg, AliveMsg}
+use Rattle.bgp_codec.specs.declared.message.Message.TheVariants.{OpenMsg, UpdateMsg, NoticeMsg, AliveMsg}
 use Rattle.bgp_codec.specs.declared.rule.Rule.{Rule}
-use Rattle.bgp_codec.specs.Header.{header_fault, kind_field, length_field, is_message_len, is_kind, length_fits, IsFrame}
+use Rattle.bgp_codec.specs.Header.{kind_field, length_field, is_message_len, is_kind, length_fits, IsFrame}
 use Rattle.bgp_codec.specs.Spelling.{IsWritable, IsOctets, Spells, SpellsBody, kind_of, framed, written, written_body}
 use Rattle.bgp_codec.proofs.WritingLemmas.{length-written}
-use Rattle.bgp_codec.specs.declared.open.Open.{Open}
-use Rattle.bgp_codec.specs.Opens.{open_reading, SpellsOpen, OpenFits, is_peer}
-use Rattle.bgp_codec.proofs.OpenLaws.{open_takes, open_again, octets_behind}
-use Rattle.bgp_codec.proofs.OpenFaults.{OnlyFaults, open_faults}
-use Rattle.bgp_codec.specs.Faults.{RefusesAs, open_message, reading, body_reading, notice_reading, fault, fault_in, or_else, IsRead, OneMessageOrFault, FaultFitsAMessage, WrittenIsSpelt, WrittenIsRead}
-use Rattle.bgp_codec.proofs.FrameLemmas.{frame_parts, framed_parts, HasParts, IsGood, no_fault, good_header, long_notice, long_open, no_body}
+use Rattle.bgp_codec.specs.Reading.{Gives, Fails}
+use Rattle.bgp_codec.specs.Opens.{open_reading, is_peer}
+use Rattle.bgp_codec.specs.Updates.{long_string, update_reading}
+use Rattle.bgp_codec.specs.Faults.{RefusesAs, read_as, reading, body_reading, notice_reading, fault, fault_in, or_else, OneMessageOrFault, FaultFitsAMessage, WrittenIsSpelt, WrittenIsRead}
+use Rattle.bgp_codec.proofs.OpenLaws.{open_takes, open_again}
+use Rattle.bgp_codec.proofs.FaultData.{FaultsWithin}
+use Rattle.bgp_codec.proofs.OpenFaults.{open_faults}
+use Rattle.bgp_codec.proofs.OctetLemmas.{octets_behind, octets_left, octets_right}
+use Rattle.bgp_codec.proofs.UpdateLaws.{PrefixLaws, update_takes, update_again, update_written, update_faults}
+use Rattle.bgp_codec.proofs.FrameLemmas.{frame_parts, framed_parts, HasParts, no_fault, good_header, long_notice, long_open, no_body}
 
 chosen : {A : Type 0} (b : Bool) (x y z : A) → cond b x y ≡ z → ((b ≡ true) × (x ≡ z)) ⊎ ((b ≡ false) × (y ≡ z))
 chosen true x y z e = inl (refl, e)
 chosen false x y z e = inr (refl, e)
 
-ok_is : (x y : Message) → (let z : Result Message CodecError = Ok x in z ≡ Ok y) → x ≡ y
+ok_is : (x y : Message) → (let z : Result Message Fault = Ok x in z ≡ Ok y) → x ≡ y
 ok_is x y e = cc
 
 first_of : (a b : Bool) → (a && b) ≡ true → a ≡ true
@@ -40,15 +45,39 @@ two_first [] h = absurd (omega arith)
 two_first (a ∷ []) h = absurd (omega arith)
 two_first (a ∷ b ∷ rest) h = refl
 
+-- the prefixes of an UPDATE are spelt by octets
+abbrev pub HasOctets : (rule : Rule) (body : List ℕ) (m : Message) → SpellsBody rule body m → Type 0
+HasOctets rule body (OpenMsg o) s = Unit {0}
+HasOctets rule body (UpdateMsg u) s = IsOctets s.withdrawn × IsOctets s.nlri
+HasOctets rule body (NoticeMsg n) s = Unit {0}
+HasOctets rule body AliveMsg s = Unit {0}
+
+octets_of : (rule : Rule) (body : List ℕ) (m : Message) (s : SpellsBody rule body m) → IsOctets body → HasOctets rule body m s
+octets_of rule body (OpenMsg o) s are = tt
+octets_of rule body (UpdateMsg u) s are =
+    let all : IsOctets (long_string s.withdrawn ++ (long_string s.attrs ++ s.nlri)) = subst IsOctets s.whole are in
+    let back = octets_right (long_string s.withdrawn) (long_string s.attrs ++ s.nlri) all in (
+      octets_right (to_be_bytes w16 (length s.withdrawn)) s.withdrawn (octets_left (long_string s.withdrawn) (long_string s.attrs ++ s.nlri) all),
+      octets_right (long_string s.attrs) s.nlri back,
+    )
+octets_of rule body (NoticeMsg n) s are = tt
+octets_of rule body AliveMsg s are = tt
+
 -- what stands in a body reads as the message, whatever its kind
-body_again : (rule : Rule) (body : List ℕ) (m : Message) → SpellsBody rule body m → body_reading rule (kind_of m) body ≡ Ok m
-body_again rule body (OpenMsg o) s = ap open_message (ap (open_reading rule) s.whole ∙ open_again rule o s.fits s.peer)
-body_again rule body (NoticeMsg n) e = ap notice_reading e
-body_again rule body AliveMsg e = refl
+body_again : (laws : PrefixLaws) (rule : Rule) (body : List ℕ) (m : Message) (s : SpellsBody rule body m) → HasOctets rule body m s → body_reading rule (kind_of m) body ≡ Ok m
+body_again laws rule body (OpenMsg o) s are = ap (read_as OpenMsg) (ap (open_reading rule) s.whole ∙ open_again rule o s.fits s.peer)
+body_again laws rule body (UpdateMsg u) s are = ap (read_as UpdateMsg) (update_again laws rule.peer body u s are.0 are.1)
+body_again laws rule body (NoticeMsg n) e are = ap (λ (b : List ℕ). Ok (notice_reading b)) e
+body_again laws rule body AliveMsg e are = refl
 
 -- a body that spells a message is as long as its kind wants
 long_enough : (rule : Rule) (body : List ℕ) (m : Message) → SpellsBody rule body m → (is_kind (kind_of m) ≡ true) × (length_fits (kind_of m) (19 + length body) ≡ true)
 long_enough rule body (OpenMsg o) s = (refl, le-leb 29 (19 + length body) (omega (arith, ap length s.whole)))
+long_enough rule body (UpdateMsg u) s = (
+  refl,
+  le-leb 23 (19 + length body)
+      (omega (arith, ap length s.whole, length-append (long_string s.withdrawn) (long_string s.attrs ++ s.nlri), length-append (long_string s.attrs) s.nlri)),
+)
 long_enough rule body (NoticeMsg n) e = (refl, le-leb 21 (19 + length body) (omega (arith, ap length e)))
 long_enough rule body AliveMsg e = (refl, eq-eqb (19 + length body) 19 (omega (arith, ap length e)))
 
@@ -70,56 +99,80 @@ frame_from_parts octets kind body parts fits known long =
     }
 
 -- what is spelt so is a frame, and is read
-pub spelt_read : (rule : Rule) (octets : List ℕ) (m : Message) → Spells rule octets m → IsFrame octets × (reading rule octets ≡ Ok m)
+pub spelt_read : (laws : PrefixLaws) (rule : Rule) (octets : List ℕ) (m : Message) (s : Spells rule octets m) → HasOctets rule s.body m s.spelt → IsFrame octets × (reading rule octets ≡ Ok m)
 unfolding reading
-spelt_read rule octets m s =
+spelt_read laws rule octets m s are =
     let parts : HasParts octets (kind_of m) s.body = subst (λ (bs : List ℕ). HasParts bs (kind_of m) s.body) (sym s.whole) (framed_parts (kind_of m) s.body (omega (arith, s.fits))) in
     let long = long_enough rule s.body m s.spelt in (
       frame_from_parts octets (kind_of m) s.body parts s.fits long.0 long.1,
-      ap (λ (k : ℕ). body_reading rule k (drop 19 octets)) parts.kind_is ∙ ap (body_reading rule (kind_of m)) parts.body_is ∙ body_again rule s.body m s.spelt,
+      ap (λ (k : ℕ). body_reading rule k (drop 19 octets)) parts.kind_is ∙ ap (body_reading rule (kind_of m)) parts.body_is ∙ body_again laws rule s.body m s.spelt are,
     )
 
-opened : (r : Result Open CodecError) (m : Message) → open_message r ≡ Ok m → (o : Open) × (r ≡ Ok o) × (OpenMsg o ≡ m)
-opened (Ok o) m e = (o, refl, ok_is (OpenMsg o) m e)
-opened (Err f) m e = absurd cc
+-- the octets of a frame are octets, and so are those of its body
+frame_octets : (rule : Rule) (octets : List ℕ) (m : Message) (s : Spells rule octets m) → IsOctets octets → HasOctets rule s.body m s.spelt
+frame_octets rule octets m s are =
+    let parts : HasParts octets (kind_of m) s.body = subst (λ (bs : List ℕ). HasParts bs (kind_of m) s.body) (sym s.whole) (framed_parts (kind_of m) s.body (omega (arith, s.fits))) in
+    octets_of rule s.body m s.spelt (subst IsOctets parts.body_is (octets_behind 19 octets are))
+
+made : {A : Type 0} (make : A → Message) (r : Result A Fault) (m : Message) → read_as make r ≡ Ok m → (x : A) × (r ≡ Ok x) × (make x ≡ m)
+made make (Ok x) m e = (x, refl, ok_is (make x) m e)
+made make (Err f) m e = absurd cc
 
 -- what a body of each type has to have
 pub record HasBody (kind : ℕ) (body : List ℕ) : Type 0 where
   pub octets : IsOctets body
+  pub known : is_kind kind ≡ true
   pub at_open : kind ≡ 1 → 10 ≤ length body
   pub at_notice : kind ≡ 3 → 2 ≤ length body
   pub at_alive : kind ≡ 4 → body ≡ []
 
+not_equal : (n k : ℕ) → (n == k) ≡ false → n ≡ k → ⊥
+not_equal n k f e = let t = eq-eqb n k e in absurd (let both = sym f ∙ t in cc)
+
+-- none of the first three is the fourth
+last_kind : (kind : ℕ) → is_kind kind ≡ true → (kind == 1) ≡ false → (kind == 2) ≡ false → (kind == 3) ≡ false → kind ≡ 4
+last_kind kind known a b d =
+    let high : kind ≤ 4 = leb-true kind 4 (second (nat_le 1 kind) (nat_le kind 4) known) in
+    let low : 1 ≤ kind = leb-true 1 kind (first_of (nat_le 1 kind) (nat_le kind 4) known) in
+    let no_one : kind ≢ 1 = not_equal kind 1 a in
+    let no_two : kind ≢ 2 = not_equal kind 2 b in
+    let no_three : kind ≢ 3 = not_equal kind 3 d in
+    omega arith
+
 -- what is read from a body is spelt by it
-body_takes : (rule : Rule) (kind : ℕ) (body : List ℕ) (m : Message) → HasBody kind body → body_reading rule kind body ≡ Ok m → (kind ≡ kind_of m) × SpellsBody rule body m
-body_takes rule kind body m has e =
-    elim (chosen (kind == 1) (open_message (open_reading rule body)) _ (Ok m) e) [
+body_takes : (laws : PrefixLaws) (rule : Rule) (kind : ℕ) (body : List ℕ) (m : Message) → HasBody kind body → body_reading rule kind body ≡ Ok m → (kind ≡ kind_of m) × SpellsBody rule body m
+body_takes laws rule kind body m has e =
+    let Good : Message → Type 0 = λ n. (kind ≡ kind_of n) × SpellsBody rule body n in
+    elim (chosen (kind == 1) (read_as OpenMsg (open_reading rule body)) _ (Ok m) e) [
       | inl z ↦
           let k : kind ≡ 1 = eqb-true kind 1 z.0 in
-          let o = opened (open_reading rule body) m z.1 in
-          subst (λ (n : Message). (kind ≡ kind_of n) × SpellsBody rule body n) o.2 (k, open_takes rule body o.0 has.octets (has.at_open k) o.1)
-      | inr z ↦ elim (chosen (kind == 3) (notice_reading body) _ (Ok m) z.1) [
+          let o = made OpenMsg (open_reading rule body) m z.1 in
+          subst Good o.2 (k, open_takes rule body o.0 has.octets (has.at_open k) o.1)
+      | inr z ↦ elim (chosen (kind == 2) (read_as UpdateMsg (update_reading rule.peer body)) _ (Ok m) z.1) [
         | inl a ↦
-            let k : kind ≡ 3 = eqb-true kind 3 a.0 in
-            let made : NoticeMsg (record { code = slice_index body 0; sub = slice_index body 1; extra = drop 2 body }) ≡ m = ok_is _ m a.1 in
-            subst (λ (n : Message). (kind ≡ kind_of n) × SpellsBody rule body n) made (k, two_first body (has.at_notice k))
-        | inr a ↦ elim (chosen (kind == 4) (Ok AliveMsg) (Err (errors.NotYet kind)) (Ok m) a.1) [
+            let k : kind ≡ 2 = eqb-true kind 2 a.0 in
+            let u = made UpdateMsg (update_reading rule.peer body) m a.1 in
+            subst Good u.2 (k, update_takes laws rule.peer body u.0 has.octets u.1)
+        | inr a ↦ elim (chosen (kind == 3) (Ok (notice_reading body)) (Ok AliveMsg) (Ok m) a.1) [
           | inl b ↦
-              let k : kind ≡ 4 = eqb-true kind 4 b.0 in
-              subst (λ (n : Message). (kind ≡ kind_of n) × SpellsBody rule body n) (ok_is AliveMsg m b.1) (k, has.at_alive k)
-          | inr b ↦ absurd cc
+              let k : kind ≡ 3 = eqb-true kind 3 b.0 in
+              subst Good (ok_is (notice_reading body) m b.1) (k, two_first body (has.at_notice k))
+          | inr b ↦
+              let k : kind ≡ 4 = last_kind kind has.known z.0 a.0 b.0 in
+              subst Good (ok_is AliveMsg m b.1) (k, has.at_alive k)
         ]
       ]
     ]
 
 -- what is read is spelt so
-pub read_spelt : (rule : Rule) (octets : List ℕ) (m : Message) → IsOctets octets → IsFrame octets → reading rule octets ≡ Ok m → Spells rule octets m
+pub read_spelt : (laws : PrefixLaws) (rule : Rule) (octets : List ℕ) (m : Message) → IsOctets octets → IsFrame octets → reading rule octets ≡ Ok m → Spells rule octets m
 unfolding reading
-read_spelt rule octets m are frame e =
+read_spelt laws rule octets m are frame e =
+    let good = good_header octets frame.good in
     let has : HasBody (kind_field octets) (drop 19 octets) =
-    record { octets = octets_behind 19 octets are; at_open = long_open octets frame; at_notice = long_notice octets frame; at_alive = no_body octets frame } in
-    let taken = body_takes rule (kind_field octets) (drop 19 octets) m has e in
-    let high : length_field octets ≤ 4096 = bounds_of (length_field octets) (good_header octets frame.good).is_long in
+    record { octets = octets_behind 19 octets are; known = good.is_known; at_open = long_open octets frame; at_notice = long_notice octets frame; at_alive = no_body octets frame } in
+    let taken = body_takes laws rule (kind_field octets) (drop 19 octets) m has e in
+    let high : length_field octets ≤ 4096 = bounds_of (length_field octets) good.is_long in
     record {
       body = drop 19 octets;
       spelt = taken.1;
@@ -127,96 +180,46 @@ read_spelt rule octets m are frame e =
       whole = frame_parts octets are frame ∙ ap (λ (k : ℕ). framed k (drop 19 octets)) taken.0;
     }
 
-message_faults : (r : Result Open CodecError) → OnlyFaults r → OnlyFaults (open_message r)
-message_faults (Ok o) h = tt
-message_faults (Err (errors.Fault f)) h = h
-message_faults (Err errors.TooLong) h = h
-message_faults (Err errors.Memory) h = h
-message_faults (Err (errors.NotYet k)) h = h
-
--- reading answers a message or a fault at the types that are read
-body_faults : (rule : Rule) (body : List ℕ) (kind : ℕ) → IsRead kind → OnlyFaults (body_reading rule kind body)
-body_faults rule body kind (inl k) = subst (λ (j : ℕ). OnlyFaults (body_reading rule j body)) (sym k) (message_faults (open_reading rule body) (open_faults rule body))
-body_faults rule body kind (inr (inl k)) = subst (λ (j : ℕ). OnlyFaults (body_reading rule j body)) (sym k) tt
-body_faults rule body kind (inr (inr k)) = subst (λ (j : ℕ). OnlyFaults (body_reading rule j body)) (sym k) tt
-
-message_from : (r : Result Message CodecError) → OnlyFaults r → fault_in r ≡ None → (m : Message) × (r ≡ Ok m)
-message_from (Ok m) h e = (m, refl)
-message_from (Err (errors.Fault f)) h e = absurd cc
-message_from (Err errors.TooLong) h e = absurd h
-message_from (Err errors.Memory) h e = absurd h
-message_from (Err (errors.NotYet k)) h e = absurd h
+message_from : (r : Result Message Fault) → fault_in r ≡ None → (m : Message) × (r ≡ Ok m)
+message_from (Ok m) e = (m, refl)
+message_from (Err f) e = absurd cc
 
 -- the fault of a frame is that of its body
 pub fault_of_frame : (rule : Rule) (octets : List ℕ) → IsFrame octets → fault rule octets ≡ fault_in (reading rule octets)
 fault_of_frame rule octets frame = ap (λ (o : Option Fault). or_else o (fault_in (reading rule octets))) frame.good
 
-no_fault_reads : (rule : Rule) (octets : List ℕ) → IsFrame octets → IsRead (kind_field octets) → fault rule octets ≡ None → (m : Message) × (reading rule octets ≡ Ok m)
-unfolding reading
-no_fault_reads rule octets frame is_read none =
-    message_from (body_reading rule (kind_field octets) (drop 19 octets)) (body_faults rule (drop 19 octets) (kind_field octets) is_read) (sym (fault_of_frame rule octets frame) ∙ none)
-
-pub fault_law : OneMessageOrFault
-fault_law rule octets are frame is_read = (
-  λ none. let made = no_fault_reads rule octets frame is_read none in (made.0, read_spelt rule octets made.0 are frame made.1),
-  λ m s. fault_of_frame rule octets frame ∙ ap fault_in (spelt_read rule octets m s).1,
-  λ m n s t. ok_is m n (sym (spelt_read rule octets m s).1 ∙ (spelt_read rule octets n t).1),
+pub fault_law : PrefixLaws → OneMessageOrFault
+fault_law laws rule octets are frame = (
+  λ none. let made = message_from (reading rule octets) (sym (fault_of_frame rule octets frame) ∙ none) in (made.0, read_spelt laws rule octets made.0 are frame made.1),
+  λ m s. fault_of_frame rule octets frame ∙ ap fault_in (spelt_read laws rule octets m s (frame_octets rule octets m s are)).1,
+  λ m n s t. ok_is m n (sym (spelt_read laws rule octets m s (frame_octets rule octets m s are)).1 ∙ (spelt_read laws rule octets n t (frame_octets rule octets n t are)).1),
 )
 
 -- an answer that is what reading gives, or want of memory
-pub is_spelt : (rule : Rule) (octets : List ℕ) (r : Result Message CodecError) → IsOctets octets → IsFrame octets → (r ≡ reading rule octets) ⊎ (r ≡ Err errors.Memory)
+pub is_spelt : (laws : PrefixLaws) (rule : Rule) (octets : List ℕ) (r : Result Message CodecError) → IsOctets octets → IsFrame octets → Gives (λ m. m) r (reading rule octets)
     → IfOk r (λ m. Spells rule octets m)
-is_spelt rule octets (Ok m) are frame (inl e) = read_spelt rule octets m are frame (sym e)
-is_spelt rule octets (Ok m) are frame (inr e) = absurd cc
-is_spelt rule octets (Err e) are frame told = tt
+is_spelt laws rule octets (Ok m) are frame told = read_spelt laws rule octets m are frame told
+is_spelt laws rule octets (Err e) are frame told = tt
 
--- a refusal is a fault, or that the type is not read yet
-refused_by : (a b d : Bool) (r : Result Message CodecError) (m n : Message) (k : ℕ) (e : CodecError) → OnlyFaults r → cond a r (cond b (Ok m) (cond d (Ok n) (Err (errors.NotYet k)))) ≡ Err e
-    → ((f : Fault) × (e ≡ errors.Fault f)) ⊎ ((e ≡ errors.NotYet k) × (a ≡ false) × (b ≡ false) × (d ≡ false))
-refused_by true b d (Ok x) m n k e h q = absurd cc
-refused_by true b d (Err (errors.Fault f)) m n k e h q = inl (f, cc)
-refused_by true b d (Err errors.TooLong) m n k e h q = absurd h
-refused_by true b d (Err errors.Memory) m n k e h q = absurd h
-refused_by true b d (Err (errors.NotYet j)) m n k e h q = absurd h
-refused_by false true d r m n k e h q = absurd cc
-refused_by false false true r m n k e h q = absurd cc
-refused_by false false false r m n k e h q = inr (cc, refl, refl, refl)
+refused_is : (rule : Rule) (octets : List ℕ) (e : CodecError) → IsFrame octets → Fails e (reading rule octets) → RefusesAs rule octets e
+refused_is rule octets (errors.Fault f) frame q = fault_of_frame rule octets frame ∙ ap fault_in q
+refused_is rule octets errors.TooLong frame q = q
+refused_is rule octets errors.Memory frame q = tt
 
-not_is : (k n : ℕ) → (k == n) ≡ false → k ≡ n → ⊥
-not_is k n f e = let t = eq-eqb k n e in absurd (let both = sym f ∙ t in cc)
-
-refused_is : (rule : Rule) (octets : List ℕ) (e : CodecError) → IsFrame octets → reading rule octets ≡ Err e → RefusesAs rule octets e
-unfolding reading
-refused_is rule octets e frame q =
-    let k = kind_field octets in
-    elim (refused_by (k == 1) (k == 3) (k == 4) (open_message (open_reading rule (drop 19 octets))) _ _ k e (message_faults (open_reading rule (drop 19 octets)) (open_faults rule (drop 19 octets))) q) [
-      | inl f ↦
-          let first : fault rule octets ≡ Some f.0 = fault_of_frame rule octets frame ∙ ap fault_in (q ∙ ap (λ (x : CodecError). let r : Result Message CodecError = Err x in r) f.1) in
-          subst (RefusesAs rule octets) (sym f.1) first
-      | inr n ↦
-          let known = (good_header octets frame.good).is_known in
-          let one : 1 ≤ k = leb-true 1 k (first_of (nat_le 1 k) (nat_le k 4) known) in
-          let four : k ≤ 4 = leb-true k 4 (second (nat_le 1 k) (nat_le k 4) known) in
-          let no_one : k ≢ 1 = not_is k 1 n.1 in
-          let no_three : k ≢ 3 = not_is k 3 n.2 in
-          let no_four : k ≢ 4 = not_is k 4 n.3 in
-          subst (RefusesAs rule octets) (sym n.0) (omega arith, omega arith)
-    ]
-
-pub is_refusal : (rule : Rule) (octets : List ℕ) (r : Result Message CodecError) → IsFrame octets → (r ≡ reading rule octets) ⊎ (r ≡ Err errors.Memory) → IfErr r (RefusesAs rule octets)
+-- a refusal is the first fault, or want of memory
+pub is_refusal : (rule : Rule) (octets : List ℕ) (r : Result Message CodecError) → IsFrame octets → Gives (λ m. m) r (reading rule octets) → IfErr r (RefusesAs rule octets)
 is_refusal rule octets (Ok m) frame told = tt
-is_refusal rule octets (Err e) frame (inl told) = refused_is rule octets e frame (sym told)
-is_refusal rule octets (Err e) frame (inr told) = let m : errors.Memory ≡ e = cc in subst (RefusesAs rule octets) m tt
+is_refusal rule octets (Err e) frame told = refused_is rule octets e frame told
 
 -- a fault is answered, memory aside
-answered : (r read : Result Message CodecError) → (r ≡ read) ⊎ (r ≡ Err errors.Memory) → IfSome (fault_in read) (λ first. (r ≡ Err (errors.Fault first)) ⊎ (r ≡ Err errors.Memory))
+answered : (r : Result Message CodecError) (read : Result Message Fault) → Gives (λ m. m) r read → IfSome (fault_in read) (λ first. (r ≡ Err (errors.Fault first)) ⊎ (r ≡ Err errors.Memory))
 answered r (Ok m) told = tt
-answered r (Err (errors.Fault f)) told = told
-answered r (Err errors.TooLong) told = tt
-answered r (Err errors.Memory) told = tt
-answered r (Err (errors.NotYet k)) told = tt
+answered (Ok m) (Err f) told = absurd cc
+answered (Err (errors.Fault g)) (Err f) told = inl cc
+answered (Err errors.TooLong) (Err f) told = absurd told
+answered (Err errors.Memory) (Err f) told = inr refl
 
-pub is_answered : (rule : Rule) (octets : List ℕ) (r : Result Message CodecError) → IsFrame octets → (r ≡ reading rule octets) ⊎ (r ≡ Err errors.Memory)
+pub is_answered : (rule : Rule) (octets : List ℕ) (r : Result Message CodecError) → IsFrame octets → Gives (λ m. m) r (reading rule octets)
     → IfSome (fault rule octets) (λ first. (r ≡ Err (errors.Fault first)) ⊎ (r ≡ Err errors.Memory))
 is_answered rule octets r frame told =
     subst (λ (o : Option Fault). IfSome o (λ first. (r ≡ Err (errors.Fault first)) ⊎ (r ≡ Err errors.Memory))) (sym (fault_of_frame rule octets frame)) (answered r (reading rule octets) told)
@@ -224,33 +227,44 @@ is_answered rule octets r frame told =
 nobody_checks : (rule : Rule) (asn : ℕ) → rule.peer ≡ None → is_peer rule.peer asn ≡ true
 nobody_checks rule asn e = rw e refl
 
-body_spelt : (rule : Rule) (m : Message) → rule.peer ≡ None → IsWritable rule m → SpellsBody rule (written_body m) m
-body_spelt rule (OpenMsg o) nobody may = record { fits = may; peer = nobody_checks rule o.asn nobody; whole = refl }
-body_spelt rule (NoticeMsg n) nobody may = refl
-body_spelt rule AliveMsg nobody may = refl
+-- what is written spells the message, its prefixes by octets
+body_spelt : (rule : Rule) (m : Message) → rule.peer ≡ None → IsWritable rule m → (s : SpellsBody rule (written_body m) m) × HasOctets rule (written_body m) m s
+body_spelt rule (OpenMsg o) nobody may = (record { fits = may; peer = nobody_checks rule o.asn nobody; whole = refl }, tt)
+body_spelt rule (UpdateMsg u) nobody may = update_written u rule.peer nobody may
+body_spelt rule (NoticeMsg n) nobody may = (refl, tt)
+body_spelt rule AliveMsg nobody may = (refl, tt)
 
 pub written_spelt : WrittenIsSpelt
-written_spelt rule m nobody may fits = record { body = written_body m; spelt = body_spelt rule m nobody may; fits = omega (arith, fits, length-written m); whole = refl }
+written_spelt rule m nobody may fits = record { body = written_body m; spelt = (body_spelt rule m nobody may).0; fits = omega (arith, fits, length-written m); whole = refl }
 
-pub written_read : WrittenIsRead
-written_read rule m nobody may fits = spelt_read rule (written m) m (written_spelt rule m nobody may fits)
+pub written_read : PrefixLaws → WrittenIsRead
+written_read laws rule m nobody may fits =
+    let both = body_spelt rule m nobody may in
+    spelt_read laws rule (written m) m (record { body = written_body m; spelt = both.0; fits = omega (arith, fits, length-written m); whole = refl }) both.1
 
--- the data of a fault is short
-short_by : (a b d : Bool) (r : Result Message CodecError) (m n : Message) (k : ℕ) (f : Fault) → OnlyFaults r
-    → fault_in (cond a r (cond b (Ok m) (cond d (Ok n) (Err (errors.NotYet k))))) ≡ Some f → length f.extra ≤ 2
-short_by true b d (Ok x) m n k f h q = absurd cc
-short_by true b d (Err (errors.Fault g)) m n k f h q = let same : g ≡ f = cc in subst (λ (x : Fault). length x.extra ≤ 2) same h
-short_by true b d (Err errors.TooLong) m n k f h q = absurd h
-short_by true b d (Err errors.Memory) m n k f h q = absurd h
-short_by true b d (Err (errors.NotYet j)) m n k f h q = absurd h
-short_by false true d r m n k f h q = absurd cc
-short_by false false true r m n k f h q = absurd cc
-short_by false false false r m n k f h q = absurd cc
+-- ---- the data of a fault
+
+as_within : {A : Type 0} (n k : ℕ) (make : A → Message) (r : Result A Fault) → n ≤ k → FaultsWithin n r → FaultsWithin k (read_as make r)
+as_within n k make (Ok x) le h = tt
+as_within n k make (Err f) le h = omega (arith, h)
+
+either : (k : ℕ) (b : Bool) (x y : Result Message Fault) → FaultsWithin k x → FaultsWithin k y → FaultsWithin k (cond b x y)
+either k true x y h g = h
+either k false x y h g = g
+
+-- an attribute stands behind the two lengths of a body
+body_faults : (rule : Rule) (kind : ℕ) (body : List ℕ) → length body ≤ 4077 → FaultsWithin 4075 (body_reading rule kind body)
+body_faults rule kind body short =
+    either 4075 (kind == 1) _ _ (as_within 2 4075 OpenMsg (open_reading rule body) (omega arith) (open_faults rule body))
+    (either 4075 (kind == 2) _ _ (as_within 4075 4075 UpdateMsg (update_reading rule.peer body) (omega arith) (update_faults rule.peer body 4075 (omega (arith, short)) (omega arith)))
+    (either 4075 (kind == 3) _ _ tt tt))
+
+within_is : (r : Result Message Fault) (f : Fault) (k : ℕ) → FaultsWithin k r → fault_in r ≡ Some f → length f.extra ≤ k
+within_is (Ok m) f k h e = absurd cc
+within_is (Err g) f k h e = let same : g ≡ f = cc in subst (λ (x : Fault). length x.extra ≤ k) same h
 
 pub fits_law : FaultFitsAMessage
 unfolding reading
 fits_law rule octets first frame e =
-    let k = kind_field octets in
-    let short = short_by (k == 1) (k == 3) (k == 4) (open_message (open_reading rule (drop 19 octets))) _ _ k first
-    (message_faults (open_reading rule (drop 19 octets)) (open_faults rule (drop 19 octets))) (sym (fault_of_frame rule octets frame) ∙ e) in
-    omega (arith, short)
+    let high : length_field octets ≤ 4096 = bounds_of (length_field octets) (good_header octets frame.good).is_long in
+    within_is (reading rule octets) first 4075 (body_faults rule (kind_field octets) (drop 19 octets) (omega (arith, length-drop 19 octets, high, frame.whole))) (sym (fault_of_frame rule octets frame) ∙ e)

@@ -1,10 +1,8 @@
 -- A header is its marker, its length and its type, put one after the other.
-use Rattle.std.proofs.Common.{◌≡◌, ℕ, ◌+◌, List, [], ◌∷◌, ◌++◌, length, get_or, replicate, refl, sym, ap, ◌∙◌, append_assoc, arith}
+use Rattle.std.proofs.Common.{◌≡◌, ℕ, ◌+◌, List, [], ◌∷◌, ◌++◌, length, get_or, replicate, ap, ◌∙◌, append_assoc, arith}
 use Rattle.std.specs.Int.{w16, to_be_bytes}
-use Rattle.std.proofs.lemmas.List.{length-append}
 use Rattle.marker_lanes.specs.Marker.{marker}
 use Rattle.bgp_codec.specs.declared.message.Message.{Message}
-use Rattle.bgp_codec.specs.declared.rule.Rule.{Rule}
 use Rattle.bgp_codec.specs.Spelling.{header_of, framed, kind_of, written_body, written}
 
 regroup : (old high low kind : ℕ) (xs ys : List ℕ) → (((xs ++ ys) ++ high ∷ []) ++ low ∷ []) ++ kind ∷ [] ≡ xs ++ ((ys ++ high ∷ low ∷ []) ++ kind ∷ [])

@@ -1,13 +1,13 @@
 -- OPEN: its parts, how they are spelt, and its first fault (RFC 4271 sections 4.2 and 6.2, RFC 5492 section 4).
-use Rattle.std.specs.Prelude.{◌≡◌, ℕ, zero, suc, ◌+◌, ◌*◌, ◌^◌, ◌/◌, ◌≤◌, ◌<◌, nat_lt, nat_le, ◌==◌, ◌||◌, ◌&&◌, not, Bool, true, false, List, [], ◌∷◌, ◌++◌, length, take, drop, slice_index, Option, Some, None, Result, Ok, Err, if◌then◌else◌, ◌⊎◌}
+use Rattle.std.specs.Prelude.{◌≡◌, ℕ, ◌+◌, ◌^◌, ◌/◌, ◌<◌, nat_lt, nat_le, ◌==◌, ◌||◌, ◌&&◌, not, Bool, true, List, [], ◌∷◌, ◌++◌, length, take, drop, slice_index, Option, Some, None, Result, Ok, Err, if◌then◌else◌}
 use Rattle.std.specs.List.{flat_map, AllByRecursion}
 use Rattle.std.specs.Int.{w16, w32, to_be_bytes, from_be_bytes}
-use Rattle.bgp_codec.specs.declared.fault.CodecError.{CodecError}
-use Rattle.bgp_codec.specs.declared.fault.CodecError.TheVariants as errors
+use Rattle.bgp_codec.specs.declared.fault.Fault.{Fault}
 use Rattle.bgp_codec.specs.declared.open.Cap.{Cap}
 use Rattle.bgp_codec.specs.declared.open.Open.{Open}
 use Rattle.bgp_codec.specs.declared.rule.Rule.{Rule}
 use Rattle.bgp_codec.specs.Header.{fault_of}
+use Rattle.bgp_codec.specs.Reading.{◌>>=◌, Reader, all_of}
 
 -- ---- spelling
 
@@ -64,16 +64,11 @@ pub record SpellsOpen (rule : Rule) (body : List ℕ) (o : Open) : Type 0 where
 -- ---- the first fault, from left to right
 
 -- a fault of an OPEN without data
-abbrev pub open_fault : ℕ → CodecError
-open_fault sub = errors.Fault (fault_of 2 sub [])
-
-infixl 10 ◌>>=◌
-abbrev pub ◌>>=◌ : {A B : Type 0} → Result A CodecError → (A → Result B CodecError) → Result B CodecError
-(Ok x) >>= f = f x
-(Err e) >>= f = Err e
+abbrev pub open_fault : ℕ → Fault
+open_fault sub = fault_of 2 sub []
 
 -- a value in front, its length at 1 and its octets from 2, and what follows it
-abbrev pub value_at : List ℕ → Result (List ℕ × List ℕ) CodecError
+abbrev pub value_at : List ℕ → Result (List ℕ × List ℕ) Fault
 value_at [] = Err (open_fault 0)
 value_at (kind ∷ []) = Err (open_fault 0)
 value_at (kind ∷ len ∷ rest) = if nat_lt (length rest) len then Err (open_fault 0) else Ok (take len rest, drop len rest)
@@ -81,30 +76,19 @@ value_at (kind ∷ len ∷ rest) = if nat_lt (length rest) len then Err (open_fa
 abbrev pub cap_of : ℕ → List ℕ → Cap
 cap_of code value = record { code = code; value = value }
 
-abbrev pub in_front : {A : Type 0} → A → Result (List A) CodecError → Result (List A) CodecError
-in_front x (Ok xs) = Ok (x ∷ xs)
-in_front x (Err e) = Err e
+-- a capability in front: its code, and its value inside
+abbrev pub cap_at : Reader Cap
+cap_at octets = value_at octets >>= λ v. Ok (cap_of (slice_index octets 0) v.0, v.1)
 
--- the capabilities that fill octets, of which there are at most so many
-unfoldable pub caps_in : ℕ → List ℕ → Result (List Cap) CodecError
-caps_in n [] = Ok []
-caps_in zero (code ∷ rest) = Err (open_fault 0)
-caps_in (suc n) (code ∷ rest) = value_at (code ∷ rest) >>= λ v. in_front (cap_of code v.0) (caps_in n v.1)
+abbrev pub caps_reading : List ℕ → Result (List Cap) Fault
+caps_reading octets = all_of cap_at octets
 
-abbrev pub caps_reading : List ℕ → Result (List Cap) CodecError
-caps_reading octets = caps_in (length octets) octets
+-- a parameter in front: its value is inside, its kind is 2, its capabilities fill it
+abbrev pub param_at : Reader (List Cap)
+param_at octets = value_at octets >>= λ v. if not (slice_index octets 0 == 2) then Err (open_fault 4) else (caps_reading v.0 >>= λ caps. Ok (caps, v.1))
 
--- a parameter's value is inside, its kind is 2, its capabilities fill it
-abbrev pub param_reading : ℕ → List ℕ → Result (List Cap) CodecError
-param_reading kind value = if kind == 2 then caps_reading value else Err (open_fault 4)
-
-unfoldable pub params_in : ℕ → List ℕ → Result (List (List Cap)) CodecError
-params_in n [] = Ok []
-params_in zero (kind ∷ rest) = Err (open_fault 0)
-params_in (suc n) (kind ∷ rest) = value_at (kind ∷ rest) >>= λ v. param_reading kind v.0 >>= λ caps. in_front caps (params_in n v.1)
-
-abbrev pub params_reading : List ℕ → Result (List (List Cap)) CodecError
-params_reading octets = params_in (length octets) octets
+abbrev pub params_reading : List ℕ → Result (List (List Cap)) Fault
+params_reading octets = all_of param_at octets
 
 -- the fields of a body of at least ten octets
 abbrev pub asn_field : List ℕ → ℕ
@@ -120,25 +104,11 @@ abbrev pub open_of : List ℕ → List (List Cap) → Open
 open_of body params = record { asn = asn_field body; hold = hold_field body; id = id_field body; params = params }
 
 -- version, AS, hold time, identifier, that the parameters fill the rest, then the parameters
-unfoldable pub open_reading : Rule → List ℕ → Result Open CodecError
+unfoldable pub open_reading : Rule → List ℕ → Result Open Fault
 open_reading rule body =
-    if not (slice_index body 0 == 4) then Err (errors.Fault (fault_of 2 1 (0 ∷ 4 ∷ [])))
+    if not (slice_index body 0 == 4) then Err (fault_of 2 1 (0 ∷ 4 ∷ []))
     else if not (is_peer rule.peer (asn_field body)) then Err (open_fault 2)
     else if not (is_hold_time (hold_field body)) then Err (open_fault 6)
     else if not (is_unicast (id_field body)) then Err (open_fault 3)
     else if not (length body == 10 + slice_index body 9) then Err (open_fault 0)
     else params_reading (drop 10 body) >>= λ params. Ok (open_of body params)
-
--- ---- what a reader of the code answers
-
--- an error other than want of memory is what reading gives
-abbrev pub Fails : {Y : Type 0} → CodecError → Result Y CodecError → Type 0
-Fails errors.Memory read = Unit {0}
-Fails (errors.Fault first) read = read ≡ Err (errors.Fault first)
-Fails errors.TooLong read = ⊥
-Fails (errors.NotYet kind) read = ⊥
-
--- what was answered, seen by view, is what reading gives, unless memory ran out
-abbrev pub Gives : {X Y : Type 0} → (X → Y) → Result X CodecError → Result Y CodecError → Type 0
-Gives view (Ok x) read = read ≡ Ok (view x)
-Gives view (Err e) read = Fails e read

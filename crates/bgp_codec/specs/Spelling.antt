@@ -3,10 +3,11 @@ use Rattle.std.specs.Prelude.{◌≡◌, ℕ, ◌+◌, ◌≤◌, ◌<◌, List,
 use Rattle.std.specs.Int.{w16, to_be_bytes}
 use Rattle.marker_lanes.specs.Marker.{marker}
 use Rattle.bgp_codec.specs.declared.message.Message.{Message}
-use Rattle.bgp_codec.specs.declared.message.Message.TheVariants.{OpenMsg, NoticeMsg, AliveMsg}
+use Rattle.bgp_codec.specs.declared.message.Message.TheVariants.{OpenMsg, UpdateMsg, NoticeMsg, AliveMsg}
 use Rattle.bgp_codec.specs.declared.notice.Notice.{Notice}
 use Rattle.bgp_codec.specs.declared.rule.Rule.{Rule}
 use Rattle.bgp_codec.specs.Opens.{SpellsOpen, OpenFits, open_octets}
+use Rattle.bgp_codec.specs.Updates.{SpellsUpdate, UpdateFits, update_octets}
 
 -- each element is an octet
 abbrev pub IsOctets : List ℕ → Type 0
@@ -23,6 +24,7 @@ framed kind body = header_of kind (length body) ++ body
 -- the type of a message
 abbrev pub kind_of : Message → ℕ
 kind_of (OpenMsg message) = 1
+kind_of (UpdateMsg message) = 2
 kind_of (NoticeMsg notice) = 3
 kind_of AliveMsg = 4
 
@@ -33,6 +35,7 @@ notice_octets notice = notice.code ∷ notice.sub ∷ notice.extra
 -- these octets are a body of the message, under the rule
 abbrev pub SpellsBody : Rule → List ℕ → Message → Type 0
 SpellsBody rule body (OpenMsg message) = SpellsOpen rule body message
+SpellsBody rule body (UpdateMsg message) = SpellsUpdate rule.peer body message
 SpellsBody rule body (NoticeMsg notice) = body ≡ notice_octets notice
 SpellsBody rule body AliveMsg = body ≡ []
 
@@ -46,12 +49,14 @@ pub record Spells (rule : Rule) (octets : List ℕ) (message : Message) : Type 0
 -- each field is one that can be read, and each part fits its own length field
 abbrev pub IsWritable : Rule → Message → Type 0
 IsWritable rule (OpenMsg message) = OpenFits message
+IsWritable rule (UpdateMsg message) = UpdateFits message
 IsWritable rule (NoticeMsg notice) = Unit {0}
 IsWritable rule AliveMsg = Unit {0}
 
 -- the body that is written
 abbrev pub written_body : Message → List ℕ
 written_body (OpenMsg message) = open_octets message
+written_body (UpdateMsg message) = update_octets message
 written_body (NoticeMsg notice) = notice_octets notice
 written_body AliveMsg = []
 

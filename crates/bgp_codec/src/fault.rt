@@ -1,7 +1,11 @@
 //! What is wrong with a message, and why a call of this crate refuses one.
 
+ghost use Rattle.std.specs.Prelude.{◌≡◌, ◌⊎◌};
+ghost use Rattle.bgp_codec.specs.Opens.{open_fault};
+ghost use Rattle.bgp_codec.specs.Updates.{update_fault, attr_fault};
+
 use crate::octets::Octets;
-use std::alloc::{AllocError, AllocFailed};
+use std::alloc::{AllocError, AllocFailed, Global};
 use thiserror::Error;
 
 /// A fault as a NOTIFICATION names it (RFC 4271 sections 4.5 and 6).
@@ -27,9 +31,42 @@ pub enum CodecError {
     /// A growth was refused.
     #[error("memory")]
     Memory,
-    /// The octets are a frame of a type that is not read yet: 1 for OPEN, 2 for UPDATE.
-    #[error("messages of type {kind} are not read yet")]
-    NotYet { kind: u8 },
+}
+
+// The fault of an OPEN with this subcode and no data.
+pub(crate) fn open_fault(alloc: Global, sub: u8) -> CodecError
+    ensures { result ≡ CodecError.Fault (open_fault sub) }
+{
+    CodecError::Fault(Fault {
+        code: 2,
+        sub,
+        extra: Octets::short(alloc, &[]),
+    })
+}
+
+// The fault of an UPDATE with this subcode and no data.
+pub(crate) fn update_fault(alloc: Global, sub: u8) -> CodecError
+    ensures { result ≡ CodecError.Fault (update_fault sub) }
+{
+    CodecError::Fault(Fault {
+        code: 3,
+        sub,
+        extra: Octets::short(alloc, &[]),
+    })
+}
+
+// The fault of an UPDATE with this subcode and an attribute as its data, or want of memory.
+pub(crate) fn attr_fault(alloc: Global, sub: u8, attr: &[u8]) -> CodecError
+    ensures { (result ≡ CodecError.Fault (attr_fault sub attr.now)) ⊎ (result ≡ CodecError.Memory) }
+{
+    match Octets::from_slice(alloc, attr) {
+        Ok(extra) => CodecError::Fault(Fault {
+            code: 3,
+            sub,
+            extra,
+        }),
+        Err(_) => CodecError::Memory,
+    }
 }
 
 impl From<AllocError> for CodecError {

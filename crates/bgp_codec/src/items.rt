@@ -1,8 +1,8 @@
 //! A list that a contract sees as a list, whatever room it has.
 
-ghost use Rattle.std.specs.Prelude.{◌≡◌, []};
+ghost use Rattle.std.specs.Prelude.{◌≡◌, ◌≤◌, [], length, insert, OnOk, OnErr};
 
-use std::alloc::Global;
+use std::alloc::{AllocError, Global};
 use std::marker::Model;
 
 /// A list of a message's parts, in their order.
@@ -41,6 +41,18 @@ impl<T> Items<T> {
         ensures { result.items ≡ self }
     {
         self.items
+    }
+
+    // Puts an item at a place; those from there on move up. A refused call leaves the list as it was.
+    pub(crate) fn insert(&mut self, place: usize, item: T) -> Result<(), AllocError>
+    where
+        T: Drop,
+        requires { place ≤ length self.old }
+        ensures ok { OnOk result (self.new ≡ insert self.old place item) }
+        ensures err { OnErr result (self.new ≡ self.old) }
+    {
+        self.items.insert(place, item)?;
+        Ok(())
     }
 
     /// The items.

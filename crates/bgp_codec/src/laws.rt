@@ -4,12 +4,15 @@
 ghost use Rattle.bgp_codec.specs.Header.{HeaderIsItsFront, HeaderFaultIsShort};
 ghost use Rattle.bgp_codec.specs.Faults.{OneMessageOrFault, FaultFitsAMessage, WrittenIsSpelt, WrittenIsRead};
 
+use prefix_lanes::{a_prefix_is_its_bits, masking_clears_bits};
+
 /// A frame has a message exactly where it has no fault, and then only one.
-///
-/// Premise: the frame's type is one that is read so far.
 pub fn one_message_or_fault()
     ensures { OneMessageOrFault }
-{}
+{
+    a_prefix_is_its_bits();
+    masking_clears_bits();
+}
 
 /// What is written for a message that is writable and fits 4096 octets is a spelling of it, under
 /// a rule that names nobody.
@@ -21,7 +24,10 @@ pub fn written_is_spelt()
 /// that message, under a rule that names nobody.
 pub fn written_is_read()
     ensures { WrittenIsRead }
-{}
+{
+    a_prefix_is_its_bits();
+    masking_clears_bits();
+}
 
 /// The checks of a header and its Length look at the first nineteen octets alone.
 pub fn header_is_its_front()

@@ -6,16 +6,15 @@
 //! written is read again as the same message.
 //!
 //! The definitions stand in `specs/`: `Header` (the header and its checks), `Spelling` (how each
-//! message is spelt, and the one spelling that is written), `Opens` (the body of an OPEN),
-//! `Faults` (the first fault of a frame). The laws that tie them together are the public
-//! functions of [`laws`].
+//! message is spelt, and the one spelling that is written), `Opens` and `Updates` (the bodies of an
+//! OPEN and an UPDATE), `Reading` (what a reader answers), `Faults` (the first fault of a frame).
+//! The laws that tie them together are the public functions of [`laws`].
 //!
-//! Read so far: the header of all four types, OPEN, NOTIFICATION and KEEPALIVE. A good frame of
-//! type UPDATE is answered [`CodecError::NotYet`].
-//!
-//! Left out: framing (which octets are one message), sessions, and every use of a message.
+//! Numbers of autonomous systems have two octets in messages. Left out: four-octet numbers,
+//! framing (which octets are one message), sessions, and every use of a message.
 #![tactic(auto)]
 
+mod attributes;
 mod fault;
 mod head;
 mod items;
@@ -23,12 +22,17 @@ mod kind;
 pub mod laws;
 mod message;
 mod notice;
+mod numbers;
 mod octets;
 mod open;
+mod path;
+mod prefixes;
 mod reading;
 mod rule;
+mod update;
 mod writing;
 
+pub use attributes::{Aggregator, Attrs, Raw};
 pub use fault::{CodecError, Fault};
 pub use head::header;
 pub use items::Items;
@@ -37,8 +41,10 @@ pub use message::{Message, is_writable};
 pub use notice::{Notice, notice_of};
 pub use octets::Octets;
 pub use open::{Cap, Open};
+pub use path::{Segment, SegmentKind};
 pub use reading::decode;
 pub use rule::{Asn, NOBODY, Rule, Width};
+pub use update::Update;
 pub use writing::encode;
 
 #[cfg(test)]

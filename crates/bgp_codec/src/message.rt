@@ -6,12 +6,15 @@ ghost use Rattle.bgp_codec.specs.Spelling.{IsWritable};
 use crate::notice::Notice;
 use crate::open::{Open, fits};
 use crate::rule::Rule;
+use crate::update::{Update, update_fits};
 
-/// A BGP-4 message (RFC 4271 section 4). UPDATE comes as a further variant.
+/// A BGP-4 message (RFC 4271 section 4).
 #[derive(Debug, Drop)]
 pub enum Message {
     /// OPEN, type 1.
     OpenMsg(Open),
+    /// UPDATE, type 2.
+    UpdateMsg(Update),
     /// NOTIFICATION, type 3.
     NoticeMsg(Notice),
     /// KEEPALIVE, type 4.
@@ -25,6 +28,7 @@ pub fn is_writable(message: &Message, _rule: &Rule) -> bool
 {
     match message {
         Message::OpenMsg(message) => fits(message),
+        Message::UpdateMsg(message) => update_fits(message),
         Message::NoticeMsg(_) => true,
         Message::AliveMsg => true,
     }

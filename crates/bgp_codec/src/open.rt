@@ -2,10 +2,12 @@
 
 ghost use Rattle.std.specs.Prelude.{◌≡◌, ◌+◌, ◌-◌, ◌^◌, ◌≤◌, ◌<◌, ◌++◌, ◌∷◌, ◌↔◌, IsTrue, length, min, vec_len, vec_capacity};
 ghost use Rattle.std.specs.List.{flat_map, AllByRecursion};
-ghost use Rattle.bgp_codec.specs.Opens.{cap_octets, param_octets, open_octets, CapFits, ParamFits, OpenFits, Gives, value_at, caps_reading, param_reading, params_reading, open_reading, open_fault, is_peer, is_hold_time, is_unicast};
+ghost use Rattle.bgp_codec.specs.Reading.{Gives};
+ghost use Rattle.bgp_codec.specs.Opens.{cap_octets, param_octets, open_octets, CapFits, ParamFits, OpenFits, value_at, cap_at, caps_reading, param_at, params_reading, open_reading, is_peer, is_hold_time, is_unicast};
 
-use crate::fault::{CodecError, Fault};
+use crate::fault::{CodecError, Fault, open_fault};
 use crate::items::Items;
+use crate::numbers::octet_at;
 use crate::octets::Octets;
 use crate::rule::{Asn, Rule};
 use std::alloc::Global;
@@ -32,31 +34,30 @@ pub struct Open {
     pub params: Items<Items<Cap>>,
 }
 
-// The fault of an OPEN with this subcode and no data.
-fn fault(alloc: Global, sub: u8) -> CodecError
-    ensures { result ≡ open_fault sub }
-{
-    CodecError::Fault(Fault {
-        code: 2,
-        sub,
-        extra: Octets::short(alloc, &[]),
-    })
-}
-
 // The value in front, its length at 1 and its octets from 2, and what follows it.
 fn read_value(alloc: Global, octets: &[u8]) -> Result<(&[u8], &[u8]), CodecError>
     ensures { Gives (λ read. (read.0.now, read.1.now)) result (value_at octets.now) }
 {
     match octets {
-        [] | [_] => Err(fault(alloc, 0)),
+        [] | [_] => Err(open_fault(alloc, 0)),
         [_, len, rest @ ..] => {
             let len = *len as usize;
             if rest.len() < len {
-                return Err(fault(alloc, 0));
+                return Err(open_fault(alloc, 0));
             }
             Ok(rest.split_at(len))
         }
     }
+}
+
+// The capability in front, and what follows it.
+fn read_cap(alloc: Global, octets: &[u8]) -> Result<(Cap, &[u8]), CodecError>
+    ensures { Gives (λ read. (read.0, read.1.now)) result (cap_at octets.now) }
+{
+    let (value, rest) = read_value(alloc, octets)?;
+    let value = Octets::from_slice(alloc, value)?;
+    let code = octet_at(octets, 0);
+    Ok((Cap { code, value }, rest))
 }
 
 // The capabilities that fill these octets.
@@ -66,23 +67,22 @@ fn read_caps(alloc: Global, octets: &[u8]) -> Result<Items<Cap>, CodecError>
     let mut caps = Vec::new(alloc);
     let mut left = octets;
     'caps: while !left.is_empty() {
-        let (value, rest) = read_value(alloc, left)?;
-        let value = Octets::from_slice(alloc, value)?;
-        let code = left[0];
-        caps.push(Cap { code, value })?;
+        let (cap, rest) = read_cap(alloc, left)?;
+        caps.push(cap)?;
         left = rest;
     }
     Ok(Items::from_vec(caps))
 }
 
-// The capabilities of a parameter with this kind and value.
-fn read_param(alloc: Global, kind: u8, value: &[u8]) -> Result<Items<Cap>, CodecError>
-    ensures { Gives (λ caps. caps) result (param_reading kind value.now) }
+// The capabilities of the parameter in front, which has to be of kind 2, and what follows it.
+fn read_param(alloc: Global, octets: &[u8]) -> Result<(Items<Cap>, &[u8]), CodecError>
+    ensures { Gives (λ read. (read.0, read.1.now)) result (param_at octets.now) }
 {
-    if kind != 2 {
-        return Err(fault(alloc, 4));
+    let (value, rest) = read_value(alloc, octets)?;
+    if octet_at(octets, 0) != 2 {
+        return Err(open_fault(alloc, 4));
     }
-    read_caps(alloc, value)
+    Ok((read_caps(alloc, value)?, rest))
 }
 
 // The parameters that fill these octets.
@@ -92,8 +92,8 @@ fn read_params(alloc: Global, octets: &[u8]) -> Result<Items<Items<Cap>>, CodecE
     let mut params = Vec::new(alloc);
     let mut left = octets;
     'params: while !left.is_empty() {
-        let (value, rest) = read_value(alloc, left)?;
-        params.push(read_param(alloc, left[0], value)?)?;
+        let (caps, rest) = read_param(alloc, left)?;
+        params.push(caps)?;
         left = rest;
     }
     Ok(Items::from_vec(params))
@@ -115,7 +115,7 @@ fn is_hold_time(hold: u16) -> bool
     hold == 0 || hold >= 3
 }
 
-fn is_unicast(address: u32) -> bool
+pub(crate) fn is_unicast(address: u32) -> bool
     ensures { result ≡ is_unicast address }
 {
     let first = address / 0x0100_0000;
@@ -125,6 +125,7 @@ fn is_unicast(address: u32) -> bool
 // The OPEN of a body: version at 0, AS at 1, hold time at 3, identifier at 5, the length of the
 // parameters at 9, the parameters from 10.
 #[tactic(auto, unfolding(crate::specs::Opens::open_reading))]
+#[inline(never)]
 pub(crate) fn read_open(alloc: Global, body: &[u8], rule: &Rule) -> Result<Open, CodecError>
     requires { 10 ≤ length body.now }
     ensures { Gives (λ read. read) result (open_reading rule.now body.now) }
@@ -140,16 +141,16 @@ pub(crate) fn read_open(alloc: Global, body: &[u8], rule: &Rule) -> Result<Open,
         }));
     }
     if !is_peer(rule.peer, asn) {
-        return Err(fault(alloc, 2));
+        return Err(open_fault(alloc, 2));
     }
     if !is_hold_time(hold) {
-        return Err(fault(alloc, 6));
+        return Err(open_fault(alloc, 6));
     }
     if !is_unicast(id) {
-        return Err(fault(alloc, 3));
+        return Err(open_fault(alloc, 3));
     }
     if body.len() != 10 + body[9] as usize {
-        return Err(fault(alloc, 0));
+        return Err(open_fault(alloc, 0));
     }
     let (_, params) = body.split_at(10);
     let params = read_params(alloc, params)?;

@@ -2,6 +2,7 @@ ghost use Rattle.std.specs.Prelude.{◌≤◌, length};
 
 use super::*;
 use crate::rule::NOBODY;
+use prefix_lanes::Prefix;
 use std::alloc::{AllocError, Global};
 use std::test::Fail;
 
@@ -213,5 +214,146 @@ fn items_give_their_vec_back(rt: HostRuntime) -> Result<(), Fail> {
     let items = Items::from_vec(vec![in rt.alloc(); 1u8, 2]?);
     assert_eq!(rt; items.as_slice(), [1u8, 2].as_slice());
     assert_eq!(rt; items.into_vec().as_slice(), [1u8, 2].as_slice());
+    Ok(())
+}
+
+fn segment(alloc: Global, kind: SegmentKind, numbers: &[Asn]) -> Result<Segment, AllocError> {
+    let mut list = Vec::new(alloc);
+    list.extend_from_slice(numbers)?;
+    Ok(Segment {
+        kind,
+        numbers: Items::from_vec(list),
+    })
+}
+
+fn prefixes(alloc: Global, list: &[(u32, u8)]) -> Result<Items<Prefix>, AllocError> {
+    let mut prefixes = Vec::new(alloc);
+    for (addr, len) in list {
+        if let Some(prefix) = Prefix::new(*addr, *len) {
+            prefixes.push(prefix)?;
+        }
+    }
+    Ok(Items::from_vec(prefixes))
+}
+
+fn raw(alloc: Global, code: u8, len: usize) -> Result<Raw, AllocError> {
+    Ok(Raw {
+        flags: 0xc0,
+        code,
+        value: Octets::from_vec(vec![in alloc; 7u8; len]?),
+    })
+}
+
+// An UPDATE with this path, these unknown attributes and announced prefixes.
+fn update(
+    alloc: Global,
+    segments: Vec<Segment>,
+    other: Vec<Raw>,
+    announced: &[(u32, u8)],
+) -> Result<Update, AllocError> {
+    Ok(Update {
+        withdrawn: prefixes(alloc, &[(0x0a01_0000, 16)])?,
+        attrs: Attrs {
+            origin: Some(0),
+            path: Some(Items::from_vec(segments)),
+            next_hop: Some(0x0a00_0001),
+            med: Some(5),
+            local_pref: None,
+            atomic: true,
+            aggregator: Some(Aggregator {
+                asn: 7,
+                addr: 0x0a00_0002,
+                partial: true,
+            }),
+            other: Items::from_vec(other),
+        },
+        nlri: prefixes(alloc, announced)?,
+    })
+}
+
+// An UPDATE of RFC 4271 section 4.3: withdrawn prefixes, attributes in rising order of code, the
+// announced prefixes with their other bits zero.
+#[test]
+fn an_update_is_written(rt: HostRuntime) -> Result<(), Fail> {
+    let alloc = rt.alloc();
+    let mut segments = Vec::new(alloc);
+    segments.push(segment(alloc, SegmentKind::AsSequence, &[1, 2])?)?;
+    segments.push(segment(alloc, SegmentKind::AsSet, &[3])?)?;
+    let mut other = Vec::new(alloc);
+    other.push(raw(alloc, 0, 1)?)?;
+    other.push(raw(alloc, 8, 0)?)?;
+    let message = Message::UpdateMsg(update(alloc, segments, other, &[(0x0a01_ffff, 17), (0, 0)])?);
+    assert!(rt; is_writable(&message, &NOBODY));
+    let mut out = Vec::new(alloc);
+    assert!(rt; encode(&message, &NOBODY, &mut out).is_ok());
+    let mut wanted = marked(alloc, b"\x00\x51\x02\x00\x03\x10\x0a\x01\x00\x32")?;
+    for part in [
+        b"\xc0\x00\x01\x07".as_slice(),
+        b"\x40\x01\x01\x00",
+        b"\x40\x02\x0a\x02\x02\x00\x01\x00\x02\x01\x01\x00\x03",
+        b"\x40\x03\x04\x0a\x00\x00\x01",
+        b"\x80\x04\x04\x00\x00\x00\x05",
+        b"\x40\x06\x00",
+        b"\xe0\x07\x06\x00\x07\x0a\x00\x00\x02",
+        b"\xc0\x08\x00",
+        b"\x11\x0a\x01\x80\x00",
+    ] {
+        wanted.extend_from_slice(part)?;
+    }
+    assert_eq!(rt; out.as_slice(), wanted.as_slice());
+    Ok(())
+}
+
+// What cannot be read is not writable: a segment of 256 numbers or of none, a number of three
+// octets, unknown attributes out of order or with a known code, an announcement without a path.
+#[test]
+fn updates_that_are_not_writable(rt: HostRuntime) -> Result<(), Fail> {
+    let alloc = rt.alloc();
+    let many = [9u32; 256];
+    for (numbers, codes, wanted) in [
+        (&many[..255], [8u8, 9], true),
+        (&many[..], [8, 9], false),
+        (&many[..0], [8, 9], false),
+        ([65_536u32].as_slice(), [8, 9], false),
+        (&many[..1], [9, 8], false),
+        (&many[..1], [8, 8], false),
+        (&many[..1], [7, 8], false),
+    ] {
+        let mut segments = Vec::new(alloc);
+        segments.push(segment(alloc, SegmentKind::AsSequence, numbers)?)?;
+        let mut other = Vec::new(alloc);
+        for code in codes {
+            other.push(raw(alloc, code, 3)?)?;
+        }
+        let message = Message::UpdateMsg(update(alloc, segments, other, &[(0, 0)])?);
+        assert_eq!(rt; is_writable(&message, &NOBODY), wanted, "{codes:?}");
+    }
+    let mut message = update(alloc, Vec::new(alloc), Vec::new(alloc), &[(0, 0)])?;
+    message.attrs.path = None;
+    assert!(rt; !is_writable(&Message::UpdateMsg(message), &NOBODY));
+    Ok(())
+}
+
+// The longest UPDATE is written, and a writable one of an octet more is refused with the vector as
+// it was. Its unknown attribute needs Extended Length.
+#[test]
+fn the_longest_update(rt: HostRuntime) -> Result<(), Fail> {
+    let alloc = rt.alloc();
+    for (len, fits) in [(4032usize, true), (4033, false)] {
+        let mut other = Vec::new(alloc);
+        other.push(raw(alloc, 200, len)?)?;
+        let message = Message::UpdateMsg(update(alloc, Vec::new(alloc), other, &[(0, 0)])?);
+        assert!(rt; is_writable(&message, &NOBODY));
+        let mut out = vec![in alloc; 7u8]?;
+        let room = out.capacity();
+        let answer = encode(&message, &NOBODY, &mut out);
+        if fits {
+            assert!(rt; answer.is_ok());
+            assert_eq!(rt; out.len(), 4097);
+        } else {
+            assert!(rt; matches!(answer, Err(CodecError::TooLong)));
+            assert_eq!(rt; (out.as_slice(), out.capacity()), ([7u8].as_slice(), room));
+        }
+    }
     Ok(())
 }

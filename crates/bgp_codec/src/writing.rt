@@ -1,6 +1,6 @@
 //! From messages to octets.
 
-ghost use Rattle.std.specs.Prelude.{◌≡◌, ◌+◌, ◌<◌, ◌≤◌, ◌∷◌, [], ◌++◌, ◌⊎◌, ◌↔◌, IfErr, OnOk, OnErr, IsErrOf, IsOk, length, vec_len, vec_capacity};
+ghost use Rattle.std.specs.Prelude.{◌≡◌, ◌+◌, ◌-◌, ◌^◌, min, ◌<◌, ◌≤◌, ◌∷◌, [], ◌++◌, ◌⊎◌, ◌↔◌, IfErr, OnOk, OnErr, IsErrOf, IsOk, length, vec_len, vec_capacity};
 ghost use Rattle.bgp_codec.specs.Spelling.{IsWritable, header_of, kind_of, written_body, written};
 
 use crate::fault::CodecError;
@@ -8,6 +8,7 @@ use crate::message::Message;
 use crate::notice::put_notice;
 use crate::open::{params_len, put_open};
 use crate::rule::Rule;
+use crate::update::{put_update, update_len};
 
 const MARKER: [u8; 16] = [0xff; 16];
 
@@ -26,14 +27,14 @@ fn put_header(out: &mut Vec<u8>, kind: u8, body_len: usize)
     out.push_reserved(kind);
 }
 
-// How many octets the body has that is written.
-fn body_len(message: &Message, rule: &Rule) -> usize
-    requires { IsWritable rule.now message.now }
-    ensures { result ≡ length (written_body message.now) }
+// How many octets the body has that is written, as far as a `usize` counts.
+fn body_len(message: &Message) -> usize
+    ensures { result ≡ min (2 ^ 64 - 1) (length (written_body message.now)) }
 {
     match message {
-        Message::OpenMsg(message) => 10 + params_len(message.params.as_slice()),
-        Message::NoticeMsg(notice) => 2 + notice.extra.len(),
+        Message::OpenMsg(message) => params_len(message.params.as_slice()).saturating_add(10),
+        Message::UpdateMsg(message) => update_len(message),
+        Message::NoticeMsg(notice) => notice.extra.len().saturating_add(2),
         Message::AliveMsg => 0,
     }
 }
@@ -43,6 +44,7 @@ fn kind_of(message: &Message) -> u8
 {
     match message {
         Message::OpenMsg(_) => 1,
+        Message::UpdateMsg(_) => 2,
         Message::NoticeMsg(_) => 3,
         Message::AliveMsg => 4,
     }
@@ -55,6 +57,7 @@ fn put_body(out: &mut Vec<u8>, message: &Message, rule: &Rule)
 {
     match message {
         Message::OpenMsg(message) => put_open(out, message),
+        Message::UpdateMsg(message) => put_update(out, message),
         Message::NoticeMsg(notice) => put_notice(out, notice),
         Message::AliveMsg => {}
     }
@@ -73,7 +76,7 @@ pub fn encode(message: &Message, rule: &Rule, out: &mut Vec<u8>) -> Result<(), C
     ensures only { IfErr result (λ error. (error ≡ CodecError.TooLong) ⊎ ((error ≡ CodecError.Memory) × (vec_capacity out.old < vec_len out.old + length (written message.now)))) }
     ensures err { OnErr result ((out.new.items ≡ out.old.items) × (vec_capacity out.new ≡ vec_capacity out.old)) }
 {
-    let len = body_len(message, rule);
+    let len = body_len(message);
     if len > 4077 {
         return Err(CodecError::TooLong);
     }

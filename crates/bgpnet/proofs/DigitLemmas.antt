@@ -1,8 +1,8 @@
 -- One pair of digits more.
-use Rattle.std.proofs.Common.{◌≡◌, ℕ, ◌+◌, ◌*◌, ◌%◌, ◌<◌, ◌≤◌, List, length, take, drop, Option, Some, None, unwrap_or, Result, Ok, refl, sym, ap, ◌∙◌, arith}
+use Rattle.std.proofs.Common.{◌≡◌, ℕ, ◌+◌, ◌*◌, ◌%◌, ◌<◌, List, length, take, drop, Option, Some, None, unwrap_or, Ok, refl, sym, ap, arith}
 use Rattle.std.specs.Prelude.{slice_index, slice_set, max}
 use Rattle.hex.specs.Hex.{decode_pairs, hex_digit_value, pair_value}
-use Rattle.hex.proofs.Pairs.{prepend, decode_step, decode_done}
+use Rattle.hex.proofs.Pairs.{prepend, decode_step}
 
 digit_is : (o : Option ℕ) (v : ℕ) → v ≡ unwrap_or o 255 → v < 16 → o ≡ Some v
 digit_is (Some d) v e lt = ap Some (sym e)

@@ -1,4 +1,6 @@
+pub mod DecimalLemmas
 pub mod DigitLemmas
 pub mod PrintingLemmas
 pub mod TextLemmas
 pub mod WritingLemmas
+pub mod CheckLemmas

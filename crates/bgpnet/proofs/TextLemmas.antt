@@ -1,8 +1,10 @@
 -- Octets as text, one after the other.
-use Rattle.std.proofs.Common.{◌≡◌, ℕ, ◌+◌, ◌/◌, ◌%◌, ◌<◌, ◌≤◌, List, [], ◌∷◌, ◌++◌, length, get_or, take, refl, sym, ap, ◌∙◌, append_assoc, arith}
+use Rattle.std.proofs.Common.{◌≡◌, ℕ, ◌+◌, ◌-◌, drop, ◌/◌, ◌%◌, ◌≤◌, List, [], ◌∷◌, ◌++◌, length, get_or, take, refl, sym, ap, ◌∙◌, append_assoc, arith}
 use Rattle.std.proofs.lemmas.List.{append-nil, take_all}
 use Rattle.std.specs.Prelude.{slice_index, cond, is_ok, OnOk, Result, Ok, Err}
 use Rattle.std.specs.declared.alloc.AllocError.{AllocError}
+use Rattle.std.specs.List.{flat_map, join_with_byte}
+use Rattle.std.specs.Prelude.{map}
 use Rattle.hex.specs.Hex.{encode_with, encode_lower, lower_digits}
 
 pub encode_with-append : (table xs ys : List ℕ) → encode_with table (xs ++ ys) ≡ encode_with table xs ++ encode_with table ys
@@ -45,3 +47,17 @@ pub two_lines : (r : Result (Unit {0}) AllocError) (old p q s t u v w g : List �
     → OnOk r (g ≡ old ++ (((p ++ (q ++ (s ++ t))) ++ u) ++ (v ++ w)))
 two_lines (Ok x) old p q s t u v w g e = e ∙ simp append_assoc
 two_lines (Err x) old p q s t u v w g e = tt
+
+-- texts with a mark between them: the first, and each other behind a mark
+pub joined_first : {X : Type 0} (f : X → List ℕ) (mark : ℕ) (x : X) (xs : List X) → join_with_byte mark (map f (x ∷ xs)) ≡ f x ++ flat_map (λ y. mark ∷ f y) xs
+joined_first f mark x [] = sym (append-nil (f x))
+joined_first f mark x (y ∷ ys) = ap (λ (t : List ℕ). f x ++ (mark ∷ t)) (joined_first f mark y ys)
+
+-- where the first was put, the others are what is left to put
+pub joined_rest : {X : Type 0} (f : X → List ℕ) (mark : ℕ) (xs : List X) (x d : X) (old new : List ℕ) → 1 ≤ length xs → x ≡ get_or xs 0 d → new ≡ old ++ f x
+    → new ++ flat_map (λ y. mark ∷ f y) (take (length xs - 1) (drop 1 xs)) ≡ old ++ join_with_byte mark (map f xs)
+joined_rest f mark [] x d old new l is e = absurd (omega arith)
+joined_rest f mark (y ∷ ys) x d old new l is e =
+    let count : length (y ∷ ys) - 1 ≡ length ys = omega arith in
+    let all : take (length ys) ys ≡ ys = take_all (length ys) ys (omega arith) in
+    rw (count, all, joined_first f mark y ys, e, is) (simp append_assoc)

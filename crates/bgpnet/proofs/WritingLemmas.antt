@@ -1,10 +1,10 @@
 -- Writing a text a piece at a time.
-use Rattle.std.proofs.Common.{◌≡◌, ℕ, ◌+◌, ◌≤◌, List, ◌++◌, length, take, drop, take-add, codes, Option, Some, None, Result, Ok, Err, subst, sym, refl, inr}
+use Rattle.std.proofs.Common.{◌≡◌, ℕ, ◌+◌, List, take, drop, take-add, codes, Option, Some, None, Result, Ok, Err, subst, sym, refl, inr}
 use Rattle.std.specs.Prelude.{OnErr}
 use Rattle.bgp_codec.specs.declared.rule.Rule.{Rule}
 use Rattle.bgpnet.specs.declared.channel.IoStopped.{IoStopped}
-use Rattle.bgpnet.specs.Decoding.{memory_output}
-use Rattle.bgpnet.specs.Engine.{AppendsFront, PrintedFront}
+use Rattle.bgpnet.specs.Decoding.{Output, memory_output, Prints}
+use Rattle.bgpnet.specs.Engine.{AppendsFront, PrintedFront, PrintedFrontBy}
 use Rattle.std.specs.Io.KnownBytes.{Appends}
 use Rattle.std.proofs.KnownBytes.{Appends-trans, Appends-nil}
 
@@ -16,13 +16,20 @@ one_more_at a b c text rest at n e first second = one_more a b c text at n first
 
 -- ---- beginnings of the output for want of memory
 
-memory_front : (rule : Rule) (known old new : Option (List ℕ)) → AppendsFront old new (codes "memory\n") → PrintedFront rule known old new
-memory_front rule None old new h = tt
-memory_front rule (Some input) old new h = (memory_output, inr refl, h)
+module _ (IsPrinted : List ℕ → Output → Type 0) (short : (input : List ℕ) → IsPrinted input memory_output) where
+  memory_front : (known old new : Option (List ℕ)) → AppendsFront old new (codes "memory\n") → PrintedFrontBy IsPrinted known old new
+  memory_front None old new h = tt
+  memory_front (Some input) old new h = (memory_output, short input, h)
+
+  pub nothing_front_by : (known old : Option (List ℕ)) → PrintedFrontBy IsPrinted known old old
+  nothing_front_by known old = memory_front known old old (0, Appends-nil old)
+
+  pub memory_stopped_by : (known old new : Option (List ℕ)) (r : Result ℕ IoStopped) → OnErr r (AppendsFront old new (codes "memory\n")) → OnErr r (PrintedFrontBy IsPrinted known old new)
+  memory_stopped_by known old new (Ok status) h = tt
+  memory_stopped_by known old new (Err stopped) h = memory_front known old new h
 
 pub nothing_front : (rule : Rule) (known old : Option (List ℕ)) → PrintedFront rule known old old
-nothing_front rule known old = memory_front rule known old old (0, Appends-nil old)
+nothing_front rule known old = nothing_front_by (Prints rule) (λ input. inr refl) known old
 
 pub memory_stopped : (rule : Rule) (known old new : Option (List ℕ)) (r : Result ℕ IoStopped) → OnErr r (AppendsFront old new (codes "memory\n")) → OnErr r (PrintedFront rule known old new)
-memory_stopped rule known old new (Ok status) h = tt
-memory_stopped rule known old new (Err stopped) h = memory_front rule known old new h
+memory_stopped rule known old new r h = memory_stopped_by (Prints rule) (λ input. inr refl) known old new r h

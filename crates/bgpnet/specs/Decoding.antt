@@ -1,15 +1,13 @@
 -- What is printed for a stream of messages.
-use Rattle.std.specs.Prelude.{◌≡◌, ℕ, ◌<◌, ◌≤◌, nat_le, nat_lt, ◌==◌, ◌||◌, ◌&&◌, not, Bool, List, [], ◌∷◌, ◌++◌, length, codes, filter, Option, Some, None, Result, Ok, Err, if◌then◌else◌, ◌⊎◌, MatchResult}
+use Rattle.std.specs.Prelude.{◌≡◌, ℕ, ◌<◌, ◌≤◌, nat_lt, ◌==◌, ◌||◌, not, Bool, List, [], ◌∷◌, ◌++◌, length, codes, filter, Option, Some, None, Result, Ok, Err, if◌then◌else◌, ◌⊎◌, MatchResult}
 use Rattle.hex.specs.Hex.{decode_of}
-use Rattle.bgp_codec.specs.declared.fault.CodecError.{CodecError}
-use Rattle.bgp_codec.specs.declared.fault.CodecError.TheVariants as errors
 use Rattle.bgp_codec.specs.declared.fault.Fault.{Fault}
 use Rattle.bgp_codec.specs.declared.message.Message.{Message}
 use Rattle.bgp_codec.specs.declared.rule.Rule.{Rule}
 use Rattle.bgp_codec.specs.Header.{header_fault}
 use Rattle.bgp_codec.specs.Faults.{reading}
 use Rattle.bgp_framing.specs.Frames.{Splits}
-use Rattle.bgpnet.specs.Lines.{line, message_line, fault_lines, truncated_line, not_yet_line}
+use Rattle.bgpnet.specs.Lines.{line, message_line, fault_lines, truncated_line}
 
 -- a text, and the status that the program ends with
 pub record Output : Type 0 where
@@ -38,13 +36,10 @@ fault_or_short None n = short_output n
 unfoldable pub rest_output : List ℕ → Output
 rest_output rest = if nat_lt (length rest) 19 then short_output (length rest) else fault_or_short (header_fault rest) (length rest)
 
--- for what a frame reads as, and what comes after it
-abbrev pub read_output : Result Message CodecError → Output → Output
+-- for what a frame reads as, and what comes after it: nothing comes after a fault
+abbrev pub read_output : Result Message Fault → Output → Output
 read_output (Ok m) more = behind (line (message_line m)) more
-read_output (Err (errors.Fault fault)) more = output (fault_lines fault) 1
-read_output (Err (errors.NotYet kind)) more = output (not_yet_line kind) 1
-read_output (Err errors.TooLong) more = memory_output
-read_output (Err errors.Memory) more = memory_output
+read_output (Err fault) more = output (fault_lines fault) 1
 
 -- for frames and a rest
 unfoldable pub frames_output : Rule → List (List ℕ) → List ℕ → Output

@@ -1,5 +1,5 @@
 -- What an engine reads and writes.
-use Rattle.std.specs.Prelude.{◌≡◌, ℕ, ◌≤◌, List, length, take, Option, IfSome, ◌⊎◌}
+use Rattle.std.specs.Prelude.{◌≡◌, ℕ, ◌≤◌, List, length, take, Option, IfSome}
 use Rattle.std.specs.Io.KnownBytes.{Appends}
 use Rattle.bgp_codec.specs.declared.rule.Rule.{Rule}
 use Rattle.bgpnet.specs.Decoding.{Output, output, Prints}
@@ -12,10 +12,17 @@ ReadsUpTo limit known items = IfSome known (λ input. (items ≡ take (length it
 abbrev pub AppendsFront : Option (List ℕ) → Option (List ℕ) → List ℕ → Type 0
 AppendsFront old new text = (n : ℕ) × Appends old new (take n text)
 
--- a whole output for these known octets was appended, with this status
-abbrev pub Printed : Rule → Option (List ℕ) → Option (List ℕ) → Option (List ℕ) → ℕ → Type 0
-Printed rule known old new status = IfSome known (λ input. (text : List ℕ) × Prints rule input (output text status) × Appends old new text)
+-- a whole output that is printed for these known octets was appended, with this status
+abbrev pub PrintedBy : (List ℕ → Output → Type 0) → Option (List ℕ) → Option (List ℕ) → Option (List ℕ) → ℕ → Type 0
+PrintedBy IsPrinted known old new status = IfSome known (λ input. (text : List ℕ) × IsPrinted input (output text status) × Appends old new text)
 
--- a beginning of an output for these known octets was appended
+-- a beginning of an output that is printed for these known octets was appended
+abbrev pub PrintedFrontBy : (List ℕ → Output → Type 0) → Option (List ℕ) → Option (List ℕ) → Option (List ℕ) → Type 0
+PrintedFrontBy IsPrinted known old new = IfSome known (λ input. (out : Output) × IsPrinted input out × AppendsFront old new out.text)
+
+-- the same, for a stream in hex
+abbrev pub Printed : Rule → Option (List ℕ) → Option (List ℕ) → Option (List ℕ) → ℕ → Type 0
+Printed rule known old new status = PrintedBy (Prints rule) known old new status
+
 abbrev pub PrintedFront : Rule → Option (List ℕ) → Option (List ℕ) → Option (List ℕ) → Type 0
-PrintedFront rule known old new = IfSome known (λ input. (out : Output) × Prints rule input out × AppendsFront old new out.text)
+PrintedFront rule known old new = PrintedFrontBy (Prints rule) known old new

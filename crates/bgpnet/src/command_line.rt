@@ -3,6 +3,7 @@
 ghost use Rattle.std.specs.Prelude.{◌≡◌, true, ◌⊎◌, OnOk, OnErr};
 
 use crate::channel::{IoStopped, Sink, Source};
+use crate::engines::check::check_stream;
 use crate::engines::decode::decode_stream;
 use crate::engines::{want_of_memory, write_out};
 use crate::status::{DONE, USAGE};
@@ -16,9 +17,37 @@ use std::alloc::{AllocError, Global};
 enum Asked {
     // Decode, with the speaker's number where `--peer` names it.
     Decode(Option<u16>),
+    // Check an assignment.
+    Check,
     // A text to write, and the status to end with.
     Text(String, u8),
 }
+
+/// What the help of `check` says below its options: an example.
+pub const CHECK_HELP: &str = "\
+The input is a network, a line 'assignment', and the path of each router and prefix:
+
+    router 1 10.0.0.1
+    router 2 10.0.0.2
+    router 3 10.0.0.3
+    link 1 2
+    link 1 3
+    link 2 3
+    origin 1 10.1.0.0/16
+    rank 2 10.1.0.0/16 2-3-1 2-1
+    assignment
+    path 1 10.1.0.0/16 1
+    path 2 10.1.0.0/16 2-1
+    path 3 10.1.0.0/16 3-1
+
+Router 2 would rather go through 3, whose path is there, so the output is
+
+    unstable 2 has 2-1 best 2-3-1
+
+A path is its routers, the router itself first and the origin last, or 'none'. A router without a
+'rank' line prefers the shortest path, then the smaller numbers. Where no router would move the
+output is 'stable'. 'refused LINE CODE' names the first line that can't be read and what is wrong
+with it.";
 
 fn parse(alloc: Global, words: &[&str]) -> Result<Asked, Error> {
     let peer = Arg::new(alloc, "peer")
@@ -29,11 +58,18 @@ fn parse(alloc: Global, words: &[&str]) -> Result<Asked, Error> {
     let decode = Command::new(alloc, "decode")
         .about("Prints the messages of a stream in hex")
         .arg(peer)?;
+    let check = Command::new(alloc, "check")
+        .about("Says whether an assignment of paths is stable")
+        .after_help(CHECK_HELP);
     let command = Command::new(alloc, "bgpnet")
-        .about("Decodes BGP-4 messages")
+        .about("Decodes BGP-4 messages, and says whether paths are a stable assignment")
         .subcommand_required(true)
-        .subcommand(decode)?;
+        .subcommand(decode)?
+        .subcommand(check)?;
     let matches = command.try_get_matches_from(words)?;
+    if matches.subcommand_matches("check").is_some() {
+        return Ok(Asked::Check);
+    }
     let peer = matches
         .subcommand_matches("decode")
         .and_then(|found| found.get_one::<u16>("peer"));
@@ -73,6 +109,7 @@ pub fn run_with<S: Source, T: Sink>(
             };
             decode_stream(alloc, &rule, reader, writer)
         }
+        Ok(Asked::Check) => check_stream(alloc, reader, writer),
         Ok(Asked::Text(text, status)) => {
             write_out(writer, text.as_bytes())?;
             Ok(status)

@@ -4,6 +4,7 @@ ghost use Rattle.std.specs.Prelude.{◌≡◌, ℕ, ◌+◌, ◌<◌, ◌≤◌,
 ghost use Rattle.std.specs.Io.KnownBytes.{Appends};
 ghost use Rattle.bgpnet.specs.Engine.{ReadsUpTo, AppendsFront};
 
+pub mod check;
 pub mod decode;
 
 use crate::channel::{IoStopped, Sink, Source};

@@ -3,9 +3,10 @@
 ghost use Rattle.std.specs.Prelude.{◌≡◌, ◌++◌, ◌∷◌, [], ◌≤◌, length, IfOk, OnOk};
 ghost use Rattle.std.specs.List.{flat_map};
 ghost use Rattle.bgp_codec.specs.Spelling.{written};
-ghost use Rattle.bgpnet.specs.Lines.{line, message_line, open_line, cap_text, param_text, notice_line, notice_of, fault_lines, truncated_line, not_yet_line};
+ghost use Rattle.bgpnet.specs.Lines.{line, message_line, open_line, cap_text, param_text, notice_line, notice_of, fault_lines, truncated_line};
 
 use crate::texts::{put_address, put_decimal, put_hex, put_hex_or_dash, put_len};
+use crate::updates::put_update;
 use bgp_codec::{Cap, Fault, Items, Message, NOBODY, Notice, Open, encode, notice_of};
 use std::alloc::{AllocError, Global};
 
@@ -16,6 +17,7 @@ pub fn put_message(out: &mut Vec<u8>, message: &Message) -> Result<(), AllocErro
 {
     match message {
         Message::OpenMsg(message) => put_open(out, message),
+        Message::UpdateMsg(message) => put_update(out, message),
         Message::NoticeMsg(notice) => put_notice(out, notice),
         Message::AliveMsg => out.extend_from_slice(b"keepalive\n"),
     }
@@ -53,6 +55,7 @@ fn put_params(out: &mut Vec<u8>, params: &[Items<Cap>]) -> Result<(), AllocError
 }
 
 #[tactic(auto, unfolding(crate::specs::Lines::open_line))]
+#[inline(never)]
 fn put_open(out: &mut Vec<u8>, message: &Open) -> Result<(), AllocError>
     ensures { OnOk result (out.new.items ≡ out.old.items ++ line (open_line message.now)) }
 {
@@ -94,6 +97,7 @@ fn notice_octets(alloc: Global, fault: &Fault) -> Result<Vec<u8>, AllocError>
 
 /// Appends the two lines of a fault: its codes, and its NOTIFICATION in hex.
 #[tactic(auto, unfolding(crate::specs::Lines::fault_lines))]
+#[cold]
 pub fn put_fault(alloc: Global, out: &mut Vec<u8>, fault: &Fault) -> Result<(), AllocError>
     requires { length fault.now.extra ≤ 4075 }
     ensures { OnOk result (out.new.items ≡ out.old.items ++ fault_lines fault.now) }
@@ -115,15 +119,5 @@ pub fn put_truncated(out: &mut Vec<u8>, len: usize) -> Result<(), AllocError>
 {
     out.extend_from_slice(b"truncated ")?;
     put_len(out, len)?;
-    out.extend_from_slice(b"\n")
-}
-
-/// Appends the line of a message of a type that is not read yet.
-#[tactic(auto, unfolding(crate::specs::Lines::not_yet_line))]
-pub fn put_not_yet(out: &mut Vec<u8>, kind: u8) -> Result<(), AllocError>
-    ensures { OnOk result (out.new.items ≡ out.old.items ++ not_yet_line kind) }
-{
-    out.extend_from_slice(b"not yet ")?;
-    put_decimal(out, u32::from(kind))?;
     out.extend_from_slice(b"\n")
 }

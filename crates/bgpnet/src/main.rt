@@ -1,4 +1,4 @@
-//! `bgpnet`: decodes BGP-4 messages.
+//! `bgpnet`: decodes BGP-4 messages, and says whether paths are a stable assignment.
 //!
 //! The program reads its words, standard input and nothing else, and writes standard output.
 //! [`command_line`] reads the words and hands them to an engine of [`engines`]: a function over a
@@ -10,6 +10,7 @@
 //! stream), `Engine` (what an engine may leave written).
 #![tactic(auto)]
 
+mod assignments;
 mod channel;
 mod command_line;
 mod digits;
@@ -18,6 +19,7 @@ mod lines;
 mod status;
 mod stream;
 mod texts;
+mod updates;
 
 use channel::{IoStopped, Sink, Watched};
 use command_line::run_with;

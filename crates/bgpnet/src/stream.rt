@@ -4,7 +4,7 @@ ghost use Rattle.std.specs.Prelude.{◌≡◌, IfOk};
 ghost use Rattle.bgp_codec.specs.Header.{IsFrame};
 ghost use Rattle.bgpnet.specs.Decoding.{output, StreamGives, PutsFrame, PutsShort};
 
-use crate::lines::{put_fault, put_message, put_not_yet, put_truncated};
+use crate::lines::{put_fault, put_message, put_truncated};
 use crate::status::{DONE, REFUSED};
 use bgp_codec::laws::{fault_fits_a_message, header_fault_is_short};
 use bgp_codec::{CodecError, Rule, decode};
@@ -30,10 +30,6 @@ fn put_frame(
         }
         Err(CodecError::Fault(fault)) => {
             put_fault(alloc, out, &fault)?;
-            Ok(Some(REFUSED))
-        }
-        Err(CodecError::NotYet { kind }) => {
-            put_not_yet(out, kind)?;
             Ok(Some(REFUSED))
         }
         Err(CodecError::TooLong | CodecError::Memory) => Err(AllocError),

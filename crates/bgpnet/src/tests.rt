@@ -1,10 +1,15 @@
 //! What the program writes for what it reads, row by row, through `run_with`.
 
+mod check;
 mod decode;
+mod examples;
 mod failures;
+mod gallery;
+mod updates;
 
 use crate::channel::Watched;
 use crate::command_line::run_with;
+use examples::Example;
 use std::alloc::{AllocError, Global};
 
 /// Sixteen octets of ones.
@@ -20,4 +25,10 @@ pub fn answer(
     let mut writer = Watched::new(Vec::new(alloc));
     let status = run_with(alloc, words, &mut reader, &mut writer).ok();
     Ok((writer.into_inner(), status))
+}
+
+/// What `check` writes for an example, and its status.
+pub fn says(alloc: Global, example: &Example) -> Result<(Vec<u8>, Option<u8>), AllocError> {
+    let input = format!(in alloc; "{}{}", example.network, example.paths)?;
+    answer(alloc, &["check"], input.as_bytes())
 }

@@ -165,7 +165,7 @@ fn one_message(rt: HostRuntime) -> Result<(), Fail> {
             "fault 2 0\nffffffffffffffffffffffffffffffff0015030200\n",
             1,
         ),
-        ("an UPDATE", "0017 02 0000 0000", "not yet 2\n", 1),
+        ("an UPDATE", "0017 02 0000 0000", "update\n", 0),
     ] {
         let input = format!(in alloc; "{MARKER}{tail}\r\n\t")?;
         let (out, got) = answer(alloc, &["decode"], input.as_bytes())?;

@@ -1,6 +1,6 @@
-use Rattle.std.proofs.Common.{refl, arith}
+use Rattle.std.proofs.Common.{arith}
 use Rattle.bgp_codec.specs.Opens.{ParamFits}
-use Rattle.bgp_codec.proofs.OpenLoops.{drop_one, fits_on, fits_not, fits_end}
+use Rattle.bgp_codec.proofs.OpenLoops.{drop_one, fits_on, fits_end}
 use Rattle.bgp_codec.proofs.open.params_fit.Goals as goal
 
 pub loop-caps-preserved : goal.loop-caps-preserved

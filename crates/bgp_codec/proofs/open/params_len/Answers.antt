@@ -1,4 +1,4 @@
-use Rattle.std.proofs.Common.{◌≡◌, ◌+◌, length, arith}
+use Rattle.std.proofs.Common.{arith}
 use Rattle.bgp_codec.specs.Opens.{param_octets}
 use Rattle.bgp_codec.proofs.OpenLoops.{count_one, count_all}
 use Rattle.bgp_codec.proofs.open.params_len.Goals as goal

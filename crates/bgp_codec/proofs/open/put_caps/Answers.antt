@@ -1,4 +1,4 @@
-use Rattle.std.proofs.Common.{◌≡◌, ◌+◌, ◌<◌, length, refl, subst, sym, arith}
+use Rattle.std.proofs.Common.{subst, arith}
 use Rattle.std.specs.List.{AllByRecursion}
 use Rattle.bgp_codec.specs.Opens.{cap_octets, CapFits}
 use Rattle.bgp_codec.proofs.OpenLoops.{drop_one, put_one, room_one, cap_put}

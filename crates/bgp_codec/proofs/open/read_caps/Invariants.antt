@@ -1,7 +1,7 @@
 -- what was read, before what is left to read, is what is read of all
 use Rattle.std.proofs.Common.{◌≡◌, length}
 use Rattle.bgp_codec.specs.Opens.{caps_reading}
-use Rattle.bgp_codec.proofs.OpenLemmas.{with_front}
+use Rattle.bgp_codec.proofs.EachLemmas.{with_front}
 use Rattle.bgp_codec.proofs.open.read_caps.Given as goal
 
 abbrev pub invariant-caps : goal.invariant-caps

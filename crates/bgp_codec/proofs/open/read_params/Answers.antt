@@ -1,25 +1,18 @@
-use Rattle.std.proofs.Common.{refl}
 use Rattle.std.proofs.lemmas.Result.{err_from_is_err_and}
-use Rattle.bgp_codec.proofs.OpenLemmas.{params_go_on, params_stop, param_stop, params_end, some_left, none_left}
+use Rattle.bgp_codec.specs.Opens.{param_at}
+use Rattle.bgp_codec.proofs.EachLemmas.{each_go_on, each_stop, each_end, some_left, none_left}
+use Rattle.bgp_codec.proofs.OpenLemmas.{param_shortens}
 use Rattle.bgp_codec.proofs.open.read_params.Goals as goal
 
-pub returns-in_err-value : goal.returns-in_err-value
-returns-in_err-value c =
+pub returns-in_err-caps : goal.returns-in_err-caps
+returns-in_err-caps c =
     let p = err_from_is_err_and c.from_residual.result c.from_residual.ensures.1 in
-    rw (p.1, p.2) (params_stop c.args.octets.now c.params.left.now c.params.params.items c.in_err-value.field-0.0 (some_left _ c.params-test.ensures) c.params.invariant c.in_err-value.ensures)
-
-pub returns-in_err-read_param : goal.returns-in_err-read_param
-returns-in_err-read_param c =
-    let p = err_from_is_err_and c.from_residual-in_err-read_param.result c.from_residual-in_err-read_param.ensures.1 in
-    rw (p.1, p.2)
-    (param_stop c.args.octets.now c.params.left.now c.in_ok-value.value.now c.in_ok-value.rest.now c.params.params.items _ c.in_err-read_param.field-0.0 (some_left _ c.params-test.ensures) refl c.in_ok-value.ensures
-    c.params.invariant c.in_err-read_param.ensures)
+    rw (p.1, p.2) (each_stop param_at c.args.octets.now c.params.left.now c.params.params.items c.in_err-caps.field-0.0 (some_left _ c.params-test.ensures) c.params.invariant c.in_err-caps.ensures)
 
 pub params-preserved : goal.params-preserved
 params-preserved c =
     rw c.in_ok-push.ensures.items
-    (params_go_on c.args.octets.now c.params.left.now c.in_ok-value.value.now c.in_ok-value.rest.now c.params.params.items _ _ (some_left _ c.params-test.ensures) refl c.in_ok-value.ensures
-    c.in_ok-read_param.ensures c.params.invariant)
+    (each_go_on param_at c.args.octets.now c.params.left.now c.in_ok-caps.rest.now c.params.params.items c.in_ok-caps.caps param_shortens c.in_ok-caps.ensures c.params.invariant)
 
 pub returns : goal.returns
-returns c = rw c.from_vec.ensures (params_end c.args.octets.now c.params.left.now c.params.params.items (none_left _ c.params-test.ensures) c.params.invariant)
+returns c = rw c.from_vec.ensures (each_end param_at c.args.octets.now c.params.left.now c.params.params.items (none_left _ c.params-test.ensures) c.params.invariant)

@@ -1,9 +1,11 @@
-use Rattle.std.proofs.Common.{arith}
-use Rattle.bgp_codec.proofs.FrameLemmas.{long_notice, long_open}
+use Rattle.bgp_codec.proofs.FrameLemmas.{long_notice, long_open, long_update}
 use Rattle.bgp_codec.proofs.reading.read.Goals as goal
 
 pub read_notice-requires : goal.read_notice-requires
 read_notice-requires c = rw c.split_at.ensures.back (long_notice c.args.frame.now c.requires c.in-3.is)
+
+pub read_update-requires : goal.read_update-requires
+read_update-requires c = rw c.split_at.ensures.back (long_update c.args.frame.now c.requires c.in-2.is)
 
 pub read_open-requires : goal.read_open-requires
 read_open-requires c = rw c.split_at.ensures.back (long_open c.args.frame.now c.requires c.in-1.is)

@@ -1,4 +1,4 @@
-use Rattle.std.proofs.Common.{◌≡◌, ◌∙◌, ◌++◌, ap, sym, subst, arith, refl, inl, inr}
+use Rattle.std.proofs.Common.{arith, refl, inr}
 use Rattle.std.proofs.lemmas.Result.{err_from_is_err_and}
 use Rattle.bgp_codec.proofs.WritingLemmas.{length-written, written_put}
 use Rattle.bgp_codec.proofs.writing.encode.Goals as goal
@@ -19,7 +19,7 @@ returns-in_err-reserve-clause-only c =
 pub returns-clause-ok : goal.returns-clause-ok
 returns-clause-ok c =
     written_put c.args.message.now c.args.out.now.items c.put_header.new.out.items c.put_body.new.out.items c.body_len-len.result c.kind_of.result
-    c.body_len-len.ensures c.kind_of.ensures (rw c.reserve.ensures.items at c.put_header.ensures.items) c.put_body.ensures
+    (omega (arith, c.body_len-len.ensures, c.if-len-gt4077.false)) c.kind_of.ensures (rw c.reserve.ensures.items at c.put_header.ensures.items) c.put_body.ensures
 
 pub returns-clause-too_long : goal.returns-clause-too_long
 returns-clause-too_long c = (λ e. absurd cc, λ h. absurd (omega (arith, length-written c.args.message.now)))

@@ -1,4 +1,3 @@
-use Rattle.std.proofs.Common.{◌≡◌}
 use Rattle.bgp_codec.proofs.WritingLemmas.{header_put}
 use Rattle.bgp_codec.proofs.writing.put_header.Goals as goal
 

@@ -1,4 +1,4 @@
-use Rattle.std.proofs.Common.{arith, subst, ◌≡◌, ◌∙◌}
+use Rattle.std.proofs.Common.{arith, ◌∙◌}
 use Rattle.bgpnet.proofs.WritingLemmas.{one_more_at}
 use Rattle.bgpnet.proofs.engines.write_out.Goals as goal
 

@@ -1,4 +1,4 @@
-use Rattle.std.proofs.Common.{◌≡◌, ◌∙◌, ◌++◌, ◌∷◌, [], ap, arith, get_or, sym}
+use Rattle.std.proofs.Common.{arith, get_or}
 use Rattle.std.proofs.lemmas.List.{take_more}
 use Rattle.bgpnet.proofs.TextLemmas.{one_more_octet, no_octet, all_octets}
 use Rattle.bgpnet.proofs.texts.put_digits.Goals as goal

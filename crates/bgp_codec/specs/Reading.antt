@@ -1,0 +1,41 @@
+-- Readers: functions from octets to a value, or to the first fault that is met from left to right.
+use Rattle.std.specs.Prelude.{◌≡◌, ℕ, zero, suc, List, [], ◌∷◌, length, Result, Ok, Err}
+use Rattle.bgp_codec.specs.declared.fault.Fault.{Fault}
+use Rattle.bgp_codec.specs.declared.fault.CodecError.{CodecError}
+use Rattle.bgp_codec.specs.declared.fault.CodecError.TheVariants as errors
+
+infixl 10 ◌>>=◌
+abbrev pub ◌>>=◌ : {A B : Type 0} → Result A Fault → (A → Result B Fault) → Result B Fault
+(Ok x) >>= f = f x
+(Err first) >>= f = Err first
+
+abbrev pub in_front : {A : Type 0} → A → Result (List A) Fault → Result (List A) Fault
+in_front x (Ok xs) = Ok (x ∷ xs)
+in_front x (Err first) = Err first
+
+-- a reader of one value: the value in front, and what follows it
+abbrev pub Reader : Type 0 → Type 0
+Reader A = List ℕ → Result (A × List ℕ) Fault
+
+-- the values that octets consist of, of which there are at most so many
+unfoldable pub all_in : {A : Type 0} → Reader A → ℕ → List ℕ → Result (List A) Fault
+all_in read n [] = Ok []
+all_in read zero (octet ∷ rest) = Ok []
+all_in read (suc n) (octet ∷ rest) = read (octet ∷ rest) >>= λ v. in_front v.0 (all_in read n v.1)
+
+-- the values that octets consist of, each of at least one octet
+abbrev pub all_of : {A : Type 0} → Reader A → List ℕ → Result (List A) Fault
+all_of read octets = all_in read (length octets) octets
+
+-- ---- what a reader of the code answers
+
+-- an error other than want of memory is what reading gives
+abbrev pub Fails : {Y : Type 0} → CodecError → Result Y Fault → Type 0
+Fails errors.Memory read = Unit {0}
+Fails (errors.Fault first) read = read ≡ Err first
+Fails errors.TooLong read = ⊥
+
+-- what was answered, seen by view, is what reading gives, unless memory ran out
+abbrev pub Gives : {X Y : Type 0} → (X → Y) → Result X CodecError → Result Y Fault → Type 0
+Gives view (Ok x) read = read ≡ Ok (view x)
+Gives view (Err e) read = Fails e read

@@ -1,0 +1,35 @@
+//! Numbers of several octets in a message (RFC 4271 section 4): the most significant octet first.
+
+ghost use Rattle.std.specs.Prelude.{◌≡◌, ◌≤◌, slice_index};
+ghost use Rattle.bgp_codec.specs.Updates.{number_at, address_at};
+
+// The octet at a place, or zero behind the end.
+pub(crate) fn octet_at(octets: &[u8], at: usize) -> u8
+    ensures { result ≡ slice_index octets.now at }
+{
+    match octets.get(at) {
+        Some(octet) => *octet,
+        None => 0,
+    }
+}
+
+// The number of two octets at a place.
+pub(crate) fn number_at(octets: &[u8], at: usize) -> u16
+    requires { at ≤ 65537 }
+    ensures { result ≡ number_at octets.now at }
+{
+    u16::from_be_bytes([octet_at(octets, at), octet_at(octets, at + 1)])
+}
+
+// The number of four octets at a place.
+pub(crate) fn address_at(octets: &[u8], at: usize) -> u32
+    requires { at ≤ 65537 }
+    ensures { result ≡ address_at octets.now at }
+{
+    u32::from_be_bytes([
+        octet_at(octets, at),
+        octet_at(octets, at + 1),
+        octet_at(octets, at + 2),
+        octet_at(octets, at + 3),
+    ])
+}

@@ -1,0 +1,171 @@
+//! AS_PATH (RFC 4271 sections 4.3 and 5.1.2): its segments, their reader and their writer.
+
+ghost use Rattle.std.specs.Prelude.{◌≡◌, ◌+◌, ◌*◌, ◌-◌, ◌^◌, ◌≤◌, ◌<◌, ◌++◌, ◌↔◌, IsTrue, IfOk, length, min, vec_len, vec_capacity};
+ghost use Rattle.std.specs.List.{flat_map, AllByRecursion};
+ghost use Rattle.std.specs.Int.{w16, to_be_bytes};
+ghost use Rattle.bgp_codec.specs.Reading.{Gives};
+ghost use Rattle.bgp_codec.specs.Updates.{segment_code, segment_octets, path_octets, segment_at, path_reading, numbers_of, SegmentFits, begins_with};
+
+use crate::fault::{CodecError, update_fault};
+use crate::items::Items;
+use crate::rule::Asn;
+use std::alloc::{AllocError, Global};
+
+/// How the numbers of a segment stand to each other.
+#[derive(Clone, Copy, Debug, PartialEq, Eq)]
+pub enum SegmentKind {
+    /// AS_SET, type 1: in no order.
+    AsSet,
+    /// AS_SEQUENCE, type 2: the nearest first.
+    AsSequence,
+}
+
+/// A part of a path.
+#[derive(Debug, Drop)]
+pub struct Segment {
+    /// Whether the numbers are a set or a sequence.
+    pub kind: SegmentKind,
+    /// The numbers, 1 to 255 of them in a message.
+    pub numbers: Items<Asn>,
+}
+
+// The numbers of two octets each.
+fn read_numbers(alloc: Global, octets: &[u8]) -> Result<Items<Asn>, AllocError>
+    ensures { IfOk result (λ numbers. numbers ≡ numbers_of octets.now) }
+{
+    let mut numbers = Vec::new(alloc);
+    numbers.reserve(octets.len() / 2)?;
+    let mut left = octets;
+    'numbers: while let [high, low, rest @ ..] = left {
+        numbers.push(Asn::from(u16::from_be_bytes([*high, *low])))?;
+        left = rest;
+    }
+    Ok(Items::from_vec(numbers))
+}
+
+// The segment in front, and what follows it.
+fn read_segment(alloc: Global, octets: &[u8]) -> Result<(Segment, &[u8]), CodecError>
+    ensures { Gives (λ read. (read.0, read.1.now)) result (segment_at octets.now) }
+{
+    match octets {
+        [] | [_] => Err(update_fault(alloc, 11)),
+        [code, count, rest @ ..] => {
+            let (code, size) = (*code, 2 * *count as usize);
+            if !(code == 1 || code == 2) || *count == 0 || rest.len() < size {
+                return Err(update_fault(alloc, 11));
+            }
+            let (numbers, rest) = rest.split_at(size);
+            let numbers = read_numbers(alloc, numbers)?;
+            let kind = if code == 1 {
+                SegmentKind::AsSet
+            } else {
+                SegmentKind::AsSequence
+            };
+            Ok((Segment { kind, numbers }, rest))
+        }
+    }
+}
+
+// The segments that a path consists of.
+pub(crate) fn read_path(alloc: Global, octets: &[u8]) -> Result<Items<Segment>, CodecError>
+    ensures { Gives (λ path. path) result (path_reading octets.now) }
+{
+    let mut segments = Vec::new(alloc);
+    let mut left = octets;
+    'segments: while !left.is_empty() {
+        let (segment, rest) = read_segment(alloc, left)?;
+        segments.push(segment)?;
+        left = rest;
+    }
+    Ok(Items::from_vec(segments))
+}
+
+// Whether this is the first number of a path, in whatever segment.
+pub(crate) fn begins_with(path: &[Segment], asn: Asn) -> bool
+    ensures { result ≡ begins_with asn (flat_map (λ s. s.numbers) path.now) }
+{
+    for segment in path {
+        if let [first, ..] = segment.numbers.as_slice() {
+            return *first == asn;
+        }
+    }
+    false
+}
+
+// Whether each number fits two octets.
+fn numbers_fit(numbers: &[Asn]) -> bool
+    ensures { IsTrue result ↔ AllByRecursion (λ n. n < 2 ^ 16) numbers.now }
+{
+    for number in numbers {
+        if *number > 0xffff {
+            return false;
+        }
+    }
+    true
+}
+
+// Whether each segment has 1 to 255 numbers, each of which fits two octets.
+pub(crate) fn path_fits(path: &[Segment]) -> bool
+    ensures { IsTrue result ↔ AllByRecursion SegmentFits path.now }
+{
+    for segment in path {
+        let numbers = segment.numbers.as_slice();
+        if numbers.is_empty() || numbers.len() > 255 || !numbers_fit(numbers) {
+            return false;
+        }
+    }
+    true
+}
+
+// How many octets a path has that is written, as far as a `usize` counts.
+pub(crate) fn path_len(path: &[Segment]) -> usize
+    ensures { result ≡ min (2 ^ 64 - 1) (length (path_octets path.now)) }
+{
+    let mut len = 0usize;
+    for segment in path {
+        let count = segment.numbers.as_slice().len();
+        len = len
+            .saturating_add(2)
+            .saturating_add(count.saturating_mul(2));
+    }
+    len
+}
+
+// Appends numbers of two octets each, for which there is room.
+fn put_numbers(out: &mut Vec<u8>, numbers: &[Asn])
+    requires fit { AllByRecursion (λ n. n < 2 ^ 16) numbers.now }
+    requires room { vec_len out.old + length (flat_map (to_be_bytes w16) numbers.now) ≤ vec_capacity out.old }
+    ensures items { out.new.items ≡ out.old.items ++ flat_map (to_be_bytes w16) numbers.now }
+    ensures capacity { vec_capacity out.old ≤ vec_capacity out.new }
+{
+    for number in numbers {
+        let [high, low] = (*number as u16).to_be_bytes();
+        out.push_reserved(high);
+        out.push_reserved(low);
+    }
+}
+
+// The type of a segment.
+fn segment_code(kind: SegmentKind) -> u8
+    ensures { result ≡ segment_code kind }
+{
+    match kind {
+        SegmentKind::AsSet => 1,
+        SegmentKind::AsSequence => 2,
+    }
+}
+
+// Appends the segments of a path, for which there is room.
+pub(crate) fn put_path(out: &mut Vec<u8>, path: &[Segment])
+    requires fit { AllByRecursion SegmentFits path.now }
+    requires room { vec_len out.old + length (path_octets path.now) ≤ vec_capacity out.old }
+    ensures items { out.new.items ≡ out.old.items ++ path_octets path.now }
+    ensures capacity { vec_capacity out.old ≤ vec_capacity out.new }
+{
+    for segment in path {
+        let numbers = segment.numbers.as_slice();
+        out.push_reserved(segment_code(segment.kind));
+        out.push_reserved(numbers.len() as u8);
+        put_numbers(out, numbers);
+    }
+}

@@ -1,0 +1,121 @@
+//! The prefixes of an UPDATE (RFC 4271 section 4.3): their reader and their writer.
+
+ghost use Rattle.std.specs.Prelude.{◌≡◌, ◌+◌, ◌-◌, ◌^◌, ◌≤◌, ◌++◌, length, min, vec_len, vec_capacity};
+ghost use Rattle.std.specs.List.{flat_map, AllByRecursion};
+ghost use Rattle.prefix_lanes.specs.Bits.{IsCanonical};
+ghost use Rattle.bgp_codec.specs.Reading.{Gives};
+ghost use Rattle.bgp_codec.specs.Updates.{octet_count, address_at, prefix_at, prefixes_reading, prefix_octets};
+
+use crate::fault::{CodecError, update_fault};
+use crate::items::Items;
+use prefix_lanes::Prefix;
+use std::alloc::Global;
+
+// The least number of octets that hold so many bits.
+fn octet_count(bits: u8) -> usize
+    ensures { result ≡ octet_count bits }
+{
+    (bits as usize + 7) / 8
+}
+
+// The address that begins with these octets and ends with zeros.
+fn leading_address(octets: &[u8]) -> u32
+    ensures { result ≡ address_at octets.now 0 }
+{
+    match octets {
+        [] => 0,
+        [a] => u32::from_be_bytes([*a, 0, 0, 0]),
+        [a, b] => u32::from_be_bytes([*a, *b, 0, 0]),
+        [a, b, c] => u32::from_be_bytes([*a, *b, *c, 0]),
+        [a, b, c, d, ..] => u32::from_be_bytes([*a, *b, *c, *d]),
+    }
+}
+
+// The prefix in front, and what follows it.
+fn read_prefix(alloc: Global, octets: &[u8]) -> Result<(Prefix, &[u8]), CodecError>
+    ensures { Gives (λ read. (read.0, read.1.now)) result (prefix_at octets.now) }
+{
+    match octets {
+        [] => Err(update_fault(alloc, 10)),
+        [len, rest @ ..] => {
+            let (len, count) = (*len, octet_count(*len));
+            if len > 32 || rest.len() < count {
+                return Err(update_fault(alloc, 10));
+            }
+            let (body, rest) = rest.split_at(count);
+            let prefix = Prefix::new(leading_address(body), len).unwrap();
+            Ok((prefix, rest))
+        }
+    }
+}
+
+// How many prefixes octets consist of, if they are good: what a list of them has to hold.
+fn count_prefixes(octets: &[u8]) -> usize
+    ensures { result ≤ length octets.now }
+{
+    let mut count = 0usize;
+    let mut at = 0usize;
+    'prefixes: while at < octets.len() {
+        at = at + 1 + octet_count(octets[at]);
+        count = count + 1;
+    }
+    count
+}
+
+// The prefixes that octets consist of.
+pub(crate) fn read_prefixes(alloc: Global, octets: &[u8]) -> Result<Items<Prefix>, CodecError>
+    ensures { Gives (λ prefixes. prefixes) result (prefixes_reading octets.now) }
+{
+    let mut prefixes = Vec::new(alloc);
+    prefixes.reserve(count_prefixes(octets))?;
+    let mut left = octets;
+    'prefixes: while !left.is_empty() {
+        let (prefix, rest) = read_prefix(alloc, left)?;
+        prefixes.push(prefix)?;
+        left = rest;
+    }
+    Ok(Items::from_vec(prefixes))
+}
+
+// Each prefix is in the one form that is written: its other bits are zero.
+pub(crate) fn are_canonical(prefixes: &[Prefix])
+    ensures { AllByRecursion IsCanonical prefixes.now }
+{
+    for prefix in prefixes {
+        let _len = prefix.len();
+    }
+}
+
+// How many octets the prefixes have that are written, as far as a `usize` counts.
+pub(crate) fn prefixes_len(prefixes: &[Prefix]) -> usize
+    ensures { result ≡ min (2 ^ 64 - 1) (length (flat_map prefix_octets prefixes.now)) }
+{
+    let mut len = 0usize;
+    for prefix in prefixes {
+        len = len.saturating_add(1 + octet_count(prefix.len()));
+    }
+    len
+}
+
+// Appends a prefix, for which there is room.
+fn put_prefix(out: &mut Vec<u8>, prefix: &Prefix)
+    requires room { vec_len out.old + length (prefix_octets prefix.now) ≤ vec_capacity out.old }
+    ensures items { out.new.items ≡ out.old.items ++ prefix_octets prefix.now }
+    ensures capacity { vec_capacity out.old ≤ vec_capacity out.new }
+{
+    let len = prefix.len();
+    let address = prefix.addr().to_be_bytes();
+    out.push_reserved(len);
+    out.extend_from_slice(&address[..octet_count(len)]).unwrap();
+}
+
+// Appends prefixes, for which there is room.
+pub(crate) fn put_prefixes(out: &mut Vec<u8>, prefixes: &[Prefix])
+    requires room { vec_len out.old + length (flat_map prefix_octets prefixes.now) ≤ vec_capacity out.old }
+    ensures items { out.new.items ≡ out.old.items ++ flat_map prefix_octets prefixes.now }
+    ensures capacity { vec_capacity out.old ≤ vec_capacity out.new }
+{
+    for prefix in prefixes {
+        put_prefix(out, prefix);
+    }
+}

@@ -1,0 +1,155 @@
+//! UPDATE (RFC 4271 section 4.3): its three parts, its reader and its writer.
+
+ghost use Rattle.std.specs.Prelude.{◌≡◌, ◌≢◌, [], None, ◌-◌, min, ◌+◌, ◌^◌, ◌≤◌, ◌<◌, ◌++◌, ◌↔◌, IsTrue, length, vec_len, vec_capacity};
+ghost use Rattle.bgp_codec.specs.Reading.{Gives};
+ghost use Rattle.bgp_codec.specs.Updates.{missing, nlri_reading, parts_reading, update_reading, update_octets, UpdateFits};
+ghost use Rattle.std.specs.Int.{w16, to_be_bytes};
+
+use crate::attributes::{Attrs, attrs_fit, attrs_len, is_from, missing, put_attrs, read_attrs};
+use crate::fault::{CodecError, Fault, update_fault};
+use crate::items::Items;
+use crate::numbers::number_at;
+use crate::octets::Octets;
+use crate::prefixes::{are_canonical, prefixes_len, put_prefixes, read_prefixes};
+use crate::rule::Asn;
+use prefix_lanes::Prefix;
+use std::alloc::Global;
+
+/// What an UPDATE says (RFC 4271 section 4.3).
+#[derive(Debug, Drop)]
+pub struct Update {
+    /// The prefixes that are no longer reached.
+    pub withdrawn: Items<Prefix>,
+    /// The attributes of the routes to the announced prefixes.
+    pub attrs: Attrs,
+    /// The announced prefixes: the network layer reachability information.
+    pub nlri: Items<Prefix>,
+}
+
+// The announced prefixes: what is mandatory is there, then the prefixes, then the peer.
+fn read_nlri(
+    alloc: Global,
+    peer: Option<Asn>,
+    attrs: &Attrs,
+    octets: &[u8],
+) -> Result<Items<Prefix>, CodecError>
+    ensures { Gives (λ nlri. nlri) result (nlri_reading peer attrs.now octets.now) }
+{
+    if octets.is_empty() {
+        return Ok(Items::new(alloc));
+    }
+    if let Some(code) = missing(attrs) {
+        return Err(CodecError::Fault(Fault {
+            code: 3,
+            sub: 3,
+            extra: Octets::short(alloc, &[code]),
+        }));
+    }
+    let nlri = read_prefixes(alloc, octets)?;
+    if !is_from(peer, attrs) {
+        return Err(update_fault(alloc, 11));
+    }
+    Ok(nlri)
+}
+
+// The three parts, each of them after the other.
+fn read_parts(
+    alloc: Global,
+    peer: Option<Asn>,
+    withdrawn: &[u8],
+    attrs: &[u8],
+    nlri: &[u8],
+) -> Result<Update, CodecError>
+    ensures { Gives (λ update. update) result (parts_reading peer withdrawn.now attrs.now nlri.now) }
+{
+    let withdrawn = read_prefixes(alloc, withdrawn)?;
+    let attrs = read_attrs(alloc, attrs)?;
+    let nlri = read_nlri(alloc, peer, &attrs, nlri)?;
+    Ok(Update {
+        withdrawn,
+        attrs,
+        nlri,
+    })
+}
+
+// The UPDATE of a body: the length of the withdrawn prefixes at 0, they from 2, the length of the
+// attributes behind them, the attributes, then the announced prefixes to the end.
+#[tactic(auto, unfolding(crate::specs::Updates::update_reading))]
+#[inline(never)]
+pub(crate) fn read_update(
+    alloc: Global,
+    body: &[u8],
+    peer: Option<Asn>,
+) -> Result<Update, CodecError>
+    requires { 4 ≤ length body.now }
+    ensures { Gives (λ update. update) result (update_reading peer body.now) }
+{
+    let first = number_at(body, 0) as usize;
+    let second = number_at(body, 2 + first) as usize;
+    if body.len() < 4 + first || body.len() < 4 + (first + second) {
+        return Err(update_fault(alloc, 1));
+    }
+    let (_, behind) = body.split_at(2);
+    let (withdrawn, _) = behind.split_at(first);
+    let (_, behind) = body.split_at(4 + first);
+    let (attrs, _) = behind.split_at(second);
+    let (_, nlri) = body.split_at(4 + (first + second));
+    read_parts(alloc, peer, withdrawn, attrs, nlri)
+}
+
+// Whether an UPDATE that announces these prefixes has what is mandatory.
+fn is_complete(attrs: &Attrs, nlri: &[Prefix]) -> bool
+    ensures { IsTrue result ↔ (nlri.now ≢ [] → missing attrs.now ≡ None) }
+{
+    nlri.is_empty() || missing(attrs).is_none()
+}
+
+// Whether each field is one that a reader can answer, and each part fits its own length field.
+pub(crate) fn update_fits(message: &Update) -> bool
+    ensures { IsTrue result ↔ UpdateFits message.now }
+{
+    let withdrawn = message.withdrawn.as_slice();
+    let nlri = message.nlri.as_slice();
+    are_canonical(withdrawn);
+    are_canonical(nlri);
+    attrs_fit(&message.attrs)
+        && is_complete(&message.attrs, nlri)
+        && prefixes_len(withdrawn) < 0x1_0000
+        && attrs_len(&message.attrs) < 0x1_0000
+}
+
+// How many octets the body has that is written, as far as a `usize` counts.
+pub(crate) fn update_len(message: &Update) -> usize
+    ensures { result ≡ min (2 ^ 64 - 1) (length (update_octets message.now)) }
+{
+    prefixes_len(message.withdrawn.as_slice())
+        .saturating_add(attrs_len(&message.attrs))
+        .saturating_add(prefixes_len(message.nlri.as_slice()))
+        .saturating_add(4)
+}
+
+// Appends a length of two octets, for which there is room.
+fn put_len(out: &mut Vec<u8>, len: usize)
+    requires fit { len < 2 ^ 16 }
+    requires room { vec_len out.old + 2 ≤ vec_capacity out.old }
+    ensures items { out.new.items ≡ out.old.items ++ to_be_bytes w16 len }
+    ensures capacity { vec_capacity out.old ≤ vec_capacity out.new }
+{
+    let [high, low] = (len as u16).to_be_bytes();
+    out.push_reserved(high);
+    out.push_reserved(low);
+}
+
+// Appends the body of an UPDATE, for which there is room.
+pub(crate) fn put_update(out: &mut Vec<u8>, message: &Update)
+    requires fit { UpdateFits message.now }
+    requires room { vec_len out.old + length (update_octets message.now) ≤ vec_capacity out.old }
+    ensures { out.new.items ≡ out.old.items ++ update_octets message.now }
+{
+    let withdrawn = message.withdrawn.as_slice();
+    put_len(out, prefixes_len(withdrawn));
+    put_prefixes(out, withdrawn);
+    put_len(out, attrs_len(&message.attrs));
+    put_attrs(out, &message.attrs);
+    put_prefixes(out, message.nlri.as_slice());
+}

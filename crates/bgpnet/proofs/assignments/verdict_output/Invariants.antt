@@ -1,0 +1,8 @@
+-- for the prefixes passed no router would move
+use Rattle.std.proofs.Common.{take}
+use Rattle.std.specs.List.{All}
+use Rattle.bgpnet.specs.Checking.{IsStableAt}
+use Rattle.bgpnet.proofs.assignments.verdict_output.Given as goal
+
+abbrev pub invariant-loop-origin : goal.invariant-loop-origin
+invariant-loop-origin l = All (IsStableAt l.network l.entries) (take l.origin-index l.origin-items)

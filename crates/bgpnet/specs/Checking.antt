@@ -1,0 +1,125 @@
+-- What is printed for a network and an assignment.
+use Rattle.std.specs.Prelude.{◌≡◌, ◌≢◌, ℕ, ◌<◌, ◌≤◌, ◌-◌, ◌==◌, ◌&&◌, Bool, List, [], ◌∷◌, ◌++◌, length, map, codes, decimal, Ok, if◌then◌else◌, ◌⊎◌}
+use Rattle.std.specs.List.{All, join_with_byte}
+use Rattle.prefix_lanes.specs.Bits.{PrefixView}
+use Rattle.ranked_policy.specs.Plans.{Plan}
+use Rattle.ranked_policy.specs.declared.network.Origin.{Origin}
+use Rattle.stable_paths.specs.Stable.{Problem, IsStable, MayHave}
+use Rattle.stable_paths.specs.Judging.{IsMoving}
+use Rattle.net_text.specs.declared.code.Code.{Code}
+use Rattle.net_text.specs.declared.code.Code.TheVariants as kinds
+use Rattle.net_text.specs.declared.assignment.Entry.{Entry}
+use Rattle.net_text.specs.Lexing.{Text, lines_of, before_section, behind_section}
+use Rattle.net_text.specs.Networks.{SpellsNetwork, RefusesNetwork}
+use Rattle.net_text.specs.Assignments.{assignment_reading, RefusesAssignment}
+use Rattle.net_text.specs.Words.{is_prefix}
+use Rattle.bgpnet.specs.Lines.{line}
+use Rattle.bgpnet.specs.Decoding.{Output, output, memory_output}
+
+-- ---- texts
+
+-- a path: its numbers with a dash between them, or that there is none
+abbrev pub numbers_text : List ℕ → List ℕ
+numbers_text [] = codes "none"
+numbers_text (number ∷ numbers) = join_with_byte 45 (map decimal (number ∷ numbers))
+
+-- the code of a refusal
+abbrev pub code_text : Code → List ℕ
+code_text kinds.BadForm = codes "N1"
+code_text kinds.Unreadable = codes "N2"
+code_text kinds.UnknownRouter = codes "N3"
+code_text kinds.Repeated = codes "N4"
+code_text kinds.NotConnected = codes "N5"
+code_text kinds.OutOfLimit = codes "N6"
+code_text kinds.NotSimple = codes "N7"
+code_text kinds.BadPrefix = codes "N8"
+code_text kinds.Memory = codes "N9"
+
+-- a line that is refused, and why
+unfoldable pub refused_line : ℕ → List ℕ → List ℕ
+refused_line at code = line (codes "refused " ++ (decimal at ++ (codes " " ++ code)))
+
+-- a router that would move: the path that it has, and its best
+unfoldable pub unstable_line : ℕ → List ℕ → List ℕ → List ℕ
+unstable_line router has best = line (codes "unstable " ++ (decimal router ++ (codes " has " ++ (numbers_text has ++ (codes " best " ++ numbers_text best)))))
+
+abbrev pub refused : ℕ → List ℕ → Output
+refused at code = output (refused_line at code) 1
+
+-- ---- what entries say of a prefix
+
+-- the path of each router by the last entry for it and the prefix, or the path given where there is none
+abbrev pub paths_by : (ℕ → List ℕ) → PrefixView → List Entry → ℕ → List ℕ
+paths_by paths prefix [] = paths
+paths_by paths prefix (e ∷ es) = paths_by (λ u. if (e.router == u) && is_prefix e.prefix prefix then e.path else paths u) prefix es
+
+abbrev pub paths_of : List Entry → PrefixView → ℕ → List ℕ
+paths_of entries prefix = paths_by (λ u. []) prefix entries
+
+abbrev pub at_prefix : Plan → PrefixView → Problem
+at_prefix net prefix = record { net = net; prefix = prefix }
+
+-- the router of an entry may have its path
+abbrev pub MayStand : Plan → Entry → Type 0
+MayStand net e = MayHave (at_prefix net e.prefix) e.router e.path
+
+-- the first entry whose path is not permitted
+pub record IsFirstStray (net : Plan) (entries : List Entry) (at : ℕ) : Type 0 where
+  pub before : List Entry
+  pub stray : Entry
+  pub behind : List Entry
+  pub whole : entries ≡ before ++ stray ∷ behind
+  pub good : All (MayStand net) before
+  pub not_permitted : MayStand net stray → ⊥
+  pub stands_at : stray.line ≡ at
+
+abbrev pub IsStableAt : Plan → List Entry → Origin → Type 0
+IsStableAt net entries origin = IsStable (at_prefix net origin.prefix) (paths_of entries origin.prefix)
+
+-- the first prefix for which a router would move, and the least such router
+pub record IsFirstMove (net : Plan) (entries : List Entry) (router : ℕ) (has best : List ℕ) : Type 0 where
+  pub before : List Origin
+  pub moving : Origin
+  pub behind : List Origin
+  pub whole : net.origins ≡ before ++ moving ∷ behind
+  pub stable : All (IsStableAt net entries) before
+  pub moves : IsMoving (at_prefix net moving.prefix) (paths_of entries moving.prefix) router has best
+
+-- ---- what is printed
+
+pub data Moves (net : Plan) (entries : List Entry) (out : Output) : Type 0 where
+  it_moves : (router : ℕ) (has best : List ℕ) → IsFirstMove net entries router has best → out ≡ output (unstable_line router has best) 0 → Moves net entries out
+
+-- for entries that are all permitted
+abbrev pub VerdictGives : Plan → List Entry → Output → Type 0
+VerdictGives net entries out = (All (IsStableAt net entries) net.origins × (out ≡ output (codes "stable\n") 0)) ⊎ Moves net entries out
+
+-- for the entries of an assignment
+abbrev pub EntriesGive : Plan → List Entry → Output → Type 0
+EntriesGive net entries out =
+    ((at : ℕ) × IsFirstStray net entries at × (out ≡ refused at (codes "S1")))
+    ⊎ (All (MayStand net) entries × VerdictGives net entries out)
+
+-- for the lines of an assignment, so many lines standing before them
+abbrev pub AssignmentGives : Plan → ℕ → List Text → Output → Type 0
+AssignmentGives net before lines out =
+    ((at : ℕ) × (code : Code) × (code ≢ kinds.Memory) × RefusesAssignment net before lines at code × (out ≡ refused at (code_text code)))
+    ⊎ ((entries : List Entry) × (assignment_reading net before lines ≡ Ok entries) × EntriesGive net entries out)
+
+-- for the lines of a network, and those of an assignment behind them
+abbrev pub NetworkGives : List Text → ℕ → List Text → Output → Type 0
+NetworkGives front before behind out =
+    ((at : ℕ) × (code : Code) × (code ≢ kinds.Memory) × RefusesNetwork front at code × (out ≡ refused at (code_text code)))
+    ⊎ ((net : Plan) × SpellsNetwork front net × AssignmentGives net before behind out)
+
+abbrev pub LinesGive : List Text → Output → Type 0
+LinesGive lines out =
+    NetworkGives (before_section (codes "assignment") lines) (length lines - length (behind_section (codes "assignment") lines)) (behind_section (codes "assignment") lines) out
+
+-- for an input, which may be too long
+abbrev pub CheckGives : List ℕ → Output → Type 0
+CheckGives input out = (16777216 < length input × (out ≡ refused 0 (codes "N6"))) ⊎ ((length input ≤ 16777216) × LinesGive (lines_of input) out)
+
+-- what the program prints: that, or that memory ran out
+abbrev pub Checks : List ℕ → Output → Type 0
+Checks input out = CheckGives input out ⊎ (out ≡ memory_output)

@@ -1,0 +1,31 @@
+use Rattle.std.proofs.Common.{◌+◌, ap, sym, ◌∙◌, arith}
+use Rattle.net_text.specs.Lexing.{lines_of}
+use Rattle.net_text.specs.Lines.{line_reading}
+use Rattle.net_text.specs.Networks.{empty_draft, last_behind}
+use Rattle.net_text.proofs.TextLemmas.{reached_on, reached_end}
+use Rattle.net_text.proofs.NetworkLemmas.{refuses_network, spells_network, fails_network, no_lines, both_ok, both_err}
+use Rattle.net_text.proofs.draft.read_network.Goals as goal
+
+pub returns-in-Err-clause-err : goal.returns-in-Err-clause-err
+returns-in-Err-clause-err c =
+    refuses_network (lines_of c.args.text.now) _ _ c.lines.line c.lines.draft c.next_line.result.0.now c.in-Err.code c.next_line.ensures.lines c.lines.invariant.reached c.in-Err.ensures
+
+pub lines-preserved : goal.lines-preserved
+lines-preserved c = record {
+  reached = reached_on (λ line d words. line_reading d words) 0 (empty_draft (lines_of c.args.text.now)) c.lines.draft c.read_line.new.draft _ _ _ c.lines.line c.next_line.result.0.now c.next_line.ensures.lines c.lines.invariant.reached c.in_default.ensures;
+  last = c.lines.invariant.last ∙ ap (last_behind c.lines.last c.lines.line) c.next_line.ensures.lines
+      ∙ ap (λ n. last_behind n (c.lines.line + 1) (lines_of c.next_line.result.1.now)) (sym c.last_said-last.ensures);
+  inside = omega (arith, c.lines.invariant.inside, c.next_line.ensures.shorter);
+}
+
+pub returns-clause-ok : goal.returns-clause-ok
+returns-clause-ok c =
+    let whole = reached_end (λ line d words. line_reading d words) 0 (empty_draft (lines_of c.args.text.now)) c.lines.draft _ _ c.lines.line (no_lines c.lines.left.now c.lines-test.ensures) c.lines.invariant.reached in
+    both_ok c.finish.result _ _ _ (λ net is network. spells_network (lines_of c.args.text.now) c.lines.draft net whole is network) c.finish.ensures.ok c.finish.ensures.network
+
+pub returns-clause-err : goal.returns-clause-err
+returns-clause-err c =
+    let none = no_lines c.lines.left.now c.lines-test.ensures in
+    let whole = reached_end (λ line d words. line_reading d words) 0 (empty_draft (lines_of c.args.text.now)) c.lines.draft _ _ c.lines.line none c.lines.invariant.reached in
+    let last = c.lines.invariant.last ∙ ap (last_behind c.lines.last c.lines.line) none in
+    both_err c.finish.result _ _ _ (λ refused is fault. fails_network (lines_of c.args.text.now) c.lines.draft refused.line refused.code whole (is ∙ sym last) fault) c.finish.ensures.line c.finish.ensures.err

@@ -1,0 +1,34 @@
+-- What the definitions say together.
+use Rattle.std.specs.Prelude.{ℕ, ◌≡◌, ◌+◌, ◌↔◌, List, ◌∷◌, ◌++◌, length, Result, Ok, Err}
+use Rattle.net_text.specs.declared.code.Code.{Code}
+use Rattle.net_text.specs.Lexing.{Text}
+use Rattle.net_text.specs.Networks.{refused_at, reading}
+use Rattle.net_text.specs.Lines.{line_reading}
+use Rattle.net_text.specs.Assignments.{entry_reading}
+use Rattle.net_text.specs.declared.draft.Draft.{Draft}
+use Rattle.net_text.specs.declared.assignment.Entry.{Entry}
+use Rattle.ranked_policy.specs.Plans.{Plan}
+
+-- a line has a fault, and none before it has one
+pub record IsFirstFault {S : Type 0} (read : ℕ → S → Text → Result S Code) (before : ℕ) (s : S) (lines : List Text) (line : ℕ) (code : Code) : Type 0 where
+  pub front : List Text
+  pub faulty : Text
+  pub behind : List Text
+  pub made : S
+  pub parted : lines ≡ front ++ faulty ∷ behind
+  pub counted : line ≡ before + length front + 1
+  pub good : reading read before s front ≡ Ok made
+  pub fault : read line made faulty ≡ Err code
+
+-- lines are refused at a line exactly where that line has the fault and no line before it has one
+abbrev pub FirstFaultDecides : {S : Type 0} → (ℕ → S → Text → Result S Code) → ℕ → S → Type 0
+FirstFaultDecides read before s =
+    (lines : List Text) (line : ℕ) (code : Code)
+    → (reading read before s lines ≡ Err (refused_at line code) ↔ IsFirstFault read before s lines line code)
+
+-- of a network text: its draft is refused so
+abbrev pub FirstFaultDecidesNetworks : Type 0
+FirstFaultDecidesNetworks = (d : Draft) (before : ℕ) → FirstFaultDecides (λ line draft words. line_reading draft words) before d
+
+abbrev pub FirstFaultDecidesAssignments : Type 0
+FirstFaultDecidesAssignments = (net : Plan) (before : ℕ) (entries : List Entry) → FirstFaultDecides (entry_reading net) before entries

@@ -1,0 +1,197 @@
+-- Network lines: what each adds to a network, or its first fault. On one line a wrong form comes first, then the words from left to right, then what came before, then limits on counts.
+use Rattle.std.specs.Prelude.{ℕ, ◌==◌, ◌||◌, ◌&&◌, not, nat_lt, nat_le, Bool, true, List, [], ◌∷◌, ◌++◌, length, map, Option, Some, None, Result, Ok, Err, if◌then◌else◌, codes}
+use Rattle.std.specs.List.{list_all, list_any, count_by}
+use Rattle.prefix_lanes.specs.Bits.{PrefixView}
+use Rattle.ranked_policy.specs.declared.network.Settings.{Settings}
+use Rattle.ranked_policy.specs.declared.network.Router.{Router}
+use Rattle.ranked_policy.specs.declared.network.Link.{Link}
+use Rattle.ranked_policy.specs.declared.network.Origin.{Origin}
+use Rattle.ranked_policy.specs.declared.network.Rule.{Rule}
+use Rattle.ranked_policy.specs.Plans.{touches}
+use Rattle.ranked_policy.specs.Adding.{with_link}
+use Rattle.net_text.specs.declared.code.Code.{Code}
+use Rattle.net_text.specs.declared.code.Code.TheVariants.{BadForm, Repeated, OutOfLimit}
+use Rattle.net_text.specs.declared.settings.Setting.{Setting}
+use Rattle.net_text.specs.declared.settings.Setting.TheVariants.{Hold, Restart, Cut, Pipe}
+use Rattle.net_text.specs.declared.settings.Named.{Named}
+use Rattle.net_text.specs.declared.draft.Draft.{Draft}
+use Rattle.net_text.specs.Lexing.{Text, same, words_of, is_skipped, is_ascii}
+use Rattle.net_text.specs.Words.{◌>>=◌, is_number, value_of, number_word, asn_word, router_word, id_word, prefix_word, is_prefix, is_named, path_of, rule_path_words}
+
+-- ---- settings: hold 0 or 3 to 65535 seconds, restart 0 to 65535 seconds, cut 1 to 4096 octets, pipe 1 to 1024 items
+
+abbrev pub setting_of : Text → Option Setting
+setting_of word =
+    if same word (codes "hold") then Some Hold
+    else if same word (codes "restart") then Some Restart
+    else if same word (codes "cut") then Some Cut
+    else if same word (codes "pipe") then Some Pipe
+    else None
+
+abbrev pub in_range : Setting → ℕ → Bool
+in_range Hold n = ((n == 0) || nat_le 3 n) && nat_le n 65535
+in_range Restart n = nat_le n 65535
+in_range Cut n = nat_le 1 n && nat_le n 4096
+in_range Pipe n = nat_le 1 n && nat_le n 1024
+
+abbrev pub set_to : Setting → ℕ → Settings → Settings
+set_to Hold n s = record s { hold = n }
+set_to Restart n s = record s { restart = n }
+set_to Cut n s = record s { cut = n }
+set_to Pipe n s = record s { pipe = n }
+
+abbrev pub was_named : Setting → Named → Bool
+was_named Hold named = named.hold
+was_named Restart named = named.restart
+was_named Cut named = named.cut
+was_named Pipe named = named.pipe
+
+abbrev pub naming : Setting → Named → Named
+naming Hold named = record named { hold = true }
+naming Restart named = record named { restart = true }
+naming Cut named = record named { cut = true }
+naming Pipe named = record named { pipe = true }
+
+-- what a line says of the settings
+abbrev pub told_of : Option Setting → Text → Settings → Settings
+told_of None word s = s
+told_of (Some setting) word s = if is_number word && in_range setting (value_of word) then set_to setting (value_of word) s else s
+
+abbrev pub told : List Text → Settings → Settings
+told (name ∷ word ∷ []) s = told_of (setting_of name) word s
+told words s = s
+
+-- the settings that lines name, and the usual ones where none does
+abbrev pub settings_behind : Settings → List Text → Settings
+settings_behind s [] = s
+settings_behind s (line ∷ lines) = settings_behind (told (words_of line) s) lines
+
+abbrev pub usual : Settings
+usual = record { hold = 90; restart = 0; cut = 4096; pipe = 64 }
+
+abbrev pub settings_of : List Text → Settings
+settings_of lines = settings_behind usual lines
+
+abbrev pub setting_line : Setting → Draft → List Text → Result Draft Code
+setting_line setting d (word ∷ []) =
+    number_word (in_range setting) word >>= λ n.
+    if was_named setting d.named then Err Repeated
+    else Ok (record d { named = naming setting d.named })
+setting_line setting d words = Err BadForm
+
+-- ---- lists in an order: one more stands before the first that does not come before it
+abbrev pub among : {X : Type 0} → (X → X → Bool) → List X → X → List X
+among comes_first [] item = item ∷ []
+among comes_first (x ∷ xs) item = if comes_first x item then x ∷ among comes_first xs item else item ∷ x ∷ xs
+
+-- ---- routers, by rising number
+
+abbrev pub new_router : ℕ → ℕ → Router
+new_router u id = record { asn = u; id = id; rules = [] }
+
+abbrev pub is_below : Router → Router → Bool
+is_below r s = nat_lt r.asn s.asn
+
+abbrev pub with_router : Draft → ℕ → ℕ → Draft
+with_router d u id = record d { net = record d.net { routers = among is_below d.net.routers (new_router u id) } }
+
+-- a router has this number or this identifier
+abbrev pub is_taken : List Router → ℕ → ℕ → Bool
+is_taken routers u id = list_any (λ r. (r.asn == u) || (r.id == id)) routers
+
+abbrev pub router_line : Draft → List Text → Result Draft Code
+router_line d (a ∷ b ∷ []) =
+    asn_word a >>= λ u. id_word b >>= λ id.
+    if is_taken d.net.routers u id then Err Repeated
+    else if nat_le 64 (length d.net.routers) then Err OutOfLimit
+    else Ok (with_router d u id)
+router_line d words = Err BadForm
+
+-- ---- links
+
+abbrev pub joins : ℕ → ℕ → Link → Bool
+joins u v link = ((link.one == u) && (link.other == v)) || ((link.one == v) && (link.other == u))
+
+abbrev pub link_line : Draft → List Text → Result Draft Code
+link_line d (a ∷ b ∷ []) =
+    router_word d.net.routers a >>= λ u. router_word d.net.routers b >>= λ v.
+    if (u == v) || list_any (joins u v) d.net.links then Err Repeated
+    else if nat_le 16 (count_by (touches u) d.net.links) || nat_le 16 (count_by (touches v) d.net.links) then Err OutOfLimit
+    else Ok (record d { net = with_link d.net u v })
+link_line d words = Err BadForm
+
+-- ---- origins, by rising prefix
+
+abbrev pub new_origin : ℕ → PrefixView → Origin
+new_origin u q = record { prefix = q; router = u }
+
+-- by address, then by length
+abbrev pub comes_before : Origin → Origin → Bool
+comes_before o p = nat_lt o.prefix.addr p.prefix.addr || ((o.prefix.addr == p.prefix.addr) && nat_lt o.prefix.len p.prefix.len)
+
+abbrev pub with_origin : Draft → ℕ → PrefixView → Draft
+with_origin d u q = record d { net = record d.net { origins = among comes_before d.net.origins (new_origin u q) } }
+
+abbrev pub origin_line : Draft → List Text → Result Draft Code
+origin_line d (a ∷ b ∷ []) =
+    router_word d.net.routers a >>= λ u. prefix_word b >>= λ q.
+    if is_named d.net.origins q then Err Repeated
+    else if nat_le 256 (length d.net.origins) then Err OutOfLimit
+    else Ok (with_origin d u q)
+origin_line d words = Err BadForm
+
+-- ---- rules
+
+abbrev pub are_distinct : List (List ℕ) → Bool
+are_distinct [] = true
+are_distinct (path ∷ paths) = not (list_any (same path) paths) && are_distinct paths
+
+-- each path has at most 16 routers
+abbrev pub are_short : List (List ℕ) → Bool
+are_short paths = list_all (λ path. nat_le (length path) 16) paths
+
+abbrev pub is_ruled : List Router → ℕ → PrefixView → Bool
+is_ruled routers u q = list_any (λ r. (r.asn == u) && list_any (λ rule. is_prefix rule.prefix q) r.rules) routers
+
+abbrev pub is_full : List Router → ℕ → Bool
+is_full routers u = list_any (λ r. (r.asn == u) && nat_le 64 (length r.rules)) routers
+
+abbrev pub ruled : ℕ → Rule → Router → Router
+ruled u rule r = if r.asn == u then record r { rules = r.rules ++ rule ∷ [] } else r
+
+abbrev pub with_rule : Draft → ℕ → PrefixView → List (List ℕ) → Draft
+with_rule d u q paths = record d { net = record d.net { routers = map (ruled u (record { prefix = q; paths = paths })) d.net.routers } }
+
+abbrev pub rule_fault : List Router → ℕ → PrefixView → List Text → Result (Unit {0}) Code
+rule_fault routers u q words =
+    if is_ruled routers u q || not (are_distinct (map path_of words)) then Err Repeated
+    else if nat_lt 32 (length words) || is_full routers u || not (are_short (map path_of words)) then Err OutOfLimit
+    else Ok tt
+
+abbrev pub rule_line : Draft → List Text → Result Draft Code
+rule_line d (a ∷ b ∷ words) =
+    router_word d.net.routers a >>= λ u. prefix_word b >>= λ q. rule_path_words d.net.routers u words >>= λ _. rule_fault d.net.routers u q words >>= λ _.
+    Ok (with_rule d u q (map path_of words))
+rule_line d words = Err BadForm
+
+-- ---- a line
+
+abbrev pub named_line : Option Setting → Draft → List Text → Result Draft Code
+named_line None d words = Err BadForm
+named_line (Some setting) d words = setting_line setting d words
+
+abbrev pub words_line : Draft → List Text → Result Draft Code
+words_line d [] = Ok d
+words_line d (name ∷ words) =
+    if same name (codes "router") then router_line d words
+    else if same name (codes "link") then link_line d words
+    else if same name (codes "origin") then origin_line d words
+    else if same name (codes "rank") then rule_line d words
+    else named_line (setting_of name) d words
+
+-- what a line makes of a network, or its first fault
+abbrev pub line_reading : Draft → Text → Result Draft Code
+line_reading d line =
+    if is_skipped line then Ok d
+    else if not (is_ascii line) then Err BadForm
+    else words_line d (words_of line)

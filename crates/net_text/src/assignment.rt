@@ -1,0 +1,146 @@
+//! An assignment text, line by line.
+
+ghost use Rattle.std.specs.Prelude.{◌≡◌, ◌≢◌, ◌+◌, ◌<◌, ◌^◌, ◌∷◌, [], Ok, length, IfOk, IfErr, IfSome, IfNone};
+ghost use Rattle.std.specs.List.{list_any};
+ghost use Rattle.net_text.specs.Lexing.{lines_of, words_of};
+ghost use Rattle.net_text.specs.Assignments.{gives, path_line, words_entry, entry_reading, assignment_reading, RefusesAssignment};
+ghost use Rattle.net_text.specs.Steps.{Steps};
+
+use crate::code::{Code, Refused};
+use crate::lexing::{is_ascii, is_skipped, next_line, next_word, same};
+use crate::paths::{is_short_assigned, judge_assigned, take_assigned};
+use crate::words::{is_prefix, origin_word, router_word};
+use prefix_lanes::Prefix;
+use ranked_policy::{Asn, Items, Network, Path};
+use std::alloc::Global;
+
+/// The path that a line gives a router for a prefix.
+#[derive(Debug, Drop)]
+pub struct Entry {
+    /// The line.
+    pub line: usize,
+    /// The router.
+    pub router: Asn,
+    /// The prefix.
+    pub prefix: Prefix,
+    /// The path, which is empty where the router is given none.
+    pub path: Path,
+}
+
+// The three words, where there is no other.
+fn three_words(words: &[u8]) -> Option<(&[u8], &[u8], &[u8])>
+    ensures some { IfSome result (λ p. words_of words.now ≡ p.0.now ∷ p.1.now ∷ p.2.now ∷ []) }
+    ensures none { IfNone result (length (words_of words.now) ≢ 3) }
+{
+    let (a, rest) = next_word(words)?;
+    let (b, rest) = next_word(rest)?;
+    let (c, rest) = next_word(rest)?;
+    if let Some(_) = next_word(rest) {
+        return None;
+    }
+    Some((a, b, c))
+}
+
+// Whether a line before gave the router a path for the prefix.
+fn was_given(entries: &[Entry], asn: Asn, prefix: &Prefix) -> bool
+    ensures { result ≡ list_any (gives asn prefix.now) entries.now }
+{
+    entries.iter().any(|entry| entry.router == asn && is_prefix(&entry.prefix, prefix))
+}
+
+fn read_path(
+    alloc: Global,
+    network: &Network,
+    line: usize,
+    entries: &mut Vec<Entry>,
+    words: &[u8],
+) -> Result<(), Code>
+    ensures { Steps result (path_line network.now line entries.old.items (words_of words.now)) entries.new.items }
+{
+    let Some((router, prefix, path)) = three_words(words) else {
+        return Err(Code::BadForm);
+    };
+    let router = router_word(network.routers(), router)?;
+    let prefix = origin_word(network.origins(), prefix)?;
+    judge_assigned(network.routers(), path)?;
+    if was_given(entries.as_slice(), router, &prefix) {
+        return Err(Code::Repeated);
+    }
+    if !is_short_assigned(path) {
+        return Err(Code::OutOfLimit);
+    }
+    let Ok(path) = take_assigned(alloc, path) else {
+        return Err(Code::Memory);
+    };
+    let entry = Entry {
+        line,
+        router,
+        prefix,
+        path,
+    };
+    entries.push(entry).map_err(|_| Code::Memory)
+}
+
+fn read_words(
+    alloc: Global,
+    network: &Network,
+    line: usize,
+    entries: &mut Vec<Entry>,
+    text: &[u8],
+) -> Result<(), Code>
+    ensures { Steps result (words_entry network.now line entries.old.items (words_of text.now)) entries.new.items }
+{
+    let Some((name, words)) = next_word(text) else {
+        return Ok(());
+    };
+    if !same(name, b"path") {
+        return Err(Code::BadForm);
+    }
+    read_path(alloc, network, line, entries, words)
+}
+
+fn read_line(
+    alloc: Global,
+    network: &Network,
+    line: usize,
+    entries: &mut Vec<Entry>,
+    text: &[u8],
+) -> Result<(), Code>
+    ensures { Steps result (entry_reading network.now line entries.old.items text.now) entries.new.items }
+{
+    if is_skipped(text) {
+        return Ok(());
+    }
+    if !is_ascii(text) {
+        return Err(Code::BadForm);
+    }
+    read_words(alloc, network, line, entries, text)
+}
+
+/// The entries of an assignment text, in the order of its lines. So many lines stand before it.
+///
+/// It is refused for its first faulty line. `Memory` is answered where a growth was refused, and
+/// only where no line so far has a fault.
+pub fn read_assignment(
+    alloc: Global,
+    text: &[u8],
+    before: usize,
+    network: &Network,
+) -> Result<Items<Entry>, Refused>
+    requires { before + length text.now < 2 ^ 64 }
+    ensures ok { IfOk result (λ entries. assignment_reading network.now before (lines_of text.now) ≡ Ok entries) }
+    ensures err { IfErr result (λ refused. RefusesAssignment network.now before (lines_of text.now) refused.line refused.code) }
+{
+    let mut entries = Vec::new(alloc);
+    let mut line = before;
+    let mut left = text;
+    'lines: while !left.is_empty() {
+        let (front, rest) = next_line(left);
+        line += 1;
+        if let Err(code) = read_line(alloc, network, line, &mut entries, front) {
+            return Err(Refused { line, code });
+        }
+        left = rest;
+    }
+    Ok(Items::from_vec(entries))
+}

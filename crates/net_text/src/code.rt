@@ -1,0 +1,53 @@
+//! Why a text is refused.
+
+use thiserror::Error;
+
+/// What is wrong with a text, and the code that is printed for it.
+///
+/// The first faulty line decides. On one line a wrong form comes first, then the words from left
+/// to right, then what came before, then limits on counts, then want of memory. Of one word: that
+/// it cannot be read, then a number outside its limit, then a router that is not known or a prefix
+/// without an origin, then a path that is not simple. That a network is not connected, or has no
+/// router, is judged once all its lines are good.
+#[derive(Clone, Copy, Debug, PartialEq, Eq, Error)]
+pub enum Code {
+    /// An unknown first word, a wrong number of words, or a byte past ASCII outside a comment.
+    #[error("N1")]
+    BadForm,
+    /// A number, an address or a path that cannot be read, or an identifier whose first octet is
+    /// not 1 to 223 (RFC 4271 section 4.2).
+    #[error("N2")]
+    Unreadable,
+    /// A router that no line before names.
+    #[error("N3")]
+    UnknownRouter,
+    /// A router, an identifier, a link either way round, an origin's prefix, a rule of one router
+    /// and prefix, a path in one rule, a setting, or an assignment that came before; or a link of a
+    /// router with itself.
+    #[error("N4")]
+    Repeated,
+    /// Links do not lead from each router to each other one.
+    #[error("N5")]
+    NotConnected,
+    /// A number or a count outside its limit, or a network without routers.
+    #[error("N6")]
+    OutOfLimit,
+    /// A path of a rule that is not simple or does not begin with the rule's router.
+    #[error("N7")]
+    NotSimple,
+    /// A prefix that cannot be read, or one without an origin where an origin is asked for.
+    #[error("N8")]
+    BadPrefix,
+    /// A growth was refused.
+    #[error("N9")]
+    Memory,
+}
+
+/// A text that was refused.
+#[derive(Clone, Copy, Debug, PartialEq, Eq)]
+pub struct Refused {
+    /// The line, counted from 1; 0 where a text without lines is no network.
+    pub line: usize,
+    /// What is wrong.
+    pub code: Code,
+}

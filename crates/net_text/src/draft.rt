@@ -1,0 +1,152 @@
+//! A network text, line by line.
+
+ghost use Rattle.std.specs.Prelude.{◌≡◌, IfOk, IfErr, if◌then◌else◌};
+ghost use Rattle.ranked_policy.specs.Plans.{IsNetwork};
+ghost use Rattle.net_text.specs.Lexing.{lines_of, is_skipped};
+ghost use Rattle.net_text.specs.Networks.{empty_draft, SpellsNetwork, RefusesNetwork, FailsAsNetwork};
+
+use crate::code::{Code, Refused};
+use crate::lexing::{is_skipped, next_line};
+use crate::network_lines::read_line;
+use crate::settings::{Named, settings_of};
+use prefix_lanes::Prefix;
+use ranked_policy::{Asn, NetBuilder, NetError, Network, Path};
+use std::alloc::Global;
+
+/// A network so far, and which settings lines have named.
+#[derive(Debug, Drop)]
+pub(crate) struct Draft {
+    /// The settings that lines have named.
+    pub(crate) named: Named,
+    /// What other lines have added. Its settings are those that the whole text names.
+    pub(crate) net: NetBuilder,
+}
+
+impl Draft {
+    ghost use Rattle.std.specs.Prelude.{◌≡◌, OnOk, IfErr};
+    ghost use Rattle.ranked_policy.specs.Adding.{with_link};
+    ghost use Rattle.net_text.specs.declared.code.Code.TheVariants.{Memory};
+    ghost use Rattle.net_text.specs.Lines.{with_router, with_origin, with_rule};
+
+    // All but memory was judged before each of these. What `settings` says of the plan is used in
+    // the proofs.
+
+    pub(crate) fn add_router(&mut self, asn: Asn, id: u32) -> Result<(), Code>
+        ensures ok { OnOk result (self.new ≡ with_router self.old asn id) }
+        ensures err { IfErr result (λ code. code ≡ Code.Memory) }
+    {
+        match self.net.push_router(asn, id) {
+            Ok(()) => {
+                let _plan = self.net.settings();
+                Ok(())
+            }
+            Err(_) => Err(Code::Memory),
+        }
+    }
+
+    pub(crate) fn add_link(&mut self, a: Asn, b: Asn) -> Result<(), Code>
+        ensures ok { OnOk result (self.new ≡ record self.old { net = with_link self.old.net a b }) }
+        ensures err { IfErr result (λ code. code ≡ Code.Memory) }
+    {
+        self.net.push_link(a, b).map_err(|_| Code::Memory)
+    }
+
+    pub(crate) fn add_origin(&mut self, asn: Asn, prefix: Prefix) -> Result<(), Code>
+        ensures ok { OnOk result (self.new ≡ with_origin self.old asn prefix) }
+        ensures err { IfErr result (λ code. code ≡ Code.Memory) }
+    {
+        match self.net.push_origin(asn, prefix) {
+            Ok(()) => {
+                let _plan = self.net.settings();
+                Ok(())
+            }
+            Err(_) => Err(Code::Memory),
+        }
+    }
+
+    pub(crate) fn add_rule(
+        &mut self,
+        asn: Asn,
+        prefix: Prefix,
+        paths: Vec<Path>,
+    ) -> Result<(), Code>
+        ensures ok { OnOk result (self.new ≡ with_rule self.old asn prefix paths.items) }
+        ensures err { IfErr result (λ code. code ≡ Code.Memory) }
+    {
+        match self.net.push_rule(asn, prefix, paths) {
+            Ok(()) => {
+                let _plan = self.net.settings();
+                Ok(())
+            }
+            Err(_) => Err(Code::Memory),
+        }
+    }
+}
+
+// A network that has only the settings that its text names.
+fn empty_draft(alloc: Global, text: &[u8]) -> Draft
+    ensures { result ≡ empty_draft (lines_of text.now) }
+{
+    let named = Named {
+        hold: false,
+        restart: false,
+        cut: false,
+        pipe: false,
+    };
+    match NetBuilder::new(alloc, settings_of(text)) {
+        Ok(net) => Draft { named, net },
+        // The settings are within their ranges.
+        Err(_) => unreachable!(),
+    }
+}
+
+// The whole network, once all its lines are good. The last of them is this one.
+fn finish(draft: Draft, last: usize) -> Result<Network, Refused>
+    ensures ok { IfOk result (λ net. net ≡ draft.net) }
+    ensures network { IfOk result IsNetwork }
+    ensures line { IfErr result (λ refused. refused.line ≡ last) }
+    ensures err { IfErr result (λ refused. FailsAsNetwork draft.net refused.code) }
+{
+    match draft.net.finish() {
+        Ok(net) => Ok(net),
+        Err((_, NetError::Limit)) => Err(Refused {
+            line: last,
+            code: Code::OutOfLimit,
+        }),
+        Err(_) => Err(Refused {
+            line: last,
+            code: Code::NotConnected,
+        }),
+    }
+}
+
+// The last line so far that is not skipped, where this line comes next.
+fn last_said(text: &[u8], line: usize, last: usize) -> usize
+    ensures { result ≡ (if is_skipped text.now then last else line) }
+{
+    if is_skipped(text) { last } else { line }
+}
+
+/// The network that a text spells.
+///
+/// It is refused for its first faulty line; where all lines are good, for the last line that is not
+/// skipped where the network has no router or is not connected. `Memory` is answered where a growth
+/// was refused, and only where no line so far has a fault.
+pub fn read_network(alloc: Global, text: &[u8]) -> Result<Network, Refused>
+    ensures ok { IfOk result (SpellsNetwork (lines_of text.now)) }
+    ensures err { IfErr result (λ refused. RefusesNetwork (lines_of text.now) refused.line refused.code) }
+{
+    let mut draft = empty_draft(alloc, text);
+    let (mut line, mut last) = (0usize, 0usize);
+    let mut left = text;
+    'lines: while !left.is_empty() {
+        let (front, rest) = next_line(left);
+        line += 1;
+        last = last_said(front, line, last);
+        if let Err(code) = read_line(alloc, &mut draft, front) {
+            return Err(Refused { line, code });
+        }
+        left = rest;
+    }
+    finish(draft, last)
+}

@@ -1,0 +1,18 @@
+//! What the definitions say together. Each function here has an empty body; its contract is the law.
+
+ghost use Rattle.ranked_policy.specs.Plans.{Plan};
+ghost use Rattle.net_text.specs.Lexing.{lines_of};
+ghost use Rattle.net_text.specs.declared.draft.Draft.{Draft};
+ghost use Rattle.net_text.specs.Laws.{FirstFaultDecidesNetworks, FirstFaultDecidesAssignments};
+
+/// A network text is refused at a line exactly where that line has the fault and no line before it
+/// has one.
+pub fn first_fault_decides_networks()
+    ensures { FirstFaultDecidesNetworks }
+{}
+
+/// An assignment text is refused at a line exactly where that line has the fault and no line before
+/// it has one.
+pub fn first_fault_decides_assignments()
+    ensures { FirstFaultDecidesAssignments }
+{}

@@ -1,0 +1,136 @@
+//! Lines of a text, words of a line, parts of a word.
+
+ghost use Rattle.std.specs.Prelude.{◌≡◌, ◌≢◌, ℕ, ◌-◌, ◌<◌, ◌≤◌, List, take, ◌++◌, ◌∷◌, [], true, false, length, slice_index, IfSome, IfNone};
+ghost use Rattle.net_text.specs.Lexing.{lines_of, words_of, parts, same, is_blank, is_skipped, is_ascii, without_return, IsWordNext};
+
+// The first place of an octet, or the length.
+fn place_of(octets: &[u8], wanted: u8) -> usize
+    ensures bound { result ≤ length octets.now }
+    ensures before { (k : ℕ) → k < result → slice_index octets.now k ≢ wanted }
+    ensures found { result < length octets.now → slice_index octets.now result ≡ wanted }
+{
+    for (i, x) in octets.iter().enumerate() {
+        if *x == wanted {
+            return i;
+        }
+    }
+    octets.len()
+}
+
+// The line without the CR that stands before its LF.
+fn chomp(line: &[u8]) -> &[u8]
+    ensures { result.now ≡ without_return line.now }
+{
+    let end = line.len();
+    if end == 0 || line[end - 1] != b'\r' {
+        return line;
+    }
+    let (front, _) = line.split_at(end - 1);
+    front
+}
+
+// The first line, and the lines behind it.
+pub(crate) fn next_line(text: &[u8]) -> (&[u8], &[u8])
+    requires { 0 < length text.now }
+    ensures lines { lines_of text.now ≡ result.0.now ∷ lines_of result.1.now }
+    ensures shorter { length result.1.now < length text.now }
+    ensures whole { text.now ≡ take (length text.now - length result.1.now) text.now ++ result.1.now }
+    // Where more lines follow, others could follow in their place.
+    ensures others { (more : List ℕ) → 0 < length result.1.now → lines_of (take (length text.now - length result.1.now) text.now ++ more) ≡ result.0.now ∷ lines_of more }
+{
+    let end = place_of(text, b'\n');
+    if end == text.len() {
+        return (text, &[]);
+    }
+    let (line, _) = text.split_at(end);
+    let (_, rest) = text.split_at(end + 1);
+    (chomp(line), rest)
+}
+
+fn is_blank(x: u8) -> bool
+    ensures { result ≡ is_blank x }
+{
+    x == b' ' || x == b'\t'
+}
+
+// What the line has from its first word on.
+fn skip_blanks(line: &[u8]) -> &[u8]
+    ensures words { words_of result.now ≡ words_of line.now }
+    ensures shorter { length result.now ≤ length line.now }
+    ensures first { IsWordNext result.now }
+{
+    let mut left = line;
+    'blanks: while let [x, rest @ ..] = left {
+        if !is_blank(*x) {
+            break;
+        }
+        left = rest;
+    }
+    left
+}
+
+// The first place of a blank, or the length.
+fn word_len(line: &[u8]) -> usize
+    ensures bound { result ≤ length line.now }
+    ensures before { (k : ℕ) → k < result → is_blank (slice_index line.now k) ≡ false }
+    ensures found { result < length line.now → is_blank (slice_index line.now result) ≡ true }
+{
+    for (i, x) in line.iter().enumerate() {
+        if is_blank(*x) {
+            return i;
+        }
+    }
+    line.len()
+}
+
+// The first word of a line, and what is behind it.
+pub(crate) fn next_word(line: &[u8]) -> Option<(&[u8], &[u8])>
+    ensures none { IfNone result (words_of line.now ≡ []) }
+    ensures some { IfSome result (λ p. words_of line.now ≡ p.0.now ∷ words_of p.1.now) }
+    ensures shorter { IfSome result (λ p. length p.1.now < length line.now) }
+{
+    let left = skip_blanks(line);
+    if left.is_empty() {
+        return None;
+    }
+    Some(left.split_at(word_len(left)))
+}
+
+// Whether the line has no word, or its first word begins a comment.
+pub(crate) fn is_skipped(line: &[u8]) -> bool
+    ensures { result ≡ is_skipped line.now }
+{
+    match next_word(line) {
+        None => true,
+        Some(([b'#', ..], _)) => true,
+        Some(_) => false,
+    }
+}
+
+pub(crate) fn is_ascii(line: &[u8]) -> bool
+    ensures { result ≡ is_ascii line.now }
+{
+    line.iter().all(|x| *x < 128)
+}
+
+// Whether two words are one.
+pub(crate) fn same(word: &[u8], other: &[u8]) -> bool
+    ensures { result ≡ same word.now other.now }
+{
+    word == other
+}
+
+// What stands before the first separator, and what stands behind it.
+pub(crate) fn cut(word: &[u8], separator: u8) -> Option<(&[u8], &[u8])>
+    ensures none { IfNone result (parts separator word.now ≡ word.now ∷ []) }
+    ensures some { IfSome result (λ p. parts separator word.now ≡ p.0.now ∷ parts separator p.1.now) }
+    ensures shorter { IfSome result (λ p. length p.1.now < length word.now) }
+{
+    let end = place_of(word, separator);
+    if end == word.len() {
+        return None;
+    }
+    let (part, _) = word.split_at(end);
+    let (_, rest) = word.split_at(end + 1);
+    Some((part, rest))
+}

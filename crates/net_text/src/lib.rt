@@ -1,0 +1,33 @@
+//! Texts of networks and of assignments: their lines, words and refusals.
+//!
+//! A network text has a line for each router, link, origin, rule and setting; [`read_network`]
+//! answers the network that it spells. An assignment text has a line for each path that a router
+//! is given for a prefix; [`read_assignment`] answers these. [`split_at_section`] parts a text at
+//! the line that is one bare word. A text is refused for its first faulty line, by a [`Code`].
+//!
+//! The definitions stand in `specs/`: `Lexing` (lines and words), `Words` (what a word stands for
+//! and its fault), `Lines` (what a network line adds and its first fault), `Networks` and
+//! `Assignments` (whole texts). The laws that tie them together are the public functions of
+//! [`laws`].
+//!
+//! Left out: schedules, the text of messages and reports, and every use of a network.
+#![tactic(auto)]
+
+mod assignment;
+mod code;
+mod draft;
+pub mod laws;
+mod lexing;
+mod network_lines;
+mod paths;
+mod sections;
+mod settings;
+mod words;
+
+pub use assignment::{Entry, read_assignment};
+pub use code::{Code, Refused};
+pub use draft::read_network;
+pub use sections::{Split, split_at_section};
+
+#[cfg(test)]
+mod tests;

@@ -1,0 +1,222 @@
+//! The lines of a network text: each is judged, and then adds to the network.
+
+ghost use Rattle.std.specs.Prelude.{◌≡◌, ◌≢◌, ◌<◌, ◌≤◌, ◌==◌, ◌||◌, [], ◌∷◌, true, false, length, map, IfSome, IfNone};
+ghost use Rattle.std.specs.List.{list_any, count_by};
+ghost use Rattle.ranked_policy.specs.Plans.{touches};
+ghost use Rattle.net_text.specs.Lexing.{words_of};
+ghost use Rattle.net_text.specs.Words.{is_prefix};
+ghost use Rattle.net_text.specs.Lines.{setting_line, router_line, link_line, origin_line, rule_line, named_line, words_line, line_reading, joins, is_taken, is_ruled, is_full, rule_fault};
+ghost use Rattle.net_text.specs.Steps.{Steps};
+
+use crate::code::Code;
+use crate::draft::Draft;
+use crate::lexing::{is_ascii, is_skipped, next_word, same};
+use crate::paths::{are_distinct, are_short, count_words, judge_rule_paths, take_paths};
+use crate::settings::{Setting, judge_setting, naming, setting_of, was_named};
+use crate::words::{asn_word, id_word, is_named, is_prefix, prefix_word, router_word};
+use prefix_lanes::Prefix;
+use ranked_policy::{Asn, Link, Router, Rule};
+use std::alloc::Global;
+
+// The word, where there is no other.
+fn one_word(words: &[u8]) -> Option<&[u8]>
+    ensures some { IfSome result (λ a. words_of words.now ≡ a.now ∷ []) }
+    ensures none { IfNone result (length (words_of words.now) ≢ 1) }
+{
+    let (word, rest) = next_word(words)?;
+    if let Some(_) = next_word(rest) {
+        return None;
+    }
+    Some(word)
+}
+
+// The two words, where there is no other.
+fn two_words(words: &[u8]) -> Option<(&[u8], &[u8])>
+    ensures some { IfSome result (λ p. words_of words.now ≡ p.0.now ∷ p.1.now ∷ []) }
+    ensures none { IfNone result (length (words_of words.now) ≢ 2) }
+{
+    let (word, rest) = next_word(words)?;
+    Some((word, one_word(rest)?))
+}
+
+// What a line of a setting says.
+fn read_setting(draft: &mut Draft, setting: Setting, words: &[u8]) -> Result<(), Code>
+    ensures { Steps result (setting_line setting draft.old (words_of words.now)) draft.new }
+{
+    let Some(word) = one_word(words) else {
+        return Err(Code::BadForm);
+    };
+    judge_setting(setting, word)?;
+    if was_named(setting, draft.named) {
+        return Err(Code::Repeated);
+    }
+    draft.named = naming(setting, draft.named);
+    Ok(())
+}
+
+// Whether a router has this number or this identifier.
+fn is_taken(routers: &[Router], asn: Asn, id: u32) -> bool
+    ensures { result ≡ is_taken routers.now asn id }
+{
+    routers
+        .iter()
+        .any(|router| router.asn == asn || router.id == id)
+}
+
+fn read_router(draft: &mut Draft, words: &[u8]) -> Result<(), Code>
+    ensures { Steps result (router_line draft.old (words_of words.now)) draft.new }
+{
+    let Some((asn, id)) = two_words(words) else {
+        return Err(Code::BadForm);
+    };
+    let asn = asn_word(asn)?;
+    let id = id_word(id)?;
+    if is_taken(draft.net.routers(), asn, id) {
+        return Err(Code::Repeated);
+    }
+    if draft.net.routers().len() >= 64 {
+        return Err(Code::OutOfLimit);
+    }
+    draft.add_router(asn, id)
+}
+
+// Whether a link joins the two.
+fn is_linked(links: &[Link], a: Asn, b: Asn) -> bool
+    ensures { result ≡ list_any (joins a b) links.now }
+{
+    links.iter().any(|link| link.one == a && link.other == b || link.one == b && link.other == a)
+}
+
+// How many links a router has.
+fn count_links(links: &[Link], asn: Asn) -> usize
+    ensures { result ≡ count_by (touches asn) links.now }
+{
+    links
+        .iter()
+        .filter(|link| link.one == asn || link.other == asn)
+        .count()
+}
+
+fn read_link(draft: &mut Draft, words: &[u8]) -> Result<(), Code>
+    ensures { Steps result (link_line draft.old (words_of words.now)) draft.new }
+{
+    let Some((a, b)) = two_words(words) else {
+        return Err(Code::BadForm);
+    };
+    let a = router_word(draft.net.routers(), a)?;
+    let b = router_word(draft.net.routers(), b)?;
+    if a == b || is_linked(draft.net.links(), a, b) {
+        return Err(Code::Repeated);
+    }
+    if count_links(draft.net.links(), a) >= 16 || count_links(draft.net.links(), b) >= 16 {
+        return Err(Code::OutOfLimit);
+    }
+    draft.add_link(a, b)
+}
+
+fn read_origin(draft: &mut Draft, words: &[u8]) -> Result<(), Code>
+    ensures { Steps result (origin_line draft.old (words_of words.now)) draft.new }
+{
+    let Some((asn, prefix)) = two_words(words) else {
+        return Err(Code::BadForm);
+    };
+    let asn = router_word(draft.net.routers(), asn)?;
+    let prefix = prefix_word(prefix)?;
+    if is_named(draft.net.origins(), &prefix) {
+        return Err(Code::Repeated);
+    }
+    if draft.net.origins().len() >= 256 {
+        return Err(Code::OutOfLimit);
+    }
+    draft.add_origin(asn, prefix)
+}
+
+// Whether one of the rules is for this prefix.
+fn has_rule(rules: &[Rule], prefix: &Prefix) -> bool
+    ensures { result ≡ list_any (λ rule. is_prefix rule.prefix prefix.now) rules.now }
+{
+    rules.iter().any(|rule| is_prefix(&rule.prefix, prefix))
+}
+
+// Whether the router has a rule for this prefix.
+fn is_ruled(routers: &[Router], asn: Asn, prefix: &Prefix) -> bool
+    ensures { result ≡ is_ruled routers.now asn prefix.now }
+{
+    routers.iter().any(|router| router.asn == asn && has_rule(router.rules.as_slice(), prefix))
+}
+
+// Whether the router has as many rules as it may.
+fn is_full(routers: &[Router], asn: Asn) -> bool
+    ensures { result ≡ is_full routers.now asn }
+{
+    routers
+        .iter()
+        .any(|router| router.asn == asn && router.rules.len() >= 64)
+}
+
+// Judges that a rule does not repeat, and then its counts.
+fn judge_rule(routers: &[Router], asn: Asn, prefix: &Prefix, words: &[u8]) -> Result<(), Code>
+    ensures { result ≡ rule_fault routers.now asn prefix.now (words_of words.now) }
+{
+    if is_ruled(routers, asn, prefix) || !are_distinct(words) {
+        return Err(Code::Repeated);
+    }
+    if count_words(words) > 32 || is_full(routers, asn) || !are_short(words) {
+        return Err(Code::OutOfLimit);
+    }
+    Ok(())
+}
+
+fn read_rule(alloc: Global, draft: &mut Draft, words: &[u8]) -> Result<(), Code>
+    ensures { Steps result (rule_line draft.old (words_of words.now)) draft.new }
+{
+    let Some((asn, words)) = next_word(words) else {
+        return Err(Code::BadForm);
+    };
+    let Some((prefix, words)) = next_word(words) else {
+        return Err(Code::BadForm);
+    };
+    let asn = router_word(draft.net.routers(), asn)?;
+    let prefix = prefix_word(prefix)?;
+    judge_rule_paths(draft.net.routers(), asn, words)?;
+    judge_rule(draft.net.routers(), asn, &prefix, words)?;
+    match take_paths(alloc, words) {
+        Ok(paths) => draft.add_rule(asn, prefix, paths),
+        Err(_) => Err(Code::Memory),
+    }
+}
+
+fn read_words(alloc: Global, draft: &mut Draft, line: &[u8]) -> Result<(), Code>
+    ensures { Steps result (words_line draft.old (words_of line.now)) draft.new }
+{
+    let Some((name, words)) = next_word(line) else {
+        return Ok(());
+    };
+    if same(name, b"router") {
+        read_router(draft, words)
+    } else if same(name, b"link") {
+        read_link(draft, words)
+    } else if same(name, b"origin") {
+        read_origin(draft, words)
+    } else if same(name, b"rank") {
+        read_rule(alloc, draft, words)
+    } else {
+        match setting_of(name) {
+            Some(setting) => read_setting(draft, setting, words),
+            None => Err(Code::BadForm),
+        }
+    }
+}
+
+// What a line adds to the network. After an `Err` the draft is of no more use.
+pub(crate) fn read_line(alloc: Global, draft: &mut Draft, line: &[u8]) -> Result<(), Code>
+    ensures { Steps result (line_reading draft.old line.now) draft.new }
+{
+    if is_skipped(line) {
+        return Ok(());
+    }
+    if !is_ascii(line) {
+        return Err(Code::BadForm);
+    }
+    read_words(alloc, draft, line)
+}

@@ -1,0 +1,312 @@
+//! Words that are paths. They are judged as they stand in the text, and taken into memory only once
+//! their whole line is good.
+
+ghost use Rattle.std.specs.Prelude.{◌≡◌, ◌<◌, ◌≤◌, ◌==◌, ◌∷◌, [], true, false, nat_le, length, map, IfOk, if◌then◌else◌};
+ghost use Rattle.std.specs.List.{list_all, list_any, All};
+ghost use Rattle.net_text.specs.Lexing.{parts, same, words_of};
+ghost use Rattle.net_text.specs.Words.{is_number, is_asn, is_router, value_of, path_of, path_word, is_simple, is_from, rule_path_word, rule_path_words, is_none, assigned_word, assigned_path};
+ghost use Rattle.net_text.specs.Lines.{are_distinct, are_short};
+ghost use Rattle.net_text.specs.Taking.{parts_left, IsTakeable};
+
+use crate::code::Code;
+use crate::lexing::{cut, next_word, same};
+use crate::words::{is_asn, is_number, is_router, value_of};
+use ranked_policy::{Asn, Path, Router};
+use std::alloc::{AllocError, Global};
+
+// The first part of a path, what is behind it, and whether that is a part or more.
+fn next_part(word: &[u8]) -> (&[u8], &[u8], bool)
+    ensures parts { parts 45 word.now ≡ result.0.now ∷ parts_left result.2 result.1.now }
+    ensures shorter { result.2 ≡ true → length result.1.now < length word.now }
+{
+    match cut(word, b'-') {
+        None => (word, &[], false),
+        Some((part, rest)) => (part, rest, true),
+    }
+}
+
+// Whether each part is a number.
+fn are_numbers(word: &[u8]) -> bool
+    ensures { result ≡ list_all is_number (parts 45 word.now) }
+{
+    let (mut left, mut more) = (word, true);
+    'parts: while more {
+        let (part, rest, on) = next_part(left);
+        if !is_number(part) {
+            return false;
+        }
+        left = rest;
+        more = on;
+    }
+    true
+}
+
+// Whether each number is one that an AS can have.
+fn are_asns(word: &[u8]) -> bool
+    ensures { result ≡ list_all is_asn (path_of word.now) }
+{
+    let (mut left, mut more) = (word, true);
+    'parts: while more {
+        let (part, rest, on) = next_part(left);
+        if !is_asn(value_of(part)) {
+            return false;
+        }
+        left = rest;
+        more = on;
+    }
+    true
+}
+
+// Whether each number is a router's.
+fn are_routers(routers: &[Router], word: &[u8]) -> bool
+    ensures { result ≡ list_all (is_router routers.now) (path_of word.now) }
+{
+    let (mut left, mut more) = (word, true);
+    'parts: while more {
+        let (part, rest, on) = next_part(left);
+        if !is_router(routers, value_of(part)) {
+            return false;
+        }
+        left = rest;
+        more = on;
+    }
+    true
+}
+
+// Judges a path of routers.
+fn judge_path(routers: &[Router], word: &[u8]) -> Result<(), Code>
+    ensures { result ≡ path_word routers.now word.now }
+{
+    if !are_numbers(word) {
+        return Err(Code::Unreadable);
+    }
+    if !are_asns(word) {
+        return Err(Code::OutOfLimit);
+    }
+    if !are_routers(routers, word) {
+        return Err(Code::UnknownRouter);
+    }
+    Ok(())
+}
+
+// Whether one of the numbers is this one.
+fn names(word: &[u8], more: bool, number: u64) -> bool
+    ensures { result ≡ list_any (λ v. v == number) (map value_of (parts_left more word.now)) }
+{
+    let (mut left, mut more) = (word, more);
+    'parts: while more {
+        let (part, rest, on) = next_part(left);
+        if value_of(part) == number {
+            return true;
+        }
+        left = rest;
+        more = on;
+    }
+    false
+}
+
+// Whether no number is there twice.
+fn is_simple(word: &[u8]) -> bool
+    ensures { result ≡ is_simple (path_of word.now) }
+{
+    let (mut left, mut more) = (word, true);
+    'parts: while more {
+        let (part, rest, on) = next_part(left);
+        if names(rest, on, value_of(part)) {
+            return false;
+        }
+        left = rest;
+        more = on;
+    }
+    true
+}
+
+// Whether the first number is the router's.
+fn is_from(asn: Asn, word: &[u8]) -> bool
+    ensures { result ≡ is_from asn (path_of word.now) }
+{
+    let (part, _, _) = next_part(word);
+    value_of(part) == u64::from(asn)
+}
+
+// Judges a path of a rule of this router.
+fn judge_rule_path(routers: &[Router], asn: Asn, word: &[u8]) -> Result<(), Code>
+    ensures { result ≡ rule_path_word routers.now asn word.now }
+{
+    judge_path(routers, word)?;
+    if is_from(asn, word) && is_simple(word) {
+        Ok(())
+    } else {
+        Err(Code::NotSimple)
+    }
+}
+
+// Judges the paths of a rule of this router, which are the words of a line.
+pub(crate) fn judge_rule_paths(routers: &[Router], asn: Asn, words: &[u8]) -> Result<(), Code>
+    ensures { result ≡ rule_path_words routers.now asn (words_of words.now) }
+{
+    let mut left = words;
+    'words: while let Some((word, rest)) = next_word(left) {
+        judge_rule_path(routers, asn, word)?;
+        left = rest;
+    }
+    Ok(())
+}
+
+// Whether two paths are one.
+fn same_path(word: &[u8], other: &[u8]) -> bool
+    ensures { result ≡ same (path_of word.now) (path_of other.now) }
+{
+    let (mut left, mut others, mut more, mut more_others) = (word, other, true, true);
+    'parts: while more && more_others {
+        let (part, rest, on) = next_part(left);
+        let (other, rest_others, on_others) = next_part(others);
+        if value_of(part) != value_of(other) {
+            return false;
+        }
+        left = rest;
+        others = rest_others;
+        more = on;
+        more_others = on_others;
+    }
+    more == more_others
+}
+
+// Whether one of these words is the same path.
+fn has_path(words: &[u8], path: &[u8]) -> bool
+    ensures { result ≡ list_any (same (path_of path.now)) (map path_of (words_of words.now)) }
+{
+    let mut left = words;
+    'words: while let Some((word, rest)) = next_word(left) {
+        if same_path(path, word) {
+            return true;
+        }
+        left = rest;
+    }
+    false
+}
+
+// Whether no path is there twice.
+pub(crate) fn are_distinct(words: &[u8]) -> bool
+    ensures { result ≡ are_distinct (map path_of (words_of words.now)) }
+{
+    let mut left = words;
+    'words: while let Some((word, rest)) = next_word(left) {
+        if has_path(rest, word) {
+            return false;
+        }
+        left = rest;
+    }
+    true
+}
+
+// Whether the path has at most 16 routers.
+fn is_short(word: &[u8]) -> bool
+    ensures { result ≡ nat_le (length (path_of word.now)) 16 }
+{
+    let (mut left, mut more) = (word, true);
+    let mut count = 0usize;
+    'parts: while more {
+        let (_, rest, on) = next_part(left);
+        if count == 16 {
+            return false;
+        }
+        count += 1;
+        left = rest;
+        more = on;
+    }
+    true
+}
+
+// Whether each path has at most 16 routers.
+pub(crate) fn are_short(words: &[u8]) -> bool
+    ensures { result ≡ are_short (map path_of (words_of words.now)) }
+{
+    let mut left = words;
+    'words: while let Some((word, rest)) = next_word(left) {
+        if !is_short(word) {
+            return false;
+        }
+        left = rest;
+    }
+    true
+}
+
+// How many words there are.
+pub(crate) fn count_words(words: &[u8]) -> usize
+    ensures { result ≡ length (words_of words.now) }
+{
+    let mut left = words;
+    let mut count = 0usize;
+    'words: while let Some((_, rest)) = next_word(left) {
+        count += 1;
+        left = rest;
+    }
+    count
+}
+
+// The path in memory.
+fn take_path(alloc: Global, word: &[u8]) -> Result<Path, AllocError>
+    requires { IsTakeable word.now }
+    ensures { IfOk result (λ path. path ≡ path_of word.now) }
+{
+    let mut numbers = [0; 16];
+    let mut count = 0usize;
+    let (mut left, mut more) = (word, true);
+    'parts: while more {
+        let (part, rest, on) = next_part(left);
+        numbers[count] = value_of(part) as Asn;
+        count += 1;
+        left = rest;
+        more = on;
+    }
+    Path::from_slice(alloc, &numbers[..count])
+}
+
+// The paths in memory.
+pub(crate) fn take_paths(alloc: Global, words: &[u8]) -> Result<Vec<Path>, AllocError>
+    requires { All IsTakeable (words_of words.now) }
+    ensures { IfOk result (λ paths. paths.items ≡ map path_of (words_of words.now)) }
+{
+    let mut paths = Vec::with_capacity(alloc, count_words(words))?;
+    let mut left = words;
+    'words: while let Some((word, rest)) = next_word(left) {
+        paths.push(take_path(alloc, word)?)?;
+        left = rest;
+    }
+    Ok(paths)
+}
+
+fn is_none(word: &[u8]) -> bool
+    ensures { result ≡ is_none word.now }
+{
+    same(word, b"none")
+}
+
+// Judges the path of an assignment, or the word for the empty one.
+pub(crate) fn judge_assigned(routers: &[Router], word: &[u8]) -> Result<(), Code>
+    ensures { result ≡ assigned_word routers.now word.now }
+{
+    if is_none(word) {
+        return Ok(());
+    }
+    judge_path(routers, word)
+}
+
+// Whether the path of an assignment has at most 16 routers.
+pub(crate) fn is_short_assigned(word: &[u8]) -> bool
+    ensures { result ≡ nat_le (length (assigned_path word.now)) 16 }
+{
+    is_none(word) || is_short(word)
+}
+
+// The path of an assignment, in memory.
+pub(crate) fn take_assigned(alloc: Global, word: &[u8]) -> Result<Path, AllocError>
+    requires { is_none word.now ≡ false → IsTakeable word.now }
+    ensures { IfOk result (λ path. path ≡ assigned_path word.now) }
+{
+    if is_none(word) {
+        return Ok(Path::new(alloc));
+    }
+    take_path(alloc, word)
+}

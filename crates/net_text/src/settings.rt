@@ -1,0 +1,180 @@
+//! The lines that say what every router of a network is told.
+
+ghost use Rattle.std.specs.Prelude.{◌≡◌, IsTrue, true};
+ghost use Rattle.ranked_policy.specs.Plans.{IsSettings};
+ghost use Rattle.net_text.specs.Lexing.{lines_of, words_of};
+ghost use Rattle.net_text.specs.Words.{number_word};
+ghost use Rattle.net_text.specs.Lines.{setting_of, in_range, set_to, was_named, naming, told, settings_of};
+
+use crate::code::Code;
+use crate::lexing::{next_line, next_word, same};
+use crate::words::{is_number, value_of};
+use ranked_policy::Settings;
+
+/// What a line may set.
+#[derive(Clone, Copy, Debug, PartialEq, Eq)]
+pub(crate) enum Setting {
+    /// The hold time, in seconds.
+    Hold,
+    /// The seconds until a session starts again.
+    Restart,
+    /// The octets of a piece.
+    Cut,
+    /// The items of a pipe.
+    Pipe,
+}
+
+/// Which settings lines have named.
+#[derive(Clone, Copy, Debug, PartialEq, Eq)]
+pub(crate) struct Named {
+    /// The hold time.
+    pub(crate) hold: bool,
+    /// The seconds until a session starts again.
+    pub(crate) restart: bool,
+    /// The octets of a piece.
+    pub(crate) cut: bool,
+    /// The items of a pipe.
+    pub(crate) pipe: bool,
+}
+
+// The setting that a first word names.
+pub(crate) fn setting_of(word: &[u8]) -> Option<Setting>
+    ensures { result ≡ setting_of word.now }
+{
+    if same(word, b"hold") {
+        Some(Setting::Hold)
+    } else if same(word, b"restart") {
+        Some(Setting::Restart)
+    } else if same(word, b"cut") {
+        Some(Setting::Cut)
+    } else if same(word, b"pipe") {
+        Some(Setting::Pipe)
+    } else {
+        None
+    }
+}
+
+// Whether the setting can be this (for the hold time RFC 4271 section 4.2).
+fn in_range(setting: Setting, number: u64) -> bool
+    ensures { result ≡ in_range setting number }
+{
+    match setting {
+        Setting::Hold => (number == 0 || 3 <= number) && number <= 65535,
+        Setting::Restart => number <= 65535,
+        Setting::Cut => 1 <= number && number <= 4096,
+        Setting::Pipe => 1 <= number && number <= 1024,
+    }
+}
+
+// Judges the word that a setting is set to.
+pub(crate) fn judge_setting(setting: Setting, word: &[u8]) -> Result<u64, Code>
+    ensures { result ≡ number_word (in_range setting) word.now }
+{
+    if !is_number(word) {
+        return Err(Code::Unreadable);
+    }
+    let number = value_of(word);
+    if !in_range(setting, number) {
+        return Err(Code::OutOfLimit);
+    }
+    Ok(number)
+}
+
+pub(crate) fn was_named(setting: Setting, named: Named) -> bool
+    ensures { result ≡ was_named setting named }
+{
+    match setting {
+        Setting::Hold => named.hold,
+        Setting::Restart => named.restart,
+        Setting::Cut => named.cut,
+        Setting::Pipe => named.pipe,
+    }
+}
+
+pub(crate) fn naming(setting: Setting, named: Named) -> Named
+    ensures { result ≡ naming setting named }
+{
+    match setting {
+        Setting::Hold => Named {
+            hold: true,
+            ..named
+        },
+        Setting::Restart => Named {
+            restart: true,
+            ..named
+        },
+        Setting::Cut => Named { cut: true, ..named },
+        Setting::Pipe => Named {
+            pipe: true,
+            ..named
+        },
+    }
+}
+
+fn set_to(setting: Setting, number: u64, settings: Settings) -> Settings
+    requires { in_range setting number ≡ true }
+    ensures value { result ≡ set_to setting number settings }
+    ensures range { IsSettings settings → IsSettings result }
+{
+    match setting {
+        Setting::Hold => Settings {
+            hold: number as u16,
+            ..settings
+        },
+        Setting::Restart => Settings {
+            restart: number as u16,
+            ..settings
+        },
+        Setting::Cut => Settings {
+            cut: number as usize,
+            ..settings
+        },
+        Setting::Pipe => Settings {
+            pipe: number as usize,
+            ..settings
+        },
+    }
+}
+
+// The settings as a line leaves them.
+fn told(line: &[u8], settings: Settings) -> Settings
+    ensures value { result ≡ told (words_of line.now) settings }
+    ensures range { IsSettings settings → IsSettings result }
+{
+    let Some((name, words)) = next_word(line) else {
+        return settings;
+    };
+    let Some((word, words)) = next_word(words) else {
+        return settings;
+    };
+    if let Some(_) = next_word(words) {
+        return settings;
+    }
+    let Some(setting) = setting_of(name) else {
+        return settings;
+    };
+    match judge_setting(setting, word) {
+        Ok(number) => set_to(setting, number, settings),
+        Err(_) => settings,
+    }
+}
+
+// The settings that the lines of a text name, and the usual ones where none does.
+pub(crate) fn settings_of(text: &[u8]) -> Settings
+    ensures value { result ≡ settings_of (lines_of text.now) }
+    ensures range { IsSettings result }
+{
+    let mut settings = Settings {
+        hold: 90,
+        restart: 0,
+        cut: 4096,
+        pipe: 64,
+    };
+    let mut left = text;
+    'lines: while !left.is_empty() {
+        let (line, rest) = next_line(left);
+        settings = told(line, settings);
+        left = rest;
+    }
+    settings
+}

@@ -1,0 +1,164 @@
+//! What one word stands for.
+
+ghost use Rattle.std.specs.Prelude.{◌≡◌, ◌-◌, ◌^◌, ◌∷◌, [], ℕ, true, false, min, IfSome, IfNone};
+ghost use Rattle.std.specs.List.{list_all, list_any};
+ghost use Rattle.net_text.specs.Words.{is_digit, is_number, value_of, is_octet, is_asn, asn_word, is_router, router_word, address_of, is_unicast, id_word, prefix_of, prefix_word, is_named, origin_word, is_prefix};
+
+use crate::code::Code;
+use crate::lexing::cut;
+use prefix_lanes::Prefix;
+use ranked_policy::{Asn, Origin, Router};
+
+fn is_digit(x: u8) -> bool
+    ensures { result ≡ is_digit x }
+{
+    x.is_ascii_digit()
+}
+
+fn are_digits(word: &[u8]) -> bool
+    ensures { result ≡ list_all is_digit word.now }
+{
+    word.iter().all(|x| is_digit(*x))
+}
+
+// Whether the word is digits, however many, and not empty.
+pub(crate) fn is_number(word: &[u8]) -> bool
+    ensures { result ≡ is_number word.now }
+{
+    !word.is_empty() && are_digits(word)
+}
+
+// The number that digits are. One that 64 bits do not hold is answered as the greatest that they
+// hold, which is above each limit too.
+pub(crate) fn value_of(word: &[u8]) -> u64
+    ensures { result ≡ value_of word.now }
+{
+    let mut value = 0u64;
+    for x in word {
+        value = value
+            .saturating_mul(10)
+            .saturating_add(u64::from(x.saturating_sub(b'0')));
+    }
+    value
+}
+
+pub(crate) fn is_asn(number: u64) -> bool
+    ensures { result ≡ is_asn number }
+{
+    1 <= number && number <= 65535
+}
+
+// A number that an AS can have (RFC 4271 section 4.2, RFC 7607).
+pub(crate) fn asn_word(word: &[u8]) -> Result<Asn, Code>
+    ensures { result ≡ asn_word word.now }
+{
+    if !is_number(word) {
+        return Err(Code::Unreadable);
+    }
+    let number = value_of(word);
+    if !is_asn(number) {
+        return Err(Code::OutOfLimit);
+    }
+    Ok(number as Asn)
+}
+
+pub(crate) fn is_router(routers: &[Router], number: u64) -> bool
+    ensures { result ≡ is_router routers.now number }
+{
+    routers.iter().any(|router| u64::from(router.asn) == number)
+}
+
+// The number of a router.
+pub(crate) fn router_word(routers: &[Router], word: &[u8]) -> Result<Asn, Code>
+    ensures { result ≡ router_word routers.now word.now }
+{
+    let asn = asn_word(word)?;
+    if !is_router(routers, u64::from(asn)) {
+        return Err(Code::UnknownRouter);
+    }
+    Ok(asn)
+}
+
+fn is_octet(part: &[u8]) -> bool
+    ensures { result ≡ is_octet part.now }
+{
+    is_number(part) && value_of(part) <= 255
+}
+
+// The address that four octets with dots between them are.
+pub(crate) fn address_of(word: &[u8]) -> Option<u32>
+    ensures { result ≡ address_of word.now }
+{
+    let (a, rest) = cut(word, b'.')?;
+    let (b, rest) = cut(rest, b'.')?;
+    let (c, d) = cut(rest, b'.')?;
+    if let Some(_) = cut(d, b'.') {
+        return None;
+    }
+    if !(is_octet(a) && is_octet(b) && is_octet(c) && is_octet(d)) {
+        return None;
+    }
+    let (a, b) = (value_of(a) as u32, value_of(b) as u32);
+    let (c, d) = (value_of(c) as u32, value_of(d) as u32);
+    Some(((a * 256 + b) * 256 + c) * 256 + d)
+}
+
+// The identifier of a router: an address of one host (RFC 4271 section 4.2).
+pub(crate) fn id_word(word: &[u8]) -> Result<u32, Code>
+    ensures { result ≡ id_word word.now }
+{
+    let Some(address) = address_of(word) else {
+        return Err(Code::Unreadable);
+    };
+    let first = address / 0x0100_0000;
+    if !(1 <= first && first <= 223) {
+        return Err(Code::Unreadable);
+    }
+    Ok(address)
+}
+
+// The prefix that an address and a length are, with a slash between them.
+fn prefix_of(word: &[u8]) -> Option<Prefix>
+    ensures { result ≡ prefix_of word.now }
+{
+    let (address, len) = cut(word, b'/')?;
+    if let Some(_) = cut(len, b'/') {
+        return None;
+    }
+    let address = address_of(address)?;
+    if !(is_number(len) && value_of(len) <= 32) {
+        return None;
+    }
+    Prefix::new(address, value_of(len) as u8)
+}
+
+pub(crate) fn prefix_word(word: &[u8]) -> Result<Prefix, Code>
+    ensures { result ≡ prefix_word word.now }
+{
+    prefix_of(word).ok_or(Code::BadPrefix)
+}
+
+pub(crate) fn is_prefix(prefix: &Prefix, other: &Prefix) -> bool
+    ensures { result ≡ is_prefix prefix.now other.now }
+{
+    prefix.addr() == other.addr() && prefix.len() == other.len()
+}
+
+pub(crate) fn is_named(origins: &[Origin], prefix: &Prefix) -> bool
+    ensures { result ≡ is_named origins.now prefix.now }
+{
+    origins
+        .iter()
+        .any(|origin| is_prefix(&origin.prefix, prefix))
+}
+
+// A prefix that a router originates.
+pub(crate) fn origin_word(origins: &[Origin], word: &[u8]) -> Result<Prefix, Code>
+    ensures { result ≡ origin_word origins.now word.now }
+{
+    let prefix = prefix_word(word)?;
+    if !is_named(origins, &prefix) {
+        return Err(Code::BadPrefix);
+    }
+    Ok(prefix)
+}

@@ -1,0 +1,9 @@
+pub mod Loops
+pub mod Longest
+pub mod OrderLoops
+pub mod Rising
+pub mod Judged
+pub mod PlanLemmas
+pub mod TableLemmas
+pub mod Reached
+pub mod PeerLemmas

@@ -1,0 +1,6 @@
+use Rattle.std.proofs.Common.{◌≡◌, take}
+use Rattle.std.specs.List.{All}
+use Rattle.ranked_policy.proofs.policy.is_listed.Given as goal
+
+abbrev pub invariant-loop-listed : goal.invariant-loop-listed
+invariant-loop-listed l = All (λ listed. listed ≡ l.path → ⊥) (take l.listed-index l.paths)

@@ -1,0 +1,9 @@
+pub mod Paths
+pub mod Orders
+pub mod Plans
+pub mod Policies
+pub mod Adding
+pub mod Laws
+pub mod Promises
+pub mod Choosing
+pub mod Reaching

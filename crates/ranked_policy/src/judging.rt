@@ -1,0 +1,289 @@
+//! What is refused, in the order in which it is judged.
+
+ghost use Rattle.std.specs.Prelude.{◌≡◌, ◌≢◌, ◌≤◌, ◌<◌, ◌↔◌, ℕ, IsTrue, length, MatchResult};
+ghost use Rattle.std.specs.List.{All, AllPairs, Any, Contains, count_by};
+ghost use Rattle.ranked_policy.specs.Paths.{IsSimple, BeginsWith};
+ghost use Rattle.ranked_policy.specs.Plans.{IsRouter, IsOrigin, IsNamed, Linked, Joins, touches, IsAsn, IsUnicast, IsSettings};
+ghost use Rattle.ranked_policy.specs.Adding.{IsJudged, RouterMeets, LinkMeets, OriginMeets, RuleMeets};
+
+use crate::network::{Link, Origin, Router, Rule, Settings};
+use crate::path::{Asn, Path};
+use crate::policy::{MOST_ROUTERS, begins_with, is_listed, is_simple};
+use crate::refusal::NetError;
+use prefix_lanes::Prefix;
+
+const MOST: usize = 64;
+
+const MOST_LINKS: usize = 16;
+
+const MOST_PREFIXES: usize = 256;
+
+const MOST_RULES: usize = 64;
+
+const MOST_PATHS: usize = 32;
+
+const GREATEST_ASN: Asn = 65535;
+
+// Whether each setting is in its range.
+pub(crate) fn is_settings(settings: &Settings) -> bool
+    ensures { IsTrue result ↔ IsSettings settings.now }
+{
+    let _restart = settings.restart;
+    (settings.hold == 0 || settings.hold >= 3)
+        && 1 <= settings.cut
+        && settings.cut <= 4096
+        && 1 <= settings.pipe
+        && settings.pipe <= 1024
+}
+
+// Whether a router can have the number and the identifier.
+fn is_numbered(asn: Asn, id: u32) -> bool
+    ensures { IsTrue result ↔ (IsAsn asn × IsUnicast id) }
+{
+    let first = id / 0x0100_0000;
+    1 <= asn && asn <= GREATEST_ASN && 1 <= first && first <= 223
+}
+
+// Whether no router has the number or the identifier.
+fn is_new_router(routers: &[Router], asn: Asn, id: u32) -> bool
+    ensures { IsTrue result ↔ All (λ r. (r.asn ≢ asn) × (r.id ≢ id)) routers.now }
+{
+    for router in routers {
+        if router.asn == asn || router.id == id {
+            return false;
+        }
+    }
+    true
+}
+
+pub(crate) fn judge_router(routers: &[Router], asn: Asn, id: u32) -> Result<(), NetError>
+    ensures { IsJudged (RouterMeets routers.now asn id) result }
+{
+    if !is_new_router(routers, asn, id) {
+        return Err(NetError::Repeated);
+    }
+    if routers.len() >= MOST {
+        return Err(NetError::Limit);
+    }
+    if !is_numbered(asn, id) {
+        return Err(NetError::BadNumber);
+    }
+    Ok(())
+}
+
+// Whether a router has the number.
+pub(crate) fn is_router(routers: &[Router], asn: Asn) -> bool
+    ensures { IsTrue result ↔ IsRouter routers.now asn }
+{
+    for router in routers {
+        if router.asn == asn {
+            return true;
+        }
+    }
+    false
+}
+
+// Whether a link joins the two.
+pub(crate) fn is_linked(links: &[Link], a: Asn, b: Asn) -> bool
+    ensures { IsTrue result ↔ Linked links.now a b }
+{
+    for link in links {
+        if link.one == a && link.other == b || link.one == b && link.other == a {
+            return true;
+        }
+    }
+    false
+}
+
+// How many links the router has.
+fn links_of(links: &[Link], asn: Asn) -> usize
+    ensures { result ≡ count_by (touches asn) links.now }
+{
+    links
+        .iter()
+        .filter(|link| link.one == asn || link.other == asn)
+        .count()
+}
+
+pub(crate) fn judge_link(routers: &[Router], links: &[Link], a: Asn, b: Asn) -> Result<(), NetError>
+    ensures { IsJudged (LinkMeets routers.now links.now a b) result }
+{
+    if a == b || is_linked(links, a, b) {
+        return Err(NetError::Repeated);
+    }
+    if !is_router(routers, a) || !is_router(routers, b) {
+        return Err(NetError::UnknownRouter);
+    }
+    if links_of(links, a) >= MOST_LINKS || links_of(links, b) >= MOST_LINKS {
+        return Err(NetError::Limit);
+    }
+    Ok(())
+}
+
+// Whether the prefix is named.
+pub(crate) fn is_named(origins: &[Origin], prefix: &Prefix) -> bool
+    ensures { IsTrue result ↔ IsNamed origins.now prefix.now }
+{
+    for origin in origins {
+        if origin.prefix == *prefix {
+            return true;
+        }
+    }
+    false
+}
+
+// Whether the router is named as origin of the prefix.
+pub(crate) fn is_origin(origins: &[Origin], asn: Asn, prefix: &Prefix) -> bool
+    ensures { IsTrue result ↔ IsOrigin origins.now asn prefix.now }
+{
+    for origin in origins {
+        if origin.prefix == *prefix && origin.router == asn {
+            return true;
+        }
+    }
+    false
+}
+
+pub(crate) fn judge_origin(
+    routers: &[Router],
+    origins: &[Origin],
+    asn: Asn,
+    prefix: &Prefix,
+) -> Result<(), NetError>
+    ensures { IsJudged (OriginMeets routers.now origins.now asn prefix.now) result }
+{
+    if is_named(origins, prefix) {
+        return Err(NetError::Repeated);
+    }
+    if !is_router(routers, asn) {
+        return Err(NetError::UnknownRouter);
+    }
+    if origins.len() >= MOST_PREFIXES {
+        return Err(NetError::Limit);
+    }
+    Ok(())
+}
+
+// Whether each path is simple and begins with the router.
+fn are_simple(router: Asn, paths: &[Path]) -> bool
+    ensures { IsTrue result ↔ All (λ path. BeginsWith path router × IsSimple path) paths.now }
+{
+    for path in paths {
+        let numbers = path.as_slice();
+        if !begins_with(router, numbers) || !is_simple(numbers) {
+            return false;
+        }
+    }
+    true
+}
+
+// Whether each path is within its limit.
+fn are_short(paths: &[Path]) -> bool
+    ensures { IsTrue result ↔ All (λ path. length path ≤ 16) paths.now }
+{
+    for path in paths {
+        if path.len() > MOST_ROUTERS {
+            return false;
+        }
+    }
+    true
+}
+
+// Whether no path is there twice.
+fn are_distinct(paths: &[Path]) -> bool
+    ensures { IsTrue result ↔ AllPairs (λ path later. path ≢ later) paths.now }
+{
+    for (i, path) in paths.iter().enumerate() {
+        let (before, _) = paths.split_at(i);
+        if is_listed(before, path) {
+            return false;
+        }
+    }
+    true
+}
+
+// Whether none of these rules is for the prefix.
+fn is_new_rule(rules: &[Rule], prefix: &Prefix) -> bool
+    ensures { IsTrue result ↔ All (λ rule. rule.prefix ≢ prefix.now) rules.now }
+{
+    for rule in rules {
+        if rule.prefix == *prefix {
+            return false;
+        }
+    }
+    true
+}
+
+// Whether the router has no rule for the prefix.
+fn is_unruled(routers: &[Router], asn: Asn, prefix: &Prefix) -> bool
+    ensures { IsTrue result ↔ All (λ r. r.asn ≡ asn → All (λ rule. rule.prefix ≢ prefix.now) r.rules) routers.now }
+{
+    for router in routers {
+        if router.asn == asn && !is_new_rule(router.rules.as_slice(), prefix) {
+            return false;
+        }
+    }
+    true
+}
+
+// Whether the router can have one more rule.
+fn has_room(routers: &[Router], asn: Asn) -> bool
+    ensures { IsTrue result ↔ All (λ r. r.asn ≡ asn → length r.rules < 64) routers.now }
+{
+    for router in routers {
+        if router.asn == asn && router.rules.len() >= MOST_RULES {
+            return false;
+        }
+    }
+    true
+}
+
+// Whether each number is that of a router.
+fn are_routers(routers: &[Router], asns: &[Asn]) -> bool
+    ensures { IsTrue result ↔ All (IsRouter routers.now) asns.now }
+{
+    for asn in asns {
+        if !is_router(routers, *asn) {
+            return false;
+        }
+    }
+    true
+}
+
+// Whether the paths name routers alone.
+fn are_known(routers: &[Router], paths: &[Path]) -> bool
+    ensures { IsTrue result ↔ All (All (IsRouter routers.now)) paths.now }
+{
+    for path in paths {
+        if !are_routers(routers, path.as_slice()) {
+            return false;
+        }
+    }
+    true
+}
+
+pub(crate) fn judge_rule(
+    routers: &[Router],
+    asn: Asn,
+    prefix: &Prefix,
+    paths: &[Path],
+) -> Result<(), NetError>
+    ensures { IsJudged (RuleMeets routers.now asn prefix.now paths.now) result }
+{
+    if !are_simple(asn, paths) {
+        return Err(NetError::NotSimple);
+    }
+    if !are_short(paths) {
+        return Err(NetError::TooLong);
+    }
+    if !are_distinct(paths) || !is_unruled(routers, asn, prefix) {
+        return Err(NetError::Repeated);
+    }
+    if !is_router(routers, asn) || !are_known(routers, paths) {
+        return Err(NetError::UnknownRouter);
+    }
+    if paths.len() > MOST_PATHS || !has_room(routers, asn) {
+        return Err(NetError::Limit);
+    }
+    Ok(())
+}

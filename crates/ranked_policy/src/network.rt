@@ -1,0 +1,189 @@
+//! Networks as they are kept.
+
+use crate::builder::NetBuilder;
+use crate::items::Items;
+use crate::path::{Asn, Path};
+use crate::peers::peers_of;
+use crate::table::PolicyTable;
+use prefix_lanes::Prefix;
+use std::alloc::{AllocError, Global};
+use std::marker::Model;
+
+/// What every router of a network is told.
+#[derive(Clone, Copy, Debug, PartialEq, Eq)]
+pub struct Settings {
+    /// The hold time that each OPEN proposes, in seconds: 0, or 3 and more (RFC 4271 section 4.2).
+    pub hold: u16,
+    /// Seconds until a session that closed starts again by itself, 0 for never.
+    pub restart: u16,
+    /// The most octets that pass over a link in one piece, 1 to 4096.
+    pub cut: usize,
+    /// How many items a one-way pipe of a link holds, 1 to 1024.
+    pub pipe: usize,
+}
+
+/// The paths that a router may use for the prefixes that a prefix covers, the best first.
+#[derive(Debug, Drop)]
+pub struct Rule {
+    /// The prefix that covers them.
+    pub prefix: Prefix,
+    /// Its ranked paths.
+    pub paths: Items<Path>,
+}
+
+/// A router.
+#[derive(Debug, Drop)]
+pub struct Router {
+    /// Its number.
+    pub asn: Asn,
+    /// Its identifier, an address (RFC 4271 section 4.2).
+    pub id: u32,
+    /// Its rules, in the order in which they were named.
+    pub rules: Items<Rule>,
+}
+
+/// Two routers that are peers of each other.
+#[derive(Clone, Copy, Debug, PartialEq, Eq)]
+pub struct Link {
+    /// One of them.
+    pub one: Asn,
+    /// The other.
+    pub other: Asn,
+}
+
+/// A prefix, and the router that originates it.
+#[derive(Debug, Drop)]
+pub struct Origin {
+    /// The prefix.
+    pub prefix: Prefix,
+    /// Its origin.
+    pub router: Asn,
+}
+
+/// A network: it has a router, and links lead from each router to each other one. It does not
+/// change.
+#[derive(Debug, Drop)]
+pub struct Network {
+    built: NetBuilder,
+}
+
+impl Model for Network {
+    ghost use Rattle.ranked_policy.specs.Plans.{Plan, IsNetwork};
+
+    ghost Value = { Plan };
+
+    ghost view = { λ n. n.built };
+
+    ghost invariant = { λ n. IsNetwork n.built };
+}
+
+impl Network {
+    ghost use Rattle.std.specs.Prelude.{◌≡◌, ◌<◌, ◌↔◌, ℕ, IsTrue, IsSome, IfSome, IfOk};
+    ghost use Rattle.std.specs.List.{AllPairs, Contains};
+    ghost use Rattle.ranked_policy.specs.Plans.{IsNetwork, IsRouter, IsOrigin, IsNamed, Linked};
+    ghost use Rattle.ranked_policy.specs.Policies.{IsTable, IsTableOf};
+
+    /// The network that was built.
+    pub(crate) fn from_builder(built: NetBuilder) -> Network
+        requires { IsNetwork built }
+        ensures { result ≡ built }
+    {
+        Network { built }
+    }
+
+    /// What was built, and all that a builder says of it.
+    pub fn built(&self) -> &NetBuilder
+        ensures value { result.now ≡ self.now }
+        ensures network { IsNetwork self.now }
+    {
+        &self.built
+    }
+
+    /// The settings.
+    pub fn settings(&self) -> Settings
+        ensures value { result ≡ self.now.settings }
+        ensures network { IsNetwork self.now }
+    {
+        self.built.settings()
+    }
+
+    /// The routers, by rising number.
+    pub fn routers(&self) -> &[Router]
+        ensures value { result.now ≡ self.now.routers }
+        ensures network { IsNetwork self.now }
+    {
+        self.built.routers()
+    }
+
+    /// The links, in the order in which they were named.
+    pub fn links(&self) -> &[Link]
+        ensures value { result.now ≡ self.now.links }
+        ensures network { IsNetwork self.now }
+    {
+        self.built.links()
+    }
+
+    /// The prefixes with their origins, by address, then by length; each prefix once.
+    pub fn origins(&self) -> &[Origin]
+        ensures value { result.now ≡ self.now.origins }
+        ensures network { IsNetwork self.now }
+    {
+        self.built.origins()
+    }
+
+    /// Whether a router has the number.
+    pub fn has_router(&self, asn: Asn) -> bool
+        ensures { IsTrue result ↔ IsRouter self.now.routers asn }
+    {
+        self.built.has_router(asn)
+    }
+
+    /// Whether a link joins the two.
+    pub fn linked(&self, a: Asn, b: Asn) -> bool
+        ensures { IsTrue result ↔ Linked self.now.links a b }
+    {
+        self.built.linked(a, b)
+    }
+
+    /// Whether the router is the origin of the prefix.
+    pub fn is_origin(&self, asn: Asn, prefix: &Prefix) -> bool
+        ensures { IsTrue result ↔ IsOrigin self.now.origins asn prefix.now }
+    {
+        self.built.is_origin(asn, prefix)
+    }
+
+    /// Whether the prefix has an origin.
+    pub fn names(&self, prefix: &Prefix) -> bool
+        ensures { IsTrue result ↔ IsNamed self.now.origins prefix.now }
+    {
+        self.built.names(prefix)
+    }
+
+    /// The router with this number.
+    pub fn router(&self, asn: Asn) -> Option<&Router>
+        ensures some { IsSome result ↔ IsRouter self.now.routers asn }
+        ensures value { IfSome result (λ router. (router.now.asn ≡ asn) × Contains self.now.routers router.now) }
+    {
+        self.built.router(asn)
+    }
+
+    /// The numbers of a router's peers, rising. It is refused only where memory was.
+    pub fn peers(&self, alloc: Global, asn: Asn) -> Result<Items<Asn>, AllocError>
+        ensures rising { IfOk result (λ peers. AllPairs (λ u v. u < v) peers) }
+        ensures exact { IfOk result (λ peers. (v : ℕ) → (Contains peers v ↔ Linked self.now.links asn v)) }
+    {
+        peers_of(alloc, self.routers(), self.links(), asn)
+    }
+
+    /// The policies of a router.
+    pub fn policies(&self, asn: Asn) -> Option<PolicyTable<'_>>
+        ensures some { IsSome result ↔ IsRouter self.now.routers asn }
+        ensures value { IfSome result (λ table. IsTableOf self.now asn table) }
+        ensures table { IfSome result IsTable }
+    {
+        match self.router(asn) {
+            Some(router) => Some(PolicyTable::new(asn, router.rules.as_slice(), self.origins())),
+            None => None,
+        }
+    }
+}

@@ -1,0 +1,124 @@
+//! The policies of a router.
+
+ghost use Rattle.std.specs.Prelude.{◌≡◌, ◌<◌, ◌↔◌, ℕ, List, [], IsTrue, MatchOption};
+ghost use Rattle.std.specs.List.{All, Any, Contains};
+ghost use Rattle.ranked_policy.specs.Plans.{IsNamed};
+ghost use Rattle.ranked_policy.specs.Policies.{IsTable, IsPermitted, IsPreferred, IsRuleFor, NoRuleFor, IsOriginOf};
+ghost use Rattle.ranked_policy.specs.Choosing.{chosen_permits, chosen_prefers};
+
+use crate::network::{Origin, Rule};
+use crate::path::Asn;
+use crate::policy::{Chosen, Only, Ranked, Shortest};
+use prefix_lanes::{Prefix, a_prefix_is_its_bits};
+use std::marker::Model;
+
+/// The policies of one router, for each prefix.
+#[derive(Debug, Drop)]
+pub struct PolicyTable<'a> {
+    router: Asn,
+    rules: &'a [Rule],
+    origins: &'a [Origin],
+}
+
+impl<'a> Model for PolicyTable<'a> {
+    ghost use Rattle.ranked_policy.specs.Policies.{Table, IsTable};
+
+    ghost Value = { Table };
+
+    ghost view = { λ t. record { router = t.router; rules = t.rules.now; origins = t.origins.now } };
+
+    ghost invariant = { λ t. IsTable (record { router = t.router; rules = t.rules.now; origins = t.origins.now }) };
+}
+
+impl<'a> PolicyTable<'a> {
+    /// The table of a router with these rules, where these prefixes are originated.
+    pub(crate) fn new(router: Asn, rules: &'a [Rule], origins: &'a [Origin]) -> PolicyTable<'a>
+        requires { IsTable (record { router = router; rules = rules.now; origins = origins.now }) }
+        ensures { result ≡ record { router = router; rules = rules.now; origins = origins.now } }
+    {
+        PolicyTable {
+            router,
+            rules,
+            origins,
+        }
+    }
+
+    /// The router.
+    pub fn router(&self) -> Asn
+        ensures value { result ≡ self.now.router }
+        ensures table { IsTable self.now }
+    {
+        self.router
+    }
+
+    /// The policy for a prefix: where the router originates it the path of itself alone, else the
+    /// paths of its longest covering rule that end at the origin, else every route to the origin. A
+    /// prefix without an origin has no permitted path.
+    pub fn for_prefix(&self, prefix: &Prefix) -> Chosen<'a>
+        ensures permits { (path : List ℕ) → (chosen_permits result path ↔ IsPermitted self.now prefix.now path) }
+        ensures prefers { (a b : List ℕ) → (chosen_prefers result a b ↔ IsPreferred self.now prefix.now a b) }
+    {
+        a_prefix_is_its_bits();
+        let origin = origin_of(self.origins, prefix);
+        if is_at(origin, self.router) {
+            return Chosen::Only(Only {
+                router: self.router,
+            });
+        }
+        match longest_rule(self.rules, prefix) {
+            Some(rule) => Chosen::Ranked(Ranked {
+                paths: rule.paths.as_slice(),
+                origin,
+            }),
+            None => Chosen::Shortest(Shortest {
+                router: self.router,
+                origin,
+            }),
+        }
+    }
+}
+
+// The origin of the prefix: none where it is not named.
+fn origin_of(origins: &[Origin], prefix: &Prefix) -> Option<Asn>
+    ensures { IsOriginOf origins.now prefix.now result }
+{
+    for origin in origins {
+        if origin.prefix == *prefix {
+            return Some(origin.router);
+        }
+    }
+    None
+}
+
+// Whether the router is the origin.
+fn is_at(origin: Option<Asn>, router: Asn) -> bool
+    ensures { IsTrue result ↔ (origin ≡ Some router) }
+{
+    match origin {
+        Some(origin) => origin == router,
+        None => false,
+    }
+}
+
+// The longest rule that covers the prefix.
+fn longest_rule<'a>(rules: &'a [Rule], prefix: &Prefix) -> Option<&'a Rule>
+    ensures { MatchOption result (NoRuleFor rules.now prefix.now) (λ rule. IsRuleFor rules.now prefix.now rule.now) }
+{
+    let mut best: Option<&Rule> = None;
+    for rule in rules {
+        if rule.prefix.covers(prefix) && is_longer(rule, best) {
+            best = Some(rule);
+        }
+    }
+    best
+}
+
+// Whether the rule is longer than the best so far, if there is one.
+fn is_longer(rule: &Rule, best: Option<&Rule>) -> bool
+    ensures { IsTrue result ↔ MatchOption best.entry (Unit {0}) (λ other. other.now.prefix.len < rule.now.prefix.len) }
+{
+    match best {
+        Some(other) => other.prefix.len() < rule.prefix.len(),
+        None => true,
+    }
+}

@@ -1,0 +1,452 @@
+use super::*;
+use crate::laws::{each_policy_is_an_order, the_longest_rule_is_one};
+use prefix_lanes::Prefix;
+use std::alloc::{AllocError, Global};
+use std::test::Fail;
+
+const SETTINGS: Settings = Settings {
+    hold: 90,
+    restart: 0,
+    cut: 4096,
+    pipe: 64,
+};
+
+/// 10.0.0.0, of which the identifiers are the first addresses.
+const TEN: u32 = 0x0a00_0000;
+
+const REPEATED: Result<(), NetError> = Err(NetError::Repeated);
+
+const UNKNOWN: Result<(), NetError> = Err(NetError::UnknownRouter);
+
+const LIMIT: Result<(), NetError> = Err(NetError::Limit);
+
+const BAD_NUMBER: Result<(), NetError> = Err(NetError::BadNumber);
+
+const NOT_SIMPLE: Result<(), NetError> = Err(NetError::NotSimple);
+
+fn prefix(addr: u32, len: u8) -> Result<Prefix, &'static str> {
+    Prefix::new(addr, len).ok_or("no prefix is that long")
+}
+
+fn paths(alloc: Global, lists: &[&[Asn]]) -> Result<Vec<Path>, AllocError> {
+    let mut paths = Vec::new(alloc);
+    for list in lists {
+        paths.push(Path::from_slice(alloc, list)?)?;
+    }
+    Ok(paths)
+}
+
+/// Routers 1 to `count`, each linked with the next.
+fn line(alloc: Global, count: u32) -> Result<NetBuilder, NetError> {
+    let mut net = NetBuilder::new(alloc, SETTINGS)?;
+    for i in 0..count {
+        net.push_router(i + 1, TEN | (i + 1))?;
+    }
+    for i in 1..count {
+        net.push_link(i, i + 1)?;
+    }
+    Ok(net)
+}
+
+/// Routers 1 to 4, of which 1 originates 10.1.0.0/16 and 11.0.0.0/8; 2 and 3 prefer the way through
+/// each other, 4 has rules for 10.0.0.0/8 and 10.1.0.0/16.
+fn disagree(alloc: Global) -> Result<NetBuilder, Fail> {
+    let mut net = line(alloc, 4)?;
+    for (a, b) in [(1, 3), (2, 4)] {
+        net.push_link(a, b)?;
+    }
+    let sixteen = prefix(0x0a01_0000, 16)?;
+    for prefix in [sixteen, prefix(0x0b00_0000, 8)?] {
+        net.push_origin(1, prefix)?;
+    }
+    let rules: [(Asn, Prefix, &[&[Asn]]); 5] = [
+        (1, sixteen, &[&[1, 2], &[1]]),
+        (2, sixteen, &[&[2, 3, 1], &[2, 1], &[2]]),
+        (3, sixteen, &[&[3, 2, 1], &[3, 1]]),
+        (4, prefix(TEN, 8)?, &[&[4, 2, 1]]),
+        (4, sixteen, &[&[4, 3, 1], &[4, 2, 1]]),
+    ];
+    for (router, prefix, lists) in rules {
+        net.push_rule(router, prefix, paths(alloc, lists)?)?;
+    }
+    Ok(net)
+}
+
+fn finished(net: NetBuilder) -> Result<Network, NetError> {
+    match net.finish() {
+        Ok(net) => Ok(net),
+        Err((_, error)) => Err(error),
+    }
+}
+
+#[test]
+fn path_lists(rt: HostRuntime) -> Result<(), Fail> {
+    let alloc = rt.alloc();
+    assert!(rt; Path::new(alloc).is_empty());
+    let long = Path::from_slice(alloc, &[1, 2, 3, 4, 5, 6, 7, 8, 9])?;
+    assert_eq!(rt; long.len(), 9);
+    assert!(rt; !long.is_empty());
+    let on = Path::from_router(alloc, 2, &[3, 1])?;
+    assert_eq!(rt; on.as_slice(), [2, 3, 1].as_slice());
+    assert!(rt; on == Path::from_slice(alloc, &[2, 3, 1])?);
+    assert!(rt; on != Path::from_slice(alloc, &[2, 1])?);
+    Ok(())
+}
+
+/// The path of these numbers up to the first 0.
+fn short_path(alloc: Global, numbers: [Asn; 4]) -> Result<Path, AllocError> {
+    let mut list = Vec::new(alloc);
+    for number in numbers {
+        if number == 0 {
+            break;
+        }
+        list.push(number)?;
+    }
+    Path::from_slice(alloc, list.as_slice())
+}
+
+/// Prefixes by a number: 10.1.0.0/16, 10.1.2.0/24, 11.0.0.0/8 and one that no router originates.
+fn known_prefix(number: u32) -> Result<Prefix, &'static str> {
+    match number {
+        0 => prefix(0x0a01_0000, 16),
+        1 => prefix(0x0a01_0200, 24),
+        2 => prefix(0x0b00_0000, 8),
+        _ => prefix(0x0c00_0000, 8),
+    }
+}
+
+/// The origin has its own path alone, whatever its rules say; the longest covering rule names the
+/// paths of the others, as far as they end at the origin; without one every route is permitted.
+const PERMITTED: [(Asn, u32, [Asn; 4], bool); 17] = [
+    (1, 0, [1, 0, 0, 0], true),
+    (1, 0, [1, 2, 0, 0], false),
+    (2, 0, [2, 3, 1, 0], true),
+    (2, 0, [2, 1, 0, 0], true),
+    (2, 0, [2, 0, 0, 0], false),
+    (4, 0, [4, 3, 1, 0], true),
+    (4, 0, [4, 2, 1, 0], true),
+    (4, 0, [4, 2, 3, 1], false),
+    (4, 1, [4, 2, 1, 0], false),
+    (4, 2, [4, 3, 1, 0], true),
+    (4, 2, [4, 3, 2, 1], true),
+    (4, 2, [4, 3, 4, 1], false),
+    (4, 2, [4, 3, 0, 0], false),
+    (4, 2, [3, 1, 0, 0], false),
+    (4, 2, [0, 0, 0, 0], false),
+    (4, 3, [4, 1, 0, 0], false),
+    (1, 3, [1, 0, 0, 0], false),
+];
+
+#[test]
+fn permitted(rt: HostRuntime) -> Result<(), Fail> {
+    let alloc = rt.alloc();
+    let net = finished(disagree(alloc)?)?;
+    for (router, number, numbers, want) in PERMITTED {
+        let table = net.policies(router).ok_or("no such router")?;
+        let path = short_path(alloc, numbers)?;
+        let permits = table.for_prefix(&known_prefix(number)?).permits(&path);
+        assert_eq!(rt; permits, want, "{router}: {path:?}");
+    }
+    Ok(())
+}
+
+/// By rank, then by length, then by the numbers.
+const PREFERRED: [(Asn, u32, [Asn; 4], [Asn; 4], bool); 9] = [
+    (1, 0, [1, 0, 0, 0], [1, 0, 0, 0], false),
+    (2, 0, [2, 3, 1, 0], [2, 1, 0, 0], true),
+    (2, 0, [2, 1, 0, 0], [2, 3, 1, 0], false),
+    (2, 0, [2, 1, 0, 0], [2, 1, 0, 0], false),
+    (4, 0, [4, 3, 1, 0], [4, 2, 1, 0], true),
+    (4, 2, [4, 3, 1, 0], [4, 2, 3, 1], true),
+    (4, 2, [4, 2, 1, 0], [4, 3, 1, 0], true),
+    (4, 2, [4, 3, 1, 0], [4, 2, 1, 0], false),
+    (4, 2, [4, 2, 1, 0], [4, 2, 1, 0], false),
+];
+
+#[test]
+fn preferred(rt: HostRuntime) -> Result<(), Fail> {
+    let alloc = rt.alloc();
+    let net = finished(disagree(alloc)?)?;
+    for (router, number, a, b, want) in PREFERRED {
+        let table = net.policies(router).ok_or("no such router")?;
+        let a = short_path(alloc, a)?;
+        let b = short_path(alloc, b)?;
+        let prefers = table.for_prefix(&known_prefix(number)?).prefers(&a, &b);
+        assert_eq!(rt; prefers, want, "{router}: {a:?} {b:?}");
+    }
+    Ok(())
+}
+
+fn first_of<P: Policy>(policy: &P, a: &Path, b: &Path) -> bool {
+    policy.permits(a) && policy.permits(b) && policy.prefers(a, b)
+}
+
+#[test]
+fn each_kind_of_policy(rt: HostRuntime) -> Result<(), Fail> {
+    let alloc = rt.alloc();
+    let listed = paths(alloc, &[&[2, 3, 1], &[2, 1]])?;
+    let a = Path::from_slice(alloc, &[2, 3, 1])?;
+    let b = Path::from_slice(alloc, &[2, 1])?;
+    let ranked = Ranked {
+        paths: listed.as_slice(),
+        origin: Some(1),
+    };
+    let shortest = Shortest {
+        router: 2,
+        origin: Some(1),
+    };
+    assert!(rt; first_of(&ranked, &a, &b));
+    assert!(rt; first_of(&Chosen::Ranked(ranked), &a, &b));
+    assert!(rt; first_of(&shortest, &b, &a));
+    assert!(rt; !first_of(&shortest, &a, &b));
+    assert!(rt; !first_of(&Only { router: 2 }, &a, &b));
+    Ok(())
+}
+
+#[test]
+fn settings(rt: HostRuntime) {
+    let cases = [
+        (0, 1, 1, true),
+        (3, 4096, 1024, true),
+        (65535, 4096, 64, true),
+        (2, 4096, 64, false),
+        (90, 0, 64, false),
+        (90, 4097, 64, false),
+        (90, 4096, 0, false),
+        (90, 4096, 1025, false),
+    ];
+    for (hold, cut, pipe, good) in cases {
+        let settings = Settings {
+            hold,
+            restart: 7,
+            cut,
+            pipe,
+        };
+        match NetBuilder::new(rt.alloc(), settings) {
+            Ok(net) => assert_eq!(rt; (good, net.settings()), (true, settings)),
+            Err(error) => assert_eq!(rt; (good, error), (false, NetError::BadNumber)),
+        }
+    }
+}
+
+#[test]
+fn router_refusals(rt: HostRuntime) -> Result<(), Fail> {
+    let mut net = line(rt.alloc(), 2)?;
+    let cases = [
+        (1, TEN | 9, REPEATED),
+        (9, TEN | 1, REPEATED),
+        (0, TEN | 1, REPEATED),
+        (0, TEN | 9, BAD_NUMBER),
+        (65536, TEN | 9, BAD_NUMBER),
+        (9, 9, BAD_NUMBER),
+        (9, 0xe000_0001, BAD_NUMBER),
+        (65535, 0xdfff_ffff, Ok(())),
+        (9, 0x0100_0000, Ok(())),
+    ];
+    for (asn, id, want) in cases {
+        assert_eq!(rt; net.push_router(asn, id), want, "{asn} {id:x}");
+    }
+    let mut last = 0;
+    for router in net.routers() {
+        assert!(rt; last < router.asn);
+        last = router.asn;
+    }
+    assert_eq!(rt; last, 65535);
+    Ok(())
+}
+
+/// 64 routers are a network where 65 are none.
+#[test]
+fn router_limit(rt: HostRuntime) -> Result<(), Fail> {
+    let mut net = line(rt.alloc(), 64)?;
+    for (asn, want) in [(65, LIMIT), (1, REPEATED), (0, LIMIT)] {
+        assert_eq!(rt; net.push_router(asn, TEN | 65), want, "{asn}");
+    }
+    assert_eq!(rt; finished(net)?.routers().len(), 64);
+    Ok(())
+}
+
+#[test]
+fn link_refusals(rt: HostRuntime) -> Result<(), Fail> {
+    let mut net = line(rt.alloc(), 18)?;
+    let cases = [
+        (1, 2, REPEATED),
+        (2, 1, REPEATED),
+        (3, 3, REPEATED),
+        (99, 99, REPEATED),
+        (1, 99, UNKNOWN),
+        (99, 1, UNKNOWN),
+    ];
+    for (a, b, want) in cases {
+        assert_eq!(rt; net.push_link(a, b), want, "{a} {b}");
+    }
+    for i in 3..18u32 {
+        assert_eq!(rt; net.push_link(1, i), Ok(()), "at {i}");
+    }
+    for (a, b) in [(1, 18), (18, 1)] {
+        assert_eq!(rt; net.push_link(a, b), LIMIT, "{a} {b}");
+    }
+    Ok(())
+}
+
+#[test]
+fn origin_refusals(rt: HostRuntime) -> Result<(), Fail> {
+    let mut net = line(rt.alloc(), 2)?;
+    let eight = prefix(TEN, 8)?;
+    for (asn, want) in [
+        (9, UNKNOWN),
+        (2, Ok(())),
+        (2, REPEATED),
+        (1, REPEATED),
+        (9, REPEATED),
+    ] {
+        assert_eq!(rt; net.push_origin(asn, eight), want, "{asn}");
+    }
+    for i in 0..255u32 {
+        assert_eq!(rt;
+            net.push_origin(1, prefix((254 - i) << 8, 24)?),
+            Ok(()),
+            "at {i}"
+        );
+    }
+    assert_eq!(rt; net.push_origin(1, prefix(TEN, 9)?), LIMIT);
+    assert_eq!(rt; net.push_origin(2, prefix(0, 24)?), REPEATED);
+    let mut last = None;
+    for origin in net.origins() {
+        assert!(rt; last < Some(origin.prefix));
+        last = Some(origin.prefix);
+    }
+    assert_eq!(rt; net.origins().len(), 256);
+    Ok(())
+}
+
+/// The paths of these lists, an empty one left out.
+fn short_paths(alloc: Global, lists: &[[Asn; 4]]) -> Result<Vec<Path>, AllocError> {
+    let mut paths = Vec::new(alloc);
+    for list in lists {
+        let path = short_path(alloc, *list)?;
+        if !path.is_empty() {
+            paths.push(path)?;
+        }
+    }
+    Ok(paths)
+}
+
+const RULES: [(Asn, [[Asn; 4]; 3], Result<(), NetError>); 9] = [
+    (2, [[2, 3, 2, 0], [0; 4], [0; 4]], NOT_SIMPLE),
+    (2, [[3, 1, 0, 0], [0; 4], [0; 4]], NOT_SIMPLE),
+    (9, [[9, 9, 0, 0], [0; 4], [0; 4]], NOT_SIMPLE),
+    (2, [[2, 1, 0, 0], [2, 3, 0, 0], [2, 1, 0, 0]], REPEATED),
+    (9, [[9, 1, 0, 0], [0; 4], [0; 4]], UNKNOWN),
+    (2, [[2, 9, 0, 0], [0; 4], [0; 4]], UNKNOWN),
+    (9, [[0; 4], [0; 4], [0; 4]], UNKNOWN),
+    (2, [[0; 4], [0; 4], [0; 4]], Ok(())),
+    (2, [[0; 4], [0; 4], [0; 4]], REPEATED),
+];
+
+#[test]
+fn rule_refusals(rt: HostRuntime) -> Result<(), Fail> {
+    let alloc = rt.alloc();
+    let mut net = disagree(alloc)?;
+    let nine = prefix(TEN, 9)?;
+    for (router, lists, want) in RULES {
+        let answer = net.push_rule(router, nine, short_paths(alloc, &lists)?);
+        assert_eq!(rt; answer, want, "{router} {lists:?}");
+    }
+    Ok(())
+}
+
+/// A router has at most 64 rules, a rule at most 32 paths, a path at most 16 routers.
+#[test]
+fn rule_limits(rt: HostRuntime) -> Result<(), Fail> {
+    let alloc = rt.alloc();
+    let mut net = line(alloc, 40)?;
+    let long = [1, 2, 3, 4, 5, 6, 7, 8, 9, 10, 11, 12, 13, 14, 15, 16];
+    assert_eq!(rt;
+        net.push_rule(1, prefix(0, 1)?, paths(alloc, &[&long])?),
+        Ok(())
+    );
+    for (last, want) in [(35, LIMIT), (34, Ok(()))] {
+        let mut list = Vec::new(alloc);
+        for i in 2..last {
+            list.push(Path::from_slice(alloc, &[1, i])?)?;
+        }
+        assert_eq!(rt; net.push_rule(1, prefix(0, 0)?, list), want, "{last}");
+    }
+    for i in 2..65u32 {
+        let want = if i < 64 { Ok(()) } else { LIMIT };
+        assert_eq!(rt;
+            net.push_rule(1, prefix(i << 8, 24)?, Vec::new(alloc)),
+            want,
+            "at {i}"
+        );
+    }
+    Ok(())
+}
+
+#[test]
+fn finishing(rt: HostRuntime) -> Result<(), Fail> {
+    let Err((mut net, error)) = NetBuilder::new(rt.alloc(), SETTINGS)?.finish() else {
+        return Err("accepted without a router".into());
+    };
+    assert_eq!(rt; error, NetError::Limit);
+    for i in 1..4u32 {
+        net.push_router(i, TEN | i)?;
+    }
+    net.push_link(1, 2)?;
+    let Err((mut net, error)) = net.finish() else {
+        return Err("accepted in two parts".into());
+    };
+    assert_eq!(rt; error, NetError::NotConnected);
+    net.push_link(3, 2)?;
+    assert!(rt; net.finish().is_ok());
+    Ok(())
+}
+
+#[test]
+fn readers(rt: HostRuntime) -> Result<(), Fail> {
+    let alloc = rt.alloc();
+    let net = finished(disagree(alloc)?)?;
+    assert_eq!(rt; net.settings(), SETTINGS);
+    assert_eq!(rt; net.links().len(), 5);
+    assert_eq!(rt; net.origins().len(), 2);
+    assert_eq!(rt; net.built().routers().len(), 4);
+    assert_eq!(rt; net.peers(alloc, 2)?.as_slice(), [1, 3, 4].as_slice());
+    Ok(())
+}
+
+#[test]
+fn questions(rt: HostRuntime) -> Result<(), Fail> {
+    let net = finished(disagree(rt.alloc())?)?;
+    let sixteen = prefix(0x0a01_0000, 16)?;
+    for (asn, known, linked, origin) in [
+        (1, true, true, true),
+        (4, true, true, false),
+        (5, false, false, false),
+    ] {
+        assert_eq!(rt; net.has_router(asn), known);
+        assert_eq!(rt; net.router(asn).is_some(), known);
+        assert_eq!(rt; net.linked(3, asn), linked);
+        assert_eq!(rt; net.is_origin(asn, &sixteen), origin);
+    }
+    assert!(rt; net.names(&sixteen));
+    assert!(rt; !net.names(&prefix(TEN, 8)?));
+    Ok(())
+}
+
+#[test]
+fn items(rt: HostRuntime) -> Result<(), Fail> {
+    let alloc = rt.alloc();
+    let list: Items<Asn> = Items::new(alloc);
+    assert!(rt; list.is_empty());
+    let list = Items::from_vec([1, 2].to_vec(alloc)?);
+    assert_eq!(rt; list.len(), 2);
+    assert_eq!(rt; list.into_vec().as_slice(), [1, 2].as_slice());
+    Ok(())
+}
+
+#[test]
+fn laws() {
+    the_longest_rule_is_one();
+    each_policy_is_an_order();
+}

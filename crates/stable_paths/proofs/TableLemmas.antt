@@ -1,0 +1,269 @@
+-- A router of a network has one table of policies, and so one best path.
+use Rattle.std.proofs.Common.{◌≡◌, ◌≢◌, ℕ, zero, suc, ◌+◌, ◌<◌, ◌≤◌, Bool, true, false, cond, List, [], ◌∷◌, length, map, get_or, refl, sym, ap, subst, ◌∙◌, arith, inl, inr, ◌⊎◌}
+use Rattle.std.specs.Prelude.{◌↔◌, IsTrue, slice_index}
+use Rattle.std.specs.List.{Any, AllPairs}
+use Rattle.std.proofs.lemmas.Bool.{cases_order}
+use Rattle.std.proofs.lemmas.List.{length-map, get_or-map}
+use Rattle.prefix_lanes.specs.Bits.{PrefixView}
+use Rattle.ranked_policy.specs.declared.network.Router.{Router}
+use Rattle.ranked_policy.specs.declared.network.Rule.{Rule}
+use Rattle.ranked_policy.specs.declared.network.Origin.{Origin}
+use Rattle.ranked_policy.specs.declared.network.Link.{Link}
+use Rattle.ranked_policy.specs.Plans.{Plan, AreRules, AreOrigins, IsNetwork, IsRouter, IsOrigin, Linked, numbers}
+use Rattle.ranked_policy.specs.Policies.{Table, IsTable, IsTableOf, Originates, IsPermitted, IsPreferred}
+use Rattle.ranked_policy.specs.Promises.{EachPolicyIsAnOrder}
+use Rattle.run_model.specs.Routes.{Network, IsStableAssignment}
+use Rattle.stable_paths.specs.Stable.{Problem, IsProblem, IsChoice, IsFirst, IsFirstOrNone, IsBestOf, IsBest, IsStable, MayHave}
+use Rattle.stable_paths.specs.Judging.{IsLeastWithout, IsMoving}
+use Rattle.stable_paths.specs.Promises.{OneBest, Chooses, StableIsTheModels}
+use Rattle.stable_paths.proofs.ChoiceLemmas.{first_once}
+
+-- ---- one table
+
+-- routers stand by rising number, so one stands at each number
+same_place : (routers : List Router) (i j : ℕ) (d : Router) → AllPairs (λ u v. u < v) (numbers routers) → i < j → j < length routers → (get_or routers i d).asn ≡ (get_or routers j d).asn → ⊥
+same_place routers i j d rising lt below e =
+    let size : length (numbers routers) ≡ length routers = length-map routers (λ (r : Router). r.asn) in
+    let first : get_or (numbers routers) i 0 ≡ (get_or routers i d).asn = get_or-map (λ (r : Router). r.asn) routers i d 0 (omega (arith, lt, below)) in
+    let next : get_or (numbers routers) j 0 ≡ (get_or routers j d).asn = get_or-map (λ (r : Router). r.asn) routers j d 0 below in
+    let up : get_or (numbers routers) i 0 < get_or (numbers routers) j 0 = rising i j 0 lt (omega (arith, size, below)) in
+    omega (arith, up, first, next, e)
+
+-- an item inside a list is the same whatever stands for one outside
+within : {X : Type 0} (xs : List X) (i : ℕ) (d e : X) → i < length xs → get_or xs i d ≡ get_or xs i e
+within [] i d e lt = absurd (omega (arith, lt))
+within (x ∷ xs) zero d e lt = refl
+within (x ∷ xs) (suc i) d e lt = within xs i d e (omega (arith, lt))
+
+same_router : (routers : List Router) (i j : ℕ) (r s : Router) → AllPairs (λ u v. u < v) (numbers routers) → i < length routers → j < length routers → get_or routers i r ≡ r → get_or routers j s ≡ s
+    → r.asn ≡ s.asn → r ≡ s
+same_router routers i j r s rising lt below is also e =
+    let mine : get_or routers i s ≡ r = within routers i s r lt ∙ is in
+    elim (cases_order i j) [
+      | inl same ↦ sym mine ∙ ap (λ (k : ℕ). get_or routers k s) same ∙ also
+      | inr differ ↦ elim differ [
+        | inl less ↦ absurd (same_place routers i j s rising less below (ap (λ (q : Router). q.asn) mine ∙ e ∙ sym (ap (λ (q : Router). q.asn) also)))
+        | inr more ↦ absurd (same_place routers j i s rising more lt (ap (λ (q : Router). q.asn) also ∙ sym e ∙ sym (ap (λ (q : Router). q.asn) mine)))
+      ]
+    ]
+
+table_is : (t s : Table) → t.router ≡ s.router → t.rules ≡ s.rules → t.origins ≡ s.origins → t ≡ s
+table_is t s a b c = λ i. record { router = a i; rules = b i; origins = c i }
+
+pub one_table : (net : Plan) (u : ℕ) (t s : Table) → IsNetwork net → IsTableOf net u t → IsTableOf net u s → t ≡ s
+one_table net u t s is a b =
+    let router : t.router ≡ s.router = a.0 ∙ sym b.0 in
+    let origins : t.origins ≡ s.origins = a.1 ∙ sym b.1 in
+    let x = a.2 in
+    let y = b.2 in
+    let same : x.1 ≡ y.1 = same_router net.routers x.0 y.0 x.1 y.1 is.plan.rising x.2 y.2 x.3 y.3 (x.4.0 ∙ sym y.4.0) in
+    let rules : t.rules ≡ s.rules = sym x.4.1 ∙ ap (λ (r : Router). r.rules) same ∙ y.4.1 in
+    table_is t s router rules origins
+
+pub table_stands : (net : Plan) (u : ℕ) (t : Table) → IsNetwork net → IsTableOf net u t → IsTable t
+table_stands net u t is a =
+    let x = a.2 in
+    let here = is.plan.rules x.0 x.1 x.2 in
+    let rules = subst (λ (r : Router). AreRules (numbers net.routers) r.asn r.rules) x.3 here in
+    record {
+      all = numbers net.routers;
+      rules = subst (λ (rs : List Rule). AreRules (numbers net.routers) t.router rs) x.4.1 (subst (λ (n : ℕ). AreRules (numbers net.routers) n x.1.rules) (x.4.0 ∙ sym a.0) rules);
+      origins = subst (AreOrigins (numbers net.routers)) (sym a.1) is.plan.origins;
+    }
+
+-- an origin by what the code asked, and by the definition
+pub origin_here : (p : Problem) (table : Table) (net : Plan) (prefix : PrefixView) (r : ℕ) → net ≡ p.net → prefix ≡ p.prefix → r ≡ table.router → table.origins ≡ p.net.origins
+    → (IsOrigin net.origins r prefix ↔ Originates table p.prefix table.router)
+origin_here p table net prefix r en ep er eo = (
+  λ o. subst (λ (os : List Origin). IsOrigin os table.router p.prefix) (ap (λ (n : Plan). n.origins) en ∙ sym eo)
+      (subst (λ (q : PrefixView). IsOrigin net.origins table.router q) ep (subst (λ (n : ℕ). IsOrigin net.origins n prefix) er o)),
+  λ o. subst (λ (n : ℕ). IsOrigin net.origins n prefix) (sym er)
+      (subst (λ (q : PrefixView). IsOrigin net.origins table.router q) (sym ep) (subst (λ (os : List Origin). IsOrigin os table.router p.prefix) (eo ∙ sym (ap (λ (n : Plan). n.origins) en)) o)),
+)
+
+-- the first over all links of the network
+pub first_at : (p : Problem) (paths : ℕ → List ℕ) (table : Table) (best : List ℕ) (links : List Link) (prefix : PrefixView) → links ≡ p.net.links → prefix ≡ p.prefix
+    → IsFirstOrNone links prefix paths table best → IsFirstOrNone p.net.links p.prefix paths table best
+first_at p paths table best links prefix el ep first =
+    subst (λ (q : PrefixView). IsFirstOrNone p.net.links q paths table best) ep (subst (λ (ls : List Link). IsFirstOrNone ls prefix paths table best) el first)
+
+-- ---- one best
+
+pub best_once : EachPolicyIsAnOrder → (p : Problem) → IsProblem p → (paths : ℕ → List ℕ) (t : Table) (a b : List ℕ) → IsTable t → IsBestOf p paths t a → IsBestOf p paths t b → a ≡ b
+best_once law p is paths t a b table (inl x) (inl y) = x.1 ∙ sym y.1
+best_once law p is paths t a b table (inl x) (inr y) = absurd (y.0 x.0)
+best_once law p is paths t a b table (inr x) (inl y) = absurd (x.0 y.0)
+best_once law p is paths t a b table (inr x) (inr y) = first_once p.prefix paths t (law t table p.prefix) p.net.links a b x.1 y.1
+
+pub one_best : EachPolicyIsAnOrder → OneBest
+one_best law p is paths u a b x y =
+    let table = table_stands p.net u x.0 is.network x.1 in
+    let same : y.0 ≡ x.0 = one_table p.net u y.0 x.0 is.network y.1 x.1 in
+    best_once law p is paths x.0 a b table x.2 (subst (λ (t : Table). IsBestOf p paths t b) same y.2)
+
+-- ---- router by router
+
+module _ (Q : ℕ → Type 0) (routers : List Router) where
+  number_is : (i : ℕ) (r : Router) → i < length routers → r ≡ get_or routers i r → slice_index (numbers routers) i ≡ r.asn
+  number_is i r lt is = get_or-map (λ (x : Router). x.asn) routers i r 0 lt ∙ ap (λ (x : Router). x.asn) (sym is)
+
+  -- one router more
+  pub each_on : (i : ℕ) (r : Router) → i < length routers → r ≡ get_or routers i r → Q r.asn → ((k : ℕ) → k < i → Q (slice_index (numbers routers) k))
+      → (k : ℕ) → k < i + 1 → Q (slice_index (numbers routers) k)
+  each_on i r lt is q inv k below =
+      elim (cases_order k i) [
+        | inl same ↦ subst Q (sym (ap (λ (j : ℕ). slice_index (numbers routers) j) same ∙ number_is i r lt is)) q
+        | inr differ ↦ elim differ [ inl less ↦ inv k less | inr more ↦ absurd (omega (arith, below, more)) ]
+      ]
+
+  -- all of them
+  pub each_all : (n : ℕ) → length routers ≤ n → ((k : ℕ) → k < n → Q (slice_index (numbers routers) k)) → (u : ℕ) → IsRouter routers u → Q u
+  each_all n le inv u router =
+      let size : length (numbers routers) ≡ length routers = length-map routers (λ (r : Router). r.asn) in
+      let at : slice_index (numbers routers) router.0 ≡ u = within (numbers routers) router.0 0 u router.1 ∙ router.2 in
+      subst Q at (inv router.0 (omega (arith, size, router.1, le)))
+
+  -- those with lower numbers stand before
+  pub each_below : (i : ℕ) (r : Router) → AllPairs (λ u v. u < v) (numbers routers) → i < length routers → r ≡ get_or routers i r → ((k : ℕ) → k < i → Q (slice_index (numbers routers) k))
+      → (v : ℕ) → IsRouter routers v → v < r.asn → Q v
+  each_below i r rising lt is inv v router less =
+      let size : length (numbers routers) ≡ length routers = length-map routers (λ (x : Router). x.asn) in
+      let at : slice_index (numbers routers) router.0 ≡ v = within (numbers routers) router.0 0 v router.1 ∙ router.2 in
+      let here = number_is i r lt is in
+      elim (cases_order router.0 i) [
+        | inl same ↦ absurd (omega (arith, less, here, at, ap (λ (j : ℕ). slice_index (numbers routers) j) same))
+        | inr differ ↦ elim differ [
+          | inl before ↦ subst Q at (inv router.0 before)
+          | inr behind ↦
+              let up : slice_index (numbers routers) i < slice_index (numbers routers) router.0 = rising i router.0 0 behind router.1 in
+              absurd (omega (arith, up, less, here, at))
+        ]
+      ]
+
+  -- a router of the list is one of the network
+  pub stands : (i : ℕ) (r : Router) → i < length routers → r ≡ get_or routers i r → IsRouter routers r.asn
+  stands i r lt is =
+      let size : length (numbers routers) ≡ length routers = length-map routers (λ (x : Router). x.asn) in
+      let inside : i < length (numbers routers) = omega (arith, size, lt) in
+      (i, inside, within (numbers routers) i r.asn 0 inside ∙ number_is i r lt is)
+
+-- the least router that has not its best
+pub moving : EachPolicyIsAnOrder → (p : Problem) → IsProblem p → (paths : ℕ → List ℕ) (routers : List Router) → routers ≡ p.net.routers → (i : ℕ) (r : Router) → i < length routers → r ≡ get_or routers i r
+    → (table : Table) (net : Plan) → net ≡ p.net → IsTableOf net r.asn table → (has best : List ℕ) → IsBestOf p paths table best → (best ≡ has → ⊥) → has ≡ paths r.asn
+    → ((k : ℕ) → k < i → IsBest p paths (slice_index (numbers p.net.routers) k) (paths (slice_index (numbers p.net.routers) k)))
+    → (field : List ℕ) → field ≡ has → IsMoving p paths r.asn field best
+moving law p is paths routers er i r lt at table net en of has best best_is apart has_is inv field ef =
+    let lt-2 : i < length p.net.routers = subst (λ (rs : List Router). i < length rs) er lt in
+    let at-2 : r ≡ get_or p.net.routers i r = subst (λ (rs : List Router). r ≡ get_or rs i r) er at in
+    let of-2 : IsTableOf p.net r.asn table = subst (λ (n : Plan). IsTableOf n r.asn table) en of in
+    let best-2 : IsBest p paths r.asn best = (table, of-2, best_is) in
+    let Q : ℕ → Type 0 = λ v. IsBest p paths v (paths v) in
+    record {
+      least = record {
+        router = stands Q p.net.routers i r lt-2 at-2;
+        fails = λ mine. apart (one_best law p is paths r.asn best (paths r.asn) best-2 mine ∙ sym has_is);
+        below = each_below Q p.net.routers i r is.network.plan.rising lt-2 at-2 inv;
+      };
+      has_it = ef ∙ has_is;
+      best_is = best-2;
+    }
+
+-- one router more has its best
+pub settled_on : (p : Problem) (paths : ℕ → List ℕ) (routers : List Router) → routers ≡ p.net.routers → (i : ℕ) (r : Router) → i < length routers → r ≡ get_or routers i r
+    → (table : Table) (net : Plan) → net ≡ p.net → IsTableOf net r.asn table → (has best : List ℕ) → IsBestOf p paths table best → best ≡ has → has ≡ paths r.asn
+    → ((k : ℕ) → k < i → IsBest p paths (slice_index (numbers p.net.routers) k) (paths (slice_index (numbers p.net.routers) k)))
+    → (k : ℕ) → k < i + 1 → IsBest p paths (slice_index (numbers p.net.routers) k) (paths (slice_index (numbers p.net.routers) k))
+settled_on p paths routers er i r lt at table net en of has best best_is same has_is inv =
+    let lt-2 : i < length p.net.routers = subst (λ (rs : List Router). i < length rs) er lt in
+    let at-2 : r ≡ get_or p.net.routers i r = subst (λ (rs : List Router). r ≡ get_or rs i r) er at in
+    let of-2 : IsTableOf p.net r.asn table = subst (λ (n : Plan). IsTableOf n r.asn table) en of in
+    each_on (λ v. IsBest p paths v (paths v)) p.net.routers i r lt-2 at-2 (table, of-2, subst (IsBestOf p paths table) (same ∙ has_is) best_is) inv
+
+-- a path that is there may be had exactly where the router's table permits it
+pub may_by : (net : Plan) → IsNetwork net → (prefix : PrefixView) (u : ℕ) (table : Table) → IsTableOf net u table → (path : List ℕ) → path ≢ [] → (b : Bool) → (IsTrue b ↔ IsPermitted table prefix path)
+    → (IsTrue b ↔ MayHave (record { net = net; prefix = prefix }) u path)
+may_by net is prefix u table of path some b permits = (
+  λ t. inr (table, of, permits.0 t),
+  λ may. elim may [
+    | inl none ↦ absurd (some none)
+    | inr x ↦
+        let same : x.0 ≡ table = one_table net u x.0 table is x.1 of in
+        permits.1 (subst (λ (t : Table). IsPermitted t prefix path) same x.2)
+  ],
+)
+
+-- and at a number without a router none may be had
+pub may_not : (net : Plan) (prefix : PrefixView) (u : ℕ) (path : List ℕ) → path ≢ [] → (IsRouter net.routers u → ⊥) → MayHave (record { net = net; prefix = prefix }) u path → ⊥
+may_not net prefix u path some absent (inl none) = some none
+may_not net prefix u path some absent (inr x) =
+    let size : length (numbers net.routers) ≡ length net.routers = length-map net.routers (λ (r : Router). r.asn) in
+    let at = x.1.2 in
+    let inside : at.0 < length (numbers net.routers) = omega (arith, size, at.2) in
+    absent (at.0, inside, get_or-map (λ (r : Router). r.asn) net.routers at.0 at.1 u at.2 ∙ ap (λ (r : Router). r.asn) at.3 ∙ at.4.0)
+
+-- the least router that has a path which it does not permit
+pub stray : (p : Problem) → IsProblem p → (paths : ℕ → List ℕ) (routers : List Router) → routers ≡ p.net.routers → (i : ℕ) (r : Router) → i < length routers → r ≡ get_or routers i r
+    → (u : ℕ) → u ≡ r.asn → (MayHave p u (paths u) → ⊥) → ((k : ℕ) → k < i → MayHave p (slice_index (numbers p.net.routers) k) (paths (slice_index (numbers p.net.routers) k)))
+    → IsLeastWithout p (λ v. MayHave p v (paths v)) r.asn
+stray p is paths routers er i r lt at u eu not inv =
+    let lt-2 : i < length p.net.routers = subst (λ (rs : List Router). i < length rs) er lt in
+    let at-2 : r ≡ get_or p.net.routers i r = subst (λ (rs : List Router). r ≡ get_or rs i r) er at in
+    let Q : ℕ → Type 0 = λ v. MayHave p v (paths v) in
+    record {
+      router = stands Q p.net.routers i r lt-2 at-2;
+      fails = λ may. not (subst Q (sym eu) may);
+      below = each_below Q p.net.routers i r is.network.plan.rising lt-2 at-2 inv;
+    }
+
+pub permitted_on : (p : Problem) (paths : ℕ → List ℕ) (routers : List Router) → routers ≡ p.net.routers → (i : ℕ) (r : Router) → i < length routers → r ≡ get_or routers i r
+    → (u : ℕ) → u ≡ r.asn → MayHave p u (paths u) → ((k : ℕ) → k < i → MayHave p (slice_index (numbers p.net.routers) k) (paths (slice_index (numbers p.net.routers) k)))
+    → (k : ℕ) → k < i + 1 → MayHave p (slice_index (numbers p.net.routers) k) (paths (slice_index (numbers p.net.routers) k))
+permitted_on p paths routers er i r lt at u eu may inv =
+    let lt-2 : i < length p.net.routers = subst (λ (rs : List Router). i < length rs) er lt in
+    let at-2 : r ≡ get_or p.net.routers i r = subst (λ (rs : List Router). r ≡ get_or rs i r) er at in
+    let Q : ℕ → Type 0 = λ v. MayHave p v (paths v) in
+    each_on Q p.net.routers i r lt-2 at-2 (subst Q eu may) inv
+
+-- ---- what the model of runs calls stable
+
+-- words that are the peers' paths give the same choices
+choice_as : (p : Problem) (one other : ℕ → List ℕ) (t : Table) (path : List ℕ) → ((v : ℕ) → Linked p.net.links t.router v → one v ≡ other v) → IsChoice p.net.links p.prefix one t path
+    → IsChoice p.net.links p.prefix other t path
+choice_as p one other t path same c =
+    let e : one c.peer ≡ other c.peer = same c.peer c.linked in
+    record { peer = c.peer; linked = c.linked; some = λ n. c.some (e ∙ n); goes_on = c.goes_on ∙ ap (λ (q : List ℕ). t.router ∷ q) e; permitted = c.permitted }
+
+first_as : (p : Problem) (one other : ℕ → List ℕ) (t : Table) (path : List ℕ) → ((v : ℕ) → Linked p.net.links t.router v → one v ≡ other v)
+    → IsFirstOrNone p.net.links p.prefix one t path → IsFirstOrNone p.net.links p.prefix other t path
+first_as p one other t path same (inl first) =
+    inl (record {
+      choice = choice_as p one other t path same first.choice;
+      before = λ q c apart. first.before q (choice_as p other one t q (λ v l. sym (same v l)) c) apart;
+    })
+first_as p one other t path same (inr none) = inr (none.0, λ q c. none.1 q (choice_as p other one t q (λ v l. sym (same v l)) c))
+
+best_as : (p : Problem) (one other : ℕ → List ℕ) (t : Table) (path : List ℕ) → ((v : ℕ) → Linked p.net.links t.router v → one v ≡ other v) → IsBestOf p one t path → IsBestOf p other t path
+best_as p one other t path same (inl origin) = inl origin
+best_as p one other t path same (inr x) = inr (x.0, first_as p one other t path same x.1)
+
+heard : (b : Bool) (x y : List ℕ) → b ≡ true → cond b x y ≡ x
+heard true x y e = refl
+heard false x y e = absurd cc
+
+-- the model's choice is the best
+best_here : EachPolicyIsAnOrder → {M : Type 0} (p : Problem) → IsProblem p → (originated : ℕ → Bool) (g : Network M PrefixView (List ℕ)) → Chooses p originated g → (paths : ℕ → List ℕ) (u : ℕ)
+    → IsRouter p.net.routers u → IsBest p paths u (g.best u p.prefix (originated u) (λ v. cond (g.linked u v) (paths v) g.no_path))
+best_here law p is originated g chooses paths u router =
+    let words : ℕ → List ℕ = λ v. cond (g.linked u v) (paths v) g.no_path in
+    let b = chooses.best u router words in (
+      b.0,
+      b.1,
+      best_as p words paths b.0 _ (λ v l. heard (g.linked u v) (paths v) g.no_path ((chooses.linked u v).1 (subst (λ (w : ℕ). Linked p.net.links w v) b.1.0 l))) b.2,
+    )
+
+pub model_law : EachPolicyIsAnOrder → {M : Type 0} → StableIsTheModels M
+model_law law p is originated g chooses paths = (
+  λ stable u known. one_best law p is paths u (paths u) _ (stable u ((chooses.routers u).0 known)) (best_here law p is originated g chooses paths u ((chooses.routers u).0 known)),
+  λ model u router.
+      subst (IsBest p paths u) (sym (model u ((chooses.routers u).1 router))) (best_here law p is originated g chooses paths u router),
+)

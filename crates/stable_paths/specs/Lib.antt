@@ -1,0 +1,3 @@
+pub mod Stable
+pub mod Judging
+pub mod Promises

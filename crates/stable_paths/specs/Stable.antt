@@ -1,0 +1,64 @@
+-- Stable path assignments for one prefix (Griffin, Shepherd and Wilfong 2002, section 2).
+use Rattle.std.specs.Prelude.{ℕ, ◌≡◌, ◌≢◌, ◌==◌, ◌↔◌, List, [], ◌∷◌, if◌then◌else◌}
+use mathlib.Core.Logic.{◌⊎◌}
+use Rattle.prefix_lanes.specs.Bits.{PrefixView}
+use Rattle.ranked_policy.specs.declared.network.Link.{Link}
+use Rattle.ranked_policy.specs.Plans.{Plan, IsNetwork, IsRouter, IsNamed, Linked}
+use Rattle.ranked_policy.specs.Policies.{Table, IsTableOf, Originates, IsPermitted, IsPreferred}
+use Rattle.ranked_policy.specs.declared.policy.Chosen.{Chosen}
+use Rattle.ranked_policy.specs.Choosing.{chosen_permits, chosen_prefers}
+use Rattle.stable_paths.specs.declared.assignment.Assigned.{Assigned}
+
+-- a prefix of a network, whose origin originates it
+pub record Problem : Type 0 where
+  pub net : Plan
+  pub prefix : PrefixView
+
+pub record IsProblem (p : Problem) : Type 0 where
+  pub network : IsNetwork p.net
+  pub named : IsNamed p.net.origins p.prefix
+
+-- the path of a router in a list of them: the empty path where it has none
+abbrev pub path_of : List Assigned → ℕ → List ℕ
+path_of [] u = []
+path_of (a ∷ rest) u = if a.router == u then a.path else path_of rest u
+
+-- a choice over these links: a router, then the path of one of its peers, where that is there and the whole is permitted
+pub record IsChoice (links : List Link) (prefix : PrefixView) (paths : ℕ → List ℕ) (table : Table) (path : List ℕ) : Type 0 where
+  pub peer : ℕ
+  pub linked : Linked links table.router peer
+  pub some : paths peer ≢ []
+  pub goes_on : path ≡ table.router ∷ paths peer
+  pub permitted : IsPermitted table prefix path
+
+-- it is preferred to each other choice
+pub record IsFirst (links : List Link) (prefix : PrefixView) (paths : ℕ → List ℕ) (table : Table) (path : List ℕ) : Type 0 where
+  pub choice : IsChoice links prefix paths table path
+  pub before : (other : List ℕ) → IsChoice links prefix paths table other → path ≢ other → IsPreferred table prefix path other
+
+-- the first of the choices, or the empty path where there is none
+abbrev pub IsFirstOrNone : List Link → PrefixView → (ℕ → List ℕ) → Table → List ℕ → Type 0
+IsFirstOrNone links prefix paths table path =
+    IsFirst links prefix paths table path ⊎ ((path ≡ []) × ((other : List ℕ) → IsChoice links prefix paths table other → ⊥))
+
+-- the best of a router's choices; an origin has itself alone
+abbrev pub IsBestOf : Problem → (ℕ → List ℕ) → Table → List ℕ → Type 0
+IsBestOf p paths table path =
+    (Originates table p.prefix table.router × (path ≡ table.router ∷ []))
+    ⊎ ((Originates table p.prefix table.router → ⊥) × IsFirstOrNone p.net.links p.prefix paths table path)
+
+abbrev pub IsBest : Problem → (ℕ → List ℕ) → ℕ → List ℕ → Type 0
+IsBest p paths u path = (table : Table) × IsTableOf p.net u table × IsBestOf p paths table path
+
+-- an assignment is stable where each router has the best of its choices
+abbrev pub IsStable : Problem → (ℕ → List ℕ) → Type 0
+IsStable p paths = (u : ℕ) → IsRouter p.net.routers u → IsBest p paths u (paths u)
+
+-- a router may have the empty path, or one that it permits
+abbrev pub MayHave : Problem → ℕ → List ℕ → Type 0
+MayHave p u path = (path ≡ []) ⊎ ((table : Table) × IsTableOf p.net u table × IsPermitted table p.prefix path)
+
+-- a policy of the code permits and prefers what the router of a table does for a prefix
+pub record Speaks (policy : Chosen) (table : Table) (prefix : PrefixView) : Type 0 where
+  pub permits : (path : List ℕ) → (chosen_permits policy path ↔ IsPermitted table prefix path)
+  pub prefers : (a b : List ℕ) → (chosen_prefers policy a b ↔ IsPreferred table prefix a b)

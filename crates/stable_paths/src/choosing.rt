@@ -1,0 +1,92 @@
+//! The best of a router's choices.
+
+ghost use Rattle.std.specs.Prelude.{◌≡◌, ◌↔◌, ◌⊎◌, IsTrue, ℕ, List, [], ◌∷◌, ◌++◌, IfOk, IfErr, MatchOption};
+ghost use Rattle.prefix_lanes.specs.Bits.{PrefixView};
+ghost use Rattle.ranked_policy.specs.declared.network.Link.{Link};
+ghost use Rattle.ranked_policy.specs.Plans.{Joins};
+ghost use Rattle.ranked_policy.specs.Policies.{Table, IsTable, IsTableOf, IsPermitted, IsPreferred};
+ghost use Rattle.ranked_policy.specs.Choosing.{chosen_permits, chosen_prefers};
+ghost use Rattle.stable_paths.specs.Stable.{path_of, IsFirstOrNone, IsBestOf, Speaks};
+
+use crate::assignment::Assignment;
+use crate::instance::Instance;
+use crate::refusal::StableError;
+use prefix_lanes::Prefix;
+use ranked_policy::laws::each_policy_is_an_order;
+use ranked_policy::{Asn, Chosen, Link, Path, Policy, PolicyTable};
+use std::alloc::Global;
+
+// The router at the other end of a link, where the link touches this one.
+fn peer_over(link: &Link, router: Asn) -> Option<Asn>
+    ensures { MatchOption result ((v : ℕ) → Joins link.now router v → ⊥) (λ peer. Joins link.now router peer) }
+{
+    if link.one == router {
+        Some(link.other)
+    } else if link.other == router {
+        Some(link.one)
+    } else {
+        None
+    }
+}
+
+// Whether a path is permitted and there is none yet, or it is preferred to the one there is.
+fn is_taken(policy: &Chosen, choice: &Path, best: &Path) -> bool
+    ensures { IsTrue result ↔ (chosen_permits policy.now choice.now × ((best.now ≡ []) ⊎ chosen_prefers policy.now choice.now best.now)) }
+{
+    policy.permits(choice) && (best.is_empty() || policy.prefers(choice, best))
+}
+
+// The better of the best over some links and the choice over one more, if it is one.
+fn better(
+    alloc: Global,
+    table: &PolicyTable,
+    prefix: &Prefix,
+    policy: &Chosen,
+    link: &Link,
+    assignment: &Assignment,
+    best: Path,
+) -> Result<Path, StableError>
+    requires { Speaks policy.now table.now prefix.now }
+    ensures best { (links : List Link) → IsFirstOrNone links prefix.now (path_of assignment.now) table.now best → IfOk result (IsFirstOrNone (links ++ link.now ∷ []) prefix.now (path_of assignment.now) table.now) }
+    ensures memory { IfErr result (λ e. e ≡ StableError.Memory) }
+{
+    each_policy_is_an_order();
+    let router = table.router();
+    let Some(peer) = peer_over(link, router) else {
+        return Ok(best);
+    };
+    let path = assignment.path(peer);
+    if path.is_empty() {
+        return Ok(best);
+    }
+    let choice = Path::from_router(alloc, router, path)?;
+    if is_taken(policy, &choice, &best) {
+        return Ok(choice);
+    }
+    Ok(best)
+}
+
+/// The best of the choices of the router of a table.
+pub(crate) fn best_of(
+    alloc: Global,
+    instance: &Instance,
+    assignment: &Assignment,
+    table: &PolicyTable,
+) -> Result<Path, StableError>
+    requires { IsTableOf instance.now.net table.now.router table.now }
+    ensures best { IfOk result (IsBestOf instance.now (path_of assignment.now) table.now) }
+    ensures memory { IfErr result (λ e. e ≡ StableError.Memory) }
+{
+    let network = instance.network();
+    let prefix = instance.prefix();
+    let router = table.router();
+    if network.is_origin(router, prefix) {
+        return Ok(Path::from_slice(alloc, &[router])?);
+    }
+    let policy = table.for_prefix(prefix);
+    let mut best = Path::new(alloc);
+    for link in network.links() {
+        best = better(alloc, table, prefix, &policy, link, assignment, best)?;
+    }
+    Ok(best)
+}

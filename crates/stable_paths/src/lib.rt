@@ -1,0 +1,29 @@
+//! Stable path assignments of a network, for one prefix (Griffin, Shepherd and Wilfong 2002).
+//!
+//! An [`Instance`] is a prefix of a network, an [`Assignment`] a path for each router. The one
+//! contract: [`check`] answers that the assignment is stable exactly where each router has the best
+//! of its choices, given its peers' paths; else the least router that has not, with its path and
+//! its best.
+//!
+//! The definitions stand in `specs/`: `Stable` (choices, the best of them, stable assignments),
+//! `Judging` (what a check answers).
+//!
+//! Left out: finding a stable assignment, and whether there is one.
+#![tactic(auto)]
+
+mod assignment;
+mod choosing;
+mod instance;
+mod judging;
+pub mod laws;
+mod refusal;
+mod verdict;
+
+pub use assignment::{Assigned, Assignment};
+pub use instance::Instance;
+pub use judging::{check, may_have};
+pub use refusal::StableError;
+pub use verdict::Check;
+
+#[cfg(test)]
+mod tests;
