@@ -23,13 +23,14 @@ fn ten_one() -> Result<Prefix, &'static str> {
 // Routers 1 to `count` with these links; 1 originates 10.1.0.0/16, and each rule ranks two paths.
 fn network(
     alloc: Global,
-    count: u32,
+    count: u8,
     links: &[(Asn, Asn)],
     rules: &[(&[Asn], &[Asn])],
 ) -> Result<Network, Fail> {
     let mut net = NetBuilder::new(alloc, SETTINGS)?;
     for i in 0..count {
-        net.push_router(i + 1, 0x0a00_0001 + i)?;
+        let number = Asn::from(i) + 1;
+        net.push_router(number, 0x0a00_0000 + number)?;
     }
     for (a, b) in links {
         net.push_link(*a, *b)?;
