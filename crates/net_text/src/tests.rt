@@ -222,6 +222,61 @@ fn limits_on_links_and_origins(rt: HostRuntime) -> Result<(), Fail> {
     Ok(())
 }
 
+// A rule of router 1 of twenty routers with so many paths: the first goes straight to the origin,
+// and each other one through one or two routers.
+fn rule_of(alloc: Global, paths: u32) -> Result<Vec<u8>, Fail> {
+    let mut text = b"rank 20 10.0.0.0/8 20".to_vec(alloc)?;
+    for i in 1..paths {
+        let by = if i < 20 {
+            format!(in alloc; " 20-{i}")?
+        } else {
+            let i = i - 18;
+            format!(in alloc; " 20-1-{i}")?
+        };
+        text.extend_from_slice(by.as_bytes())?;
+    }
+    Ok(text)
+}
+
+#[test]
+fn limits_on_rules(rt: HostRuntime) -> Result<(), Fail> {
+    let alloc = rt.alloc();
+    let full = rule_of(alloc, 32)?;
+    assert_eq!(rt; code_behind_routers(alloc, 20, full.as_slice())?, None);
+    let over = rule_of(alloc, 33)?;
+    assert_eq!(rt;
+        code_behind_routers(alloc, 20, over.as_slice())?,
+        Some(Code::OutOfLimit)
+    );
+    let mut rules = line_of_routers(alloc, 1)?;
+    for i in 0..64u32 {
+        rules.extend_from_slice(format!(in alloc; "rank 1 10.{i}.0.0/16 1\n")?.as_bytes())?;
+    }
+    assert_eq!(rt; refusal(alloc, rules.as_slice()), None);
+    let mut again = rules.as_slice().to_vec(alloc)?;
+    again.extend_from_slice(b"rank 1 10.7.0.0/16")?;
+    assert_eq!(rt;
+        refusal(alloc, again.as_slice()).map(|r| r.code),
+        Some(Code::Repeated)
+    );
+    rules.extend_from_slice(b"rank 1 11.0.0.0/8")?;
+    assert_eq!(rt;
+        refusal(alloc, rules.as_slice()).map(|r| r.code),
+        Some(Code::OutOfLimit)
+    );
+    // A count stands before that the network is not connected.
+    let mut routers = line_of_routers(alloc, 64)?;
+    routers.extend_from_slice(b"router 65 10.0.0.65")?;
+    assert_eq!(rt;
+        refusal(alloc, routers.as_slice()),
+        Some(Refused {
+            line: 128,
+            code: Code::OutOfLimit
+        })
+    );
+    Ok(())
+}
+
 #[test]
 fn lines_and_words(rt: HostRuntime) -> Result<(), Fail> {
     let alloc = rt.alloc();
