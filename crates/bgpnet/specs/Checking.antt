@@ -57,11 +57,11 @@ abbrev pub paths_of : List Entry → PrefixView → ℕ → List ℕ
 paths_of entries prefix = paths_by (λ u. []) prefix entries
 
 abbrev pub at_prefix : Plan → PrefixView → Problem
-at_prefix net prefix = record { net = net; prefix = prefix }
+at_prefix net prefix = record { net = net; prefix = prefix; originated = true }
 
 -- the router of an entry may have its path
 abbrev pub MayStand : Plan → Entry → Type 0
-MayStand net e = MayHave (at_prefix net e.prefix) e.router e.path
+MayStand net e = MayHave net e.prefix e.router e.path
 
 -- the first entry whose path is not permitted
 pub record IsFirstStray (net : Plan) (entries : List Entry) (at : ℕ) : Type 0 where

@@ -366,6 +366,11 @@ fn rule_limits(rt: HostRuntime) -> Result<(), Fail> {
         net.push_rule(1, prefix(0, 1)?, paths(alloc, &[&long])?),
         Ok(())
     );
+    let longer = [1, 2, 3, 4, 5, 6, 7, 8, 9, 10, 11, 12, 13, 14, 15, 16, 17];
+    assert_eq!(rt;
+        net.push_rule(1, prefix(0, 2)?, paths(alloc, &[&longer])?),
+        Err(NetError::TooLong)
+    );
     for (last, want) in [(35, LIMIT), (34, Ok(()))] {
         let mut list = Vec::new(alloc);
         for i in 2..last {

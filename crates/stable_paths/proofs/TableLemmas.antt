@@ -13,9 +13,9 @@ use Rattle.ranked_policy.specs.Plans.{Plan, AreRules, AreOrigins, IsNetwork, IsR
 use Rattle.ranked_policy.specs.Policies.{Table, IsTable, IsTableOf, Originates, IsPermitted, IsPreferred}
 use Rattle.ranked_policy.specs.Promises.{EachPolicyIsAnOrder}
 use Rattle.run_model.specs.Routes.{Network, IsStableAssignment}
-use Rattle.stable_paths.specs.Stable.{Problem, IsProblem, IsChoice, IsFirst, IsFirstOrNone, IsBestOf, IsBest, IsStable, MayHave}
+use Rattle.stable_paths.specs.Stable.{Problem, IsProblem, own_path, IsChoice, IsFirst, IsFirstOrNone, IsBestOf, IsBest, IsStable, MayHave}
 use Rattle.stable_paths.specs.Judging.{IsLeastWithout, IsMoving}
-use Rattle.stable_paths.specs.Promises.{OneBest, Chooses, StableIsTheModels}
+use Rattle.stable_paths.specs.Promises.{OneBest, NoOriginNoPath, Chooses, StableIsTheModels}
 use Rattle.stable_paths.proofs.ChoiceLemmas.{first_once}
 
 -- ---- one table
@@ -72,6 +72,10 @@ table_stands net u t is a =
     }
 
 -- an origin by what the code asked, and by the definition
+-- the own path of a router that originates the prefix
+pub own_is : (p : Problem) (r : ℕ) → p.originated ≡ true → r ∷ [] ≡ own_path p r
+own_is p r e = ap (λ (b : Bool). cond b (r ∷ []) []) (sym e)
+
 pub origin_here : (p : Problem) (table : Table) (net : Plan) (prefix : PrefixView) (r : ℕ) → net ≡ p.net → prefix ≡ p.prefix → r ≡ table.router → table.origins ≡ p.net.origins
     → (IsOrigin net.origins r prefix ↔ Originates table p.prefix table.router)
 origin_here p table net prefix r en ep er eo = (
@@ -181,7 +185,7 @@ settled_on p paths routers er i r lt at table net en of has best best_is same ha
 
 -- a path that is there may be had exactly where the router's table permits it
 pub may_by : (net : Plan) → IsNetwork net → (prefix : PrefixView) (u : ℕ) (table : Table) → IsTableOf net u table → (path : List ℕ) → path ≢ [] → (b : Bool) → (IsTrue b ↔ IsPermitted table prefix path)
-    → (IsTrue b ↔ MayHave (record { net = net; prefix = prefix }) u path)
+    → (IsTrue b ↔ MayHave net prefix u path)
 may_by net is prefix u table of path some b permits = (
   λ t. inr (table, of, permits.0 t),
   λ may. elim may [
@@ -193,7 +197,7 @@ may_by net is prefix u table of path some b permits = (
 )
 
 -- and at a number without a router none may be had
-pub may_not : (net : Plan) (prefix : PrefixView) (u : ℕ) (path : List ℕ) → path ≢ [] → (IsRouter net.routers u → ⊥) → MayHave (record { net = net; prefix = prefix }) u path → ⊥
+pub may_not : (net : Plan) (prefix : PrefixView) (u : ℕ) (path : List ℕ) → path ≢ [] → (IsRouter net.routers u → ⊥) → MayHave net prefix u path → ⊥
 may_not net prefix u path some absent (inl none) = some none
 may_not net prefix u path some absent (inr x) =
     let size : length (numbers net.routers) ≡ length net.routers = length-map net.routers (λ (r : Router). r.asn) in
@@ -203,12 +207,12 @@ may_not net prefix u path some absent (inr x) =
 
 -- the least router that has a path which it does not permit
 pub stray : (p : Problem) → IsProblem p → (paths : ℕ → List ℕ) (routers : List Router) → routers ≡ p.net.routers → (i : ℕ) (r : Router) → i < length routers → r ≡ get_or routers i r
-    → (u : ℕ) → u ≡ r.asn → (MayHave p u (paths u) → ⊥) → ((k : ℕ) → k < i → MayHave p (slice_index (numbers p.net.routers) k) (paths (slice_index (numbers p.net.routers) k)))
-    → IsLeastWithout p (λ v. MayHave p v (paths v)) r.asn
+    → (u : ℕ) → u ≡ r.asn → (MayHave p.net p.prefix u (paths u) → ⊥) → ((k : ℕ) → k < i → MayHave p.net p.prefix (slice_index (numbers p.net.routers) k) (paths (slice_index (numbers p.net.routers) k)))
+    → IsLeastWithout p (λ v. MayHave p.net p.prefix v (paths v)) r.asn
 stray p is paths routers er i r lt at u eu not inv =
     let lt-2 : i < length p.net.routers = subst (λ (rs : List Router). i < length rs) er lt in
     let at-2 : r ≡ get_or p.net.routers i r = subst (λ (rs : List Router). r ≡ get_or rs i r) er at in
-    let Q : ℕ → Type 0 = λ v. MayHave p v (paths v) in
+    let Q : ℕ → Type 0 = λ v. MayHave p.net p.prefix v (paths v) in
     record {
       router = stands Q p.net.routers i r lt-2 at-2;
       fails = λ may. not (subst Q (sym eu) may);
@@ -216,13 +220,48 @@ stray p is paths routers er i r lt at u eu not inv =
     }
 
 pub permitted_on : (p : Problem) (paths : ℕ → List ℕ) (routers : List Router) → routers ≡ p.net.routers → (i : ℕ) (r : Router) → i < length routers → r ≡ get_or routers i r
-    → (u : ℕ) → u ≡ r.asn → MayHave p u (paths u) → ((k : ℕ) → k < i → MayHave p (slice_index (numbers p.net.routers) k) (paths (slice_index (numbers p.net.routers) k)))
-    → (k : ℕ) → k < i + 1 → MayHave p (slice_index (numbers p.net.routers) k) (paths (slice_index (numbers p.net.routers) k))
+    → (u : ℕ) → u ≡ r.asn → MayHave p.net p.prefix u (paths u) → ((k : ℕ) → k < i → MayHave p.net p.prefix (slice_index (numbers p.net.routers) k) (paths (slice_index (numbers p.net.routers) k)))
+    → (k : ℕ) → k < i + 1 → MayHave p.net p.prefix (slice_index (numbers p.net.routers) k) (paths (slice_index (numbers p.net.routers) k))
 permitted_on p paths routers er i r lt at u eu may inv =
     let lt-2 : i < length p.net.routers = subst (λ (rs : List Router). i < length rs) er lt in
     let at-2 : r ≡ get_or p.net.routers i r = subst (λ (rs : List Router). r ≡ get_or rs i r) er at in
-    let Q : ℕ → Type 0 = λ v. MayHave p v (paths v) in
+    let Q : ℕ → Type 0 = λ v. MayHave p.net p.prefix v (paths v) in
     each_on Q p.net.routers i r lt-2 at-2 (subst Q eu may) inv
+
+-- ---- no path without an origin
+
+linked_is : (net : Plan) → IsNetwork net → (u v : ℕ) → Linked net.links u v → IsRouter net.routers v
+linked_is net is u v l =
+    let ends = subst (λ (k : Link). IsRouter net.routers k.one × IsRouter net.routers k.other) l.3 (is.plan.links.known l.0 l.1 l.2) in
+    elim l.4 [
+      | inl a ↦ subst (IsRouter net.routers) a.1 ends.1
+      | inr a ↦ subst (IsRouter net.routers) a.0 ends.0
+    ]
+
+-- paths of at most so many routers are empty: the path of a choice has one router more than another path that is there
+nothing_on : (p : Problem) → IsProblem p → p.originated ≡ false → (paths : ℕ → List ℕ) → IsStable p paths → (n u : ℕ) → length (paths u) ≤ n → IsRouter p.net.routers u → paths u ≡ []
+nothing_on p is none paths stable zero u short router =
+    elim (stable u router).2 [
+      | inl own ↦ own.1 ∙ ap (λ (b : Bool). cond b ((stable u router).0.router ∷ []) []) none
+      | inr x ↦ elim x.1 [
+        | inl first ↦ absurd (omega (arith, short, ap length first.choice.goes_on))
+        | inr empty ↦ empty.0
+      ]
+    ]
+nothing_on p is none paths stable (suc n) u short router =
+    elim (stable u router).2 [
+      | inl own ↦ own.1 ∙ ap (λ (b : Bool). cond b ((stable u router).0.router ∷ []) []) none
+      | inr x ↦ elim x.1 [
+        | inl first ↦
+            let shorter : length (paths first.choice.peer) ≤ n = omega (arith, short, ap length first.choice.goes_on) in
+            absurd (first.choice.some
+            (nothing_on p is none paths stable n first.choice.peer shorter (linked_is p.net is.network (stable u router).0.router first.choice.peer first.choice.linked)))
+        | inr empty ↦ empty.0
+      ]
+    ]
+
+pub no_path_without : NoOriginNoPath
+no_path_without p is none paths stable u router = nothing_on p is none paths stable (length (paths u)) u (omega arith) router
 
 -- ---- what the model of runs calls stable
 

@@ -15,7 +15,7 @@ pub record IsLeastWithout (p : Problem) (Holds : ℕ → Type 0) (u : ℕ) : Typ
 
 -- each router may have the path that it has
 abbrev pub IsPermittedAll : Problem → (ℕ → List ℕ) → Type 0
-IsPermittedAll p paths = (u : ℕ) → IsRouter p.net.routers u → MayHave p u (paths u)
+IsPermittedAll p paths = (u : ℕ) → IsRouter p.net.routers u → MayHave p.net p.prefix u (paths u)
 
 -- the least router that has not its best, with what it has and its best
 pub record IsMoving (p : Problem) (paths : ℕ → List ℕ) (u : ℕ) (has best : List ℕ) : Type 0 where
@@ -30,5 +30,5 @@ IsVerdict p paths (Unstable u has best) = IsMoving p paths u has best
 -- the verdict on paths that are all permitted, or the least router whose path is not, or want of memory
 abbrev pub IsJudged : Problem → (ℕ → List ℕ) → Result Check StableError → Type 0
 IsJudged p paths (Ok check) = IsPermittedAll p paths × IsVerdict p paths check
-IsJudged p paths (Err (errors.NotPermitted u)) = IsLeastWithout p (λ v. MayHave p v (paths v)) u
+IsJudged p paths (Err (errors.NotPermitted u)) = IsLeastWithout p (λ v. MayHave p.net p.prefix v (paths v)) u
 IsJudged p paths (Err errors.Memory) = IsPermittedAll p paths

@@ -1,5 +1,5 @@
 -- What the definitions of stable assignments say together.
-use Rattle.std.specs.Prelude.{ℕ, ◌≡◌, ◌↔◌, ◌&&◌, Bool, true, cond, List, []}
+use Rattle.std.specs.Prelude.{ℕ, ◌≡◌, ◌↔◌, ◌&&◌, Bool, true, false, cond, List, []}
 use Rattle.prefix_lanes.specs.Bits.{PrefixView}
 use Rattle.ranked_policy.specs.Plans.{IsRouter, IsOrigin, Linked}
 use Rattle.run_model.specs.Routes.{Network, IsStableAssignment}
@@ -8,6 +8,10 @@ use Rattle.stable_paths.specs.Stable.{Problem, IsProblem, IsBest, IsStable}
 -- a router has at most one best path
 abbrev pub OneBest : Type 0
 OneBest = (p : Problem) → IsProblem p → (paths : ℕ → List ℕ) (u : ℕ) (a b : List ℕ) → IsBest p paths u a → IsBest p paths u b → a ≡ b
+
+-- where the origin does not originate the prefix, no router has a path
+abbrev pub NoOriginNoPath : Type 0
+NoOriginNoPath = (p : Problem) → IsProblem p → p.originated ≡ false → (paths : ℕ → List ℕ) → IsStable p paths → (u : ℕ) → IsRouter p.net.routers u → paths u ≡ []
 
 -- a network of the model of runs in which routers choose as here
 pub record Chooses {M : Type 0} (p : Problem) (originated : ℕ → Bool) (g : Network M PrefixView (List ℕ)) : Type 0 where

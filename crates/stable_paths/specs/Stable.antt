@@ -1,5 +1,5 @@
 -- Stable path assignments for one prefix (Griffin, Shepherd and Wilfong 2002, section 2).
-use Rattle.std.specs.Prelude.{ℕ, ◌≡◌, ◌≢◌, ◌==◌, ◌↔◌, List, [], ◌∷◌, if◌then◌else◌}
+use Rattle.std.specs.Prelude.{ℕ, ◌≡◌, ◌≢◌, ◌==◌, ◌↔◌, Bool, true, List, [], ◌∷◌, if◌then◌else◌}
 use mathlib.Core.Logic.{◌⊎◌}
 use Rattle.prefix_lanes.specs.Bits.{PrefixView}
 use Rattle.ranked_policy.specs.declared.network.Link.{Link}
@@ -9,14 +9,20 @@ use Rattle.ranked_policy.specs.declared.policy.Chosen.{Chosen}
 use Rattle.ranked_policy.specs.Choosing.{chosen_permits, chosen_prefers}
 use Rattle.stable_paths.specs.declared.assignment.Assigned.{Assigned}
 
--- a prefix of a network, whose origin originates it
+-- a prefix of a network, and whether its origin originates it
 pub record Problem : Type 0 where
   pub net : Plan
   pub prefix : PrefixView
+  pub originated : Bool
 
 pub record IsProblem (p : Problem) : Type 0 where
   pub network : IsNetwork p.net
   pub named : IsNamed p.net.origins p.prefix
+
+-- one whose origin originates it
+pub record IsInstance (p : Problem) : Type 0 where
+  pub problem : IsProblem p
+  pub originated : p.originated ≡ true
 
 -- the path of a router in a list of them: the empty path where it has none
 abbrev pub path_of : List Assigned → ℕ → List ℕ
@@ -41,10 +47,14 @@ abbrev pub IsFirstOrNone : List Link → PrefixView → (ℕ → List ℕ) → T
 IsFirstOrNone links prefix paths table path =
     IsFirst links prefix paths table path ⊎ ((path ≡ []) × ((other : List ℕ) → IsChoice links prefix paths table other → ⊥))
 
--- the best of a router's choices; an origin has itself alone
+-- what the origin has: itself alone where it originates the prefix, else the empty path
+abbrev pub own_path : Problem → ℕ → List ℕ
+own_path p router = if p.originated then router ∷ [] else []
+
+-- the best of a router's choices; an origin has its own path
 abbrev pub IsBestOf : Problem → (ℕ → List ℕ) → Table → List ℕ → Type 0
 IsBestOf p paths table path =
-    (Originates table p.prefix table.router × (path ≡ table.router ∷ []))
+    (Originates table p.prefix table.router × (path ≡ own_path p table.router))
     ⊎ ((Originates table p.prefix table.router → ⊥) × IsFirstOrNone p.net.links p.prefix paths table path)
 
 abbrev pub IsBest : Problem → (ℕ → List ℕ) → ℕ → List ℕ → Type 0
@@ -55,8 +65,8 @@ abbrev pub IsStable : Problem → (ℕ → List ℕ) → Type 0
 IsStable p paths = (u : ℕ) → IsRouter p.net.routers u → IsBest p paths u (paths u)
 
 -- a router may have the empty path, or one that it permits
-abbrev pub MayHave : Problem → ℕ → List ℕ → Type 0
-MayHave p u path = (path ≡ []) ⊎ ((table : Table) × IsTableOf p.net u table × IsPermitted table p.prefix path)
+abbrev pub MayHave : Plan → PrefixView → ℕ → List ℕ → Type 0
+MayHave net prefix u path = (path ≡ []) ⊎ ((table : Table) × IsTableOf net u table × IsPermitted table prefix path)
 
 -- a policy of the code permits and prefers what the router of a table does for a prefix
 pub record Speaks (policy : Chosen) (table : Table) (prefix : PrefixView) : Type 0 where

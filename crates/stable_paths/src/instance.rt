@@ -1,6 +1,6 @@
 //! A prefix of a network.
 
-ghost use Rattle.std.specs.Prelude.{◌≡◌};
+ghost use Rattle.std.specs.Prelude.{◌≡◌, true};
 ghost use Rattle.ranked_policy.specs.Plans.{IsNamed};
 
 use prefix_lanes::Prefix;
@@ -15,22 +15,23 @@ pub struct Instance<'a> {
 }
 
 impl<'a> Model for Instance<'a> {
-    ghost use Rattle.stable_paths.specs.Stable.{Problem, IsProblem};
+    ghost use Rattle.std.specs.Prelude.{true};
+    ghost use Rattle.stable_paths.specs.Stable.{Problem, IsInstance};
 
     ghost Value = { Problem };
 
-    ghost view = { λ i. record { net = i.network.now; prefix = i.prefix } };
+    ghost view = { λ i. record { net = i.network.now; prefix = i.prefix; originated = true } };
 
-    ghost invariant = { λ i. IsProblem (record { net = i.network.now; prefix = i.prefix }) };
+    ghost invariant = { λ i. IsInstance (record { net = i.network.now; prefix = i.prefix; originated = true }) };
 }
 
 impl<'a> Instance<'a> {
-    ghost use Rattle.stable_paths.specs.Stable.{IsProblem};
+    ghost use Rattle.stable_paths.specs.Stable.{IsInstance};
 
     /// The instance of a prefix that the network names.
     pub fn new(network: &'a Network, prefix: &Prefix) -> Instance<'a>
         requires { IsNamed network.now.origins prefix.now }
-        ensures { result ≡ record { net = network.now; prefix = prefix.now } }
+        ensures { result ≡ record { net = network.now; prefix = prefix.now; originated = true } }
     {
         let _routers = network.routers();
         Instance {
@@ -42,7 +43,7 @@ impl<'a> Instance<'a> {
     /// The network.
     pub fn network(&self) -> &'a Network
         ensures value { result.now ≡ self.now.net }
-        ensures problem { IsProblem self.now }
+        ensures problem { IsInstance self.now }
     {
         self.network
     }
@@ -50,7 +51,7 @@ impl<'a> Instance<'a> {
     /// The prefix.
     pub fn prefix(&self) -> &Prefix
         ensures value { result.now ≡ self.now.prefix }
-        ensures problem { IsProblem self.now }
+        ensures problem { IsInstance self.now }
     {
         &self.prefix
     }

@@ -17,7 +17,7 @@ use std::alloc::Global;
 
 /// Whether a router may have a path for a prefix: the empty path, or one that it permits.
 pub fn may_have(network: &Network, prefix: &Prefix, router: Asn, path: &Path) -> bool
-    ensures { IsTrue result ↔ MayHave (record { net = network.now; prefix = prefix.now }) router path.now }
+    ensures { IsTrue result ↔ MayHave network.now prefix.now router path.now }
 {
     if path.is_empty() {
         return true;
@@ -31,7 +31,7 @@ pub fn may_have(network: &Network, prefix: &Prefix, router: Asn, path: &Path) ->
 
 // Whether a router may have the path that it has.
 fn may_keep(instance: &Instance, assignment: &Assignment, router: Asn) -> bool
-    ensures { IsTrue result ↔ MayHave instance.now router (path_of assignment.now router) }
+    ensures { IsTrue result ↔ MayHave instance.now.net instance.now.prefix router (path_of assignment.now router) }
 {
     match assignment.get(router) {
         None => true,

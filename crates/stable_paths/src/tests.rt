@@ -1,5 +1,5 @@
 use super::*;
-use crate::laws::{one_best, stable_is_the_models};
+use crate::laws::{no_origin_no_path, one_best, stable_is_the_models};
 use prefix_lanes::Prefix;
 use ranked_policy::{Asn, NetBuilder, NetError, Network, Path, Settings};
 use std::alloc::{AllocError, Global};
@@ -163,5 +163,6 @@ fn paths_that_are_not_permitted(rt: HostRuntime) -> Result<(), Fail> {
 #[test]
 fn laws_are_called(_rt: HostRuntime) {
     one_best();
+    no_origin_no_path();
     stable_is_the_models::<u8>();
 }

@@ -9,6 +9,10 @@ use std::test::Fail;
 const PAIR: &str =
     "router 1 10.0.0.1\nrouter 2 10.0.0.2\nlink 1 2\norigin 1 10.1.0.0/16\nassignment\n";
 
+// Router 1 originates all addresses, and router 2 a part of them.
+const EVERYWHERE: &str = "router 1 10.0.0.1\nrouter 2 10.0.0.2\nlink 1 2\norigin 2 10.1.0.0/16\n\
+    origin 1 0.0.0.0/0\nassignment\n";
+
 // DISAGREE (Griffin, Shepherd and Wilfong 2002): 2 and 3 prefer the way through each other.
 const DISAGREE: &str = "router 1 10.0.0.1\nrouter 2 10.0.0.2\nrouter 3 10.0.0.3\n\
     link 1 2\nlink 1 3\nlink 2 3\norigin 1 10.1.0.0/16\n\
@@ -57,6 +61,21 @@ fn verdicts(rt: HostRuntime) -> Result<(), Fail> {
         Example {
             network: "router 1 10.0.0.1\n",
             paths: "",
+            answer: "stable\n",
+        },
+        Example {
+            network: EVERYWHERE,
+            paths: "path 1 0.0.0.0/0 1\npath 2 0.0.0.0/0 2-1\n",
+            answer: "unstable 2 has none best 2\n",
+        },
+        Example {
+            network: EVERYWHERE,
+            paths: "path 2 10.1.0.0/16 2\npath 1 10.1.0.0/16 1-2\npath 2 0.0.0.0/0 2-1\n",
+            answer: "unstable 1 has none best 1\n",
+        },
+        Example {
+            network: EVERYWHERE,
+            paths: "path 2 10.1.0.0/16 2\npath 1 10.1.0.0/16 1-2\npath 2 0.0.0.0/0 2-1\npath 1 0.0.0.0/0 1\n",
             answer: "stable\n",
         },
     ] {

@@ -5,7 +5,7 @@ use Rattle.ranked_policy.specs.declared.network.Link.{Link}
 use Rattle.ranked_policy.specs.Plans.{Plan}
 use Rattle.stable_paths.specs.Stable.{path_of, IsFirstOrNone}
 use Rattle.stable_paths.proofs.ListLemmas.{never}
-use Rattle.stable_paths.proofs.TableLemmas.{origin_here, first_at}
+use Rattle.stable_paths.proofs.TableLemmas.{own_is, origin_here, first_at}
 use Rattle.stable_paths.proofs.choosing.best_of.Goals as goal
 
 pub returns-then-is_origin-clause-best : goal.returns-then-is_origin-clause-best
@@ -13,7 +13,7 @@ returns-then-is_origin-clause-best c =
     inl (
       (origin_here c.args.instance.now c.args.table.now c.network-network.result.now c.prefix-prefix.result.now c.router-router.result c.network-network.ensures.value c.prefix-prefix.ensures.value
           c.router-router.ensures.value c.requires.1).0 (c.if-is_origin.ensures.0 refl),
-      c.in_ok-from_slice.ensures.ok ∙ ap (λ n. n ∷ []) c.router-router.ensures.value,
+      c.in_ok-from_slice.ensures.ok ∙ ap (λ n. n ∷ []) c.router-router.ensures.value ∙ own_is c.args.instance.now c.args.table.now.router c.network-network.ensures.problem.originated,
     )
 
 pub loop-link-preserved : goal.loop-link-preserved

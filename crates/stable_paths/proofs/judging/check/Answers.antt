@@ -9,7 +9,7 @@ use Rattle.stable_paths.proofs.judging.check.Goals as goal
 pub returns-then-not-is_path : goal.returns-then-not-is_path
 returns-then-not-is_path c = (
   c.in_ok-permit_all.ensures.ok,
-  moving c.each_policy_is_an_order.ensures c.args.instance.now c.network-network.ensures.problem (path_of c.args.assignment.now) c.routers-router-items.result.now
+  moving c.each_policy_is_an_order.ensures c.args.instance.now c.network-network.ensures.problem.problem (path_of c.args.assignment.now) c.routers-router-items.result.now
       (c.routers-router-items.ensures.value ∙ ap (λ (n : Plan). n.routers) c.network-network.ensures.value) c.loop-router.router-index c.router-item.result c.loop-router-test.true c.router-item.is
       c.unwrap-table.result c.network-network.result.now c.network-network.ensures.value (rw c.unwrap-table.ensures at c.policies.ensures.value) c.path-has.result.now c.in_ok-best.best
       c.in_ok-best.ensures.best (λ e. never (c.if-not-is_path.ensures.1 e)) c.path-has.ensures c.loop-router.invariant c.in_ok-from_slice.field-0 c.in_ok-from_slice.ensures.ok,

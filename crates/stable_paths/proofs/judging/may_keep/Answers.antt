@@ -10,6 +10,6 @@ returns-in-Some c =
     let p = c.args.instance.now in
     let b = c.may_have.result in
     let path = c.in-Some.path.now in
-    subst (λ (q : List ℕ). IsTrue b ↔ MayHave p c.args.router q) c.in-Some.ensures
-    (subst (λ (q : PrefixView). IsTrue b ↔ MayHave (record { net = p.net; prefix = q }) c.args.router path) c.prefix.ensures.value
-    (subst (λ (n : Plan). IsTrue b ↔ MayHave (record { net = n; prefix = c.prefix.result.now }) c.args.router path) c.network.ensures.value c.may_have.ensures))
+    subst (λ (q : List ℕ). IsTrue b ↔ MayHave p.net p.prefix c.args.router q) c.in-Some.ensures
+    (subst (λ (q : PrefixView). IsTrue b ↔ MayHave p.net q c.args.router path) c.prefix.ensures.value
+    (subst (λ (n : Plan). IsTrue b ↔ MayHave n c.prefix.result.now c.args.router path) c.network.ensures.value c.may_have.ensures))

@@ -7,4 +7,4 @@ use Rattle.stable_paths.proofs.judging.permit_all.Given as goal
 
 abbrev pub invariant-loop-router : goal.invariant-loop-router
 invariant-loop-router l =
-    (k : ℕ) → k < l.router-index → MayHave l.instance (slice_index (numbers l.instance.net.routers) k) (path_of l.assignment (slice_index (numbers l.instance.net.routers) k))
+    (k : ℕ) → k < l.router-index → MayHave l.instance.net l.instance.prefix (slice_index (numbers l.instance.net.routers) k) (path_of l.assignment (slice_index (numbers l.instance.net.routers) k))
