@@ -6,3 +6,4 @@ pub mod StepLemmas
 pub mod TextLemmas
 pub mod NetworkLemmas
 pub mod SectionLemmas
+pub mod EntryLemmas

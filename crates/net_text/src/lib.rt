@@ -16,6 +16,7 @@
 mod assignment;
 mod code;
 mod draft;
+mod entries;
 pub mod laws;
 mod lexing;
 mod network_lines;
