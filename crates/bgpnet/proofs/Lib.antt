@@ -4,3 +4,4 @@ pub mod PrintingLemmas
 pub mod TextLemmas
 pub mod WritingLemmas
 pub mod CheckLemmas
+pub mod PlaceLemmas

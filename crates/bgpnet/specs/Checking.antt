@@ -1,10 +1,11 @@
 -- What is printed for a network and an assignment.
-use Rattle.std.specs.Prelude.{◌≡◌, ◌≢◌, ℕ, ◌<◌, ◌≤◌, ◌-◌, ◌==◌, ◌&&◌, Bool, List, [], ◌∷◌, ◌++◌, length, map, codes, decimal, Ok, if◌then◌else◌, ◌⊎◌}
+use Rattle.std.specs.Prelude.{◌≡◌, ◌≢◌, ℕ, ◌<◌, ◌≤◌, ◌-◌, ◌==◌, ◌&&◌, ◌||◌, nat_lt, Bool, false, slice_index_or, List, [], ◌∷◌, ◌++◌, length, map, codes, decimal, Ok, if◌then◌else◌, ◌⊎◌}
 use Rattle.std.specs.List.{All, join_with_byte}
 use Rattle.prefix_lanes.specs.Bits.{PrefixView}
 use Rattle.ranked_policy.specs.Plans.{Plan}
 use Rattle.ranked_policy.specs.declared.network.Origin.{Origin}
-use Rattle.stable_paths.specs.Stable.{Problem, IsStable, MayHave}
+use Rattle.stable_paths.specs.declared.assignment.Assigned.{Assigned}
+use Rattle.stable_paths.specs.Stable.{Problem, path_of, IsStable, MayHave}
 use Rattle.stable_paths.specs.Judging.{IsMoving}
 use Rattle.net_text.specs.declared.code.Code.{Code}
 use Rattle.net_text.specs.declared.code.Code.TheVariants as kinds
@@ -55,6 +56,28 @@ paths_by paths prefix (e ∷ es) = paths_by (λ u. if (e.router == u) && is_pref
 
 abbrev pub paths_of : List Entry → PrefixView → ℕ → List ℕ
 paths_of entries prefix = paths_by (λ u. []) prefix entries
+
+-- by address, then by length
+abbrev pub is_before : PrefixView → PrefixView → Bool
+is_before p q = nat_lt p.addr q.addr || ((p.addr == q.addr) && nat_lt p.len q.len)
+
+-- the origin at this place, and no other, has the prefix
+pub record IsPlace (origins : List Origin) (q : PrefixView) (place : ℕ) : Type 0 where
+  pub inside : place < length origins
+  pub only : (i : ℕ) (o : Origin) → i < length origins → is_prefix q (slice_index_or origins i o).prefix ≡ (i == place)
+
+abbrev pub HasNoPlace : List Origin → PrefixView → Type 0
+HasNoPlace origins q = (i : ℕ) (o : Origin) → i < length origins → is_prefix q (slice_index_or origins i o).prefix ≡ false
+
+-- so many assignments of no path
+pub record AssignNothing (count : ℕ) (all : List (List Assigned)) : Type 0 where
+  pub as_many : length all ≡ count
+  pub nothing : (i : ℕ) (u : ℕ) → path_of (slice_index_or all i []) u ≡ []
+
+-- for the prefix of each origin these are the paths that the entries give
+pub record Assign (origins : List Origin) (entries : List Entry) (all : List (List Assigned)) : Type 0 where
+  pub as_many : length all ≡ length origins
+  pub each : (i : ℕ) (o : Origin) → i < length origins → (u : ℕ) → path_of (slice_index_or all i []) u ≡ paths_of entries (slice_index_or origins i o).prefix u
 
 abbrev pub at_prefix : Plan → PrefixView → Problem
 at_prefix net prefix = record { net = net; prefix = prefix }
