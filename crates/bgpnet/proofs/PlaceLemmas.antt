@@ -149,7 +149,7 @@ assign_more origins entries n entry all place new lt is at gives h = record {
           let inside : place < length all = omega (arith, at.inside, h.as_many) in
           let there : get_or (set all place new) i [] ≡ new = ap (λ k. get_or (set all place new) k []) same ∙ get_or-set_same all place new [] inside in
           paths_give entry q (path_of (get_or all i [])) (path_of (get_or (set all place new) i [])) (sym (e ∙ eq-eqb i place same))
-              (λ u. ap (λ (p : List Assigned). path_of p u) there ∙ gives u ∙ ap (λ k. cond (entry.router == u) entry.path (path_of (get_or all k []) u)) (sym same))
+          (λ u. ap (λ (p : List Assigned). path_of p u) there ∙ gives u ∙ ap (λ k. cond (entry.router == u) entry.path (path_of (get_or all k []) u)) (sym same))
       | inr differ ↦
           let ne : i ≢ place = λ f. elim differ [ inl less ↦ omega (arith, less, f) | inr more ↦ omega (arith, more, f) ] in
           let there : get_or (set all place new) i [] ≡ get_or all i [] = get_or-set_other all place i new [] ne in

@@ -1,6 +1,6 @@
 -- What is printed for a network and an assignment.
-use Rattle.std.specs.Prelude.{◌≡◌, ◌≢◌, ℕ, ◌<◌, ◌≤◌, ◌-◌, ◌==◌, ◌&&◌, ◌||◌, nat_lt, Bool, false, slice_index_or, List, [], ◌∷◌, ◌++◌, length, map, codes, decimal, Ok, if◌then◌else◌, ◌⊎◌}
-use Rattle.std.specs.List.{All, join_with_byte}
+use Rattle.std.specs.Prelude.{◌≡◌, ◌≢◌, ℕ, ◌<◌, ◌≤◌, ◌-◌, ◌==◌, ◌&&◌, ◌||◌, nat_lt, Bool, false, slice_index_or, List, [], ◌∷◌, ◌++◌, length, codes, Ok, if◌then◌else◌, ◌⊎◌}
+use Rattle.std.specs.List.{All}
 use Rattle.prefix_lanes.specs.Bits.{PrefixView}
 use Rattle.ranked_policy.specs.Plans.{Plan}
 use Rattle.ranked_policy.specs.declared.network.Origin.{Origin}
@@ -14,15 +14,10 @@ use Rattle.net_text.specs.Lexing.{Text, lines_of, before_section, behind_section
 use Rattle.net_text.specs.Networks.{SpellsNetwork, RefusesNetwork}
 use Rattle.net_text.specs.Assignments.{assignment_reading, RefusesAssignment}
 use Rattle.net_text.specs.Words.{is_prefix}
-use Rattle.bgpnet.specs.Lines.{line}
+use Rattle.net_text.specs.Printing.{refused_line, unstable_line, stable_line}
 use Rattle.bgpnet.specs.Decoding.{Output, output, memory_output}
 
 -- ---- texts
-
--- a path: its numbers with a dash between them, or that there is none
-abbrev pub numbers_text : List ℕ → List ℕ
-numbers_text [] = codes "none"
-numbers_text (number ∷ numbers) = join_with_byte 45 (map decimal (number ∷ numbers))
 
 -- the code of a refusal
 abbrev pub code_text : Code → List ℕ
@@ -35,14 +30,6 @@ code_text kinds.OutOfLimit = codes "N6"
 code_text kinds.NotSimple = codes "N7"
 code_text kinds.BadPrefix = codes "N8"
 code_text kinds.Memory = codes "N9"
-
--- a line that is refused, and why
-unfoldable pub refused_line : ℕ → List ℕ → List ℕ
-refused_line at code = line (codes "refused " ++ (decimal at ++ (codes " " ++ code)))
-
--- a router that would move: the path that it has, and its best
-unfoldable pub unstable_line : ℕ → List ℕ → List ℕ → List ℕ
-unstable_line router has best = line (codes "unstable " ++ (decimal router ++ (codes " has " ++ (numbers_text has ++ (codes " best " ++ numbers_text best)))))
 
 abbrev pub refused : ℕ → List ℕ → Output
 refused at code = output (refused_line at code) 1
@@ -115,7 +102,7 @@ pub data Moves (net : Plan) (entries : List Entry) (out : Output) : Type 0 where
 
 -- for entries that are all permitted
 abbrev pub VerdictGives : Plan → List Entry → Output → Type 0
-VerdictGives net entries out = (All (IsStableAt net entries) net.origins × (out ≡ output (codes "stable\n") 0)) ⊎ Moves net entries out
+VerdictGives net entries out = (All (IsStableAt net entries) net.origins × (out ≡ output stable_line 0)) ⊎ Moves net entries out
 
 -- for the entries of an assignment
 abbrev pub EntriesGive : Plan → List Entry → Output → Type 0

@@ -1,49 +1,32 @@
 //! What `bgpnet check` prints for a network and the entries of an assignment.
 
-ghost use Rattle.std.specs.Prelude.{◌≡◌, ◌++◌, ◌==◌, ◌&&◌, if◌then◌else◌, ℕ, List, IfOk, OnOk, MatchOption};
+ghost use Rattle.std.specs.Prelude.{◌≡◌, ◌==◌, if◌then◌else◌, ℕ, List, IfOk, OnOk, MatchOption};
 ghost use Rattle.std.specs.List.{All, AllPairs};
 ghost use Rattle.ranked_policy.specs.Plans.{IsBefore};
 ghost use Rattle.stable_paths.specs.Stable.{path_of};
 ghost use Rattle.stable_paths.specs.Judging.{IsVerdict};
 ghost use Rattle.net_text.specs.Words.{is_prefix};
+ghost use Rattle.net_text.specs.Printing.{stable_line, unstable_line};
 ghost use Rattle.bgpnet.specs.Decoding.{output};
-ghost use Rattle.bgpnet.specs.Checking.{numbers_text, refused_line, unstable_line, refused, is_before, IsPlace, HasNoPlace, AssignNothing, Assign, at_prefix, MayStand, IsFirstStray, VerdictGives, EntriesGive};
+ghost use Rattle.bgpnet.specs.Checking.{refused, is_before, IsPlace, HasNoPlace, AssignNothing, Assign, at_prefix, MayStand, IsFirstStray, VerdictGives, EntriesGive};
 
 use crate::status::{DONE, REFUSED};
-use crate::texts::{put_decimal, put_len};
-use crate::updates::put_numbers;
-use net_text::Entry;
+use net_text::{Entry, refused_line, stable_line, unstable_line};
 use prefix_lanes::Prefix;
 use ranked_policy::{Asn, Network, Origin, Path};
 use stable_paths::{Assignment, Check, Instance, check, may_have};
 use std::alloc::{AllocError, Global};
 
-// Appends a path: its numbers with a dash between them, or that there is none.
-fn put_path(out: &mut Vec<u8>, numbers: &[Asn]) -> Result<(), AllocError>
-    ensures { OnOk result (out.new.items ≡ out.old.items ++ numbers_text numbers.now) }
-{
-    if numbers.is_empty() {
-        out.extend_from_slice(b"none")
-    } else {
-        put_numbers(out, numbers, b'-')
-    }
-}
-
 /// What is printed for a line that is refused, and the status.
-#[tactic(auto, unfolding(crate::specs::Checking::refused_line))]
 pub fn refused_output(alloc: Global, line: usize, code: &[u8]) -> Result<(Vec<u8>, u8), AllocError>
     ensures { IfOk result (λ printed. output printed.0.items printed.1 ≡ refused line code.now) }
 {
-    let mut out = Vec::from_slice(alloc, b"refused ")?;
-    put_len(&mut out, line)?;
-    out.extend_from_slice(b" ")?;
-    out.extend_from_slice(code)?;
-    out.extend_from_slice(b"\n")?;
+    let mut out = Vec::new(alloc);
+    refused_line(line, code, &mut out)?;
     Ok((out, REFUSED))
 }
 
 // What is printed for a router that would move, and the status.
-#[tactic(auto, unfolding(crate::specs::Checking::unstable_line))]
 fn unstable_output(
     alloc: Global,
     router: Asn,
@@ -52,13 +35,17 @@ fn unstable_output(
 ) -> Result<(Vec<u8>, u8), AllocError>
     ensures { IfOk result (λ printed. output printed.0.items printed.1 ≡ output (unstable_line router has.now best.now) 0) }
 {
-    let mut out = Vec::from_slice(alloc, b"unstable ")?;
-    put_decimal(&mut out, router)?;
-    out.extend_from_slice(b" has ")?;
-    put_path(&mut out, has.as_slice())?;
-    out.extend_from_slice(b" best ")?;
-    put_path(&mut out, best.as_slice())?;
-    out.extend_from_slice(b"\n")?;
+    let mut out = Vec::new(alloc);
+    unstable_line(router, has.as_slice(), best.as_slice(), &mut out)?;
+    Ok((out, DONE))
+}
+
+// What is printed where no router would move, and the status.
+fn stable_output(alloc: Global) -> Result<(Vec<u8>, u8), AllocError>
+    ensures { IfOk result (λ printed. output printed.0.items printed.1 ≡ output stable_line 0) }
+{
+    let mut out = Vec::new(alloc);
+    stable_line(&mut out)?;
     Ok((out, DONE))
 }
 
@@ -178,7 +165,7 @@ fn verdict_output(
             }
         }
     }
-    Ok((Vec::from_slice(alloc, b"stable\n")?, DONE))
+    stable_output(alloc)
 }
 
 /// What is printed for the entries of an assignment, and the status.

@@ -15,11 +15,8 @@ mod channel;
 mod command_line;
 mod digits;
 mod engines;
-mod lines;
 mod status;
 mod stream;
-mod texts;
-mod updates;
 
 use channel::{IoStopped, Sink, Watched};
 use command_line::run_with;

@@ -7,3 +7,5 @@ pub mod TextLemmas
 pub mod NetworkLemmas
 pub mod SectionLemmas
 pub mod EntryLemmas
+pub mod PrintLemmas
+pub mod DecimalLemmas

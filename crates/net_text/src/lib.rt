@@ -14,20 +14,28 @@
 #![tactic(auto)]
 
 mod assignment;
+mod checks;
 mod code;
 mod draft;
 mod entries;
 pub mod laws;
 mod lexing;
+mod lines;
+mod messages;
 mod network_lines;
 mod paths;
 mod sections;
 mod settings;
+mod texts;
+mod updates;
 mod words;
 
 pub use assignment::{Entry, read_assignment};
 pub use code::{Code, Refused};
 pub use draft::read_network;
+pub use lines::{
+    fault_lines, message_line, refused_line, stable_line, truncated_line, unstable_line,
+};
 pub use sections::{Split, split_at_section};
 
 #[cfg(test)]

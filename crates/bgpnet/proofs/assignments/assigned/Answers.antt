@@ -18,9 +18,9 @@ loop-entry-preserved c =
           let inside : place < length all = omega (arith, w.in-Some.ensures.inside, c.loop-entry.invariant.as_many) in
           let old : w.index_mut.result.now ≡ get_or all place [] = w.index_mut.ensures.value ∙ within all place w.index_mut.result.now [] inside in
           subst (λ (v : List (List Assigned)). Assign c.args.origins.now (take (c.loop-entry.entry-index + 1) c.args.entries.now) v) (sym (ap (λ v. v.items) w.all-is))
-              (assign_more c.args.origins.now c.args.entries.now c.loop-entry.entry-index e all place w.give.new.assignment c.loop-entry-test.true c.entry-item.is w.in-Some.ensures
-              (λ u. w.in_ok-give.ensures u ∙ ap (λ (p : List Assigned). cond (e.router == u) e.path (path_of p u)) old) c.loop-entry.invariant)
+          (assign_more c.args.origins.now c.args.entries.now c.loop-entry.entry-index e all place w.give.new.assignment c.loop-entry-test.true c.entry-item.is w.in-Some.ensures
+          (λ u. w.in_ok-give.ensures u ∙ ap (λ (p : List Assigned). cond (e.router == u) e.path (path_of p u)) old) c.loop-entry.invariant)
       | in_default w ↦
           subst (λ (v : List (List Assigned)). Assign c.args.origins.now (take (c.loop-entry.entry-index + 1) c.args.entries.now) v) (sym (ap (λ v. v.items) w.all-is))
-              (assign_pass c.args.origins.now c.args.entries.now c.loop-entry.entry-index c.entry-item.result c.loop-entry.all.items c.loop-entry-test.true c.entry-item.is w.in_default.ensures c.loop-entry.invariant)
+          (assign_pass c.args.origins.now c.args.entries.now c.loop-entry.entry-index c.entry-item.result c.loop-entry.all.items c.loop-entry-test.true c.entry-item.is w.in_default.ensures c.loop-entry.invariant)
     ]

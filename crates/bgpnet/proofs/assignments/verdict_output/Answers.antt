@@ -1,7 +1,6 @@
-use Rattle.std.proofs.Common.{List, ℕ, ap, subst, inl, inr}
+use Rattle.std.proofs.Common.{subst, inl, inr}
 use Rattle.std.specs.List.{All}
 use Rattle.stable_paths.specs.Judging.{IsVerdict}
-use Rattle.bgpnet.specs.Decoding.{output}
 use Rattle.bgpnet.specs.Checking.{at_prefix, paths_of, IsStableAt}
 use Rattle.bgpnet.specs.Checking.Moves.{it_moves}
 use Rattle.bgpnet.proofs.CheckLemmas.{all_on, all_all, move_found, if_ok}
@@ -31,8 +30,7 @@ loop-place-preserved c =
 
 pub returns : goal.returns
 returns c =
-    inl (
-      subst (All (IsStableAt c.args.network.now c.args.entries.now)) c.origins-origins.ensures.value
-          (all_all (IsStableAt c.args.network.now c.args.entries.now) c.origins-origins.result.now c.loop-place.place c.loop-place-test.false c.loop-place.invariant),
-      ap (λ (xs : List ℕ). output xs 0) c.in_ok-from_slice.ensures.items,
-    )
+    let stable =
+    subst (All (IsStableAt c.args.network.now c.args.entries.now)) c.origins-origins.ensures.value
+    (all_all (IsStableAt c.args.network.now c.args.entries.now) c.origins-origins.result.now c.loop-place.place c.loop-place-test.false c.loop-place.invariant) in
+    if_ok _ _ c.stable_output.result (λ printed e. inl (stable, e)) c.stable_output.ensures
