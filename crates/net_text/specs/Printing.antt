@@ -15,6 +15,11 @@ use Rattle.bgp_codec.specs.declared.path.SegmentKind.TheVariants.{AsSet, AsSeque
 use Rattle.bgp_codec.specs.declared.update.Update.{Update}
 use Rattle.bgp_codec.specs.Spelling.{written}
 
+-- a buffer: what it had, and what was written behind that
+pub record Written : Type 0 where
+  pub front : List ℕ
+  pub text : List ℕ
+
 -- the octets in lower-case hex, or a dash where there are none
 abbrev pub hex_or_dash : List ℕ → List ℕ
 hex_or_dash [] = codes "-"

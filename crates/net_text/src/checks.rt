@@ -1,21 +1,22 @@
 //! What a check of an assignment says as text, written behind what a buffer has.
 //!
-//! A refused call here may leave a part of its text in the buffer.
+//! A refused call here may leave a part of its text, but what stood in front stays.
 
 ghost use Rattle.std.specs.Prelude.{◌≡◌, ◌++◌, OnOk};
 ghost use Rattle.net_text.specs.Printing.{numbers_text, refused_line, unstable_line};
 
-use crate::texts::{put_decimal, put_len};
+use crate::tail::Tail;
 use crate::updates::put_numbers;
 use ranked_policy::Asn;
 use std::alloc::AllocError;
 
 // Appends a path: its numbers with a dash between them, or that there is none.
-fn put_path(out: &mut Vec<u8>, numbers: &[Asn]) -> Result<(), AllocError>
-    ensures { OnOk result (out.new.items ≡ out.old.items ++ numbers_text numbers.now) }
+fn put_path(out: &mut Tail, numbers: &[Asn]) -> Result<(), AllocError>
+    ensures text { OnOk result (out.new.text ≡ out.old.text ++ numbers_text numbers.now) }
+    ensures front { out.new.front ≡ out.old.front }
 {
     if numbers.is_empty() {
-        out.extend_from_slice(b"none")
+        out.put_text(b"none")
     } else {
         put_numbers(out, numbers, b'-')
     }
@@ -23,31 +24,33 @@ fn put_path(out: &mut Vec<u8>, numbers: &[Asn]) -> Result<(), AllocError>
 
 /// Appends the line of a refusal.
 #[tactic(auto, unfolding(crate::specs::Printing::refused_line))]
-pub(crate) fn put_refused(out: &mut Vec<u8>, line: usize, code: &[u8]) -> Result<(), AllocError>
-    ensures { OnOk result (out.new.items ≡ out.old.items ++ refused_line line code.now) }
+pub(crate) fn put_refused(out: &mut Tail, line: usize, code: &[u8]) -> Result<(), AllocError>
+    ensures text { OnOk result (out.new.text ≡ out.old.text ++ refused_line line code.now) }
+    ensures front { out.new.front ≡ out.old.front }
 {
-    out.extend_from_slice(b"refused ")?;
-    put_len(out, line)?;
-    out.extend_from_slice(b" ")?;
-    out.extend_from_slice(code)?;
-    out.extend_from_slice(b"\n")
+    out.put_text(b"refused ")?;
+    out.put_len(line)?;
+    out.put_text(b" ")?;
+    out.put_text(code)?;
+    out.put_text(b"\n")
 }
 
 /// Appends the line of a router that would move.
 #[tactic(auto, unfolding(crate::specs::Printing::unstable_line))]
 pub(crate) fn put_unstable(
-    out: &mut Vec<u8>,
+    out: &mut Tail,
     router: Asn,
     has: &[Asn],
     best: &[Asn],
 ) -> Result<(), AllocError>
-    ensures { OnOk result (out.new.items ≡ out.old.items ++ unstable_line router has.now best.now) }
+    ensures text { OnOk result (out.new.text ≡ out.old.text ++ unstable_line router has.now best.now) }
+    ensures front { out.new.front ≡ out.old.front }
 {
-    out.extend_from_slice(b"unstable ")?;
-    put_decimal(out, router)?;
-    out.extend_from_slice(b" has ")?;
+    out.put_text(b"unstable ")?;
+    out.put_decimal(router)?;
+    out.put_text(b" has ")?;
     put_path(out, has)?;
-    out.extend_from_slice(b" best ")?;
+    out.put_text(b" best ")?;
     put_path(out, best)?;
-    out.extend_from_slice(b"\n")
+    out.put_text(b"\n")
 }

@@ -26,6 +26,7 @@ mod network_lines;
 mod paths;
 mod sections;
 mod settings;
+mod tail;
 mod texts;
 mod updates;
 mod words;

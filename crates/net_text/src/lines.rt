@@ -6,12 +6,10 @@ ghost use Rattle.net_text.specs.Printing.{line, message_line, fault_lines, trunc
 
 use crate::checks::{put_refused, put_unstable};
 use crate::messages::{put_fault, put_message, put_truncated};
+use crate::tail::Tail;
 use bgp_codec::{Fault, Message};
 use ranked_policy::Asn;
 use std::alloc::AllocError;
-
-// The octets that the lines of most messages fit in.
-const LINE_ROOM: usize = 128;
 
 /// Appends the line of a message (RFC 4271 section 4): its kind, then what it says. It is refused
 /// only where memory was, and then changes nothing.
@@ -19,9 +17,10 @@ pub fn message_line(message: &Message, out: &mut Vec<u8>) -> Result<(), AllocErr
     ensures ok { OnOk result (out.new.items ≡ out.old.items ++ line (message_line message.now)) }
     ensures err { OnErr result (out.new.items ≡ out.old.items) }
 {
-    let mut text = Vec::with_capacity(*out.allocator(), LINE_ROOM)?;
-    put_message(&mut text, message)?;
-    out.extend_from_slice(text.as_slice())
+    let mut tail = Tail::behind(out);
+    let result = put_message(&mut tail, message);
+    *out = tail.finish(result.is_ok());
+    result
 }
 
 /// Appends the two lines of a fault: its codes, and in hex the NOTIFICATION that tells of it
@@ -32,9 +31,10 @@ pub fn fault_lines(fault: &Fault, out: &mut Vec<u8>) -> Result<(), AllocError>
     ensures err { OnErr result (out.new.items ≡ out.old.items) }
 {
     let alloc = *out.allocator();
-    let mut text = Vec::new(alloc);
-    put_fault(alloc, &mut text, fault)?;
-    out.extend_from_slice(text.as_slice())
+    let mut tail = Tail::behind(out);
+    let result = put_fault(alloc, &mut tail, fault);
+    *out = tail.finish(result.is_ok());
+    result
 }
 
 /// Appends the line of a rest of so many octets that is no whole message. It is refused only where
@@ -43,9 +43,10 @@ pub fn truncated_line(len: usize, out: &mut Vec<u8>) -> Result<(), AllocError>
     ensures ok { OnOk result (out.new.items ≡ out.old.items ++ truncated_line len) }
     ensures err { OnErr result (out.new.items ≡ out.old.items) }
 {
-    let mut text = Vec::new(*out.allocator());
-    put_truncated(&mut text, len)?;
-    out.extend_from_slice(text.as_slice())
+    let mut tail = Tail::behind(out);
+    let result = put_truncated(&mut tail, len);
+    *out = tail.finish(result.is_ok());
+    result
 }
 
 /// Appends the line of a refusal: the line of the text that is refused, and the code of why. It is
@@ -54,9 +55,10 @@ pub fn refused_line(line: usize, code: &[u8], out: &mut Vec<u8>) -> Result<(), A
     ensures ok { OnOk result (out.new.items ≡ out.old.items ++ refused_line line code.now) }
     ensures err { OnErr result (out.new.items ≡ out.old.items) }
 {
-    let mut text = Vec::new(*out.allocator());
-    put_refused(&mut text, line, code)?;
-    out.extend_from_slice(text.as_slice())
+    let mut tail = Tail::behind(out);
+    let result = put_refused(&mut tail, line, code);
+    *out = tail.finish(result.is_ok());
+    result
 }
 
 /// Appends the line of a router that would move: the path that it has, and its best. It is refused
@@ -70,9 +72,10 @@ pub fn unstable_line(
     ensures ok { OnOk result (out.new.items ≡ out.old.items ++ unstable_line router has.now best.now) }
     ensures err { OnErr result (out.new.items ≡ out.old.items) }
 {
-    let mut text = Vec::new(*out.allocator());
-    put_unstable(&mut text, router, has, best)?;
-    out.extend_from_slice(text.as_slice())
+    let mut tail = Tail::behind(out);
+    let result = put_unstable(&mut tail, router, has, best);
+    *out = tail.finish(result.is_ok());
+    result
 }
 
 /// Appends the line that no router would move. It is refused only where memory was, and then

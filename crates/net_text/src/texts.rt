@@ -1,6 +1,6 @@
 //! Numbers and octets as text, written behind what a buffer has.
 
-ghost use Rattle.std.specs.Prelude.{◌≡◌, ◌+◌, ◌*◌, ◌<◌, ◌≤◌, ◌∷◌, [], ◌++◌, length, take, drop, codes, decimal, slice_index, vec_len, vec_capacity, OnOk};
+ghost use Rattle.std.specs.Prelude.{◌≡◌, ◌+◌, ◌*◌, ◌<◌, ◌≤◌, ◌∷◌, [], ◌++◌, length, take, drop, codes, decimal, slice_index, vec_len, vec_capacity, OnOk, OnErr};
 ghost use Rattle.hex.specs.Hex.{encode_lower, lower_digits};
 ghost use Rattle.net_text.specs.Printing.{hex_or_dash, address_text};
 
@@ -25,7 +25,8 @@ const OCTET_DIGITS: &[u8; 768] = b"\
 
 /// Appends a number in decimal digits.
 pub fn put_decimal(out: &mut Vec<u8>, number: u32) -> Result<(), AllocError>
-    ensures { OnOk result (out.new.items ≡ out.old.items ++ decimal number) }
+    ensures ok { OnOk result (out.new.items ≡ out.old.items ++ decimal number) }
+    ensures err { OnErr result (out.new.items ≡ out.old.items) }
 {
     let mut buffer = Buffer::new();
     out.extend_from_slice(buffer.format(number).as_bytes())
@@ -100,7 +101,8 @@ pub fn write_address(text: &mut [u8], at: usize, address: u32) -> usize
 
 /// Appends an address.
 pub fn put_address(out: &mut Vec<u8>, address: u32) -> Result<(), AllocError>
-    ensures { OnOk result (out.new.items ≡ out.old.items ++ address_text address) }
+    ensures ok { OnOk result (out.new.items ≡ out.old.items ++ address_text address) }
+    ensures err { OnErr result (out.new.items ≡ out.old.items) }
 {
     let at = out.len();
     out.resize(at + 15, 0)?;
@@ -111,7 +113,8 @@ pub fn put_address(out: &mut Vec<u8>, address: u32) -> Result<(), AllocError>
 
 /// Appends a number of octets in decimal digits.
 pub fn put_len(out: &mut Vec<u8>, len: usize) -> Result<(), AllocError>
-    ensures { OnOk result (out.new.items ≡ out.old.items ++ decimal len) }
+    ensures ok { OnOk result (out.new.items ≡ out.old.items ++ decimal len) }
+    ensures err { OnErr result (out.new.items ≡ out.old.items) }
 {
     let mut buffer = Buffer::new();
     out.extend_from_slice(buffer.format(len).as_bytes())
@@ -138,7 +141,8 @@ fn put_digits(out: &mut Vec<u8>, octets: &[u8])
 
 /// Appends octets as two lower-case hex digits each.
 pub fn put_hex(out: &mut Vec<u8>, octets: &[u8]) -> Result<(), AllocError>
-    ensures { OnOk result (out.new.items ≡ out.old.items ++ encode_lower octets.now) }
+    ensures ok { OnOk result (out.new.items ≡ out.old.items ++ encode_lower octets.now) }
+    ensures err { OnErr result (out.new.items ≡ out.old.items) }
 {
     out.reserve(2 * octets.len())?;
     put_digits(out, octets);
@@ -147,7 +151,8 @@ pub fn put_hex(out: &mut Vec<u8>, octets: &[u8]) -> Result<(), AllocError>
 
 /// Appends octets in hex, or a dash where there are none.
 pub fn put_hex_or_dash(out: &mut Vec<u8>, octets: &[u8]) -> Result<(), AllocError>
-    ensures { OnOk result (out.new.items ≡ out.old.items ++ hex_or_dash octets.now) }
+    ensures ok { OnOk result (out.new.items ≡ out.old.items ++ hex_or_dash octets.now) }
+    ensures err { OnErr result (out.new.items ≡ out.old.items) }
 {
     if octets.is_empty() {
         out.extend_from_slice(b"-")
