@@ -9,6 +9,7 @@ use crate::updates::put_prefixes;
 use prefix_lanes::Prefix;
 use std::alloc::AllocError;
 use std::marker::Model;
+use std::mem;
 
 /// A buffer that keeps what it had in front, while text is written behind it.
 #[derive(Drop)]
@@ -36,7 +37,7 @@ impl Tail {
         let alloc = *out.allocator();
         let start = out.len();
         Tail {
-            octets: std::mem::replace(out, Vec::new(alloc)),
+            octets: mem::replace(out, Vec::new(alloc)),
             start,
         }
     }
