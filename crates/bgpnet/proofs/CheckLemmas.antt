@@ -7,7 +7,7 @@ use Rattle.std.proofs.lemmas.List.{take_more, drop_more, take_all, take-append-d
 use Rattle.prefix_lanes.specs.Bits.{PrefixView}
 use Rattle.ranked_policy.specs.Plans.{Plan}
 use Rattle.ranked_policy.specs.declared.network.Origin.{Origin}
-use Rattle.stable_paths.specs.Stable.{Problem, IsStable}
+use Rattle.stable_paths.specs.Stable.{Problem}
 use Rattle.stable_paths.specs.Judging.{IsMoving, IsVerdict}
 use Rattle.stable_paths.specs.declared.verdict.Check.{Check}
 use Rattle.net_text.specs.declared.assignment.Entry.{Entry}
@@ -24,7 +24,8 @@ module _ {X : Type 0} where
   parted xs i x lt is =
       sym (take-append-drop i xs) ∙ ap (λ (ys : List X). take i xs ++ ys) (drop_more xs i x lt ∙ ap (λ (y : X). y ∷ drop (i + 1) xs) (sym is))
 
-  within : (xs : List X) (i : ℕ) (d e : X) → i < length xs → get_or xs i d ≡ get_or xs i e
+  -- an item is the same whatever stands for those past the end
+  pub within : (xs : List X) (i : ℕ) (d e : X) → i < length xs → get_or xs i d ≡ get_or xs i e
   within [] i d e lt = absurd (omega (arith, lt))
   within (x ∷ xs) zero d e lt = refl
   within (x ∷ xs) (suc i) d e lt = within xs i d e (omega (arith, lt))
@@ -76,10 +77,6 @@ pub paths_on : (q : PrefixView) (es : List Entry) (i : ℕ) (e : Entry) (old new
 paths_on q es i e old new lt is gives inv u =
     gives u ∙ ap (cond ((e.router == u) && is_prefix e.prefix q) e.path) (inv u) ∙ sym (paths_more (λ v. []) q (take i es) e u)
     ∙ ap (λ (xs : List Entry). paths_by (λ v. []) q xs u) (sym (take_more es i e lt ∙ ap (λ (x : Entry). take i es ++ x ∷ []) (sym is)))
-
--- what all entries give
-pub paths_all : (q : PrefixView) (es : List Entry) (i : ℕ) (now : ℕ → List ℕ) → length es ≤ i → ((u : ℕ) → now u ≡ paths_by (λ v. []) q (take i es) u) → (u : ℕ) → now u ≡ paths_of es q u
-paths_all q es i now le inv u = inv u ∙ ap (λ (xs : List Entry). paths_by (λ v. []) q xs u) (take_all i es le)
 
 -- the first entry that is not permitted
 pub stray_found : (net : Plan) (es : List Entry) (i : ℕ) (e : Entry) → i < length es → e ≡ get_or es i e → (MayStand net e → ⊥) → All (MayStand net) (take i es) → IsFirstStray net es e.line

@@ -8,7 +8,7 @@ use Rattle.bgp_codec.specs.declared.rule.Rule.{Rule}
 use Rattle.bgp_codec.specs.Header.{header_fault, length_field, IsFrame}
 use Rattle.bgp_codec.specs.Faults.{reading}
 use Rattle.bgp_framing.specs.Frames.{Splits, SplitsOnce, SplitsBehindAFrame, SplitsIntoNothing, IsPartial}
-use Rattle.bgpnet.specs.Lines.{fault_lines}
+use Rattle.net_text.specs.Printing.{fault_lines}
 use Rattle.bgpnet.specs.Decoding.{Output, output, behind, short_output, rest_output, read_output, frames_output, StreamGives, PutsFrame, PutsShort}
 
 -- what is printed so far, and what completes it

@@ -1,10 +1,11 @@
 -- What is printed for a network and an assignment.
-use Rattle.std.specs.Prelude.{◌≡◌, ◌≢◌, ℕ, ◌<◌, ◌≤◌, ◌-◌, ◌==◌, ◌&&◌, Bool, true, List, [], ◌∷◌, ◌++◌, length, map, codes, decimal, Ok, if◌then◌else◌, ◌⊎◌}
-use Rattle.std.specs.List.{All, join_with_byte}
+use Rattle.std.specs.Prelude.{◌≡◌, ◌≢◌, ℕ, ◌<◌, ◌≤◌, ◌-◌, ◌==◌, ◌&&◌, ◌||◌, nat_lt, Bool, true, false, slice_index_or, List, [], ◌∷◌, ◌++◌, length, codes, Ok, if◌then◌else◌, ◌⊎◌}
+use Rattle.std.specs.List.{All}
 use Rattle.prefix_lanes.specs.Bits.{PrefixView}
 use Rattle.ranked_policy.specs.Plans.{Plan}
 use Rattle.ranked_policy.specs.declared.network.Origin.{Origin}
-use Rattle.stable_paths.specs.Stable.{Problem, IsStable, MayHave}
+use Rattle.stable_paths.specs.declared.assignment.Assigned.{Assigned}
+use Rattle.stable_paths.specs.Stable.{Problem, path_of, IsStable, MayHave}
 use Rattle.stable_paths.specs.Judging.{IsMoving}
 use Rattle.net_text.specs.declared.code.Code.{Code}
 use Rattle.net_text.specs.declared.code.Code.TheVariants as kinds
@@ -13,15 +14,10 @@ use Rattle.net_text.specs.Lexing.{Text, lines_of, before_section, behind_section
 use Rattle.net_text.specs.Networks.{SpellsNetwork, RefusesNetwork}
 use Rattle.net_text.specs.Assignments.{assignment_reading, RefusesAssignment}
 use Rattle.net_text.specs.Words.{is_prefix}
-use Rattle.bgpnet.specs.Lines.{line}
+use Rattle.net_text.specs.Printing.{refused_line, unstable_line, stable_line}
 use Rattle.bgpnet.specs.Decoding.{Output, output, memory_output}
 
 -- ---- texts
-
--- a path: its numbers with a dash between them, or that there is none
-abbrev pub numbers_text : List ℕ → List ℕ
-numbers_text [] = codes "none"
-numbers_text (number ∷ numbers) = join_with_byte 45 (map decimal (number ∷ numbers))
 
 -- the code of a refusal
 abbrev pub code_text : Code → List ℕ
@@ -35,14 +31,6 @@ code_text kinds.NotSimple = codes "N7"
 code_text kinds.BadPrefix = codes "N8"
 code_text kinds.Memory = codes "N9"
 
--- a line that is refused, and why
-unfoldable pub refused_line : ℕ → List ℕ → List ℕ
-refused_line at code = line (codes "refused " ++ (decimal at ++ (codes " " ++ code)))
-
--- a router that would move: the path that it has, and its best
-unfoldable pub unstable_line : ℕ → List ℕ → List ℕ → List ℕ
-unstable_line router has best = line (codes "unstable " ++ (decimal router ++ (codes " has " ++ (numbers_text has ++ (codes " best " ++ numbers_text best)))))
-
 abbrev pub refused : ℕ → List ℕ → Output
 refused at code = output (refused_line at code) 1
 
@@ -55,6 +43,28 @@ paths_by paths prefix (e ∷ es) = paths_by (λ u. if (e.router == u) && is_pref
 
 abbrev pub paths_of : List Entry → PrefixView → ℕ → List ℕ
 paths_of entries prefix = paths_by (λ u. []) prefix entries
+
+-- by address, then by length
+abbrev pub is_before : PrefixView → PrefixView → Bool
+is_before p q = nat_lt p.addr q.addr || ((p.addr == q.addr) && nat_lt p.len q.len)
+
+-- the origin at this place, and no other, has the prefix
+pub record IsPlace (origins : List Origin) (q : PrefixView) (place : ℕ) : Type 0 where
+  pub inside : place < length origins
+  pub only : (i : ℕ) (o : Origin) → i < length origins → is_prefix q (slice_index_or origins i o).prefix ≡ (i == place)
+
+abbrev pub HasNoPlace : List Origin → PrefixView → Type 0
+HasNoPlace origins q = (i : ℕ) (o : Origin) → i < length origins → is_prefix q (slice_index_or origins i o).prefix ≡ false
+
+-- so many assignments of no path
+pub record AssignNothing (count : ℕ) (all : List (List Assigned)) : Type 0 where
+  pub as_many : length all ≡ count
+  pub nothing : (i : ℕ) (u : ℕ) → path_of (slice_index_or all i []) u ≡ []
+
+-- for the prefix of each origin these are the paths that the entries give
+pub record Assign (origins : List Origin) (entries : List Entry) (all : List (List Assigned)) : Type 0 where
+  pub as_many : length all ≡ length origins
+  pub each : (i : ℕ) (o : Origin) → i < length origins → (u : ℕ) → path_of (slice_index_or all i []) u ≡ paths_of entries (slice_index_or origins i o).prefix u
 
 abbrev pub at_prefix : Plan → PrefixView → Problem
 at_prefix net prefix = record { net = net; prefix = prefix; originated = true }
@@ -92,7 +102,7 @@ pub data Moves (net : Plan) (entries : List Entry) (out : Output) : Type 0 where
 
 -- for entries that are all permitted
 abbrev pub VerdictGives : Plan → List Entry → Output → Type 0
-VerdictGives net entries out = (All (IsStableAt net entries) net.origins × (out ≡ output (codes "stable\n") 0)) ⊎ Moves net entries out
+VerdictGives net entries out = (All (IsStableAt net entries) net.origins × (out ≡ output stable_line 0)) ⊎ Moves net entries out
 
 -- for the entries of an assignment
 abbrev pub EntriesGive : Plan → List Entry → Output → Type 0

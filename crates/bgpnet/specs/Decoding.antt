@@ -7,7 +7,7 @@ use Rattle.bgp_codec.specs.declared.rule.Rule.{Rule}
 use Rattle.bgp_codec.specs.Header.{header_fault}
 use Rattle.bgp_codec.specs.Faults.{reading}
 use Rattle.bgp_framing.specs.Frames.{Splits}
-use Rattle.bgpnet.specs.Lines.{line, message_line, fault_lines, truncated_line}
+use Rattle.net_text.specs.Printing.{line, message_line, fault_lines, truncated_line}
 
 -- a text, and the status that the program ends with
 pub record Output : Type 0 where

@@ -1,48 +1,32 @@
 //! What `bgpnet check` prints for a network and the entries of an assignment.
 
-ghost use Rattle.std.specs.Prelude.{◌≡◌, ◌++◌, ◌==◌, ◌&&◌, if◌then◌else◌, ℕ, List, IfOk, OnOk, MatchOption};
-ghost use Rattle.std.specs.List.{All};
+ghost use Rattle.std.specs.Prelude.{◌≡◌, ◌==◌, if◌then◌else◌, ℕ, List, IfOk, OnOk, MatchOption};
+ghost use Rattle.std.specs.List.{All, AllPairs};
+ghost use Rattle.ranked_policy.specs.Plans.{IsBefore};
 ghost use Rattle.stable_paths.specs.Stable.{path_of};
 ghost use Rattle.stable_paths.specs.Judging.{IsVerdict};
 ghost use Rattle.net_text.specs.Words.{is_prefix};
+ghost use Rattle.net_text.specs.Printing.{stable_line, unstable_line};
 ghost use Rattle.bgpnet.specs.Decoding.{output};
-ghost use Rattle.bgpnet.specs.Checking.{numbers_text, refused_line, unstable_line, refused, at_prefix, paths_of, MayStand, IsFirstStray, VerdictGives, EntriesGive};
+ghost use Rattle.bgpnet.specs.Checking.{refused, is_before, IsPlace, HasNoPlace, AssignNothing, Assign, at_prefix, MayStand, IsFirstStray, VerdictGives, EntriesGive};
 
 use crate::status::{DONE, REFUSED};
-use crate::texts::{put_decimal, put_len};
-use crate::updates::put_numbers;
-use net_text::Entry;
+use net_text::{Entry, refused_line, stable_line, unstable_line};
 use prefix_lanes::Prefix;
-use ranked_policy::{Asn, Network, Path};
+use ranked_policy::{Asn, Network, Origin, Path};
 use stable_paths::{Assignment, Check, Instance, check, may_have};
 use std::alloc::{AllocError, Global};
 
-// Appends a path: its numbers with a dash between them, or that there is none.
-fn put_path(out: &mut Vec<u8>, numbers: &[Asn]) -> Result<(), AllocError>
-    ensures { OnOk result (out.new.items ≡ out.old.items ++ numbers_text numbers.now) }
-{
-    if numbers.is_empty() {
-        out.extend_from_slice(b"none")
-    } else {
-        put_numbers(out, numbers, b'-')
-    }
-}
-
 /// What is printed for a line that is refused, and the status.
-#[tactic(auto, unfolding(crate::specs::Checking::refused_line))]
 pub fn refused_output(alloc: Global, line: usize, code: &[u8]) -> Result<(Vec<u8>, u8), AllocError>
     ensures { IfOk result (λ printed. output printed.0.items printed.1 ≡ refused line code.now) }
 {
-    let mut out = Vec::from_slice(alloc, b"refused ")?;
-    put_len(&mut out, line)?;
-    out.extend_from_slice(b" ")?;
-    out.extend_from_slice(code)?;
-    out.extend_from_slice(b"\n")?;
+    let mut out = Vec::new(alloc);
+    refused_line(line, code, &mut out)?;
     Ok((out, REFUSED))
 }
 
 // What is printed for a router that would move, and the status.
-#[tactic(auto, unfolding(crate::specs::Checking::unstable_line))]
 fn unstable_output(
     alloc: Global,
     router: Asn,
@@ -51,13 +35,17 @@ fn unstable_output(
 ) -> Result<(Vec<u8>, u8), AllocError>
     ensures { IfOk result (λ printed. output printed.0.items printed.1 ≡ output (unstable_line router has.now best.now) 0) }
 {
-    let mut out = Vec::from_slice(alloc, b"unstable ")?;
-    put_decimal(&mut out, router)?;
-    out.extend_from_slice(b" has ")?;
-    put_path(&mut out, has.as_slice())?;
-    out.extend_from_slice(b" best ")?;
-    put_path(&mut out, best.as_slice())?;
-    out.extend_from_slice(b"\n")?;
+    let mut out = Vec::new(alloc);
+    unstable_line(router, has.as_slice(), best.as_slice(), &mut out)?;
+    Ok((out, DONE))
+}
+
+// What is printed where no router would move, and the status.
+fn stable_output(alloc: Global) -> Result<(Vec<u8>, u8), AllocError>
+    ensures { IfOk result (λ printed. output printed.0.items printed.1 ≡ output stable_line 0) }
+{
+    let mut out = Vec::new(alloc);
+    stable_line(&mut out)?;
     Ok((out, DONE))
 }
 
@@ -80,18 +68,30 @@ fn is_prefix(one: &Prefix, other: &Prefix) -> bool
     one.addr() == other.addr() && one.len() == other.len()
 }
 
-// Gives a router the path of an entry, if that is for the prefix.
-fn give(
-    alloc: Global,
-    assignment: &mut Assignment,
-    entry: &Entry,
-    prefix: &Prefix,
-) -> Result<(), AllocError>
-    ensures { OnOk result ((u : ℕ) → path_of assignment.new u ≡ (if (entry.now.router == u) && is_prefix entry.now.prefix prefix.now then entry.now.path else path_of assignment.old u)) }
+// Whether the one comes before the other: by address, then by length.
+fn is_before(one: &Prefix, other: &Prefix) -> bool
+    ensures { result ≡ is_before one.now other.now }
 {
-    if !is_prefix(&entry.prefix, prefix) {
-        return Ok(());
+    one.addr() < other.addr() || one.addr() == other.addr() && one.len() < other.len()
+}
+
+// The place of a prefix among origins, which rise.
+fn place_of(origins: &[Origin], prefix: &Prefix) -> Option<usize>
+    requires { AllPairs (λ origin later. IsBefore origin.prefix later.prefix) origins.now }
+    ensures { MatchOption result (HasNoPlace origins.now prefix.now) (IsPlace origins.now prefix.now) }
+{
+    let place = origins.partition_point(|origin| is_before(&origin.prefix, prefix));
+    if place < origins.len() && is_prefix(prefix, &origins[place].prefix) {
+        Some(place)
+    } else {
+        None
     }
+}
+
+// Gives a router the path of an entry.
+fn give(alloc: Global, assignment: &mut Assignment, entry: &Entry) -> Result<(), AllocError>
+    ensures { OnOk result ((u : ℕ) → path_of assignment.new u ≡ (if entry.now.router == u then entry.now.path else path_of assignment.old u)) }
+{
     let path = Path::from_slice(alloc, entry.path.as_slice())?;
     match assignment.set(entry.router, path) {
         Ok(()) => Ok(()),
@@ -99,32 +99,49 @@ fn give(
     }
 }
 
-// The paths that entries give routers for a prefix.
-fn assigned(alloc: Global, entries: &[Entry], prefix: &Prefix) -> Result<Assignment, AllocError>
-    ensures { IfOk result (λ assignment. (u : ℕ) → path_of assignment u ≡ paths_of entries.now prefix.now u) }
+// As many assignments of no path.
+fn nothing_assigned(alloc: Global, count: usize) -> Result<Vec<Assignment>, AllocError>
+    ensures { IfOk result (λ all. AssignNothing count all.items) }
 {
-    let mut assignment = Assignment::new(alloc);
-    for entry in entries {
-        give(alloc, &mut assignment, entry, prefix)?;
+    let mut all = Vec::with_capacity(alloc, count)?;
+    for _ in 0..count {
+        all.push(Assignment::new(alloc))?;
     }
-    Ok(assignment)
+    Ok(all)
 }
 
-// What a check says of the entries for a prefix.
+// The paths that entries give routers, for the prefix of each origin.
+fn assigned(
+    alloc: Global,
+    origins: &[Origin],
+    entries: &[Entry],
+) -> Result<Vec<Assignment>, AllocError>
+    requires { AllPairs (λ origin later. IsBefore origin.prefix later.prefix) origins.now }
+    ensures { IfOk result (λ all. Assign origins.now entries.now all.items) }
+{
+    let mut all = nothing_assigned(alloc, origins.len())?;
+    for entry in entries {
+        if let Some(place) = place_of(origins, &entry.prefix) {
+            give(alloc, &mut all[place], entry)?;
+        }
+    }
+    Ok(all)
+}
+
+// What a check says of an assignment for a prefix.
 fn verdict_at(
     alloc: Global,
     network: &Network,
-    entries: &[Entry],
     prefix: &Prefix,
+    assignment: &Assignment,
 ) -> Result<Check, AllocError>
-    ensures { IfOk result (IsVerdict (at_prefix network.now prefix.now) (paths_of entries.now prefix.now)) }
+    ensures { IfOk result (IsVerdict (at_prefix network.now prefix.now) (path_of assignment.now)) }
 {
     if !network.names(prefix) {
         return Err(AllocError);
     }
-    let assignment = assigned(alloc, entries, prefix)?;
     let instance = Instance::new(network, prefix);
-    match check(alloc, &instance, &assignment) {
+    match check(alloc, &instance, assignment) {
         Ok(verdict) => Ok(verdict),
         Err(_) => Err(AllocError),
     }
@@ -138,15 +155,17 @@ fn verdict_output(
 ) -> Result<(Vec<u8>, u8), AllocError>
     ensures { IfOk result (λ printed. VerdictGives network.now entries.now (output printed.0.items printed.1)) }
 {
-    for origin in network.origins() {
-        match verdict_at(alloc, network, entries, &origin.prefix)? {
+    let origins = network.origins();
+    let all = assigned(alloc, origins, entries)?;
+    for (place, origin) in origins.iter().enumerate() {
+        match verdict_at(alloc, network, &origin.prefix, &all[place])? {
             Check::Stable => {}
             Check::Unstable { router, has, best } => {
                 return unstable_output(alloc, router, &has, &best);
             }
         }
     }
-    Ok((Vec::from_slice(alloc, b"stable\n")?, DONE))
+    stable_output(alloc)
 }
 
 /// What is printed for the entries of an assignment, and the status.

@@ -6,8 +6,8 @@
 //! standard input and output and ends with its status.
 //!
 //! The contract of `bgpnet decode` is that of `engines::decode::decode_stream`; the definitions
-//! stand in `specs/`: `Lines` (the text of a message and of a fault), `Decoding` (the text of a
-//! stream), `Engine` (what an engine may leave written).
+//! stand in `specs/`: `Decoding` (the text of a stream), `Checking` (that of a check), `Engine` (what
+//! an engine may leave written). The lines themselves are `net_text`'s.
 #![tactic(auto)]
 
 mod assignments;
@@ -15,11 +15,8 @@ mod channel;
 mod command_line;
 mod digits;
 mod engines;
-mod lines;
 mod status;
 mod stream;
-mod texts;
-mod updates;
 
 use channel::{IoStopped, Sink, Watched};
 use command_line::run_with;

@@ -4,12 +4,12 @@ ghost use Rattle.std.specs.Prelude.{◌≡◌, IfOk};
 ghost use Rattle.bgp_codec.specs.Header.{IsFrame};
 ghost use Rattle.bgpnet.specs.Decoding.{output, StreamGives, PutsFrame, PutsShort};
 
-use crate::lines::{put_fault, put_message, put_truncated};
 use crate::status::{DONE, REFUSED};
 use bgp_codec::laws::{fault_fits_a_message, header_fault_is_short};
 use bgp_codec::{CodecError, Rule, decode};
 use bgp_framing::laws::{splits_behind_a_frame, splits_into_nothing, splits_once};
 use bgp_framing::{Framer, Next};
+use net_text::{fault_lines, message_line, truncated_line};
 use std::alloc::{AllocError, Global};
 
 // Appends what is printed for a frame, and answers the status where nothing follows it.
@@ -25,11 +25,11 @@ fn put_frame(
     fault_fits_a_message();
     match decode(alloc, frame, rule) {
         Ok(message) => {
-            put_message(out, &message)?;
+            message_line(&message, out)?;
             Ok(None)
         }
         Err(CodecError::Fault(fault)) => {
-            put_fault(alloc, out, &fault)?;
+            fault_lines(&fault, out)?;
             Ok(Some(REFUSED))
         }
         Err(CodecError::TooLong | CodecError::Memory) => Err(AllocError),
@@ -43,7 +43,7 @@ fn put_rest(out: &mut Vec<u8>, len: usize) -> Result<u8, AllocError>
     if len == 0 {
         return Ok(DONE);
     }
-    put_truncated(out, len)?;
+    truncated_line(len, out)?;
     Ok(REFUSED)
 }
 
@@ -68,7 +68,7 @@ pub fn stream_output(alloc: Global, rule: &Rule, octets: &[u8]) -> Result<(Vec<u
                 framer.drop_front();
             }
             Next::Bad(fault) => {
-                put_fault(alloc, &mut out, &fault)?;
+                fault_lines(&fault, &mut out)?;
                 return Ok((out, REFUSED));
             }
             Next::More => {

@@ -6,3 +6,6 @@ pub mod StepLemmas
 pub mod TextLemmas
 pub mod NetworkLemmas
 pub mod SectionLemmas
+pub mod EntryLemmas
+pub mod PrintLemmas
+pub mod DecimalLemmas

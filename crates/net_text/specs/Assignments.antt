@@ -1,5 +1,8 @@
 -- Assignment texts: the path that each line gives a router for a prefix.
 use Rattle.std.specs.Prelude.{ℕ, ◌≡◌, ◌==◌, ◌&&◌, not, nat_lt, Bool, List, [], ◌∷◌, ◌++◌, length, Result, Ok, Err, if◌then◌else◌, codes}
+use Rattle.std.specs.declared.cmp.Ordering.{Ordering}
+use Rattle.std.specs.Ordering.{nat_cmp, ordering_then}
+use Rattle.std.specs.BTreeSet.{BTreeSet, contains}
 use Rattle.std.specs.List.{list_any}
 use Rattle.prefix_lanes.specs.Bits.{PrefixView}
 use Rattle.ranked_policy.specs.Plans.{Plan}
@@ -7,12 +10,21 @@ use Rattle.net_text.specs.declared.code.Code.{Code}
 use Rattle.net_text.specs.declared.code.Code.TheVariants as kinds
 use Rattle.net_text.specs.declared.code.Refused.{Refused}
 use Rattle.net_text.specs.declared.assignment.Entry.{Entry}
+use Rattle.net_text.specs.declared.entries.Key.{Key}
 use Rattle.net_text.specs.Lexing.{Text, same, words_of, is_skipped, is_ascii}
 use Rattle.net_text.specs.Words.{◌>>=◌, router_word, origin_word, assigned_word, assigned_path, is_prefix}
 use Rattle.net_text.specs.Networks.{refused_at, reading, AreGood}
 
 abbrev pub gives : ℕ → PrefixView → Entry → Bool
 gives u q entry = (entry.router == u) && is_prefix entry.prefix q
+
+-- by router, then by address, then by length
+abbrev pub key_cmp : Key → Key → Ordering
+key_cmp g h = ordering_then (nat_cmp g.router h.router) (ordering_then (nat_cmp g.addr h.addr) (nat_cmp g.len h.len))
+
+-- these are the routers and prefixes that the entries give paths for
+pub record AreGiven (given : BTreeSet Key) (entries : List Entry) : Type 0 where
+  pub same : (u : ℕ) (q : PrefixView) → contains key_cmp given (record { router = u; addr = q.addr; len = q.len }) ≡ list_any (gives u q) entries
 
 abbrev pub path_line : Plan → ℕ → List Entry → List Text → Result (List Entry) Code
 path_line net line entries (a ∷ b ∷ c ∷ []) =

@@ -6,3 +6,4 @@ pub mod Steps
 pub mod Networks
 pub mod Assignments
 pub mod Laws
+pub mod Printing

@@ -1,15 +1,15 @@
 //! An assignment text, line by line.
 
 ghost use Rattle.std.specs.Prelude.{◌≡◌, ◌≢◌, ◌+◌, ◌<◌, ◌^◌, ◌∷◌, [], Ok, length, IfOk, IfErr, IfSome, IfNone};
-ghost use Rattle.std.specs.List.{list_any};
 ghost use Rattle.net_text.specs.Lexing.{lines_of, words_of};
-ghost use Rattle.net_text.specs.Assignments.{gives, path_line, words_entry, entry_reading, assignment_reading, RefusesAssignment};
+ghost use Rattle.net_text.specs.Assignments.{path_line, words_entry, entry_reading, assignment_reading, RefusesAssignment};
 ghost use Rattle.net_text.specs.Steps.{Steps};
 
 use crate::code::{Code, Refused};
+use crate::entries::Entries;
 use crate::lexing::{is_ascii, is_skipped, next_line, next_word, same};
 use crate::paths::{is_short_assigned, judge_assigned, take_assigned};
-use crate::words::{is_prefix, origin_word, router_word};
+use crate::words::{origin_word, router_word};
 use prefix_lanes::Prefix;
 use ranked_policy::{Asn, Items, Network, Path};
 use std::alloc::Global;
@@ -41,21 +41,14 @@ fn three_words(words: &[u8]) -> Option<(&[u8], &[u8], &[u8])>
     Some((a, b, c))
 }
 
-// Whether a line before gave the router a path for the prefix.
-fn was_given(entries: &[Entry], asn: Asn, prefix: &Prefix) -> bool
-    ensures { result ≡ list_any (gives asn prefix.now) entries.now }
-{
-    entries.iter().any(|entry| entry.router == asn && is_prefix(&entry.prefix, prefix))
-}
-
 fn read_path(
     alloc: Global,
     network: &Network,
     line: usize,
-    entries: &mut Vec<Entry>,
+    entries: &mut Entries,
     words: &[u8],
 ) -> Result<(), Code>
-    ensures { Steps result (path_line network.now line entries.old.items (words_of words.now)) entries.new.items }
+    ensures { Steps result (path_line network.now line entries.old (words_of words.now)) entries.new }
 {
     let Some((router, prefix, path)) = three_words(words) else {
         return Err(Code::BadForm);
@@ -63,7 +56,7 @@ fn read_path(
     let router = router_word(network.routers(), router)?;
     let prefix = origin_word(network.origins(), prefix)?;
     judge_assigned(network.routers(), path)?;
-    if was_given(entries.as_slice(), router, &prefix) {
+    if entries.give(router, &prefix) {
         return Err(Code::Repeated);
     }
     if !is_short_assigned(path) {
@@ -85,10 +78,10 @@ fn read_words(
     alloc: Global,
     network: &Network,
     line: usize,
-    entries: &mut Vec<Entry>,
+    entries: &mut Entries,
     text: &[u8],
 ) -> Result<(), Code>
-    ensures { Steps result (words_entry network.now line entries.old.items (words_of text.now)) entries.new.items }
+    ensures { Steps result (words_entry network.now line entries.old (words_of text.now)) entries.new }
 {
     let Some((name, words)) = next_word(text) else {
         return Ok(());
@@ -103,10 +96,10 @@ fn read_line(
     alloc: Global,
     network: &Network,
     line: usize,
-    entries: &mut Vec<Entry>,
+    entries: &mut Entries,
     text: &[u8],
 ) -> Result<(), Code>
-    ensures { Steps result (entry_reading network.now line entries.old.items text.now) entries.new.items }
+    ensures { Steps result (entry_reading network.now line entries.old text.now) entries.new }
 {
     if is_skipped(text) {
         return Ok(());
@@ -131,7 +124,7 @@ pub fn read_assignment(
     ensures ok { IfOk result (λ entries. assignment_reading network.now before (lines_of text.now) ≡ Ok entries) }
     ensures err { IfErr result (λ refused. RefusesAssignment network.now before (lines_of text.now) refused.line refused.code) }
 {
-    let mut entries = Vec::new(alloc);
+    let mut entries = Entries::new(alloc);
     let mut line = before;
     let mut left = text;
     'lines: while !left.is_empty() {
@@ -142,5 +135,5 @@ pub fn read_assignment(
         }
         left = rest;
     }
-    Ok(Items::from_vec(entries))
+    Ok(entries.into_items())
 }

@@ -1,32 +1,47 @@
-//! Texts of networks and of assignments: their lines, words and refusals.
+//! Texts of networks and of assignments: their lines, words and refusals; and the lines that messages
+//! and checks are printed as.
 //!
 //! A network text has a line for each router, link, origin, rule and setting; [`read_network`]
 //! answers the network that it spells. An assignment text has a line for each path that a router
 //! is given for a prefix; [`read_assignment`] answers these. [`split_at_section`] parts a text at
 //! the line that is one bare word. A text is refused for its first faulty line, by a [`Code`].
 //!
+//! [`message_line`] appends the line of a message, [`fault_lines`] those of a fault,
+//! [`truncated_line`] that of a rest; [`refused_line`], [`unstable_line`] and [`stable_line`] append
+//! what a check of an assignment says. A refused call leaves the buffer's octets as they were.
+//!
 //! The definitions stand in `specs/`: `Lexing` (lines and words), `Words` (what a word stands for
 //! and its fault), `Lines` (what a network line adds and its first fault), `Networks` and
-//! `Assignments` (whole texts). The laws that tie them together are the public functions of
-//! [`laws`].
+//! `Assignments` (whole texts), `Printing` (lines of messages and of checks). The laws that tie the
+//! texts together are the public functions of [`laws`].
 //!
-//! Left out: schedules, the text of messages and reports, and every use of a network.
+//! Left out: schedules, reports of runs, and every use of a network.
 #![tactic(auto)]
 
 mod assignment;
+mod checks;
 mod code;
 mod draft;
+mod entries;
 pub mod laws;
 mod lexing;
+mod lines;
+mod messages;
 mod network_lines;
 mod paths;
 mod sections;
 mod settings;
+mod tail;
+mod texts;
+mod updates;
 mod words;
 
 pub use assignment::{Entry, read_assignment};
 pub use code::{Code, Refused};
 pub use draft::read_network;
+pub use lines::{
+    fault_lines, message_line, refused_line, stable_line, truncated_line, unstable_line,
+};
 pub use sections::{Split, split_at_section};
 
 #[cfg(test)]

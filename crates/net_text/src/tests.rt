@@ -2,6 +2,7 @@
 //! say of single texts.
 
 use super::*;
+use bgp_codec::{Fault, Message, Notice, Octets};
 use std::alloc::Global;
 use std::process::Abort;
 use std::test::Fail;
@@ -410,5 +411,45 @@ fn sections(rt: HostRuntime) -> Result<(), Fail> {
     let split = split_at_section(b"a\nschedule x\n", b"schedule");
     assert_eq!(rt; split.behind, b"".as_slice());
     assert_eq!(rt; split.before, 2);
+    Ok(())
+}
+
+#[test]
+fn lines_stand_behind_what_was_there(rt: HostRuntime) -> Result<(), Fail> {
+    let alloc = rt.alloc();
+    let notice = Message::NoticeMsg(Notice {
+        code: 1,
+        sub: 2,
+        extra: Octets::from_slice(alloc, &[0, 20])?,
+    });
+    let fault = Fault {
+        code: 1,
+        sub: 2,
+        extra: Octets::from_slice(alloc, &[0x10, 0x01])?,
+    };
+    let mut out = b"front\n".to_vec(alloc)?;
+    message_line(&Message::AliveMsg, &mut out)?;
+    message_line(&notice, &mut out)?;
+    fault_lines(&fault, &mut out)?;
+    truncated_line(18, &mut out)?;
+    refused_line(7, b"N1", &mut out)?;
+    unstable_line(2, &[], &[2, 65535], &mut out)?;
+    stable_line(&mut out)?;
+    assert_eq!(rt;
+        out.as_slice(),
+        b"front\nkeepalive\nnotification 1 2 0014\nfault 1 2\nffffffffffffffffffffffffffffffff00170301021001\ntruncated 18\nrefused 7 N1\nunstable 2 has none best 2-65535\nstable\n".as_slice()
+    );
+    Ok(())
+}
+
+// A line that is refused leaves what stood there; one that is not, all of it.
+#[test]
+fn a_refused_line_leaves_nothing(rt: HostRuntime) -> Result<(), Fail> {
+    let alloc = rt.alloc();
+    let mut out = vec![in alloc; 7u8; 3]?;
+    match unstable_line(1, &[1, 2], &[1, 3], &mut out) {
+        Ok(()) => assert_eq!(rt; out.len(), 3 + b"unstable 1 has 1-2 best 1-3\n".len()),
+        Err(_) => assert_eq!(rt; out.as_slice(), [7, 7, 7].as_slice()),
+    }
     Ok(())
 }

@@ -4,5 +4,5 @@ use Rattle.std.specs.List.{All}
 use Rattle.bgpnet.specs.Checking.{IsStableAt}
 use Rattle.bgpnet.proofs.assignments.verdict_output.Given as goal
 
-abbrev pub invariant-loop-origin : goal.invariant-loop-origin
-invariant-loop-origin l = All (IsStableAt l.network l.entries) (take l.origin-index l.origin-items)
+abbrev pub invariant-loop-place : goal.invariant-loop-place
+invariant-loop-place l = All (IsStableAt l.network l.entries) (take l.place l.origins)

@@ -3,8 +3,8 @@ use Rattle.bgp_framing.specs.Held.{Held}
 use Rattle.bgpnet.proofs.PrintingLemmas.{goes_on_at, ends_at, stops_at_fault, stops_short_at}
 use Rattle.bgpnet.proofs.stream.stream_output.Goals as goal
 
-pub put_fault-requires : goal.put_fault-requires
-put_fault-requires c = omega (arith, c.header_fault_is_short.ensures c.front.framer.octets c.in-Bad.fault c.in-Bad.ensures.1)
+pub fault_lines-requires : goal.fault_lines-requires
+fault_lines-requires c = omega (arith, c.header_fault_is_short.ensures c.front.framer.octets c.in-Bad.fault c.in-Bad.ensures.1)
 
 pub returns-in-Some : goal.returns-in-Some
 returns-in-Some c =
@@ -18,8 +18,8 @@ front-preserved-in-Whole c =
 
 pub returns-in-Bad : goal.returns-in-Bad
 returns-in-Bad c =
-    stops_at_fault c.splits_once.ensures c.splits_behind_a_frame.ensures c.splits_into_nothing.ensures c.args.rule.now c.args.octets.now c.front.framer.octets c.front.left.now c.front.out.items c.put_fault.new.out.items c.in-Bad.fault c.in-Bad.ensures.0 c.in-Bad.ensures.1
-    c.in_ok-put_fault-in-Bad.ensures c.front.invariant
+    stops_at_fault c.splits_once.ensures c.splits_behind_a_frame.ensures c.splits_into_nothing.ensures c.args.rule.now c.args.octets.now c.front.framer.octets c.front.left.now c.front.out.items c.fault_lines.new.out.items c.in-Bad.fault c.in-Bad.ensures.0 c.in-Bad.ensures.1
+    c.in_ok-fault_lines-in-Bad.ensures.ok c.front.invariant
 
 pub returns-then-is_empty : goal.returns-then-is_empty
 returns-then-is_empty c =

@@ -7,7 +7,7 @@ use Rattle.net_text.proofs.assignment.read_assignment.Given as goal
 abbrev pub invariant-lines : goal.invariant-lines
 invariant-lines l =
     record {
-      reached : EntriesReached l.network l.fn.before (lines_of l.text) l.line l.entries.items (lines_of l.left);
+      reached : EntriesReached l.network l.fn.before (lines_of l.text) l.line l.entries (lines_of l.left);
       inside : l.line + length l.left ≤ l.fn.before + length l.text;
     }
 

@@ -1,8 +1,0 @@
--- what was put, before what is left, is what all are printed as
-use Rattle.std.proofs.Common.{◌≡◌, ◌++◌, drop}
-use Rattle.std.specs.List.{flat_map}
-use Rattle.bgpnet.specs.Lines.{cap_text}
-use Rattle.bgpnet.proofs.lines.put_param.Given as goal
-
-abbrev pub invariant-loop-cap : goal.invariant-loop-cap
-invariant-loop-cap l = l.out.items ++ flat_map cap_text (drop l.cap-index l.caps) ≡ l.fn.out.items ++ flat_map cap_text l.caps

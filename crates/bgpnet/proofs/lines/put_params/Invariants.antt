@@ -1,8 +1,0 @@
--- what was put, before what is left, is what all are printed as
-use Rattle.std.proofs.Common.{◌≡◌, ◌++◌, drop}
-use Rattle.std.specs.List.{flat_map}
-use Rattle.bgpnet.specs.Lines.{param_text}
-use Rattle.bgpnet.proofs.lines.put_params.Given as goal
-
-abbrev pub invariant-loop-caps : goal.invariant-loop-caps
-invariant-loop-caps l = l.out.items ++ flat_map param_text (drop l.caps-index l.params) ≡ l.fn.out.items ++ flat_map param_text l.params

@@ -1,6 +1,0 @@
-use Rattle.std.proofs.Common.{refl, decimal}
-use Rattle.bgpnet.proofs.TextLemmas.{joined_rest}
-use Rattle.bgpnet.proofs.updates.put_numbers.Goals as goal
-
-pub loop-number-init : goal.loop-number-init
-loop-number-init c = joined_rest decimal c.args.mark c.args.numbers.now _ 0 c.args.out.now.items c.put_decimal.new.out.items c.in-len1-up.len_at_least refl c.in_ok-put_decimal.ensures

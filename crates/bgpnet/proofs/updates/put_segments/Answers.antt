@@ -1,7 +1,0 @@
-use Rattle.bgpnet.specs.Lines.{segment_text}
-use Rattle.bgpnet.proofs.TextLemmas.{joined_rest}
-use Rattle.bgpnet.proofs.updates.put_segments.Goals as goal
-
-pub loop-segment-init : goal.loop-segment-init
-loop-segment-init c =
-    joined_rest segment_text 45 c.args.segments.now c.first-item.result c.first-item.result c.args.out.now.items c.put_segment.new.out.items c.in-len1-up.len_at_least c.first-item.is c.in_ok-put_segment-in-len1-up.ensures

@@ -1,8 +1,0 @@
--- what was put, before what is left, is what all are printed as
-use Rattle.std.proofs.Common.{◌≡◌, ◌++◌, ◌∷◌, drop, map}
-use Rattle.std.specs.List.{flat_map, join_with_byte}
-use Rattle.bgpnet.specs.Lines.{segment_text}
-use Rattle.bgpnet.proofs.updates.put_segments.Given as goal
-
-abbrev pub invariant-loop-segment : goal.invariant-loop-segment
-invariant-loop-segment l = l.out.items ++ flat_map (λ s. 45 ∷ segment_text s) (drop l.segment-index l.rest) ≡ l.fn.out.items ++ join_with_byte 45 (map segment_text l.segments)

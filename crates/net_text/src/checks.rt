@@ -1,0 +1,56 @@
+//! What a check of an assignment says as text, written behind what a buffer has.
+//!
+//! A refused call here may leave a part of its text, but what stood in front stays.
+
+ghost use Rattle.std.specs.Prelude.{◌≡◌, ◌++◌, OnOk};
+ghost use Rattle.net_text.specs.Printing.{numbers_text, refused_line, unstable_line};
+
+use crate::tail::Tail;
+use crate::updates::put_numbers;
+use ranked_policy::Asn;
+use std::alloc::AllocError;
+
+// Appends a path: its numbers with a dash between them, or that there is none.
+fn put_path(out: &mut Tail, numbers: &[Asn]) -> Result<(), AllocError>
+    ensures text { OnOk result (out.new.text ≡ out.old.text ++ numbers_text numbers.now) }
+    ensures front { out.new.front ≡ out.old.front }
+{
+    if numbers.is_empty() {
+        out.put_text(b"none")
+    } else {
+        put_numbers(out, numbers, b'-')
+    }
+}
+
+/// Appends the line of a refusal.
+#[tactic(auto, unfolding(crate::specs::Printing::refused_line))]
+pub(crate) fn put_refused(out: &mut Tail, line: usize, code: &[u8]) -> Result<(), AllocError>
+    ensures text { OnOk result (out.new.text ≡ out.old.text ++ refused_line line code.now) }
+    ensures front { out.new.front ≡ out.old.front }
+{
+    out.put_text(b"refused ")?;
+    out.put_len(line)?;
+    out.put_text(b" ")?;
+    out.put_text(code)?;
+    out.put_text(b"\n")
+}
+
+/// Appends the line of a router that would move.
+#[tactic(auto, unfolding(crate::specs::Printing::unstable_line))]
+pub(crate) fn put_unstable(
+    out: &mut Tail,
+    router: Asn,
+    has: &[Asn],
+    best: &[Asn],
+) -> Result<(), AllocError>
+    ensures text { OnOk result (out.new.text ≡ out.old.text ++ unstable_line router has.now best.now) }
+    ensures front { out.new.front ≡ out.old.front }
+{
+    out.put_text(b"unstable ")?;
+    out.put_decimal(router)?;
+    out.put_text(b" has ")?;
+    put_path(out, has)?;
+    out.put_text(b" best ")?;
+    put_path(out, best)?;
+    out.put_text(b"\n")
+}

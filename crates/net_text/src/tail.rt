@@ -1,0 +1,111 @@
+//! The end of a buffer, where a line is being written.
+
+ghost use Rattle.std.specs.Prelude.{◌≡◌, ◌++◌, [], ◌∷◌, ◌≤◌, take, drop, decimal, vec_len, is_ok, if◌then◌else◌, OnOk};
+ghost use Rattle.hex.specs.Hex.{encode_lower};
+ghost use Rattle.net_text.specs.Printing.{hex_or_dash, address_text, prefixes_text};
+
+use crate::texts::{put_address, put_decimal, put_hex, put_hex_or_dash, put_len};
+use crate::updates::put_prefixes;
+use prefix_lanes::Prefix;
+use std::alloc::AllocError;
+use std::marker::Model;
+use std::mem;
+
+/// A buffer that keeps what it had in front, while text is written behind it.
+#[derive(Drop)]
+pub(crate) struct Tail {
+    octets: Vec<u8>,
+    start: usize,
+}
+
+impl Model for Tail {
+    ghost use Rattle.std.specs.Prelude.{◌≤◌, take, drop, vec_len};
+    ghost use Rattle.net_text.specs.Printing.{Written};
+
+    ghost Value = { Written };
+
+    ghost view = { λ t. record { front = take t.start t.octets.items; text = drop t.start t.octets.items } };
+
+    ghost invariant = { λ t. t.start ≤ vec_len t.octets };
+}
+
+impl Tail {
+    /// The buffer, which is empty until it is given back.
+    pub(crate) fn behind(out: &mut Vec<u8>) -> Tail
+        ensures { result ≡ record { front = out.old.items; text = [] } }
+    {
+        let alloc = *out.allocator();
+        let start = out.len();
+        Tail {
+            octets: mem::replace(out, Vec::new(alloc)),
+            start,
+        }
+    }
+
+    /// The buffer, with what was written or without it.
+    pub(crate) fn finish(self, keep: bool) -> Vec<u8>
+        ensures { result.items ≡ (if keep then self.front ++ self.text else self.front) }
+    {
+        let Tail { mut octets, start } = self;
+        if !keep {
+            octets.truncate(start);
+        }
+        octets
+    }
+
+    /// Writes octets as they are.
+    pub(crate) fn put_text(&mut self, octets: &[u8]) -> Result<(), AllocError>
+        ensures text { self.new.text ≡ (if is_ok result then self.old.text ++ octets.now else self.old.text) }
+        ensures front { self.new.front ≡ self.old.front }
+    {
+        self.octets.extend_from_slice(octets)
+    }
+
+    /// Writes a number in decimal digits.
+    pub(crate) fn put_decimal(&mut self, number: u32) -> Result<(), AllocError>
+        ensures text { OnOk result (self.new.text ≡ self.old.text ++ decimal number) }
+        ensures front { self.new.front ≡ self.old.front }
+    {
+        put_decimal(&mut self.octets, number)
+    }
+
+    /// Writes a count in decimal digits.
+    pub(crate) fn put_len(&mut self, len: usize) -> Result<(), AllocError>
+        ensures text { OnOk result (self.new.text ≡ self.old.text ++ decimal len) }
+        ensures front { self.new.front ≡ self.old.front }
+    {
+        put_len(&mut self.octets, len)
+    }
+
+    /// Writes an address.
+    pub(crate) fn put_address(&mut self, address: u32) -> Result<(), AllocError>
+        ensures text { OnOk result (self.new.text ≡ self.old.text ++ address_text address) }
+        ensures front { self.new.front ≡ self.old.front }
+    {
+        put_address(&mut self.octets, address)
+    }
+
+    /// Writes octets in hex.
+    pub(crate) fn put_hex(&mut self, octets: &[u8]) -> Result<(), AllocError>
+        ensures text { OnOk result (self.new.text ≡ self.old.text ++ encode_lower octets.now) }
+        ensures front { self.new.front ≡ self.old.front }
+    {
+        put_hex(&mut self.octets, octets)
+    }
+
+    /// Writes octets in hex, or a dash where there are none.
+    pub(crate) fn put_hex_or_dash(&mut self, octets: &[u8]) -> Result<(), AllocError>
+        ensures text { OnOk result (self.new.text ≡ self.old.text ++ hex_or_dash octets.now) }
+        ensures front { self.new.front ≡ self.old.front }
+    {
+        put_hex_or_dash(&mut self.octets, octets)
+    }
+
+    /// Writes prefixes, a space before each.
+    pub(crate) fn put_prefixes(&mut self, prefixes: &[Prefix]) -> Result<(), AllocError>
+        ensures text { OnOk result (self.new.text ≡ self.old.text ++ prefixes_text prefixes.now) }
+        ensures front { self.new.front ≡ self.old.front }
+    {
+        put_prefixes(&mut self.octets, prefixes)
+    }
+}
