@@ -3,8 +3,8 @@ use Rattle.std.proofs.Common.{◌≡◌, ◌≢◌, ℕ, ◌+◌, ◌<◌, List,
 use Rattle.std.specs.List.{All, Contains}
 use Rattle.std.proofs.lemmas.Bool.{cases_Bool}
 use Rattle.std.proofs.lemmas.Bool.Decides.{not_from_Decides}
-use Rattle.std.proofs.lemmas.List.{length-append}
-use Rattle.std.proofs.lemmas.List.Elements.{All-nil, All-cons, All-head, All-tail}
+use Rattle.std.proofs.lemmas.List.{length-append, append_assoc}
+use Rattle.std.proofs.lemmas.List.Elements.{All-nil, All-cons, All-head, All-tail, All-push}
 use Rattle.prefix_lanes.specs.Bits.{PrefixView}
 use Rattle.bgp_codec.specs.declared.update.Update.{Update}
 use Rattle.ranked_policy.specs.declared.network.Origin.{Origin}
@@ -12,7 +12,7 @@ use Rattle.ranked_policy.specs.Plans.{IsNamed}
 use Rattle.rib_tables.specs.declared.word.Word.{Word}
 use Rattle.rib_tables.specs.Words.{nothing, announced_word, Announces, Withdraws, Mentions, Says, lists, mentions}
 use Rattle.rib_tables.specs.Tables.{Words, word_of, Applies}
-use Rattle.rib_tables.specs.Promises.{AppliesAll, IsLastMention, IsLastWord, HoldsLastWords, LastWordStays, OneLastWord}
+use Rattle.rib_tables.specs.Promises.{AppliesAll, IsLastMention, IsLastWord, HoldsLastWords, LastWordStays, LastWordGoesOn, OneLastWord}
 use Rattle.rib_tables.proofs.WordLemmas.{decides_lists, decides_mentions}
 
 -- no UPDATE of the list mentions the prefix
@@ -79,6 +79,30 @@ last_word_stays origins old new peer us silent all = record {
   unnamed = λ q none. unnamed_from origins peer us old new all q none ∙ silent q;
   others = λ v q apart. others_from origins peer us old new all v q apart;
 }
+
+-- ---- one UPDATE more
+
+pub last_word_goes_on : LastWordGoesOn
+last_word_goes_on origins old new peer u us applies q name was =
+    elim (mentions_or_not u q) [
+      | inl here ↦
+          let some = says_some u q here in
+          let is : word_of new peer q ≡ some.0 = applies.said q some.0 name some.1 in
+          inl (record { before = us; update = u; behind = []; whole = refl; says = subst (Says u q) (sym is) some.1; last = All-nil (λ (v : Update). Mentions v q → ⊥) })
+      | inr none ↦
+          let is : word_of new peer q ≡ word_of old peer q = applies.unsaid q none in
+          elim was [
+            | inl m ↦ inl (record {
+              before = m.before;
+              update = m.update;
+              behind = m.behind ++ u ∷ [];
+              whole = ap (λ (vs : List Update). vs ++ u ∷ []) m.whole ∙ append_assoc m.before (m.update ∷ m.behind) (u ∷ []);
+              says = subst (Says m.update q) (sym is) m.says;
+              last = All-push (λ (v : Update). Mentions v q → ⊥) m.behind u m.last none;
+            })
+            | inr n ↦ inr (All-push (λ (v : Update). Mentions v q → ⊥) us u n.0 none, is ∙ n.1)
+          ]
+    ]
 
 -- ---- one last word
 

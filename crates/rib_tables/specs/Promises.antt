@@ -43,6 +43,12 @@ LastWordStays =
     (origins : List Origin) (old new : Words) (peer : ℕ) (us : List Update) → ((q : PrefixView) → word_of old peer q ≡ nothing)
     → AppliesAll origins old new peer us → HoldsLastWords origins old new peer us
 
+-- one UPDATE more: if the word of a prefix was the last word of some UPDATEs, it is then that of those and of this one
+abbrev pub LastWordGoesOn : Type 0
+LastWordGoesOn =
+    (origins : List Origin) (old new : Words) (peer : ℕ) (u : Update) (us : List Update) → Applies origins old new peer u
+    → (q : PrefixView) → IsNamed origins q → IsLastWord us q (word_of old peer q) → IsLastWord (us ++ u ∷ []) q (word_of new peer q)
+
 -- a list of UPDATEs has one word for each prefix
 abbrev pub OneLastWord : Type 0
 OneLastWord = (us : List Update) (q : PrefixView) (a b : Word) → IsLastWord us q a → IsLastWord us q b → a ≡ b

@@ -1,7 +1,7 @@
 //! What the definitions of words and choices say together. Each is the contract of a function
 //! without work of its own.
 
-ghost use Rattle.rib_tables.specs.Promises.{LastWordStays, OneLastWord, OneBest, BestAmongPaths};
+ghost use Rattle.rib_tables.specs.Promises.{LastWordStays, LastWordGoesOn, OneLastWord, OneBest, BestAmongPaths};
 
 use ranked_policy::laws::each_policy_is_an_order;
 
@@ -10,6 +10,12 @@ use ranked_policy::laws::each_policy_is_an_order;
 /// network does not name the empty path; the words of other peers are as they were.
 pub fn the_last_word_stays()
     ensures { LastWordStays }
+{}
+
+/// Where the word of a peer for a prefix of the network is the last word of some UPDATEs, after one
+/// UPDATE more it is the last word of those and this one.
+pub fn the_last_word_goes_on()
+    ensures { LastWordGoesOn }
 {}
 
 /// A list of UPDATEs has one last word for each prefix.

@@ -36,5 +36,8 @@ pub use adj_out::AdjOut;
 pub use loc_rib::{Dirty, Kept, LocRib};
 pub use refusal::RibError;
 pub use sources::Sources;
-pub use table::{Said, WordTable};
+pub use table::Said;
 pub use word::Word;
+
+#[cfg(test)]
+mod tests;

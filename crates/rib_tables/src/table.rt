@@ -5,9 +5,9 @@ ghost use Rattle.std.specs.List.{filter};
 ghost use Rattle.rib_tables.specs.Words.{nothing, path_in};
 ghost use Rattle.rib_tables.specs.Tables.{word_of, named, said_of, stays, IsSilent, Applies, Forgets};
 
-use crate::prefixes::{is_prefix, lists};
+use crate::prefixes::is_prefix;
 use crate::refusal::RibError;
-use crate::word::{Word, announced, mentions};
+use crate::word::{Word, announced, announces, mentions};
 use bgp_codec::Update;
 use prefix_lanes::Prefix;
 use ranked_policy::{Asn, Network, Origin};
@@ -27,7 +27,7 @@ pub struct Said {
 
 /// The word of each peer for each prefix: the list that an Adj-RIB-In and an Adj-RIB-Out hold.
 #[derive(Debug, Drop)]
-pub struct WordTable {
+pub(crate) struct WordTable {
     said: Vec<Said>,
 }
 
@@ -76,7 +76,7 @@ fn words_of(
 {
     let mut fresh = Vec::new(alloc);
     for origin in origins {
-        if lists(update.nlri.as_slice(), &origin.prefix) {
+        if announces(update, &origin.prefix) {
             let word = announced(alloc, &update.attrs)?;
             fresh.push(Said {
                 peer,

@@ -1,7 +1,7 @@
 //! What a peer says of a prefix.
 
 ghost use Rattle.std.specs.Prelude.{◌≡◌, ◌↔◌, [], IsTrue, IfOk, MatchOption};
-ghost use Rattle.rib_tables.specs.Words.{announced_word, segments_word, nothing, path_in, mentions};
+ghost use Rattle.rib_tables.specs.Words.{announced_word, segments_word, nothing, path_in, lists, mentions};
 
 use crate::paths::is_path;
 use crate::prefixes::lists;
@@ -77,9 +77,16 @@ pub(crate) fn announced(alloc: Global, attrs: &Attrs) -> Result<Word, RibError>
     }
 }
 
+// Whether the UPDATE announces the prefix.
+pub(crate) fn announces(update: &Update, prefix: &Prefix) -> bool
+    ensures { result ≡ lists update.now.nlri prefix.now }
+{
+    lists(update.nlri.as_slice(), prefix)
+}
+
 // Whether the UPDATE announces or withdraws the prefix.
 pub(crate) fn mentions(update: &Update, prefix: &Prefix) -> bool
     ensures { result ≡ mentions update.now prefix.now }
 {
-    lists(update.nlri.as_slice(), prefix) || lists(update.withdrawn.as_slice(), prefix)
+    announces(update, prefix) || lists(update.withdrawn.as_slice(), prefix)
 }
