@@ -144,10 +144,11 @@ impl WordTable {
     pub(crate) fn word(&self, peer: Asn, prefix: &Prefix) -> Option<&Word>
         ensures { MatchOption result (word_of self.now peer prefix.now ≡ nothing) (λ word. (word.now ≡ word_of self.now peer prefix.now) × (word.now ≢ nothing)) }
     {
-        match find(self.said.as_slice(), peer, prefix) {
-            Some(word) => { if word.is_nothing() { None } else { Some(word) } }
-            None => None,
+        let word = find(self.said.as_slice(), peer, prefix)?;
+        if word.is_nothing() {
+            return None;
         }
+        Some(word)
     }
 
     // The path of a peer for a prefix: the empty path where its word gives none.
