@@ -1,6 +1,6 @@
 //! The paths that a router keeps.
 
-ghost use Rattle.std.specs.Prelude.{◌≡◌, ◌≢◌, ◌<◌, ◌≤◌, ℕ, true, false, List, [], length, take, drop, slice_index_or, IfOk, OnOk, OnErr, MatchOption};
+ghost use Rattle.std.specs.Prelude.{◌≡◌, ◌<◌, ◌≤◌, ◌↔◌, true, false, length, take, slice_index_or, IsTrue, IfOk, OnOk, OnErr, MatchOption};
 ghost use Rattle.std.specs.List.{All};
 ghost use Rattle.rib_tables.specs.declared.loc_rib.Kept.{Kept};
 ghost use Rattle.rib_tables.specs.Words.{is_prefix};
@@ -67,6 +67,7 @@ fn place_of(kept: &[Kept], prefix: &Prefix) -> usize
 
 impl LocRib {
     /// No path is kept. It takes no memory.
+    #[tactic(auto, unfolding(crate::specs::Tables::path_of))]
     pub fn new(alloc: Global) -> LocRib
         ensures { KeepsNothing result }
     {
@@ -104,10 +105,18 @@ impl LocRib {
     }
 
     /// Keeps no path for any prefix. It takes no memory.
+    #[tactic(auto, unfolding(crate::specs::Tables::path_of))]
     pub fn clear(&mut self)
         ensures { KeepsNothing self.new }
     {
         self.kept.clear();
+    }
+
+    // Whether the path is the one that is kept for the prefix.
+    fn keeps(&self, prefix: &Prefix, path: &Path) -> bool
+        ensures { IsTrue result ↔ (path.now ≡ path_of self.now prefix.now) }
+    {
+        is_path(path.as_slice(), self.path(prefix))
     }
 
     /// The prefix that is to be decided: the least of the network, by address and then by length,
@@ -122,7 +131,7 @@ impl LocRib {
         let network = sources.network();
         for origin in network.origins() {
             let best = sources.best(alloc, &origin.prefix)?;
-            if !is_path(best.as_slice(), self.path(&origin.prefix)) {
+            if !self.keeps(&origin.prefix, &best) {
                 return Ok(Some(Dirty {
                     prefix: origin.prefix,
                     best,

@@ -118,6 +118,7 @@ fn put_in(
 
 impl WordTable {
     // The table of no word, which takes no memory.
+    #[tactic(auto, unfolding(crate::specs::Tables::word_of))]
     pub(crate) fn new(alloc: Global) -> WordTable
         ensures { IsSilent result }
     {

@@ -15,7 +15,8 @@ use std::alloc::Global;
 #[derive(Debug, Drop)]
 pub enum Word {
     /// One AS_SEQUENCE: the path that is announced, the peer first. The empty path is what a
-    /// withdrawal says, and what is said of a prefix that was never mentioned.
+    /// withdrawal says, and what is said of a prefix that was never mentioned; an AS_SEQUENCE
+    /// without numbers, which no message has, is the same.
     Sequence(Path),
     /// An AS_PATH that is not exactly one AS_SEQUENCE: a set, several segments, or none. It is a
     /// word, but gives no choice.

@@ -7,14 +7,14 @@ use Rattle.rib_tables.proofs.RouterLemmas.{one_best}
 use Rattle.rib_tables.proofs.LeastLemmas.{one_more, least_in, all_in}
 use Rattle.rib_tables.proofs.loc_rib.LocRib.dirty.Goals as goal
 
-pub returns-then-not-is_path : goal.returns-then-not-is_path
-returns-then-not-is_path c =
+pub returns-then-not-keeps : goal.returns-then-not-keeps
+returns-then-not-keeps c =
     let s = c.args.sources.now in
     let o = c.origin-item.result in
     let q = o.prefix in
     let same = c.origins-origin-items.ensures.value ∙ ap (λ (n : Plan). n.origins) c.network-network.ensures.value in (
       least_in s.net c.network-network.ensures.sources.network c.origins-origin-items.result.now same (IsDecided s c.args.self.now) c.loop-origin.origin-index o c.loop-origin-test.true c.origin-item.is
-          (λ decided. never (c.if-not-is_path.ensures.1 (c.as_slice.ensures ∙ one_best c.each_policy_is_an_order.ensures s c.network-network.ensures.sources q c.in_ok-best.best (path_of c.args.self.now q) c.in_ok-best.ensures decided ∙ sym c.path.ensures)))
+          (λ decided. never (c.if-not-keeps.ensures.1 (one_best c.each_policy_is_an_order.ensures s c.network-network.ensures.sources q c.in_ok-best.best (path_of c.args.self.now q) c.in_ok-best.ensures decided)))
           c.loop-origin.invariant,
       c.in_ok-best.ensures,
     )
@@ -24,7 +24,7 @@ loop-origin-preserved c =
     let s = c.args.sources.now in
     let o = c.origin-item.result in
     one_more c.origins-origin-items.result.now (IsDecided s c.args.self.now) c.loop-origin.origin-index o c.loop-origin-test.true c.origin-item.is
-    (subst (IsBest s o.prefix) (sym c.as_slice.ensures ∙ c.if-not-is_path.ensures.0 refl ∙ c.path.ensures) c.in_ok-best.ensures) c.loop-origin.invariant
+    (subst (IsBest s o.prefix) (c.if-not-keeps.ensures.0 refl) c.in_ok-best.ensures) c.loop-origin.invariant
 
 pub returns : goal.returns
 returns c =
