@@ -6,6 +6,7 @@ use Rattle.bgp_codec.specs.declared.update.Update.{Update}
 use Rattle.ranked_policy.specs.declared.network.Origin.{Origin}
 use Rattle.ranked_policy.specs.Plans.{IsNamed}
 use Rattle.rib_tables.specs.declared.word.Word.{Word}
+use Rattle.rib_tables.specs.declared.word.Word.TheVariants.{Sequence}
 use Rattle.rib_tables.specs.declared.table.Said.{Said}
 use Rattle.rib_tables.specs.declared.loc_rib.Kept.{Kept}
 use Rattle.rib_tables.specs.Words.{nothing, announced_word, Mentions, Says, is_prefix, lists, mentions}
@@ -38,6 +39,10 @@ IsSilent words = (peer : ℕ) (q : PrefixView) → word_of words peer q ≡ noth
 -- no path is kept
 abbrev pub KeepsNothing : Paths → Type 0
 KeepsNothing paths = (q : PrefixView) → path_of paths q ≡ []
+
+-- the last word sent to the peer for the prefix is the kept path; no mention counts as the empty path
+abbrev pub IsTold : Words → Paths → ℕ → PrefixView → Type 0
+IsTold sent kept peer q = word_of sent peer q ≡ Sequence (path_of kept q)
 
 -- an UPDATE of a peer, in a network with these origins: each prefix that the network names has what the UPDATE says of it,
 -- and every other word is as it was

@@ -2,7 +2,7 @@
 
 ghost use Rattle.std.specs.Prelude.{◌≡◌, ◌≢◌, ◌↔◌, [], IsTrue, OnOk, OnErr, MatchOption};
 ghost use Rattle.rib_tables.specs.Words.{nothing, path_in};
-ghost use Rattle.rib_tables.specs.Tables.{word_of, path_of, IsSilent, Applies, Forgets};
+ghost use Rattle.rib_tables.specs.Tables.{word_of, IsSilent, IsTold, Applies, Forgets};
 ghost use Rattle.rib_tables.specs.Least.{HoldsOfAll, IsLeastWithout};
 
 use crate::loc_rib::LocRib;
@@ -89,8 +89,8 @@ impl AdjOut {
     /// takes no memory.
     pub fn waiting(&self, network: &Network, loc_rib: &LocRib, peer: Asn) -> Option<Prefix>
         ensures { MatchOption result
-            (HoldsOfAll network.now.origins (λ q. word_of self.now peer q ≡ Word.Sequence (path_of loc_rib.now q)))
-            (IsLeastWithout network.now.origins (λ q. word_of self.now peer q ≡ Word.Sequence (path_of loc_rib.now q))) }
+            (HoldsOfAll network.now.origins (IsTold self.now loc_rib.now peer))
+            (IsLeastWithout network.now.origins (IsTold self.now loc_rib.now peer)) }
     {
         for origin in network.origins() {
             if !self.is_told(peer, &origin.prefix, loc_rib.path(&origin.prefix)) {
