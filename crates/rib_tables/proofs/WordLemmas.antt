@@ -1,0 +1,116 @@
+-- Prefixes by a test, and words by their look-up.
+use Rattle.std.proofs.Common.{◌≡◌, ◌≢◌, ℕ, zero, suc, ◌<◌, Bool, true, false, cond, List, [], ◌∷◌, ◌++◌, length, get_or, refl, sym, ap, subst, ◌∙◌, arith, inl, inr, ◌⊎◌}
+use Rattle.std.specs.Prelude.{◌==◌, ◌&&◌, ◌||◌, not}
+use Rattle.std.specs.Bool.{Decides}
+use Rattle.std.specs.List.{AllByRecursion, Contains, filter}
+use Rattle.std.proofs.lemmas.Bool.{cases_Bool, both_ways, and_parts, and_from, and_left, and_right, or_cases, or_left, or_right, eq-eqb, eqb-true, ne_eqb, cond-true, cond-false, false_from_ne_true}
+use Rattle.std.proofs.lemmas.Bool.Decides.{Decides-by_or, Decides-or}
+use Rattle.std.proofs.lemmas.List.Elements.{Decides-contains}
+use Rattle.prefix_lanes.specs.Bits.{PrefixView}
+use Rattle.bgp_codec.specs.declared.update.Update.{Update}
+use Rattle.ranked_policy.specs.declared.network.Origin.{Origin}
+use Rattle.ranked_policy.specs.Plans.{IsNamed}
+use Rattle.rib_tables.specs.declared.word.Word.{Word}
+use Rattle.rib_tables.specs.declared.table.Said.{Said}
+use Rattle.rib_tables.specs.Words.{nothing, Mentions, is_prefix, lists, mentions}
+use Rattle.rib_tables.specs.Tables.{Words, is_of, word_of, named}
+
+-- ---- prefixes
+
+pub is_prefix-true : (p q : PrefixView) → is_prefix p q ≡ true → p ≡ q
+is_prefix-true p q t =
+    let parts = and_parts (p.addr == q.addr) (p.len == q.len) t in
+    ap (λ (a : ℕ). record { addr = a; len = p.len }) (eqb-true p.addr q.addr parts.0) ∙ ap (λ (l : ℕ). record { addr = q.addr; len = l }) (eqb-true p.len q.len parts.1)
+
+pub is_prefix-from : (p q : PrefixView) → p ≡ q → is_prefix p q ≡ true
+is_prefix-from p q e =
+    and_from (p.addr == q.addr) (p.len == q.len) (eq-eqb p.addr q.addr (ap (λ (x : PrefixView). x.addr) e)) (eq-eqb p.len q.len (ap (λ (x : PrefixView). x.len) e))
+
+pub decides_lists : (ps : List PrefixView) (q : PrefixView) → Decides (lists ps q) (Contains ps q)
+decides_lists ps q =
+    Decides-contains ps q (lists ps q)
+    (Decides-by_or (λ (p : PrefixView). is_prefix p q) (λ (p : PrefixView). p ≡ q) (λ (qs : List PrefixView). lists qs q) (λ (p : PrefixView). (is_prefix-true p q, is_prefix-from p q)) refl (λ _ _. refl) ps)
+
+pub decides_mentions : (u : Update) (q : PrefixView) → Decides (mentions u q) (Mentions u q)
+decides_mentions u q = Decides-or (lists u.nlri q) (lists u.withdrawn q) (decides_lists u.nlri q) (decides_lists u.withdrawn q)
+
+pub named-true : (os : List Origin) (q : PrefixView) → named os q ≡ true → IsNamed os q
+named-true [] q t = absurd cc
+named-true (o ∷ os) q t = elim (or_cases (is_prefix o.prefix q) (named os q) t) [
+  | inl here ↦ (0, o, omega arith, refl, is_prefix-true o.prefix q here)
+  | inr there ↦ let r = named-true os q there in (suc r.0, r.1, omega (arith, r.2), r.3, r.4)
+]
+
+named_at : (os : List Origin) (q : PrefixView) (k : ℕ) (d : Origin) → k < length os → get_or os k d ≡ d → d.prefix ≡ q → named os q ≡ true
+named_at [] q k d lt e p = absurd (omega (arith, lt))
+named_at (o ∷ os) q zero d lt e p = or_left (is_prefix o.prefix q) (named os q) (is_prefix-from o.prefix q (ap (λ (x : Origin). x.prefix) e ∙ p))
+named_at (o ∷ os) q (suc k) d lt e p = or_right (is_prefix o.prefix q) (named os q) (named_at os q k d (omega (arith, lt)) e p)
+
+pub named-from : (os : List Origin) (q : PrefixView) → IsNamed os q → named os q ≡ true
+named-from os q a = named_at os q a.0 a.1 a.2 a.3 a.4
+
+pub by_test : (b : Bool) (P : Type 0) → Decides b P → (P → ⊥) → b ≡ false
+by_test b P d fails = false_from_ne_true b (λ t. fails (d.0 t))
+
+-- ---- words
+
+-- the word of a peer for a prefix, by what it is of
+pub is_of-true : (s : Said) (peer : ℕ) (q : PrefixView) → is_of s peer q ≡ true → (s.peer ≡ peer) × (s.prefix ≡ q)
+is_of-true s peer q t =
+    let parts = and_parts (s.peer == peer) (is_prefix s.prefix q) t in
+    (eqb-true s.peer peer parts.0, is_prefix-true s.prefix q parts.1)
+
+module _ (peer : ℕ) (q : PrefixView) where
+  -- none of these is the word of the peer for the prefix
+  abbrev pub Absent : Words → Type 0
+  Absent words = AllByRecursion (λ (s : Said). is_of s peer q ≡ false) words
+
+  pub word_of-absent : (xs : Words) → Absent xs → word_of xs peer q ≡ nothing
+  unfolding word_of
+  word_of-absent [] a = refl
+  word_of-absent (s ∷ xs) a = cond-false (is_of s peer q) s.word (word_of xs peer q) a.0 ∙ word_of-absent xs a.1
+
+  pub word_of-append_left : (xs ys : Words) → Absent ys → word_of (xs ++ ys) peer q ≡ word_of xs peer q
+  unfolding word_of
+  word_of-append_left [] ys a = word_of-absent ys a
+  word_of-append_left (s ∷ xs) ys a = ap (λ (w : Word). cond (is_of s peer q) s.word w) (word_of-append_left xs ys a)
+
+  pub word_of-append_right : (xs ys : Words) → Absent xs → word_of (xs ++ ys) peer q ≡ word_of ys peer q
+  unfolding word_of
+  word_of-append_right [] ys a = refl
+  word_of-append_right (s ∷ xs) ys a = cond-false (is_of s peer q) s.word (word_of (xs ++ ys) peer q) a.0 ∙ word_of-append_right xs ys a.1
+
+  pub word_of-first : (s : Said) (xs : Words) → is_of s peer q ≡ true → word_of (s ∷ xs) peer q ≡ s.word
+  unfolding word_of
+  word_of-first s xs t = cond-true (is_of s peer q) s.word (word_of xs peer q) t
+
+  pub word_of-next : (s : Said) (xs : Words) → is_of s peer q ≡ false → word_of (s ∷ xs) peer q ≡ word_of xs peer q
+  unfolding word_of
+  word_of-next s xs f = cond-false (is_of s peer q) s.word (word_of xs peer q) f
+
+  module _ (keep : Said → Bool) where
+    -- where a filter lets the words of the peer for the prefix pass, they are as they were
+    pub word_of-filter : ((s : Said) → is_of s peer q ≡ true → keep s ≡ true) → (xs : Words) → word_of (filter keep xs) peer q ≡ word_of xs peer q
+    word_of-filter kept [] = refl
+    word_of-filter kept (s ∷ xs) =
+        let both = filter keep xs in
+        elim (cases_Bool (is_of s peer q)) [
+          | inl t ↦
+              ap (λ (ys : Words). word_of ys peer q) (cond-true (keep s) (s ∷ both) both (kept s t)) ∙ word_of-first s both t ∙ sym (word_of-first s xs t)
+          | inr f ↦ elim (cases_Bool (keep s)) [
+            | inl k ↦ ap (λ (ys : Words). word_of ys peer q) (cond-true (keep s) (s ∷ both) both k) ∙ word_of-next s both f ∙ word_of-filter kept xs ∙ sym (word_of-next s xs f)
+            | inr k ↦ ap (λ (ys : Words). word_of ys peer q) (cond-false (keep s) (s ∷ both) both k) ∙ word_of-filter kept xs ∙ sym (word_of-next s xs f)
+          ]
+        ]
+
+    -- where it lets none pass, none is left
+    pub absent-filter : ((s : Said) → is_of s peer q ≡ true → keep s ≡ false) → (xs : Words) → Absent (filter keep xs)
+    absent-filter gone [] = tt
+    absent-filter gone (s ∷ xs) =
+        let rest = filter keep xs in
+        elim (cases_Bool (keep s)) [
+          | inl k ↦
+              subst Absent (sym (cond-true (keep s) (s ∷ rest) rest k))
+              (false_from_ne_true (is_of s peer q) (λ t. both_ways (keep s) (gone s t) k), absent-filter gone xs)
+          | inr k ↦ subst Absent (sym (cond-false (keep s) (s ∷ rest) rest k)) (absent-filter gone xs)
+        ]

@@ -1,0 +1,5 @@
+pub mod Words
+pub mod Tables
+pub mod Least
+pub mod Choices
+pub mod Promises
