@@ -2,7 +2,7 @@
 
 ghost use Rattle.std.specs.Prelude.{◌≡◌, ◌==◌, if◌then◌else◌, ℕ, List, IfOk, OnOk, MatchOption};
 ghost use Rattle.std.specs.List.{All, AllPairs};
-ghost use Rattle.ranked_policy.specs.Plans.{IsBefore};
+ghost use Rattle.ranked_policy.specs.Plans.{IsBefore, IsNamed};
 ghost use Rattle.stable_paths.specs.Stable.{path_of};
 ghost use Rattle.stable_paths.specs.Judging.{IsVerdict};
 ghost use Rattle.net_text.specs.Words.{is_prefix};
@@ -14,7 +14,7 @@ use crate::status::{DONE, REFUSED};
 use net_text::{Entry, refused_line, stable_line, unstable_line};
 use prefix_lanes::Prefix;
 use ranked_policy::{Asn, Network, Origin, Path};
-use stable_paths::{Assignment, Check, Instance, check, may_have};
+use stable_paths::{Assignment, Check, Instance, StableError, check, may_have};
 use std::alloc::{AllocError, Global};
 
 /// What is printed for a line that is refused, and the status.
@@ -135,15 +135,13 @@ fn verdict_at(
     prefix: &Prefix,
     assignment: &Assignment,
 ) -> Result<Check, AllocError>
+    requires { IsNamed network.now.origins prefix.now }
     ensures { IfOk result (IsVerdict (at_prefix network.now prefix.now) (path_of assignment.now)) }
 {
-    if !network.names(prefix) {
-        return Err(AllocError);
-    }
     let instance = Instance::new(network, prefix);
     match check(alloc, &instance, assignment) {
         Ok(verdict) => Ok(verdict),
-        Err(_) => Err(AllocError),
+        Err(StableError::NotPermitted { .. } | StableError::Memory) => Err(AllocError),
     }
 }
 
