@@ -5,8 +5,8 @@
 //! reader and a writer that says exactly what it writes for what it reads. `main` runs it over the
 //! standard input and output and ends with its status.
 //!
-//! The contract of `bgpnet decode` is that of `engines::decode::decode_stream`; the definitions
-//! stand in `specs/`: `Decoding` (the text of a stream), `Checking` (that of a check), `Engine` (what
+//! The contract of `bgpnet decode` is that of `engines::decode::decode_stream`, that of
+//! `bgpnet check` that of `engines::check::check_stream`; the definitions stand in `specs/`: `Decoding` (the text of a stream), `Checking` (that of a check), `Engine` (what
 //! an engine may leave written). The lines themselves are `net_text`'s.
 #![tactic(auto)]
 
