@@ -11,7 +11,7 @@ use Rattle.net_text.specs.declared.assignment.Entry.{Entry}
 use Rattle.net_text.specs.declared.entries.Key.{Key}
 use Rattle.net_text.specs.Assignments.{gives, key_cmp, AreGiven}
 
-same_number : (x y : ℕ) → is_eq (nat_cmp x y) ≡ (x == y)
+pub same_number : (x y : ℕ) → is_eq (nat_cmp x y) ≡ (x == y)
 same_number x y = grind (arith, nat_tests)
 
 -- what an entry is found by
@@ -23,7 +23,7 @@ same_key u v p q =
     sym (tied_then (nat_cmp u v) (ordering_then (nat_cmp p.addr q.addr) (nat_cmp p.len q.len)))
     ∙ rw (same_number u v, ← tied_then (nat_cmp p.addr q.addr) (nat_cmp p.len q.len), same_number p.addr q.addr, same_number p.len q.len) refl
 
-any_on : {X : Type 0} (p : X → Bool) (xs : List X) (x : X) → list_any p (xs ++ x ∷ []) ≡ cond (p x) true (list_any p xs)
+pub any_on : {X : Type 0} (p : X → Bool) (xs : List X) (x : X) → list_any p (xs ++ x ∷ []) ≡ cond (p x) true (list_any p xs)
 any_on p [] x = cases (p x)
   where
     cases : (b : Bool) → (b || false) ≡ cond b true false

@@ -7,5 +7,6 @@ pub mod TextLemmas
 pub mod NetworkLemmas
 pub mod SectionLemmas
 pub mod EntryLemmas
+pub mod RepeatLemmas
 pub mod PrintLemmas
 pub mod DecimalLemmas

@@ -11,7 +11,7 @@ ghost use Rattle.net_text.specs.Steps.{Steps};
 use crate::code::Code;
 use crate::draft::Draft;
 use crate::lexing::{is_ascii, is_skipped, next_word, same};
-use crate::paths::{are_distinct, are_short, count_words, judge_rule_paths, take_paths};
+use crate::paths::{MAX_PATHS, are_distinct, are_short, count_words, judge_rule_paths, take_paths};
 use crate::settings::{Setting, judge_setting, naming, setting_of, was_named};
 use crate::words::{asn_word, id_word, is_named, is_prefix, prefix_word, router_word};
 use prefix_lanes::Prefix;
@@ -155,13 +155,19 @@ fn is_full(routers: &[Router], asn: Asn) -> bool
 }
 
 // Judges that a rule does not repeat, and then its counts.
-fn judge_rule(routers: &[Router], asn: Asn, prefix: &Prefix, words: &[u8]) -> Result<(), Code>
+fn judge_rule(
+    alloc: Global,
+    routers: &[Router],
+    asn: Asn,
+    prefix: &Prefix,
+    words: &[u8],
+) -> Result<(), Code>
     ensures { result ≡ rule_fault routers.now asn prefix.now (words_of words.now) }
 {
-    if is_ruled(routers, asn, prefix) || !are_distinct(words) {
+    if is_ruled(routers, asn, prefix) || !are_distinct(alloc, words) {
         return Err(Code::Repeated);
     }
-    if count_words(words) > 32 || is_full(routers, asn) || !are_short(words) {
+    if count_words(words) > MAX_PATHS || is_full(routers, asn) || !are_short(words) {
         return Err(Code::OutOfLimit);
     }
     Ok(())
@@ -179,7 +185,7 @@ fn read_rule(alloc: Global, draft: &mut Draft, words: &[u8]) -> Result<(), Code>
     let asn = router_word(draft.net.routers(), asn)?;
     let prefix = prefix_word(prefix)?;
     judge_rule_paths(draft.net.routers(), asn, words)?;
-    judge_rule(draft.net.routers(), asn, &prefix, words)?;
+    judge_rule(alloc, draft.net.routers(), asn, &prefix, words)?;
     match take_paths(alloc, words) {
         Ok(paths) => draft.add_rule(asn, prefix, paths),
         Err(_) => Err(Code::Memory),

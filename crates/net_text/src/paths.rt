@@ -1,7 +1,7 @@
 //! Words that are paths. They are judged as they stand in the text, and taken into memory only once
 //! their whole line is good.
 
-ghost use Rattle.std.specs.Prelude.{◌≡◌, ◌<◌, ◌≤◌, ◌==◌, ◌∷◌, [], true, false, nat_le, length, map, IfOk, if◌then◌else◌};
+ghost use Rattle.std.specs.Prelude.{◌≡◌, ◌<◌, ◌≤◌, ◌==◌, ◌∷◌, [], true, false, not, nat_le, length, map, IfOk, if◌then◌else◌};
 ghost use Rattle.std.specs.List.{list_all, list_any, All};
 ghost use Rattle.net_text.specs.Lexing.{parts, same, words_of};
 ghost use Rattle.net_text.specs.Words.{is_number, is_asn, is_router, value_of, path_of, path_word, is_simple, is_from, rule_path_word, rule_path_words, is_none, assigned_word, assigned_path};
@@ -13,6 +13,10 @@ use crate::lexing::{cut, next_word, same};
 use crate::words::{is_asn, is_number, is_router, value_of};
 use ranked_policy::{Asn, Path, Router};
 use std::alloc::{AllocError, Global};
+use std::collections::BTreeSet;
+
+/// The most paths that a rule may have.
+pub(crate) const MAX_PATHS: usize = 32;
 
 // The first part of a path, what is behind it, and whether that is a part or more.
 fn next_part(word: &[u8]) -> (&[u8], &[u8], bool)
@@ -186,8 +190,8 @@ fn has_path(words: &[u8], path: &[u8]) -> bool
     false
 }
 
-// Whether no path is there twice.
-pub(crate) fn are_distinct(words: &[u8]) -> bool
+// Whether no path is there twice, each compared with those behind it.
+fn are_apart(words: &[u8]) -> bool
     ensures { result ≡ are_distinct (map path_of (words_of words.now)) }
 {
     let mut left = words;
@@ -198,6 +202,51 @@ pub(crate) fn are_distinct(words: &[u8]) -> bool
         left = rest;
     }
     true
+}
+
+// The numbers of a path, which it is found by.
+fn numbers_of(alloc: Global, word: &[u8]) -> Result<Vec<u64>, AllocError>
+    ensures { IfOk result (λ numbers. numbers.items ≡ path_of word.now) }
+{
+    let mut numbers = Vec::new(alloc);
+    let (mut left, mut more) = (word, true);
+    'parts: while more {
+        let (part, rest, on) = next_part(left);
+        numbers.push(value_of(part))?;
+        left = rest;
+        more = on;
+    }
+    Ok(numbers)
+}
+
+// Whether a path is there twice, each looked up among those before it.
+fn has_repeat(alloc: Global, words: &[u8]) -> Result<bool, AllocError>
+    ensures { IfOk result (λ repeats. repeats ≡ not (are_distinct (map path_of (words_of words.now)))) }
+{
+    let mut came: BTreeSet<Vec<u64>> = BTreeSet::new(alloc);
+    let mut left = words;
+    'words: while let Some((word, rest)) = next_word(left) {
+        let numbers = numbers_of(alloc, word)?;
+        if !came.insert(numbers)? {
+            return Ok(true);
+        }
+        left = rest;
+    }
+    Ok(false)
+}
+
+// Whether no path is there twice. More of them than a rule may have are looked up, for which there
+// need not be memory.
+pub(crate) fn are_distinct(alloc: Global, words: &[u8]) -> bool
+    ensures { result ≡ are_distinct (map path_of (words_of words.now)) }
+{
+    if count_words(words) <= MAX_PATHS {
+        return are_apart(words);
+    }
+    match has_repeat(alloc, words) {
+        Ok(repeats) => !repeats,
+        Err(AllocError) => are_apart(words),
+    }
 }
 
 // Whether the path has at most 16 routers.

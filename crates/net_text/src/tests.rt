@@ -249,15 +249,22 @@ fn limits_on_rules(rt: HostRuntime) -> Result<(), Fail> {
         code_behind_routers(alloc, 20, over.as_slice())?,
         Some(Code::OutOfLimit)
     );
+    // A repeat stands before that, with zeros in front as well.
+    let mut again = over.as_slice().to_vec(alloc)?;
+    again.extend_from_slice(b" 020-01")?;
+    assert_eq!(rt;
+        code_behind_routers(alloc, 20, again.as_slice())?,
+        Some(Code::Repeated)
+    );
     let mut rules = line_of_routers(alloc, 1)?;
     for i in 0..64u32 {
         rules.extend_from_slice(format!(in alloc; "rank 1 10.{i}.0.0/16 1\n")?.as_bytes())?;
     }
     assert_eq!(rt; refusal(alloc, rules.as_slice()), None);
-    let mut again = rules.as_slice().to_vec(alloc)?;
-    again.extend_from_slice(b"rank 1 10.7.0.0/16")?;
+    let mut repeated = rules.as_slice().to_vec(alloc)?;
+    repeated.extend_from_slice(b"rank 1 10.7.0.0/16")?;
     assert_eq!(rt;
-        refusal(alloc, again.as_slice()).map(|r| r.code),
+        refusal(alloc, repeated.as_slice()).map(|r| r.code),
         Some(Code::Repeated)
     );
     rules.extend_from_slice(b"rank 1 11.0.0.0/8")?;
