@@ -1,7 +1,7 @@
 -- What an UPDATE puts into a list of words, and what forgetting takes out.
-use Rattle.std.proofs.Common.{◌≡◌, ◌≢◌, ℕ, ◌+◌, ◌<◌, Bool, true, false, cond, List, [], ◌∷◌, ◌++◌, length, take, get_or, refl, sym, ap, subst, ◌∙◌, arith, inl, inr, ◌⊎◌}
-use Rattle.std.specs.Prelude.{◌==◌, ◌&&◌, ◌||◌, not, Result, Ok, Err, OnOk}
-use Rattle.std.specs.List.{Contains, filter}
+use Rattle.std.proofs.Common.{◌≡◌, ◌≢◌, ℕ, ◌+◌, ◌<◌, Bool, true, false, List, [], ◌∷◌, ◌++◌, length, take, get_or, refl, sym, ap, subst, ◌∙◌, inl, inr}
+use Rattle.std.specs.Prelude.{◌==◌, ◌&&◌, not, Result, Ok, Err, OnOk}
+use Rattle.std.specs.List.{filter}
 use Rattle.std.proofs.lemmas.Bool.{cases_Bool, both_ways, and_from, and_left, and_right, or_cases, or_parts, eq-eqb, ne_eqb, cond-true, cond-false, false_from_ne_true, not_from_true, not_from_false}
 use Rattle.std.proofs.lemmas.List.{take_more, append-nil}
 use Rattle.prefix_lanes.specs.Bits.{PrefixView}
@@ -10,9 +10,9 @@ use Rattle.ranked_policy.specs.declared.network.Origin.{Origin}
 use Rattle.ranked_policy.specs.Plans.{IsNamed}
 use Rattle.rib_tables.specs.declared.word.Word.{Word}
 use Rattle.rib_tables.specs.declared.table.Said.{Said}
-use Rattle.rib_tables.specs.Words.{nothing, announced_word, Announces, Mentions, Says, is_prefix, lists, mentions}
+use Rattle.rib_tables.specs.Words.{announced_word, Announces, Mentions, Says, is_prefix, lists, mentions}
 use Rattle.rib_tables.specs.Tables.{Words, is_of, word_of, named, said_of, stays, Applies, Forgets}
-use Rattle.rib_tables.proofs.WordLemmas.{is_prefix-true, is_prefix-from, decides_lists, decides_mentions, named-true, named-from, by_test, is_of-true, Absent, word_of-absent, word_of-append_left, word_of-append_right, word_of-first, word_of-next, word_of-filter, absent-filter}
+use Rattle.rib_tables.proofs.WordLemmas.{is_prefix-true, decides_lists, decides_mentions, named-true, named-from, by_test, is_of-true, Absent, word_of-absent, word_of-append_left, word_of-append_right, word_of-first, word_of-next, word_of-filter, absent-filter}
 
 -- ---- the words that are announced, one origin more at a time
 

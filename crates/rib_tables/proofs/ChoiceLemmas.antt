@@ -1,7 +1,6 @@
 -- The first of a router's choices, one peer more at a time.
-use Rattle.std.proofs.Common.{◌≡◌, ◌≢◌, ℕ, ◌+◌, ◌<◌, false, List, [], ◌∷◌, ◌++◌, length, refl, sym, ap, subst, ◌∙◌, arith, inl, inr, ◌⊎◌}
+use Rattle.std.proofs.Common.{◌≡◌, ◌≢◌, ℕ, false, List, [], ◌∷◌, ◌++◌, length, sym, ap, subst, ◌∙◌, arith, inl, inr, ◌⊎◌}
 use Rattle.std.specs.Prelude.{◌==◌, IsTrue}
-use Rattle.std.specs.List.{Contains}
 use Rattle.std.specs.Str.{bytes_eq}
 use Rattle.std.proofs.lemmas.Bool.{cases_Bool, both_ways, eq-eqb}
 use Rattle.std.proofs.lemmas.List.Elements.{Contains-append_left, Contains-push, Contains-push_cases}
@@ -13,7 +12,7 @@ use Rattle.rib_tables.specs.declared.word.Word.{Word}
 use Rattle.rib_tables.specs.declared.word.Word.TheVariants.{Sequence, Other}
 use Rattle.rib_tables.specs.Words.{path_in}
 use Rattle.rib_tables.specs.Tables.{Words, word_of}
-use Rattle.rib_tables.specs.Choices.{Hears, IsChoice, IsFirst, IsFirstOrNone}
+use Rattle.rib_tables.specs.Choices.{Hears, IsChoice, IsFirstOrNone}
 
 -- two paths are the same or not
 pub same_or_not : (p q : List ℕ) → (p ≡ q) ⊎ (p ≢ q)

@@ -1,6 +1,6 @@
 -- The last word of a list of UPDATEs, one UPDATE more at a time.
-use Rattle.std.proofs.Common.{◌≡◌, ◌≢◌, ℕ, ◌+◌, ◌<◌, List, [], ◌∷◌, ◌++◌, length, get_or, true, false, refl, sym, ap, subst, ◌∙◌, arith, inl, inr, ◌⊎◌}
-use Rattle.std.specs.List.{All, Contains}
+use Rattle.std.proofs.Common.{◌≡◌, ◌≢◌, ℕ, List, [], ◌∷◌, ◌++◌, length, refl, sym, ap, subst, ◌∙◌, arith, inl, inr, ◌⊎◌}
+use Rattle.std.specs.List.{All}
 use Rattle.std.proofs.lemmas.Bool.{cases_Bool}
 use Rattle.std.proofs.lemmas.Bool.Decides.{not_from_Decides}
 use Rattle.std.proofs.lemmas.List.{length-append, append_assoc}
@@ -10,9 +10,9 @@ use Rattle.bgp_codec.specs.declared.update.Update.{Update}
 use Rattle.ranked_policy.specs.declared.network.Origin.{Origin}
 use Rattle.ranked_policy.specs.Plans.{IsNamed}
 use Rattle.rib_tables.specs.declared.word.Word.{Word}
-use Rattle.rib_tables.specs.Words.{nothing, announced_word, Announces, Withdraws, Mentions, Says, lists, mentions}
+use Rattle.rib_tables.specs.Words.{nothing, announced_word, Announces, Mentions, Says, lists, mentions}
 use Rattle.rib_tables.specs.Tables.{Words, word_of, Applies}
-use Rattle.rib_tables.specs.Promises.{AppliesAll, IsLastMention, IsLastWord, HoldsLastWords, LastWordStays, LastWordGoesOn, OneLastWord}
+use Rattle.rib_tables.specs.Promises.{AppliesAll, IsLastMention, LastWordStays, LastWordGoesOn, OneLastWord}
 use Rattle.rib_tables.proofs.WordLemmas.{decides_lists, decides_mentions}
 
 -- no UPDATE of the list mentions the prefix

@@ -1,12 +1,12 @@
 -- The least prefix of a network, one origin more at a time.
-use Rattle.std.proofs.Common.{◌≡◌, ℕ, ◌+◌, ◌<◌, ◌≤◌, List, length, get_or, refl, sym, ap, subst, ◌∙◌, arith, inl, inr, ◌⊎◌}
+use Rattle.std.proofs.Common.{◌≡◌, ℕ, ◌+◌, ◌<◌, ◌≤◌, List, length, get_or, refl, sym, ap, subst, ◌∙◌, arith, inl, inr}
 use Rattle.std.specs.List.{AllPairs, AllWithin}
 use Rattle.std.proofs.lemmas.Bool.{cases_order}
 use Rattle.std.proofs.lemmas.List.{get_or_default}
 use Rattle.std.proofs.lemmas.List.Elements.{at_read, AllWithin-more}
 use Rattle.prefix_lanes.specs.Bits.{PrefixView}
 use Rattle.ranked_policy.specs.declared.network.Origin.{Origin}
-use Rattle.ranked_policy.specs.Plans.{Plan, IsNetwork, IsNamed, IsBefore}
+use Rattle.ranked_policy.specs.Plans.{Plan, IsNetwork, IsBefore}
 use Rattle.rib_tables.specs.Least.{HoldsOfAll, IsLeastWithout}
 
 before_trans : (p q r : PrefixView) → IsBefore p q → IsBefore q r → IsBefore p r

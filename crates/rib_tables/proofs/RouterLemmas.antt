@@ -1,5 +1,5 @@
 -- A router of a network has one table of policies, and so one best path.
-use Rattle.std.proofs.Common.{◌≡◌, ◌≢◌, ℕ, zero, suc, ◌<◌, List, [], ◌∷◌, length, map, get_or, refl, sym, ap, subst, ◌∙◌, arith, inl, inr, ◌⊎◌}
+use Rattle.std.proofs.Common.{◌≡◌, ℕ, zero, suc, ◌<◌, List, [], ◌∷◌, length, get_or, refl, sym, ap, subst, ◌∙◌, arith, inl, inr}
 use Rattle.std.specs.Prelude.{◌↔◌, Result, Ok, Err, IfOk}
 use Rattle.std.specs.List.{AllPairs, Contains}
 use Rattle.std.proofs.lemmas.Bool.{cases_order}
@@ -8,14 +8,13 @@ use Rattle.prefix_lanes.specs.Bits.{PrefixView}
 use Rattle.ranked_policy.specs.declared.network.Router.{Router}
 use Rattle.ranked_policy.specs.declared.network.Rule.{Rule}
 use Rattle.ranked_policy.specs.declared.network.Origin.{Origin}
-use Rattle.ranked_policy.specs.Plans.{Plan, AreRules, AreOrigins, IsNetwork, IsOrigin, Linked, numbers}
+use Rattle.ranked_policy.specs.Plans.{Plan, AreRules, AreOrigins, IsNetwork, IsOrigin, numbers}
 use Rattle.ranked_policy.specs.Policies.{Table, IsTable, IsTableOf, Originates}
 use Rattle.ranked_policy.specs.Promises.{EachPolicyIsAnOrder}
-use Rattle.rib_tables.specs.declared.word.Word.{Word}
 use Rattle.rib_tables.specs.declared.word.Word.TheVariants.{Sequence}
 use Rattle.rib_tables.specs.Words.{path_in}
-use Rattle.rib_tables.specs.Choices.{SourcesView, IsSources, Hears, IsChoice, IsFirst, IsFirstOrNone, IsOwn, IsBestOf, IsBest}
-use Rattle.rib_tables.specs.Promises.{OneBest, HasPathOf, HearsPaths, BestAmongPaths}
+use Rattle.rib_tables.specs.Choices.{SourcesView, Hears, IsChoice, IsFirstOrNone, IsOwn, IsBestOf, IsBest}
+use Rattle.rib_tables.specs.Promises.{OneBest, HasPathOf, BestAmongPaths}
 use Rattle.rib_tables.proofs.ChoiceLemmas.{first_once}
 
 -- ---- one table

@@ -5,7 +5,7 @@ use mathlib.Core.Logic.{◌⊎◌}
 use Rattle.prefix_lanes.specs.Bits.{PrefixView}
 use Rattle.bgp_codec.specs.declared.update.Update.{Update}
 use Rattle.ranked_policy.specs.declared.network.Origin.{Origin}
-use Rattle.ranked_policy.specs.Plans.{Plan, IsNamed, IsNetwork, Linked}
+use Rattle.ranked_policy.specs.Plans.{Plan, IsNamed, Linked}
 use Rattle.ranked_policy.specs.Policies.{Table, IsTableOf}
 use Rattle.rib_tables.specs.declared.word.Word.{Word}
 use Rattle.rib_tables.specs.declared.word.Word.TheVariants.{Sequence}

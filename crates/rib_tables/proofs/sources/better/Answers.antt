@@ -1,4 +1,4 @@
-use Rattle.std.proofs.Common.{◌≡◌, ◌∙◌, ◌⊎◌, [], sym, refl, length}
+use Rattle.std.proofs.Common.{◌≡◌, ◌∙◌, [], sym, refl, length}
 use Rattle.std.proofs.lemmas.Bool.{eqb-true}
 use Rattle.std.proofs.lemmas.List.{nil_from_length}
 use Rattle.rib_tables.proofs.ChoiceLemmas.{not_empty, in_either, never, silent, takes, keeps}

@@ -1,4 +1,4 @@
-use Rattle.std.proofs.Common.{◌≡◌, ◌∙◌, List, ap, sym}
+use Rattle.std.proofs.Common.{◌≡◌, ◌∙◌, ap, sym}
 use Rattle.rib_tables.specs.Words.{lists}
 use Rattle.rib_tables.proofs.ApplyLemmas.{said_step, said_skip}
 use Rattle.rib_tables.proofs.table.words_of.Goals as goal

@@ -1,8 +1,8 @@
-use Rattle.std.proofs.Common.{◌≡◌, ◌∙◌, List, ap, sym, refl}
+use Rattle.std.proofs.Common.{◌∙◌, ap, sym}
 use Rattle.rib_tables.specs.declared.word.Word.TheVariants.{Sequence}
 use Rattle.rib_tables.specs.Tables.{IsTold}
 use Rattle.rib_tables.proofs.ChoiceLemmas.{never}
-use Rattle.rib_tables.proofs.LeastLemmas.{one_more, least_in, all_in}
+use Rattle.rib_tables.proofs.LeastLemmas.{least_in}
 use Rattle.rib_tables.proofs.adj_out.AdjOut.waiting.Goals as goal
 
 pub returns-then-not-is_told : goal.returns-then-not-is_told

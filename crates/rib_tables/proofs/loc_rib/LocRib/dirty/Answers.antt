@@ -1,4 +1,4 @@
-use Rattle.std.proofs.Common.{◌≡◌, ◌∙◌, List, ap, sym, subst, refl}
+use Rattle.std.proofs.Common.{◌∙◌, ap, subst, refl}
 use Rattle.ranked_policy.specs.Plans.{Plan}
 use Rattle.rib_tables.specs.Tables.{path_of}
 use Rattle.rib_tables.specs.Choices.{IsBest, IsDecided}

@@ -1,4 +1,4 @@
-use Rattle.std.proofs.Common.{◌≡◌, ◌∙◌, List, sym, ap}
+use Rattle.std.proofs.Common.{◌∙◌, List, sym, ap}
 use Rattle.rib_tables.specs.declared.loc_rib.Kept.{Kept}
 use Rattle.rib_tables.specs.Tables.{path_of}
 use Rattle.rib_tables.proofs.KeptLemmas.{path_of-at, path_of-without, all_taken}

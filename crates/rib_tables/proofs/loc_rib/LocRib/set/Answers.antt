@@ -1,4 +1,4 @@
-use Rattle.std.proofs.Common.{◌≡◌, ◌<◌, ◌∙◌, ◌++◌, ◌∷◌, [], List, length, get_or, set, arith, ap, sym, subst, true}
+use Rattle.std.proofs.Common.{◌≡◌, ◌<◌, ◌++◌, ◌∷◌, [], List, length, get_or, set, arith, sym, subst, true}
 use Rattle.rib_tables.specs.declared.loc_rib.Kept.{Kept}
 use Rattle.rib_tables.specs.Words.{is_prefix}
 use Rattle.rib_tables.specs.Tables.{Keeps}
