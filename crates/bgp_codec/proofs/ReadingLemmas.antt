@@ -201,29 +201,6 @@ pub is_spelt : (laws : PrefixLaws) (rule : Rule) (octets : List ℕ) (r : Result
 is_spelt laws rule octets (Ok m) are frame told = read_spelt laws rule octets m are frame told
 is_spelt laws rule octets (Err e) are frame told = tt
 
-refused_is : (rule : Rule) (octets : List ℕ) (e : CodecError) → IsFrame octets → Fails e (reading rule octets) → RefusesAs rule octets e
-refused_is rule octets (errors.Fault f) frame q = fault_of_frame rule octets frame ∙ ap fault_in q
-refused_is rule octets errors.TooLong frame q = q
-refused_is rule octets errors.Memory frame q = tt
-
--- a refusal is the first fault, or want of memory
-pub is_refusal : (rule : Rule) (octets : List ℕ) (r : Result Message CodecError) → IsFrame octets → Gives (λ m. m) r (reading rule octets) → IfErr r (RefusesAs rule octets)
-is_refusal rule octets (Ok m) frame told = tt
-is_refusal rule octets (Err e) frame told = refused_is rule octets e frame told
-
--- a fault is answered, memory aside
-answered : (r : Result Message CodecError) (read : Result Message Fault) → Gives (λ m. m) r read → IfSome (fault_in read) (λ first. (r ≡ Err (errors.Fault first)) ⊎ (r ≡ Err errors.Memory))
-answered r (Ok m) told = tt
-answered (Ok m) (Err f) told = absurd cc
-answered (Err (errors.Fault g)) (Err f) told = inl cc
-answered (Err errors.TooLong) (Err f) told = absurd told
-answered (Err errors.Memory) (Err f) told = inr refl
-
-pub is_answered : (rule : Rule) (octets : List ℕ) (r : Result Message CodecError) → IsFrame octets → Gives (λ m. m) r (reading rule octets)
-    → IfSome (fault rule octets) (λ first. (r ≡ Err (errors.Fault first)) ⊎ (r ≡ Err errors.Memory))
-is_answered rule octets r frame told =
-    subst (λ (o : Option Fault). IfSome o (λ first. (r ≡ Err (errors.Fault first)) ⊎ (r ≡ Err errors.Memory))) (sym (fault_of_frame rule octets frame)) (answered r (reading rule octets) told)
-
 nobody_checks : (rule : Rule) (asn : ℕ) → rule.peer ≡ None → is_peer rule.peer asn ≡ true
 nobody_checks rule asn e = rw e refl
 

@@ -18,6 +18,7 @@ mod attributes;
 mod fault;
 mod head;
 mod items;
+mod judging;
 mod kind;
 pub mod laws;
 mod message;
