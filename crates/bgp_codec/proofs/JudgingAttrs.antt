@@ -1,5 +1,5 @@
 -- What is remembered of attributes that are passed.
-use Rattle.std.proofs.Common.{◌≡◌, ℕ, zero, suc, ◌+◌, ◌*◌, ◌<◌, ◌≤◌, Bool, true, false, cond, List, [], ◌∷◌, ◌++◌, length, take, drop, get_or, set, Option, Some, None, Result, Ok, Err, refl, sym, ap, subst, ◌∙◌, arith, eq-eqb, ne_eqb, inl, inr, ◌⊎◌}
+use Rattle.std.proofs.Common.{◌≡◌, ℕ, zero, suc, ◌*◌, ◌<◌, ◌≤◌, Bool, true, false, cond, List, [], ◌∷◌, ◌++◌, length, take, get_or, set, Option, Some, None, Result, Ok, Err, refl, sym, ap, subst, ◌∙◌, arith, eq-eqb, ne_eqb, inl, inr}
 use Rattle.std.specs.Prelude.{slice_index, ◌==◌, ◌||◌, ◌≢◌, nat_lt, replicate, is_some, if◌then◌else◌}
 use Rattle.std.specs.List.{flat_map, list_any}
 use Rattle.std.specs.Int.{w16, from_be_bytes}
@@ -10,9 +10,9 @@ use Rattle.bgp_codec.specs.declared.attributes.Attrs.{Attrs}
 use Rattle.bgp_codec.specs.declared.attributes.Raw.{Raw}
 use Rattle.bgp_codec.specs.declared.path.Segment.{Segment}
 use Rattle.bgp_codec.specs.declared.judging.Came.{Came}
-use Rattle.bgp_codec.specs.Reading.{◌>>=◌, Reader, all_of}
+use Rattle.bgp_codec.specs.Reading.{Reader, all_of}
 use Rattle.bgp_codec.specs.Judging.{Remembers, first_number}
-use Rattle.bgp_codec.specs.Updates.{attr_fault, high_flags, is_known, flags_fit, size_fits, raw_of, number_at, address_at, numbers_of, segment_at, path_reading, path_numbers, aggregator_of, with_origin, with_path, with_next_hop, with_med, with_local_pref, with_atomic, with_aggregator, with_other, no_attrs, has_code, put_raw, other_reading, with_attr}
+use Rattle.bgp_codec.specs.Updates.{attr_fault, high_flags, is_known, flags_fit, size_fits, raw_of, address_at, numbers_of, segment_at, path_reading, path_numbers, aggregator_of, with_origin, with_path, with_next_hop, with_med, with_local_pref, with_atomic, with_aggregator, with_other, no_attrs, has_code, put_raw, with_attr}
 use Rattle.bgp_codec.proofs.EachLemmas.{Shortens, each_none, each_step, each_fault, front_found}
 use Rattle.bgp_codec.proofs.PathLemmas.{segment_shortens, segment_parts}
 use Rattle.bgp_codec.proofs.AttrSteps.{guarded}

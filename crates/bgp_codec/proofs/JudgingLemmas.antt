@@ -1,12 +1,12 @@
 -- Passes over octets that take no memory for values: what they find is what reading finds.
-use Rattle.std.proofs.Common.{◌≡◌, ℕ, zero, suc, ◌+◌, ◌<◌, ◌≤◌, Bool, true, false, cond, List, [], ◌∷◌, ◌++◌, length, drop, Result, Ok, Err, refl, sym, ap, subst, ◌∙◌, arith, eq-eqb, ne_eqb}
+use Rattle.std.proofs.Common.{◌≡◌, ℕ, zero, suc, ◌<◌, ◌≤◌, Bool, true, false, cond, List, [], ◌∷◌, ◌++◌, length, drop, Result, Ok, Err, refl, sym, ap, subst, ◌∙◌, arith, eq-eqb, ne_eqb}
 use Rattle.bgp_codec.specs.declared.fault.Fault.{Fault}
 use Rattle.bgp_codec.specs.declared.fault.CodecError.{CodecError}
 use Rattle.bgp_codec.specs.declared.fault.CodecError.TheVariants as errors
 use Rattle.std.specs.Prelude.{slice_index, nat_lt, ◌==◌, not, if◌then◌else◌}
 use Rattle.bgp_codec.specs.declared.open.Cap.{Cap}
 use Rattle.bgp_codec.specs.Opens.{value_at, cap_of, cap_at, caps_reading, param_at, open_fault}
-use Rattle.bgp_codec.specs.Reading.{◌>>=◌, Reader, all_of, Fails, Judged, Judges, Passes, IsNoWant, TakesMemory}
+use Rattle.bgp_codec.specs.Reading.{◌>>=◌, Reader, all_of, Fails, Judged, IsNoWant}
 use Rattle.bgp_codec.specs.declared.attributes.Attrs.{Attrs}
 use Rattle.bgp_codec.specs.declared.message.Message.{Message}
 use Rattle.bgp_codec.specs.declared.message.Message.TheVariants.{AliveMsg}

@@ -1,22 +1,21 @@
 -- What is read is spelt so, and what is spelt so is read.
 use Rattle.std.proofs.Common.{◌≡◌, ℕ, ◌+◌, ◌≤◌, Bool, true, false, cond, List, [], ◌∷◌, ◌++◌, length, drop, eq-eqb, Option, Some, None, Result, Ok, Err, refl, sym, ap, subst, ◌∙◌, arith, inl, inr, ◌⊎◌}
 use Rattle.std.specs.Int.{w16, to_be_bytes}
-use Rattle.std.specs.Prelude.{slice_index, ◌==◌, ◌≢◌, ◌&&◌, nat_le, IfOk, IfErr, IfSome}
+use Rattle.std.specs.Prelude.{slice_index, ◌==◌, ◌≢◌, ◌&&◌, nat_le, IfOk}
 use Rattle.std.proofs.lemmas.Bool.{eqb-true, leb-true, le-leb}
 use Rattle.std.proofs.lemmas.List.{length-drop, length-append}
 use Rattle.bgp_codec.specs.declared.fault.Fault.{Fault}
 use Rattle.bgp_codec.specs.declared.fault.CodecError.{CodecError}
-use Rattle.bgp_codec.specs.declared.fault.CodecError.TheVariants as errors
 use Rattle.bgp_codec.specs.declared.message.Message.{Message}
 use Rattle.bgp_codec.specs.declared.message.Message.TheVariants.{OpenMsg, UpdateMsg, NoticeMsg, AliveMsg}
 use Rattle.bgp_codec.specs.declared.rule.Rule.{Rule}
 use Rattle.bgp_codec.specs.Header.{kind_field, length_field, is_message_len, is_kind, length_fits, IsFrame}
 use Rattle.bgp_codec.specs.Spelling.{IsWritable, IsOctets, Spells, SpellsBody, kind_of, framed, written, written_body}
 use Rattle.bgp_codec.proofs.WritingLemmas.{length-written}
-use Rattle.bgp_codec.specs.Reading.{Gives, Fails}
+use Rattle.bgp_codec.specs.Reading.{Gives}
 use Rattle.bgp_codec.specs.Opens.{open_reading, is_peer}
 use Rattle.bgp_codec.specs.Updates.{long_string, update_reading}
-use Rattle.bgp_codec.specs.Faults.{RefusesAs, read_as, reading, body_reading, notice_reading, fault, fault_in, or_else, OneMessageOrFault, FaultFitsAMessage, WrittenIsSpelt, WrittenIsRead}
+use Rattle.bgp_codec.specs.Faults.{read_as, reading, body_reading, notice_reading, fault, fault_in, or_else, OneMessageOrFault, FaultFitsAMessage, WrittenIsSpelt, WrittenIsRead}
 use Rattle.bgp_codec.proofs.OpenLaws.{open_takes, open_again}
 use Rattle.bgp_codec.proofs.FaultData.{FaultsWithin}
 use Rattle.bgp_codec.proofs.OpenFaults.{open_faults}

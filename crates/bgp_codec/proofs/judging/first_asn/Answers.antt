@@ -1,5 +1,5 @@
 use Rattle.std.proofs.Common.{Some, ap, ◌∙◌, arith}
-use Rattle.bgp_codec.proofs.JudgingAttrs.{path_first, not_first, is_first}
+use Rattle.bgp_codec.proofs.JudgingAttrs.{not_first, is_first}
 use Rattle.bgp_codec.proofs.judging.first_asn.Goals as goal
 
 pub returns-in_default : goal.returns-in_default

@@ -1,4 +1,3 @@
-use Rattle.std.proofs.Common.{arith}
 use Rattle.std.proofs.lemmas.Result.{err_from_is_err_and}
 use Rattle.bgp_codec.specs.Opens.{cap_at}
 use Rattle.bgp_codec.proofs.EachLemmas.{some_left, none_left}

@@ -1,7 +1,6 @@
-use Rattle.std.proofs.Common.{◌≡◌, ◌≤◌, true, sym, ap, ◌∙◌, arith}
+use Rattle.std.proofs.Common.{sym, ap, ◌∙◌, arith}
 use Rattle.std.specs.Prelude.{slice_index}
 use Rattle.bgp_codec.specs.Opens.{is_unicast}
-use Rattle.bgp_codec.specs.Updates.{address_at}
 use Rattle.bgp_codec.proofs.JudgingLemmas.{value_passed}
 use Rattle.bgp_codec.proofs.judging.judge_value.Goals as goal
 use Rattle.bgp_codec.proofs.judging.judge_value.Goals.{else-code-eq-ORIGIN-via-then-code-eq-ORIGIN+else-octet_at-gt2, else-code-eq-ORIGIN-via-else-code-eq-ORIGIN, else-code-eq-NEXT_HOP-via-then-code-eq-NEXT_HOP+else-not-is_unicast, else-code-eq-NEXT_HOP-via-else-code-eq-NEXT_HOP}
