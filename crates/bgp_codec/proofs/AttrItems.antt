@@ -267,19 +267,19 @@ raw_same : (f g c : ℕ) (v w : List ℕ) → f ≡ g → v ≡ w → raw_of f c
 raw_same f g c v w ef ev = rw (ef, ev) refl
 
 -- what an answer says of the tests before it
-path_read : (a b : Attrs) (r : Result (List Segment) Fault) → (r >>= λ p. Ok (with_path a p)) ≡ Ok b → (p : List Segment) × (r ≡ Ok p) × (with_path a p ≡ b)
+pub path_read : (a b : Attrs) (r : Result (List Segment) Fault) → (r >>= λ p. Ok (with_path a p)) ≡ Ok b → (p : List Segment) × (r ≡ Ok p) × (with_path a p ≡ b)
 path_read a b (Ok p) e = (p, refl, cc)
 path_read a b (Err f) e = absurd cc
 
-hop_read : (a b : Attrs) (n : ℕ) (f : Fault) (u : Bool) → (let r : Result Attrs Fault = cond u (Ok (with_next_hop a n)) (Err f) in r ≡ Ok b) → (u ≡ true) × (with_next_hop a n ≡ b)
+pub hop_read : (a b : Attrs) (n : ℕ) (f : Fault) (u : Bool) → (let r : Result Attrs Fault = cond u (Ok (with_next_hop a n)) (Err f) in r ≡ Ok b) → (u ≡ true) × (with_next_hop a n ≡ b)
 hop_read a b n f true e = (refl, cc)
 hop_read a b n f false e = absurd cc
 
-made_of : (b c : Attrs) → (let r : Result Attrs Fault = Ok b in r ≡ Ok c) → b ≡ c
+pub made_of : (b c : Attrs) → (let r : Result Attrs Fault = Ok b in r ≡ Ok c) → b ≡ c
 made_of b c e = cc
 
 -- a known code is at most seven
-known_small : (code : ℕ) → is_known code ≡ true → code ≤ 7
+pub known_small : (code : ℕ) → is_known code ≡ true → code ≤ 7
 known_small code known = leb-true code 7 (and_parts (nat_le 1 code) (nat_le code 7) known).1
 
 -- a value of a known code that is taken is an item
@@ -343,7 +343,7 @@ value_taken (suc (suc (suc (suc (suc (suc (suc (suc n)))))))) a b attr value kno
     let le = known_small (suc (suc (suc (suc (suc (suc (suc (suc n)))))))) known in absurd (omega (arith, le))
 
 -- the tests that an attribute has passed that is taken
-tests_passed : (b c d e : Bool) (f g h : Fault) (y v : Result Attrs Fault) (o : Attrs) → cond b (Err f) (cond (not c) y (cond (not d) (Err g) (cond (not e) (Err h) v))) ≡ Ok o
+pub tests_passed : (b c d e : Bool) (f g h : Fault) (y v : Result Attrs Fault) (o : Attrs) → cond b (Err f) (cond (not c) y (cond (not d) (Err g) (cond (not e) (Err h) v))) ≡ Ok o
     → (b ≡ false) × (((c ≡ false) × (y ≡ Ok o)) ⊎ ((c ≡ true) × ((d ≡ true) × ((e ≡ true) × (v ≡ Ok o)))))
 tests_passed true c d e f g h y v o q = absurd cc
 tests_passed false false d e f g h y v o q = (refl, inl (refl, q))

@@ -133,7 +133,7 @@ past_seven : (b c d e f g h : Bool) (s t u v w x y z : Bool) → b ≡ false →
 past_seven b c d e f g h s t u v w x y z eb ec ed ee ef eg eh = rw (eb, ec, ed, ee, ef, eg, eh) refl
 
 -- so whether it is there is seen in the others
-has_other : (a : Attrs) (code : ℕ) → is_known code ≡ false → has_code a code ≡ list_any (λ r. r.code == code) a.other
+pub has_other : (a : Attrs) (code : ℕ) → is_known code ≡ false → has_code a code ≡ list_any (λ r. r.code == code) a.other
 has_other a code u =
     past_seven (code == 1) (code == 2) (code == 3) (code == 4) (code == 5) (code == 6) (code == 7) _ _ _ _ _ _ _ _
     (unknown_is code 1 u refl) (unknown_is code 2 u refl) (unknown_is code 3 u refl) (unknown_is code 4 u refl) (unknown_is code 5 u refl) (unknown_is code 6 u refl) (unknown_is code 7 u refl)

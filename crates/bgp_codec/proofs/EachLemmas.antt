@@ -102,7 +102,7 @@ module _ {A : Type 0} where
   -- ---- what is read is spelt so
 
   -- the values behind the first
-  front_found : (x : A) (r : Result (List A) Fault) (ys : List A) → in_front x r ≡ Ok ys → (xs : List A) × (r ≡ Ok xs) × (x ∷ xs ≡ ys)
+  pub front_found : (x : A) (r : Result (List A) Fault) (ys : List A) → in_front x r ≡ Ok ys → (xs : List A) × (r ≡ Ok xs) × (x ∷ xs ≡ ys)
   front_found x (Ok xs) ys e = (xs, refl, cc)
   front_found x (Err f) ys e = absurd cc
 

@@ -166,3 +166,12 @@ header_fault_data bytes f e =
 
 pub front_law : HeaderIsItsFront
 front_law n octets h = record { same_fault = header_fault-take n octets h; same_length = length_field-take n octets h; bounds = good_len octets }
+
+-- octets whose first nineteen are a good header with their length are a frame
+pub is_frame : (octets first : List ℕ) → 19 ≤ length octets → first ≡ take 19 octets → header_fault first ≡ None → length octets ≡ length_field first → IsFrame octets
+is_frame octets first long e good n =
+    record {
+      has_header = long;
+      good = sym (ap header_fault e ∙ header_fault-take 19 octets (omega arith)) ∙ good;
+      whole = n ∙ ap length_field e ∙ length_field-take 19 octets (omega arith);
+    }

@@ -19,3 +19,5 @@ pub mod UpdateLoops
 pub mod UpdateLaws
 pub mod WritingLemmas
 pub mod ReadingLemmas
+pub mod JudgingLemmas
+pub mod JudgingAttrs

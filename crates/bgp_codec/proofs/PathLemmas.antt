@@ -55,7 +55,7 @@ is_inside code count rest e =
     }
 
 -- the parts of a segment that is read
-segment_parts : (code count : ℕ) (rest : List ℕ) (s : Segment) (more : List ℕ) → segment_at (code ∷ count ∷ rest) ≡ Ok (s, more)
+pub segment_parts : (code count : ℕ) (rest : List ℕ) (s : Segment) (more : List ℕ) → segment_at (code ∷ count ∷ rest) ≡ Ok (s, more)
     → IsInside code count rest × (segment_of code (take (2 * count) rest) ≡ s) × (drop (2 * count) rest ≡ more)
 segment_parts code count rest s more e =
     let p = past_test (is_bad_segment code count rest) (update_fault 11) (segment_of code (take (2 * count) rest), drop (2 * count) rest) (s, more) e in (

@@ -1,22 +1,21 @@
 -- What is read is spelt so, and what is spelt so is read.
 use Rattle.std.proofs.Common.{◌≡◌, ℕ, ◌+◌, ◌≤◌, Bool, true, false, cond, List, [], ◌∷◌, ◌++◌, length, drop, eq-eqb, Option, Some, None, Result, Ok, Err, refl, sym, ap, subst, ◌∙◌, arith, inl, inr, ◌⊎◌}
 use Rattle.std.specs.Int.{w16, to_be_bytes}
-use Rattle.std.specs.Prelude.{slice_index, ◌==◌, ◌≢◌, ◌&&◌, nat_le, IfOk, IfErr, IfSome}
+use Rattle.std.specs.Prelude.{slice_index, ◌==◌, ◌≢◌, ◌&&◌, nat_le, IfOk}
 use Rattle.std.proofs.lemmas.Bool.{eqb-true, leb-true, le-leb}
 use Rattle.std.proofs.lemmas.List.{length-drop, length-append}
 use Rattle.bgp_codec.specs.declared.fault.Fault.{Fault}
 use Rattle.bgp_codec.specs.declared.fault.CodecError.{CodecError}
-use Rattle.bgp_codec.specs.declared.fault.CodecError.TheVariants as errors
 use Rattle.bgp_codec.specs.declared.message.Message.{Message}
 use Rattle.bgp_codec.specs.declared.message.Message.TheVariants.{OpenMsg, UpdateMsg, NoticeMsg, AliveMsg}
 use Rattle.bgp_codec.specs.declared.rule.Rule.{Rule}
 use Rattle.bgp_codec.specs.Header.{kind_field, length_field, is_message_len, is_kind, length_fits, IsFrame}
 use Rattle.bgp_codec.specs.Spelling.{IsWritable, IsOctets, Spells, SpellsBody, kind_of, framed, written, written_body}
 use Rattle.bgp_codec.proofs.WritingLemmas.{length-written}
-use Rattle.bgp_codec.specs.Reading.{Gives, Fails}
+use Rattle.bgp_codec.specs.Reading.{Gives}
 use Rattle.bgp_codec.specs.Opens.{open_reading, is_peer}
 use Rattle.bgp_codec.specs.Updates.{long_string, update_reading}
-use Rattle.bgp_codec.specs.Faults.{RefusesAs, read_as, reading, body_reading, notice_reading, fault, fault_in, or_else, OneMessageOrFault, FaultFitsAMessage, WrittenIsSpelt, WrittenIsRead}
+use Rattle.bgp_codec.specs.Faults.{read_as, reading, body_reading, notice_reading, fault, fault_in, or_else, OneMessageOrFault, FaultFitsAMessage, WrittenIsSpelt, WrittenIsRead}
 use Rattle.bgp_codec.proofs.OpenLaws.{open_takes, open_again}
 use Rattle.bgp_codec.proofs.FaultData.{FaultsWithin}
 use Rattle.bgp_codec.proofs.OpenFaults.{open_faults}
@@ -200,29 +199,6 @@ pub is_spelt : (laws : PrefixLaws) (rule : Rule) (octets : List ℕ) (r : Result
     → IfOk r (λ m. Spells rule octets m)
 is_spelt laws rule octets (Ok m) are frame told = read_spelt laws rule octets m are frame told
 is_spelt laws rule octets (Err e) are frame told = tt
-
-refused_is : (rule : Rule) (octets : List ℕ) (e : CodecError) → IsFrame octets → Fails e (reading rule octets) → RefusesAs rule octets e
-refused_is rule octets (errors.Fault f) frame q = fault_of_frame rule octets frame ∙ ap fault_in q
-refused_is rule octets errors.TooLong frame q = q
-refused_is rule octets errors.Memory frame q = tt
-
--- a refusal is the first fault, or want of memory
-pub is_refusal : (rule : Rule) (octets : List ℕ) (r : Result Message CodecError) → IsFrame octets → Gives (λ m. m) r (reading rule octets) → IfErr r (RefusesAs rule octets)
-is_refusal rule octets (Ok m) frame told = tt
-is_refusal rule octets (Err e) frame told = refused_is rule octets e frame told
-
--- a fault is answered, memory aside
-answered : (r : Result Message CodecError) (read : Result Message Fault) → Gives (λ m. m) r read → IfSome (fault_in read) (λ first. (r ≡ Err (errors.Fault first)) ⊎ (r ≡ Err errors.Memory))
-answered r (Ok m) told = tt
-answered (Ok m) (Err f) told = absurd cc
-answered (Err (errors.Fault g)) (Err f) told = inl cc
-answered (Err errors.TooLong) (Err f) told = absurd told
-answered (Err errors.Memory) (Err f) told = inr refl
-
-pub is_answered : (rule : Rule) (octets : List ℕ) (r : Result Message CodecError) → IsFrame octets → Gives (λ m. m) r (reading rule octets)
-    → IfSome (fault rule octets) (λ first. (r ≡ Err (errors.Fault first)) ⊎ (r ≡ Err errors.Memory))
-is_answered rule octets r frame told =
-    subst (λ (o : Option Fault). IfSome o (λ first. (r ≡ Err (errors.Fault first)) ⊎ (r ≡ Err errors.Memory))) (sym (fault_of_frame rule octets frame)) (answered r (reading rule octets) told)
 
 nobody_checks : (rule : Rule) (asn : ℕ) → rule.peer ≡ None → is_peer rule.peer asn ≡ true
 nobody_checks rule asn e = rw e refl

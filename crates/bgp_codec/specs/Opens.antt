@@ -103,6 +103,10 @@ id_field body = from_be_bytes w32 (slice_index body 5 ∷ slice_index body 6 ∷
 abbrev pub open_of : List ℕ → List (List Cap) → Open
 open_of body params = record { asn = asn_field body; hold = hold_field body; id = id_field body; params = params }
 
+-- the OPEN of a body whose parameters have these octets
+abbrev pub open_behind : List ℕ → List ℕ → Result Open Fault
+open_behind body octets = params_reading octets >>= λ params. Ok (open_of body params)
+
 -- version, AS, hold time, identifier, that the parameters fill the rest, then the parameters
 unfoldable pub open_reading : Rule → List ℕ → Result Open Fault
 open_reading rule body =
@@ -111,4 +115,4 @@ open_reading rule body =
     else if not (is_hold_time (hold_field body)) then Err (open_fault 6)
     else if not (is_unicast (id_field body)) then Err (open_fault 3)
     else if not (length body == 10 + slice_index body 9) then Err (open_fault 0)
-    else params_reading (drop 10 body) >>= λ params. Ok (open_of body params)
+    else open_behind body (drop 10 body)

@@ -1,5 +1,5 @@
 -- Readers: functions from octets to a value, or to the first fault that is met from left to right.
-use Rattle.std.specs.Prelude.{◌≡◌, ℕ, zero, suc, List, [], ◌∷◌, length, Result, Ok, Err}
+use Rattle.std.specs.Prelude.{◌≡◌, ◌<◌, ◌≢◌, ℕ, zero, suc, List, [], ◌∷◌, length, Result, Ok, Err}
 use Rattle.bgp_codec.specs.declared.fault.Fault.{Fault}
 use Rattle.bgp_codec.specs.declared.fault.CodecError.{CodecError}
 use Rattle.bgp_codec.specs.declared.fault.CodecError.TheVariants as errors
@@ -39,3 +39,29 @@ Fails errors.TooLong read = ⊥
 abbrev pub Gives : {X Y : Type 0} → (X → Y) → Result X CodecError → Result Y Fault → Type 0
 Gives view (Ok x) read = read ≡ Ok (view x)
 Gives view (Err e) read = Fails e read
+
+-- ---- what a pass of the code answers that takes no memory for values
+
+-- a fault whose own data take memory: more octets than stand in the fault itself
+abbrev pub TakesMemory : {Y : Type 0} → Result Y Fault → Type 0
+TakesMemory (Ok y) = ⊥
+TakesMemory (Err first) = 16 < length first.extra
+
+-- an error is the fault that reading gives, or want of memory in place of a fault whose own data take memory
+abbrev pub Judged : {Y : Type 0} → CodecError → Result Y Fault → Type 0
+Judged errors.Memory read = TakesMemory read
+Judged (errors.Fault first) read = read ≡ Err first
+Judged errors.TooLong read = ⊥
+
+-- reading gives a value where the pass was good, and what the pass remembers fits it; else the error is judged so
+abbrev pub Judges : {X Y : Type 0} → (X → Y → Type 0) → Result X CodecError → Result Y Fault → Type 0
+Judges {X} {Y} fits (Ok x) read = (y : Y) × (read ≡ Ok y) × fits x y
+Judges fits (Err e) read = Judged e read
+
+-- the same of a pass that remembers nothing
+abbrev pub Passes : {X Y : Type 0} → Result X CodecError → Result Y Fault → Type 0
+Passes result read = Judges (λ x y. Unit {0}) result read
+
+-- an error is no want of memory
+abbrev pub IsNoWant : CodecError → Type 0
+IsNoWant error = error ≢ errors.Memory

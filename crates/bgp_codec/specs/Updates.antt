@@ -257,8 +257,12 @@ numbers_of [] = []
 numbers_of (high ∷ []) = []
 numbers_of (high ∷ low ∷ rest) = from_be_bytes w16 (high ∷ low ∷ []) ∷ numbers_of rest
 
+-- the segment of this kind whose numbers have these octets
+abbrev pub segment_with : SegmentKind → List ℕ → Segment
+segment_with kind octets = record { kind = kind; numbers = numbers_of octets }
+
 abbrev pub segment_of : ℕ → List ℕ → Segment
-segment_of code octets = record { kind = if code == 1 then AsSet else AsSequence; numbers = numbers_of octets }
+segment_of code octets = segment_with (if code == 1 then AsSet else AsSequence) octets
 
 -- AS_SET or AS_SEQUENCE, at least one number, and all inside
 abbrev pub segment_at : Reader Segment

@@ -1,11 +1,11 @@
 //! The attributes of a path (RFC 4271 sections 4.3 and 5): the table of those that are known, their
 //! reader and their writer.
 
-ghost use Rattle.std.specs.Prelude.{◌≡◌, true, if◌then◌else◌, ℕ, List, Some, None, IfSome, nat_le, insert, slice_index, ◌+◌, ◌-◌, ◌*◌, ◌/◌, ◌%◌, ◌^◌, ◌==◌, ◌≤◌, ◌<◌, ◌++◌, ◌∷◌, [], ◌↔◌, nat_lt, filter, take, drop, IsTrue, length, min, vec_len, vec_capacity};
+ghost use Rattle.std.specs.Prelude.{◌≡◌, true, if◌then◌else◌, ℕ, List, Some, None, IfSome, IfErr, nat_le, insert, slice_index, ◌+◌, ◌-◌, ◌*◌, ◌/◌, ◌%◌, ◌^◌, ◌==◌, ◌≤◌, ◌<◌, ◌++◌, ◌∷◌, [], ◌↔◌, nat_lt, filter, take, drop, IsTrue, length, min, vec_len, vec_capacity};
 ghost use Rattle.std.specs.Option.{option_map};
 ghost use Rattle.std.specs.Int.{w32, to_be_bytes};
 ghost use Rattle.std.specs.List.{flat_map, list_any, AllByRecursion};
-ghost use Rattle.bgp_codec.specs.Reading.{Gives};
+ghost use Rattle.bgp_codec.specs.Reading.{Gives, IsNoWant};
 ghost use Rattle.bgp_codec.specs.Opens.{is_unicast};
 ghost use Rattle.bgp_codec.specs.Updates.{high_flags, is_known, flags_of, flags_fit, size_fits, is_extended, head_size, value_size, attr_at, has_code, put_raw, with_value, with_attr, other_reading, no_attrs, attrs_reading, missing, is_from, SegmentFits, RawFits, IsRising, AttrsFit, stands, given, raw_of, path_octets, aggregator_raw, raw_octets, attrs_octets};
 ghost use Rattle.bgp_codec.specs.declared.attributes.Raw.{Raw};
@@ -19,11 +19,11 @@ use crate::path::{Segment, begins_with, path_fits, path_len, put_path, read_path
 use crate::rule::Asn;
 use std::alloc::Global;
 
-const ORIGIN: u8 = 1;
+pub(crate) const ORIGIN: u8 = 1;
 
-const AS_PATH: u8 = 2;
+pub(crate) const AS_PATH: u8 = 2;
 
-const NEXT_HOP: u8 = 3;
+pub(crate) const NEXT_HOP: u8 = 3;
 
 const MULTI_EXIT_DISC: u8 = 4;
 
@@ -78,7 +78,7 @@ pub struct Attrs {
 
 // ---- the table
 
-fn is_known(code: u8) -> bool
+pub(crate) fn is_known(code: u8) -> bool
     ensures { result ≡ is_known code }
 {
     1 <= code && code <= 7
@@ -103,14 +103,14 @@ fn flags_of(code: u8) -> u8
 }
 
 // Whether a known attribute may have these flags.
-fn flags_fit(code: u8, flags: u8) -> bool
+pub(crate) fn flags_fit(code: u8, flags: u8) -> bool
     ensures { result ≡ flags_fit code flags }
 {
     high_flags(flags) == flags_of(code) || (code == AGGREGATOR && high_flags(flags) == 0xe0)
 }
 
 // Whether the value of a known attribute may have so many octets.
-fn size_fits(code: u8, size: usize) -> bool
+pub(crate) fn size_fits(code: u8, size: usize) -> bool
     ensures { result ≡ size_fits code size }
 {
     match code {
@@ -142,9 +142,10 @@ fn attr_sizes(octets: &[u8]) -> (usize, usize)
     }
 }
 
-// The attribute in front, its value, and what follows it.
-fn read_attr(alloc: Global, octets: &[u8]) -> Result<(&[u8], &[u8], &[u8]), CodecError>
-    ensures { Gives (λ read. (read.0.now, read.1.now, read.2.now)) result (attr_at octets.now) }
+// The attribute in front, its value, and what follows it. It takes no memory.
+pub(crate) fn read_attr(alloc: Global, octets: &[u8]) -> Result<(&[u8], &[u8], &[u8]), CodecError>
+    ensures gives { Gives (λ read. (read.0.now, read.1.now, read.2.now)) result (attr_at octets.now) }
+    ensures memory { IfErr result IsNoWant }
 {
     let (head, size) = attr_sizes(octets);
     if octets.len() < head + size {

@@ -1,6 +1,6 @@
 //! What is wrong with a message, and why a call of this crate refuses one.
 
-ghost use Rattle.std.specs.Prelude.{◌≡◌, ◌⊎◌};
+ghost use Rattle.std.specs.Prelude.{◌≡◌, ◌<◌, ◌⊎◌, length};
 ghost use Rattle.bgp_codec.specs.Opens.{open_fault};
 ghost use Rattle.bgp_codec.specs.Updates.{update_fault, attr_fault};
 
@@ -55,9 +55,10 @@ pub(crate) fn update_fault(alloc: Global, sub: u8) -> CodecError
     })
 }
 
-// The fault of an UPDATE with this subcode and an attribute as its data, or want of memory.
+// The fault of an UPDATE with this subcode and an attribute as its data, or want of memory, which an
+// attribute of at most sixteen octets does not meet.
 pub(crate) fn attr_fault(alloc: Global, sub: u8, attr: &[u8]) -> CodecError
-    ensures { (result ≡ CodecError.Fault (attr_fault sub attr.now)) ⊎ (result ≡ CodecError.Memory) }
+    ensures { (result ≡ CodecError.Fault (attr_fault sub attr.now)) ⊎ ((result ≡ CodecError.Memory) × (16 < length attr.now)) }
 {
     match Octets::from_slice(alloc, attr) {
         Ok(extra) => CodecError::Fault(Fault {

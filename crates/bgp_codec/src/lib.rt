@@ -7,7 +7,8 @@
 //!
 //! The definitions stand in `specs/`: `Header` (the header and its checks), `Spelling` (how each
 //! message is spelt, and the one spelling that is written), `Opens` and `Updates` (the bodies of an
-//! OPEN and an UPDATE), `Reading` (what a reader answers), `Faults` (the first fault of a frame).
+//! OPEN and an UPDATE), `Reading` (what a reader answers), `Faults` (the first fault of a frame),
+//! `Judging` (what a search for that fault remembers, where a growth was refused).
 //! The laws that tie them together are the public functions of [`laws`].
 //!
 //! Numbers of autonomous systems have two octets in messages. Left out: four-octet numbers,
@@ -18,6 +19,7 @@ mod attributes;
 mod fault;
 mod head;
 mod items;
+mod judging;
 mod kind;
 pub mod laws;
 mod message;

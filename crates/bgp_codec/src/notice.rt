@@ -1,6 +1,6 @@
 //! NOTIFICATION (RFC 4271 section 4.5): its fields, its reader and its writer.
 
-ghost use Rattle.std.specs.Prelude.{◌≡◌, ◌+◌, ◌≤◌, ◌⊎◌, ◌++◌, ◌∷◌, IsOk, IfOk, IfErr, Ok, Err, length, vec_len, vec_capacity};
+ghost use Rattle.std.specs.Prelude.{◌≡◌, ◌+◌, ◌≤◌, ◌<◌, ◌⊎◌, ◌++◌, ◌∷◌, IsOk, IfOk, IfErr, Ok, Err, length, vec_len, vec_capacity};
 ghost use Rattle.bgp_codec.specs.Spelling.{notice_octets};
 ghost use Rattle.bgp_codec.specs.Faults.{notice_reading};
 
@@ -35,10 +35,11 @@ pub fn notice_of(alloc: Global, fault: &Fault) -> Result<Notice, CodecError>
     })
 }
 
-// The NOTIFICATION of a body: code at 0, subcode at 1, data from 2.
+// The NOTIFICATION of a body: code at 0, subcode at 1, data from 2. Data of at most sixteen octets
+// take no memory.
 pub(crate) fn read_notice(alloc: Global, body: &[u8]) -> Result<Message, CodecError>
     requires { 2 ≤ length body.now }
-    ensures { (result ≡ Ok (notice_reading body.now)) ⊎ (result ≡ Err CodecError.Memory) }
+    ensures { (result ≡ Ok (notice_reading body.now)) ⊎ ((result ≡ Err CodecError.Memory) × (18 < length body.now)) }
 {
     let extra = Octets::from_slice(alloc, &body[2..])?;
     Ok(Message::NoticeMsg(Notice {

@@ -1,9 +1,9 @@
 //! OPEN (RFC 4271 section 4.2, RFC 5492 section 4): its fields, its reader and its writer.
 
-ghost use Rattle.std.specs.Prelude.{◌≡◌, ◌+◌, ◌-◌, ◌^◌, ◌≤◌, ◌<◌, ◌++◌, ◌∷◌, ◌↔◌, IsTrue, length, min, vec_len, vec_capacity};
+ghost use Rattle.std.specs.Prelude.{◌≡◌, ◌+◌, ◌-◌, ◌^◌, ◌≤◌, ◌<◌, ◌++◌, ◌∷◌, ◌↔◌, IsTrue, IfOk, IfErr, length, min, vec_len, vec_capacity};
 ghost use Rattle.std.specs.List.{flat_map, AllByRecursion};
-ghost use Rattle.bgp_codec.specs.Reading.{Gives};
-ghost use Rattle.bgp_codec.specs.Opens.{cap_octets, param_octets, open_octets, CapFits, ParamFits, OpenFits, value_at, cap_at, caps_reading, param_at, params_reading, open_reading, is_peer, is_hold_time, is_unicast};
+ghost use Rattle.bgp_codec.specs.Reading.{Gives, Judged, IsNoWant};
+ghost use Rattle.bgp_codec.specs.Opens.{cap_octets, param_octets, open_octets, asn_field, hold_field, id_field, CapFits, ParamFits, OpenFits, value_at, cap_at, caps_reading, param_at, params_reading, open_reading, open_behind, is_peer, is_hold_time, is_unicast};
 
 use crate::fault::{CodecError, Fault, open_fault};
 use crate::items::Items;
@@ -34,9 +34,10 @@ pub struct Open {
     pub params: Items<Items<Cap>>,
 }
 
-// The value in front, its length at 1 and its octets from 2, and what follows it.
-fn read_value(alloc: Global, octets: &[u8]) -> Result<(&[u8], &[u8]), CodecError>
-    ensures { Gives (λ read. (read.0.now, read.1.now)) result (value_at octets.now) }
+// The value in front, its length at 1 and its octets from 2, and what follows it. It takes no memory.
+pub(crate) fn read_value(alloc: Global, octets: &[u8]) -> Result<(&[u8], &[u8]), CodecError>
+    ensures gives { Gives (λ read. (read.0.now, read.1.now)) result (value_at octets.now) }
+    ensures memory { IfErr result IsNoWant }
 {
     match octets {
         [] | [_] => Err(open_fault(alloc, 0)),
@@ -122,17 +123,31 @@ pub(crate) fn is_unicast(address: u32) -> bool
     1 <= first && first <= 223
 }
 
-// The OPEN of a body: version at 0, AS at 1, hold time at 3, identifier at 5, the length of the
-// parameters at 9, the parameters from 10.
-#[tactic(auto, unfolding(crate::specs::Opens::open_reading))]
-#[inline(never)]
-pub(crate) fn read_open(alloc: Global, body: &[u8], rule: &Rule) -> Result<Open, CodecError>
+// The fields of a body before its parameters: AS at 1, hold time at 3, identifier at 5.
+fn fields_of(body: &[u8]) -> (u16, u16, u32)
     requires { 10 ≤ length body.now }
-    ensures { Gives (λ read. read) result (open_reading rule.now body.now) }
+    ensures { result ≡ (asn_field body.now, hold_field body.now, id_field body.now) }
 {
-    let asn = u16::from_be_bytes([body[1], body[2]]);
-    let hold = u16::from_be_bytes([body[3], body[4]]);
-    let id = u32::from_be_bytes([body[5], body[6], body[7], body[8]]);
+    (
+        u16::from_be_bytes([body[1], body[2]]),
+        u16::from_be_bytes([body[3], body[4]]),
+        u32::from_be_bytes([body[5], body[6], body[7], body[8]]),
+    )
+}
+
+// The octets of the parameters, where the fields before them are good: version at 0, those of
+// `fields_of`, the length of the parameters at 9, the parameters from 10. It takes no memory.
+#[tactic(auto, unfolding(crate::specs::Opens::open_reading))]
+pub(crate) fn params_of<'a>(
+    alloc: Global,
+    body: &'a [u8],
+    rule: &Rule,
+) -> Result<&'a [u8], CodecError>
+    requires { 10 ≤ length body.now }
+    ensures ok { IfOk result (λ params. open_reading rule.now body.now ≡ open_behind body.now params.now) }
+    ensures err { IfErr result (λ error. Judged error (open_reading rule.now body.now) × IsNoWant error) }
+{
+    let (asn, hold, id) = fields_of(body);
     if body[0] != 4 {
         return Err(CodecError::Fault(Fault {
             code: 2,
@@ -153,7 +168,18 @@ pub(crate) fn read_open(alloc: Global, body: &[u8], rule: &Rule) -> Result<Open,
         return Err(open_fault(alloc, 0));
     }
     let (_, params) = body.split_at(10);
+    Ok(params)
+}
+
+// The OPEN of a body.
+#[inline(never)]
+pub(crate) fn read_open(alloc: Global, body: &[u8], rule: &Rule) -> Result<Open, CodecError>
+    requires { 10 ≤ length body.now }
+    ensures { Gives (λ read. read) result (open_reading rule.now body.now) }
+{
+    let params = params_of(alloc, body, rule)?;
     let params = read_params(alloc, params)?;
+    let (asn, hold, id) = fields_of(body);
     Ok(Open {
         asn,
         hold,

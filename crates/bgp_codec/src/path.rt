@@ -1,10 +1,10 @@
 //! AS_PATH (RFC 4271 sections 4.3 and 5.1.2): its segments, their reader and their writer.
 
-ghost use Rattle.std.specs.Prelude.{◌≡◌, ◌+◌, ◌*◌, ◌-◌, ◌^◌, ◌≤◌, ◌<◌, ◌++◌, ◌↔◌, IsTrue, IfOk, length, min, vec_len, vec_capacity};
+ghost use Rattle.std.specs.Prelude.{◌≡◌, ◌+◌, ◌*◌, ◌-◌, ◌^◌, ◌≤◌, ◌<◌, ◌++◌, ◌↔◌, IsTrue, IfOk, IfErr, length, min, vec_len, vec_capacity};
 ghost use Rattle.std.specs.List.{flat_map, AllByRecursion};
 ghost use Rattle.std.specs.Int.{w16, to_be_bytes};
-ghost use Rattle.bgp_codec.specs.Reading.{Gives};
-ghost use Rattle.bgp_codec.specs.Updates.{segment_code, segment_octets, path_octets, segment_at, path_reading, numbers_of, SegmentFits, begins_with};
+ghost use Rattle.bgp_codec.specs.Reading.{Gives, IsNoWant};
+ghost use Rattle.bgp_codec.specs.Updates.{segment_code, segment_octets, path_octets, segment_at, segment_with, path_reading, numbers_of, SegmentFits, begins_with};
 
 use crate::fault::{CodecError, update_fault};
 use crate::items::Items;
@@ -43,9 +43,14 @@ fn read_numbers(alloc: Global, octets: &[u8]) -> Result<Items<Asn>, AllocError>
     Ok(Items::from_vec(numbers))
 }
 
-// The segment in front, and what follows it.
-fn read_segment(alloc: Global, octets: &[u8]) -> Result<(Segment, &[u8]), CodecError>
-    ensures { Gives (λ read. (read.0, read.1.now)) result (segment_at octets.now) }
+// The kind of the segment in front, the octets of its numbers, and what follows it. It takes no
+// memory.
+pub(crate) fn segment_parts(
+    alloc: Global,
+    octets: &[u8],
+) -> Result<(SegmentKind, &[u8], &[u8]), CodecError>
+    ensures gives { Gives (λ read. (segment_with read.0 read.1.now, read.2.now)) result (segment_at octets.now) }
+    ensures memory { IfErr result IsNoWant }
 {
     match octets {
         [] | [_] => Err(update_fault(alloc, 11)),
@@ -55,15 +60,23 @@ fn read_segment(alloc: Global, octets: &[u8]) -> Result<(Segment, &[u8]), CodecE
                 return Err(update_fault(alloc, 11));
             }
             let (numbers, rest) = rest.split_at(size);
-            let numbers = read_numbers(alloc, numbers)?;
             let kind = if code == 1 {
                 SegmentKind::AsSet
             } else {
                 SegmentKind::AsSequence
             };
-            Ok((Segment { kind, numbers }, rest))
+            Ok((kind, numbers, rest))
         }
     }
+}
+
+// The segment in front, and what follows it.
+fn read_segment(alloc: Global, octets: &[u8]) -> Result<(Segment, &[u8]), CodecError>
+    ensures { Gives (λ read. (read.0, read.1.now)) result (segment_at octets.now) }
+{
+    let (kind, numbers, rest) = segment_parts(alloc, octets)?;
+    let numbers = read_numbers(alloc, numbers)?;
+    Ok((Segment { kind, numbers }, rest))
 }
 
 // The segments that a path consists of.

@@ -1,9 +1,9 @@
 //! The prefixes of an UPDATE (RFC 4271 section 4.3): their reader and their writer.
 
-ghost use Rattle.std.specs.Prelude.{◌≡◌, ◌+◌, ◌-◌, ◌^◌, ◌≤◌, ◌++◌, length, min, vec_len, vec_capacity};
+ghost use Rattle.std.specs.Prelude.{◌≡◌, ◌+◌, ◌-◌, ◌^◌, ◌≤◌, ◌++◌, IfErr, length, min, vec_len, vec_capacity};
 ghost use Rattle.std.specs.List.{flat_map, AllByRecursion};
 ghost use Rattle.prefix_lanes.specs.Bits.{IsCanonical};
-ghost use Rattle.bgp_codec.specs.Reading.{Gives};
+ghost use Rattle.bgp_codec.specs.Reading.{Gives, IsNoWant};
 ghost use Rattle.bgp_codec.specs.Updates.{octet_count, address_at, prefix_at, prefixes_reading, prefix_octets};
 
 use crate::fault::{CodecError, update_fault};
@@ -31,9 +31,10 @@ fn leading_address(octets: &[u8]) -> u32
     }
 }
 
-// The prefix in front, and what follows it.
-fn read_prefix(alloc: Global, octets: &[u8]) -> Result<(Prefix, &[u8]), CodecError>
-    ensures { Gives (λ read. (read.0, read.1.now)) result (prefix_at octets.now) }
+// The prefix in front, and what follows it. It takes no memory.
+pub(crate) fn read_prefix(alloc: Global, octets: &[u8]) -> Result<(Prefix, &[u8]), CodecError>
+    ensures gives { Gives (λ read. (read.0, read.1.now)) result (prefix_at octets.now) }
+    ensures memory { IfErr result IsNoWant }
 {
     match octets {
         [] => Err(update_fault(alloc, 10)),

@@ -1,12 +1,13 @@
 //! From octets to messages.
 
-ghost use Rattle.std.specs.Prelude.{◌≡◌, ◌⊎◌, IfOk, IfErr, IfSome, Err};
-ghost use Rattle.bgp_codec.specs.Header.{IsFrame};
+ghost use Rattle.std.specs.Prelude.{◌≡◌, ◌⊎◌, ◌≤◌, ◌<◌, length, IsOk, IfOk, IfErr, IfSome, Err};
+ghost use Rattle.bgp_codec.specs.Header.{IsFrame, kind_field};
 ghost use Rattle.bgp_codec.specs.Reading.{Gives};
 ghost use Rattle.bgp_codec.specs.Spelling.{Spells};
 ghost use Rattle.bgp_codec.specs.Faults.{reading, fault, RefusesAs};
 
 use crate::fault::CodecError;
+use crate::judging::judge;
 use crate::message::Message;
 use crate::notice::read_notice;
 use crate::open::read_open;
@@ -15,10 +16,13 @@ use crate::update::read_update;
 use prefix_lanes::{a_prefix_is_its_bits, masking_clears_bits};
 use std::alloc::Global;
 
+// The message that a frame spells, or its first fault, unless it met want of memory before.
 #[tactic(auto, unfolding(crate::specs::Faults::reading))]
 fn read(alloc: Global, frame: &[u8], rule: &Rule) -> Result<Message, CodecError>
     requires { IsFrame frame.now }
-    ensures { Gives (λ message. message) result (reading rule.now frame.now) }
+    ensures gives { Gives (λ message. message) result (reading rule.now frame.now) }
+    ensures alive { kind_field frame.now ≡ 4 → IsOk result }
+    ensures short { kind_field frame.now ≡ 3 → length frame.now ≤ 37 → IsOk result }
 {
     let (_, body) = frame.split_at(19);
     match frame[18] {
@@ -32,20 +36,32 @@ fn read(alloc: Global, frame: &[u8], rule: &Rule) -> Result<Message, CodecError>
 /// The message that a frame spells, or its first fault. A frame is the octets of one message whose
 /// header is good and whose length is theirs.
 ///
-/// It refuses with the frame's first fault, or with [`CodecError::Memory`] where a growth was
-/// refused.
+/// It refuses with the frame's first fault (RFC 4271 section 6), and only a frame without a fault
+/// for want of memory: [`CodecError::Memory`] stands in place of a fault only where the fault's own
+/// data have more than sixteen octets and a growth for them was refused. A KEEPALIVE, and a
+/// NOTIFICATION of at most sixteen octets of data, take no memory.
 pub fn decode(alloc: Global, frame: &[u8], rule: &Rule) -> Result<Message, CodecError>
     requires { IsFrame frame.now }
     // What is answered is spelt so.
     ensures spelt { IfOk result (λ message. Spells rule.now frame.now message) }
-
-    // A fault is the first one, and it is answered unless its own data met want of memory.
-    ensures fault { IfSome (fault rule.now frame.now) (λ first. (result ≡ Err (CodecError.Fault first)) ⊎ (result ≡ Err CodecError.Memory)) }
+    // A fault is the first one, and it is answered, also where a growth for what stands before it
+    // was refused; only data of more than sixteen octets can themselves meet want of memory.
+    ensures fault { IfSome (fault rule.now frame.now) (λ first. (result ≡ Err (CodecError.Fault first)) ⊎ ((result ≡ Err CodecError.Memory) × (16 < length first.extra))) }
     // Which message or refusal it is.
     ensures exact { Gives (λ message. message) result (reading rule.now frame.now) }
     ensures refused { IfErr result (RefusesAs rule.now frame.now) }
+    // What takes no memory is never refused for want of it: a KEEPALIVE, and a NOTIFICATION whose
+    // data have at most sixteen octets, so whose frame has at most 37.
+    ensures alive { kind_field frame.now ≡ 4 → IsOk result }
+    ensures short { kind_field frame.now ≡ 3 → length frame.now ≤ 37 → IsOk result }
 {
     a_prefix_is_its_bits();
     masking_clears_bits();
-    read(alloc, frame, rule)
+    match read(alloc, frame, rule) {
+        Err(CodecError::Memory) => {
+            judge(alloc, frame, rule)?;
+            Err(CodecError::Memory)
+        }
+        other => other,
+    }
 }

@@ -1,5 +1,7 @@
 ghost use Rattle.std.specs.Prelude.{◌≤◌, length};
 
+mod judging;
+
 use super::*;
 use crate::rule::NOBODY;
 use prefix_lanes::Prefix;

@@ -1,8 +1,8 @@
 //! UPDATE (RFC 4271 section 4.3): its three parts, its reader and its writer.
 
-ghost use Rattle.std.specs.Prelude.{◌≡◌, ◌≢◌, [], None, ◌-◌, min, ◌+◌, ◌^◌, ◌≤◌, ◌<◌, ◌++◌, ◌↔◌, IsTrue, length, vec_len, vec_capacity};
+ghost use Rattle.std.specs.Prelude.{◌≡◌, ◌≢◌, ℕ, Option, Err, IfOk, IfErr, [], None, ◌-◌, min, ◌+◌, ◌^◌, ◌≤◌, ◌<◌, ◌++◌, ◌↔◌, IsTrue, length, vec_len, vec_capacity};
 ghost use Rattle.bgp_codec.specs.Reading.{Gives};
-ghost use Rattle.bgp_codec.specs.Updates.{missing, nlri_reading, parts_reading, update_reading, update_octets, UpdateFits};
+ghost use Rattle.bgp_codec.specs.Updates.{missing, nlri_reading, parts_reading, update_reading, update_fault, update_octets, UpdateFits};
 ghost use Rattle.std.specs.Int.{w16, to_be_bytes};
 
 use crate::attributes::{Attrs, attrs_fit, attrs_len, is_from, missing, put_attrs, read_attrs};
@@ -72,17 +72,14 @@ fn read_parts(
     })
 }
 
-// The UPDATE of a body: the length of the withdrawn prefixes at 0, they from 2, the length of the
-// attributes behind them, the attributes, then the announced prefixes to the end.
+// The octets of the three parts of a body: the length of the withdrawn prefixes at 0, they from 2,
+// the length of the attributes behind them, the attributes, then the announced prefixes to the end.
+// It takes no memory.
 #[tactic(auto, unfolding(crate::specs::Updates::update_reading))]
-#[inline(never)]
-pub(crate) fn read_update(
-    alloc: Global,
-    body: &[u8],
-    peer: Option<Asn>,
-) -> Result<Update, CodecError>
+pub(crate) fn parts_of(alloc: Global, body: &[u8]) -> Result<(&[u8], &[u8], &[u8]), CodecError>
     requires { 4 ≤ length body.now }
-    ensures { Gives (λ update. update) result (update_reading peer body.now) }
+    ensures ok { IfOk result (λ parts. (peer : Option ℕ) → update_reading peer body.now ≡ parts_reading peer parts.0.now parts.1.now parts.2.now) }
+    ensures err { IfErr result (λ error. (error ≡ CodecError.Fault (update_fault 1)) × ((peer : Option ℕ) → update_reading peer body.now ≡ Err (update_fault 1))) }
 {
     let first = number_at(body, 0) as usize;
     let second = number_at(body, 2 + first) as usize;
@@ -94,6 +91,20 @@ pub(crate) fn read_update(
     let (_, behind) = body.split_at(4 + first);
     let (attrs, _) = behind.split_at(second);
     let (_, nlri) = body.split_at(4 + (first + second));
+    Ok((withdrawn, attrs, nlri))
+}
+
+// The UPDATE of a body.
+#[inline(never)]
+pub(crate) fn read_update(
+    alloc: Global,
+    body: &[u8],
+    peer: Option<Asn>,
+) -> Result<Update, CodecError>
+    requires { 4 ≤ length body.now }
+    ensures { Gives (λ update. update) result (update_reading peer body.now) }
+{
+    let (withdrawn, attrs, nlri) = parts_of(alloc, body)?;
     read_parts(alloc, peer, withdrawn, attrs, nlri)
 }
 

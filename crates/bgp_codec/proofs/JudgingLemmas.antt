@@ -1,0 +1,174 @@
+-- Passes over octets that take no memory for values: what they find is what reading finds.
+use Rattle.std.proofs.Common.{◌≡◌, ℕ, zero, suc, ◌<◌, ◌≤◌, Bool, true, false, cond, List, [], ◌∷◌, ◌++◌, length, drop, Result, Ok, Err, refl, sym, ap, subst, ◌∙◌, arith, eq-eqb, ne_eqb}
+use Rattle.bgp_codec.specs.declared.fault.Fault.{Fault}
+use Rattle.bgp_codec.specs.declared.fault.CodecError.{CodecError}
+use Rattle.bgp_codec.specs.declared.fault.CodecError.TheVariants as errors
+use Rattle.std.specs.Prelude.{slice_index, nat_lt, ◌==◌, not, if◌then◌else◌}
+use Rattle.bgp_codec.specs.declared.open.Cap.{Cap}
+use Rattle.bgp_codec.specs.Opens.{value_at, cap_of, cap_at, caps_reading, param_at, open_fault}
+use Rattle.bgp_codec.specs.Reading.{◌>>=◌, Reader, all_of, Fails, Judged, IsNoWant}
+use Rattle.bgp_codec.specs.declared.attributes.Attrs.{Attrs}
+use Rattle.bgp_codec.specs.declared.message.Message.{Message}
+use Rattle.bgp_codec.specs.declared.message.Message.TheVariants.{AliveMsg}
+use Rattle.bgp_codec.specs.declared.rule.Rule.{Rule}
+use Rattle.bgp_codec.specs.Header.{kind_field}
+use Rattle.bgp_codec.specs.Faults.{notice_reading, reading}
+use Rattle.bgp_codec.specs.Opens.{is_unicast}
+use Rattle.bgp_codec.specs.Updates.{high_flags, is_known, raw_of, address_at, aggregator_of, attr_at, with_origin, with_aggregator, with_next_hop, with_other, has_code, put_raw, with_attr, attrs_from}
+use Rattle.std.proofs.lemmas.Bool.{le-ltb}
+use Rattle.bgp_codec.proofs.AttrSteps.{attrs_cut, attrs_split}
+use Rattle.bgp_codec.proofs.AttrItems.{value_by}
+use Rattle.bgp_codec.proofs.EachLemmas.{Shortens, with_front, each_go_on, each_fault, each_end}
+
+-- ---- an error
+
+-- an error that reading gives, and that is no want of memory
+pub judged_from : {Y : Type 0} (e : CodecError) (read : Result Y Fault) → Fails e read → IsNoWant e → Judged e read
+judged_from errors.Memory read f other = absurd (other refl)
+judged_from (errors.Fault first) read f other = f
+judged_from errors.TooLong read f other = f
+
+-- no error is judged so where reading gives a value
+no_fault : (Y Z : Type 0) (e : CodecError) (y : Y) (read : Result Z Fault) → Judged e (let r : Result Y Fault = Ok y in r) → Judged e read
+no_fault Y Z errors.Memory y read j = absurd j
+no_fault Y Z (errors.Fault first) y read j = absurd cc
+no_fault Y Z errors.TooLong y read j = absurd j
+
+-- the same fault of another reading
+same_fault : (Y Z : Type 0) (e : CodecError) (first : Fault) → Judged e (let r : Result Y Fault = Err first in r) → Judged e (let r : Result Z Fault = Err first in r)
+same_fault Y Z errors.Memory first j = j
+same_fault Y Z (errors.Fault f) first j = let same : first ≡ f = cc in ap Err same
+same_fault Y Z errors.TooLong first j = j
+
+-- a fault in front is the fault of what is read behind it too
+pub judged_then : {A B : Type 0} (e : CodecError) (r : Result A Fault) (f : A → Result B Fault) → Judged e r → Judged e (r >>= f)
+judged_then e (Ok x) f j = no_fault _ _ e x (f x) j
+judged_then e (Err first) f j = same_fault _ _ e first j
+
+-- ---- a loop over what is left
+
+-- some values were passed, and what is left is what is left to read
+abbrev pub Behind : {A : Type 0} → Reader A → List ℕ → List ℕ → Type 0
+Behind {A} read octets left = (front : List A) × (all_of read octets ≡ with_front front (all_of read left))
+
+module _ {A : Type 0} where
+  before_all : (r : Result (List A) Fault) → r ≡ with_front [] r
+  before_all (Ok xs) = refl
+  before_all (Err f) = refl
+
+  -- at first all is left
+  pub behind_none : (read : Reader A) (octets : List ℕ) → Behind read octets octets
+  behind_none read octets = ([], before_all (all_of read octets))
+
+  -- one value more is passed
+  pub behind_more : (read : Reader A) (octets left rest : List ℕ) (value : A) → Shortens read → read left ≡ Ok (value, rest) → Behind read octets left → Behind read octets rest
+  behind_more read octets left rest value s e b = (b.0 ++ value ∷ [], each_go_on read octets left rest b.0 value s e b.1)
+
+  -- what a pass over the value in front answers: what follows it
+  abbrev pub Passed : Reader A → List ℕ → List ℕ → Type 0
+  Passed read left rest = (v : A × List ℕ) × (read left ≡ Ok v) × (v.1 ≡ rest)
+
+  as_read : (read : Reader A) (left rest : List ℕ) → Passed read left rest → (value : A) × (read left ≡ Ok (value, rest))
+  as_read read left rest p = (p.0.0, p.1 ∙ ap (λ (r : List ℕ). Ok (p.0.0, r)) p.2)
+
+  pub behind_passed : (read : Reader A) (octets left rest : List ℕ) → Shortens read → Passed read left rest → Behind read octets left → Behind read octets rest
+  behind_passed read octets left rest s p b = let v = as_read read left rest p in behind_more read octets left rest v.0 s v.1 b
+
+  pub passed_shorter : (read : Reader A) (left rest : List ℕ) → Shortens read → Passed read left rest → length rest < length left
+  passed_shorter read left rest s p = let v = as_read read left rest p in s left v.0 rest v.1
+
+  front_judged : (e : CodecError) (front : List A) (r : Result (List A) Fault) → Judged e r → Judged e (with_front front r)
+  front_judged e front (Ok xs) j = no_fault _ _ e xs (Ok (front ++ xs)) j
+  front_judged e front (Err f) j = j
+
+  -- a fault where a value is to be read
+  left_judged : (read : Reader A) (x : ℕ) (xs : List ℕ) (e : CodecError) (r : Result (A × List ℕ) Fault) → read (x ∷ xs) ≡ r → Judged e r → Judged e (all_of read (x ∷ xs))
+  left_judged read x xs e (Ok v) is j = no_fault _ _ e v (all_of read (x ∷ xs)) j
+  left_judged read x xs e (Err f) is j = subst (Judged e) (sym (each_fault read x xs f is)) (same_fault _ _ e f j)
+
+  pub behind_stop : (read : Reader A) (octets left : List ℕ) (e : CodecError) → (length left ≡ 0 → ⊥) → Judged e (read left) → Behind read octets left → Judged e (all_of read octets)
+  behind_stop read octets [] e some j b = absurd (some refl)
+  behind_stop read octets (x ∷ xs) e some j b = subst (Judged e) (sym b.1) (front_judged e b.0 (all_of read (x ∷ xs)) (left_judged read x xs e (read (x ∷ xs)) refl j))
+
+  -- nothing is left
+  pub behind_end : (read : Reader A) (octets left : List ℕ) → length left ≡ 0 → Behind read octets left → (values : List A) × (all_of read octets ≡ Ok values) × Unit {0}
+  behind_end read octets left none b = (b.0, each_end read octets left b.0 none b.1, tt)
+
+-- ---- OPEN
+
+-- a value in front is that of a capability
+pub cap_passed : (octets value rest : List ℕ) → value_at octets ≡ Ok (value, rest) → cap_at octets ≡ Ok (cap_of (slice_index octets 0) value, rest)
+cap_passed octets value rest e = ap (λ (r : Result (List ℕ × List ℕ) Fault). r >>= λ v. Ok (cap_of (slice_index octets 0) v.0, v.1)) e
+
+-- a parameter of kind 2 whose capabilities are passed
+pub param_passed : (octets value rest : List ℕ) → value_at octets ≡ Ok (value, rest) → slice_index octets 0 ≡ 2 → ((caps : List Cap) × (caps_reading value ≡ Ok caps) × Unit {0})
+    → (y : List Cap × List ℕ) × (param_at octets ≡ Ok y) × (y.1 ≡ rest)
+param_passed octets value rest e kind p =
+    let behind : List ℕ × List ℕ → Result (List Cap × List ℕ) Fault = λ v. caps_reading v.0 >>= λ caps. Ok (caps, v.1) in
+    let two : (slice_index octets 0 == 2) ≡ true = eq-eqb (slice_index octets 0) 2 kind in (
+      (p.0, rest),
+      ap (λ (r : Result (List ℕ × List ℕ) Fault). r >>= λ v. cond (not (slice_index octets 0 == 2)) (Err (open_fault 4)) (behind v)) e
+          ∙ ap (λ (b : Bool). cond (not b) (Err (open_fault 4)) (behind (value, rest))) two
+          ∙ ap (λ (r : Result (List Cap) Fault). r >>= λ caps. Ok (caps, rest)) p.1,
+      refl,
+    )
+
+-- ---- attributes
+
+cut_judged : (a : Attrs) (left : List ℕ) (e : CodecError) (r : Result (List ℕ × List ℕ × List ℕ) Fault) → attr_at left ≡ r → (length left ≡ 0 → ⊥) → Judged e r → Judged e (attrs_from a left)
+cut_judged a left e (Ok v) is some j = no_fault _ _ e v (attrs_from a left) j
+cut_judged a left e (Err f) is some j = subst (Judged e) (sym (attrs_cut a left f some is)) (same_fault _ _ e f j)
+
+-- no whole attribute was left
+pub attrs_judged : (read : Result Attrs Fault) (a : Attrs) (left : List ℕ) (e : CodecError) → (length left ≡ 0 → ⊥) → Judged e (attr_at left) → read ≡ attrs_from a left → Judged e read
+attrs_judged read a left e some j inv = subst (Judged e) (sym inv) (cut_judged a left e (attr_at left) refl some j)
+
+-- one was refused
+pub attr_judged : (read : Result Attrs Fault) (a : Attrs) (left attr value rest : List ℕ) (e : CodecError) → attr_at left ≡ Ok (attr, value, rest) → Judged e (with_attr a attr value)
+    → read ≡ attrs_from a left → Judged e read
+attr_judged read a left attr value rest e is j inv =
+    subst (Judged e) (sym (inv ∙ attrs_split a left attr value rest is)) (judged_then e (with_attr a attr value) (λ b. attrs_from b rest) j)
+
+-- the value of a known code that passes the tests on values
+pub value_passed : (code : ℕ) (a : Attrs) (attr value : List ℕ) → (code ≡ 1 → slice_index value 0 ≤ 2) → (code ≡ 2 → ⊥) → (code ≡ 3 → is_unicast (address_at value 0) ≡ true)
+    → (b : Attrs) × (value_by code a attr value ≡ Ok b) × Unit {0}
+value_passed zero a attr value origin path hop = (_, refl, tt)
+value_passed (suc zero) a attr value origin path hop =
+    let f : nat_lt 2 (slice_index value 0) ≡ false = le-ltb 2 (slice_index value 0) (origin refl) in
+    (with_origin a (slice_index value 0), rw f refl, tt)
+value_passed (suc (suc zero)) a attr value origin path hop = absurd (path refl)
+value_passed (suc (suc (suc zero))) a attr value origin path hop = (with_next_hop a (address_at value 0), rw (hop refl) refl, tt)
+value_passed (suc (suc (suc (suc zero)))) a attr value origin path hop = (_, refl, tt)
+value_passed (suc (suc (suc (suc (suc zero))))) a attr value origin path hop = (_, refl, tt)
+value_passed (suc (suc (suc (suc (suc (suc zero)))))) a attr value origin path hop = (_, refl, tt)
+value_passed (suc (suc (suc (suc (suc (suc (suc n))))))) a attr value origin path hop =
+    let code = suc (suc (suc (suc (suc (suc (suc n)))))) in
+    let f1 : (code == 1) ≡ false = ne_eqb code 1 (λ e. omega arith) in
+    let f2 : (code == 2) ≡ false = ne_eqb code 2 (λ e. omega arith) in
+    let f3 : (code == 3) ≡ false = ne_eqb code 3 (λ e. omega arith) in
+    let f4 : (code == 4) ≡ false = ne_eqb code 4 (λ e. omega arith) in
+    let f5 : (code == 5) ≡ false = ne_eqb code 5 (λ e. omega arith) in
+    let f6 : (code == 6) ≡ false = ne_eqb code 6 (λ e. omega arith) in
+    (with_aggregator a (aggregator_of value (slice_index attr 0)), rw (f1, f2, f3, f4, f5, f6) refl, tt)
+
+-- an optional attribute of an unknown code that is not there
+pub other_passed : (a : Attrs) (attr value : List ℕ) → has_code a (slice_index attr 1) ≡ false → is_known (slice_index attr 1) ≡ false → 128 ≤ slice_index attr 0
+    → (b : Attrs) × (with_attr a attr value ≡ Ok b) × Unit {0}
+other_passed a attr value none unknown optional =
+    let f : nat_lt (slice_index attr 0) 128 ≡ false = le-ltb (slice_index attr 0) 128 optional in
+    (with_other a (put_raw (raw_of (high_flags (slice_index attr 0)) (slice_index attr 1) value) a.other), rw (none, unknown, f) refl, tt)
+
+-- ---- frames
+
+-- the body of a NOTIFICATION or of a KEEPALIVE has no fault
+last_passed : (rule : Rule) (body : List ℕ) (b : Bool) → (m : Message) × ((let r : Result Message Fault = if b then Ok (notice_reading body) else Ok AliveMsg in r) ≡ Ok m) × Unit {0}
+last_passed rule body true = (notice_reading body, refl, tt)
+last_passed rule body false = (AliveMsg, refl, tt)
+
+pub frame_passed : (rule : Rule) (octets : List ℕ) → (kind_field octets ≡ 1 → ⊥) → (kind_field octets ≡ 2 → ⊥) → (m : Message) × (reading rule octets ≡ Ok m) × Unit {0}
+unfolding reading
+frame_passed rule octets no_open no_update =
+    let f1 : (kind_field octets == 1) ≡ false = ne_eqb (kind_field octets) 1 no_open in
+    let f2 : (kind_field octets == 2) ≡ false = ne_eqb (kind_field octets) 2 no_update in
+    let p = last_passed rule (drop 19 octets) (kind_field octets == 3) in
+    (p.0, rw (f1, f2) p.1, tt)

@@ -1,0 +1,295 @@
+//! The first fault of a frame, found without memory for what is read: what is left to do where
+//! reading met want of memory, since a fault is answered before want of memory is. The only memory
+//! taken is that for the data of a fault, where they are longer than sixteen octets.
+
+ghost use Rattle.std.specs.Prelude.{◌≡◌, ◌≤◌, List, Some, Ok, false, length, slice_index};
+ghost use Rattle.bgp_codec.specs.Header.{IsFrame};
+ghost use Rattle.bgp_codec.specs.Reading.{Judges, Passes};
+ghost use Rattle.bgp_codec.specs.Judging.{Remembers, first_number};
+ghost use Rattle.bgp_codec.specs.Opens.{caps_reading, param_at, params_reading, open_reading};
+ghost use Rattle.bgp_codec.specs.Updates.{prefixes_reading, path_reading, path_numbers, has_code, with_value, with_attr, no_attrs, attrs_reading, missing, is_from, nlri_reading, parts_reading, update_reading};
+ghost use Rattle.bgp_codec.specs.Faults.{reading};
+ghost use Rattle.bgp_codec.specs.declared.attributes.Attrs.{Attrs};
+ghost use Rattle.bgp_codec.specs.declared.path.Segment.{Segment};
+
+use crate::attributes::{AS_PATH, NEXT_HOP, ORIGIN, flags_fit, is_known, read_attr, size_fits};
+use crate::fault::{CodecError, Fault, attr_fault, open_fault, update_fault};
+use crate::numbers::{address_at, octet_at};
+use crate::octets::Octets;
+use crate::open::{is_unicast, params_of, read_value};
+use crate::path::segment_parts;
+use crate::prefixes::read_prefix;
+use crate::rule::{Asn, Rule};
+use crate::update::parts_of;
+use std::alloc::Global;
+
+// ---- OPEN
+
+// Passes the capabilities that fill these octets.
+fn judge_caps(alloc: Global, octets: &[u8]) -> Result<(), CodecError>
+    ensures { Passes result (caps_reading octets.now) }
+{
+    let mut left = octets;
+    'caps: while !left.is_empty() {
+        let (_, rest) = read_value(alloc, left)?;
+        left = rest;
+    }
+    Ok(())
+}
+
+// Passes the parameter in front, and answers what follows it.
+fn judge_param(alloc: Global, octets: &[u8]) -> Result<&[u8], CodecError>
+    ensures { Judges (λ rest read. read.1 ≡ rest.now) result (param_at octets.now) }
+{
+    let (value, rest) = read_value(alloc, octets)?;
+    if octet_at(octets, 0) != 2 {
+        return Err(open_fault(alloc, 4));
+    }
+    judge_caps(alloc, value)?;
+    Ok(rest)
+}
+
+// Passes the parameters that fill these octets.
+fn judge_params(alloc: Global, octets: &[u8]) -> Result<(), CodecError>
+    ensures { Passes result (params_reading octets.now) }
+{
+    let mut left = octets;
+    'params: while !left.is_empty() {
+        let rest = judge_param(alloc, left)?;
+        left = rest;
+    }
+    Ok(())
+}
+
+// Passes the body of an OPEN.
+fn judge_open(alloc: Global, body: &[u8], rule: &Rule) -> Result<(), CodecError>
+    requires { 10 ≤ length body.now }
+    ensures { Passes result (open_reading rule.now body.now) }
+{
+    let params = params_of(alloc, body, rule)?;
+    judge_params(alloc, params)
+}
+
+// ---- UPDATE
+
+// Passes the prefixes that octets consist of.
+fn judge_prefixes(alloc: Global, octets: &[u8]) -> Result<(), CodecError>
+    ensures { Passes result (prefixes_reading octets.now) }
+{
+    let mut left = octets;
+    'prefixes: while !left.is_empty() {
+        let (_, rest) = read_prefix(alloc, left)?;
+        left = rest;
+    }
+    Ok(())
+}
+
+// Passes the segments that a path consists of.
+fn judge_path(alloc: Global, octets: &[u8]) -> Result<(), CodecError>
+    ensures { Passes result (path_reading octets.now) }
+{
+    let mut left = octets;
+    'segments: while !left.is_empty() {
+        let (_, _, rest) = segment_parts(alloc, left)?;
+        left = rest;
+    }
+    Ok(())
+}
+
+// What a pass over attributes remembers of those that came.
+#[derive(Drop)]
+struct Came {
+    // By code, whether an attribute of it came.
+    codes: [bool; 256],
+    // The first number of the path, where a path with a number came.
+    first: Option<Asn>,
+}
+
+// The first number of a path of these octets, which are good.
+fn first_asn(octets: &[u8]) -> Option<Asn>
+    ensures { (segments : List Segment) → path_reading octets.now ≡ Ok segments → result ≡ first_number (path_numbers (Some segments)) }
+{
+    match octets {
+        [_, _, high, low, ..] => Some(Asn::from(u16::from_be_bytes([*high, *low]))),
+        _ => None,
+    }
+}
+
+// Passes the value of an attribute of a known code, whose flags and length are good.
+fn judge_value(alloc: Global, attr: &[u8], value: &[u8]) -> Result<(), CodecError>
+    ensures { (a : Attrs) → Passes result (with_value a attr.now value.now) }
+{
+    let code = octet_at(attr, 1);
+    if code == ORIGIN && octet_at(value, 0) > 2 {
+        return Err(attr_fault(alloc, 6, attr));
+    }
+    if code == NEXT_HOP && !is_unicast(address_at(value, 0)) {
+        return Err(attr_fault(alloc, 8, attr));
+    }
+    if code == AS_PATH {
+        return judge_path(alloc, value);
+    }
+    Ok(())
+}
+
+// Passes an attribute whose code did not come before: an unknown one is optional, then the flags,
+// the length and the value by the table.
+fn judge_new(alloc: Global, attr: &[u8], value: &[u8]) -> Result<(), CodecError>
+    ensures { (a : Attrs) → has_code a (slice_index attr.now 1) ≡ false → Passes result (with_attr a attr.now value.now) }
+{
+    let (flags, code) = (octet_at(attr, 0), octet_at(attr, 1));
+    if !is_known(code) {
+        if flags < 0x80 {
+            return Err(attr_fault(alloc, 2, attr));
+        }
+        return Ok(());
+    }
+    if !flags_fit(code, flags) {
+        return Err(attr_fault(alloc, 4, attr));
+    }
+    if !size_fits(code, value.len()) {
+        return Err(attr_fault(alloc, 5, attr));
+    }
+    judge_value(alloc, attr, value)
+}
+
+// Remembers an attribute that was passed.
+fn remember(came: &mut Came, attr: &[u8], value: &[u8])
+    ensures { (a b : Attrs) → Remembers came.old a → with_attr a attr.now value.now ≡ Ok b → Remembers came.new b }
+{
+    let code = octet_at(attr, 1);
+    came.codes[code as usize] = true;
+    if code == AS_PATH {
+        came.first = first_asn(value);
+    }
+}
+
+// Passes one attribute more: no repeat of a code, then what it says alone.
+fn judge_attr(alloc: Global, came: &mut Came, attr: &[u8], value: &[u8]) -> Result<(), CodecError>
+    ensures { (a : Attrs) → Remembers came.old a → Judges (λ _ b. Remembers came.new b) result (with_attr a attr.now value.now) }
+{
+    if came.codes[octet_at(attr, 1) as usize] {
+        return Err(update_fault(alloc, 1));
+    }
+    judge_new(alloc, attr, value)?;
+    remember(came, attr, value);
+    Ok(())
+}
+
+// What is remembered where no attribute came.
+fn nothing_came() -> Came
+    ensures { Remembers result no_attrs }
+{
+    Came {
+        codes: [false; 256],
+        first: None,
+    }
+}
+
+// Passes the attributes that octets consist of, and answers what is remembered of them.
+fn judge_attrs(alloc: Global, octets: &[u8]) -> Result<Came, CodecError>
+    ensures { Judges (λ came a. Remembers came a) result (attrs_reading octets.now) }
+{
+    let mut came = nothing_came();
+    let mut left = octets;
+    'attrs: while !left.is_empty() {
+        let (attr, value, rest) = read_attr(alloc, left)?;
+        judge_attr(alloc, &mut came, attr, value)?;
+        left = rest;
+    }
+    Ok(came)
+}
+
+// The first of ORIGIN, AS_PATH and NEXT_HOP that did not come.
+fn missing(came: &Came) -> Option<u8>
+    ensures { (a : Attrs) → Remembers came.now a → result ≡ missing a }
+{
+    if !came.codes[ORIGIN as usize] {
+        Some(ORIGIN)
+    } else if !came.codes[AS_PATH as usize] {
+        Some(AS_PATH)
+    } else if !came.codes[NEXT_HOP as usize] {
+        Some(NEXT_HOP)
+    } else {
+        None
+    }
+}
+
+// Whether the first number of the path is the peer's, where a peer is named.
+fn is_from(peer: Option<Asn>, came: &Came) -> bool
+    ensures { (a : Attrs) → Remembers came.now a → result ≡ is_from peer a }
+{
+    match (peer, came.first) {
+        (None, _) => true,
+        (Some(_), None) => false,
+        (Some(asn), Some(first)) => first == asn,
+    }
+}
+
+// Passes the announced prefixes: what is mandatory came, then the prefixes, then the peer.
+fn judge_nlri(
+    alloc: Global,
+    peer: Option<Asn>,
+    came: &Came,
+    octets: &[u8],
+) -> Result<(), CodecError>
+    ensures { (a : Attrs) → Remembers came.now a → Passes result (nlri_reading peer a octets.now) }
+{
+    if octets.is_empty() {
+        return Ok(());
+    }
+    if let Some(code) = missing(came) {
+        return Err(CodecError::Fault(Fault {
+            code: 3,
+            sub: 3,
+            extra: Octets::short(alloc, &[code]),
+        }));
+    }
+    judge_prefixes(alloc, octets)?;
+    if !is_from(peer, came) {
+        return Err(update_fault(alloc, 11));
+    }
+    Ok(())
+}
+
+// Passes the three parts, each of them after the other.
+fn judge_parts(
+    alloc: Global,
+    peer: Option<Asn>,
+    withdrawn: &[u8],
+    attrs: &[u8],
+    nlri: &[u8],
+) -> Result<(), CodecError>
+    ensures { Passes result (parts_reading peer withdrawn.now attrs.now nlri.now) }
+{
+    judge_prefixes(alloc, withdrawn)?;
+    let came = judge_attrs(alloc, attrs)?;
+    judge_nlri(alloc, peer, &came, nlri)
+}
+
+// Passes the body of an UPDATE.
+fn judge_update(alloc: Global, body: &[u8], peer: Option<Asn>) -> Result<(), CodecError>
+    requires { 4 ≤ length body.now }
+    ensures { Passes result (update_reading peer body.now) }
+{
+    let (withdrawn, attrs, nlri) = parts_of(alloc, body)?;
+    judge_parts(alloc, peer, withdrawn, attrs, nlri)
+}
+
+// ---- frames
+
+// Passes a frame: its first fault is answered, or want of memory where the data of that fault are
+// longer than sixteen octets and memory for them was refused.
+#[tactic(auto, unfolding(crate::specs::Faults::reading))]
+#[inline(never)]
+pub(crate) fn judge(alloc: Global, frame: &[u8], rule: &Rule) -> Result<(), CodecError>
+    requires { IsFrame frame.now }
+    ensures { Passes result (reading rule.now frame.now) }
+{
+    let (_, body) = frame.split_at(19);
+    match frame[18] {
+        1 => judge_open(alloc, body, rule),
+        2 => judge_update(alloc, body, rule.peer),
+        _ => Ok(()),
+    }
+}
