@@ -57,11 +57,9 @@ pub fn decode(alloc: Global, frame: &[u8], rule: &Rule) -> Result<Message, Codec
 {
     a_prefix_is_its_bits();
     masking_clears_bits();
-    match read(alloc, frame, rule) {
-        Err(CodecError::Memory) => {
-            judge(alloc, frame, rule)?;
-            Err(CodecError::Memory)
-        }
-        other => other,
+    let message = read(alloc, frame, rule);
+    if matches!(message, Err(CodecError::Memory)) {
+        judge(alloc, frame, rule)?;
     }
+    message
 }
