@@ -36,10 +36,10 @@ fn read(alloc: Global, frame: &[u8], rule: &Rule) -> Result<Message, CodecError>
 /// The message that a frame spells, or its first fault. A frame is the octets of one message whose
 /// header is good and whose length is theirs.
 ///
-/// It refuses with the frame's first fault (RFC 4271 section 6), and only a frame without a fault
-/// for want of memory: [`CodecError::Memory`] stands in place of a fault only where the fault's own
-/// data have more than sixteen octets and a growth for them was refused. A KEEPALIVE, and a
-/// NOTIFICATION of at most sixteen octets of data, take no memory.
+/// It refuses a frame that has faults with the first one (RFC 4271 section 6), and one that has none
+/// only for want of memory. In place of a fault [`CodecError::Memory`] stands only where the fault's
+/// own data have more than sixteen octets and found no memory. A KEEPALIVE, and a NOTIFICATION of at
+/// most sixteen octets of data, is never refused.
 pub fn decode(alloc: Global, frame: &[u8], rule: &Rule) -> Result<Message, CodecError>
     requires { IsFrame frame.now }
     // What is answered is spelt so.
