@@ -19,5 +19,6 @@ pub mod UpdateLoops
 pub mod UpdateLaws
 pub mod WritingLemmas
 pub mod ReadingLemmas
+pub mod ReadWritable
 pub mod JudgingLemmas
 pub mod JudgingAttrs

@@ -69,3 +69,7 @@ WrittenIsSpelt = (rule : Rule) (message : Message) → rule.peer ≡ None → Is
 abbrev pub WrittenIsRead : Type 0
 WrittenIsRead = (rule : Rule) (message : Message) → rule.peer ≡ None → IsWritable rule message → length (written message) ≤ 4096
     → IsFrame (written message) × (reading rule (written message) ≡ Ok message)
+
+-- what is spelt is writable, and what is written is no longer
+abbrev pub SpeltIsWritable : Type 0
+SpeltIsWritable = (rule : Rule) (octets : List ℕ) (message : Message) → Spells rule octets message → IsWritable rule message × (length (written message) ≤ length octets)

@@ -2,7 +2,7 @@
 //! above this crate calls the function whose law it needs.
 
 ghost use Rattle.bgp_codec.specs.Header.{HeaderIsItsFront, HeaderFaultIsShort};
-ghost use Rattle.bgp_codec.specs.Faults.{OneMessageOrFault, FaultFitsAMessage, WrittenIsSpelt, WrittenIsRead};
+ghost use Rattle.bgp_codec.specs.Faults.{OneMessageOrFault, FaultFitsAMessage, WrittenIsSpelt, WrittenIsRead, SpeltIsWritable};
 
 use prefix_lanes::{a_prefix_is_its_bits, masking_clears_bits};
 
@@ -28,6 +28,12 @@ pub fn written_is_read()
     a_prefix_is_its_bits();
     masking_clears_bits();
 }
+
+/// A message that some octets spell is writable under that rule, and the spelling that is written
+/// has no more octets than they have: so what was read can be written.
+pub fn spelt_is_writable()
+    ensures { SpeltIsWritable }
+{}
 
 /// The checks of a header and its Length look at the first nineteen octets alone.
 pub fn header_is_its_front()
