@@ -1,18 +1,13 @@
 -- Passes over octets that take no memory for values: what they find is what reading finds.
-use Rattle.std.proofs.Common.{◌≡◌, ℕ, zero, suc, ◌<◌, ◌≤◌, Bool, true, false, cond, List, [], ◌∷◌, ◌++◌, length, drop, Result, Ok, Err, refl, sym, ap, subst, ◌∙◌, arith, eq-eqb, ne_eqb}
+use Rattle.std.proofs.Common.{◌≡◌, ℕ, zero, suc, ◌<◌, ◌≤◌, Bool, true, false, cond, List, [], ◌∷◌, ◌++◌, length, Result, Ok, Err, refl, sym, ap, subst, ◌∙◌, arith, eq-eqb, ne_eqb}
 use Rattle.bgp_codec.specs.declared.fault.Fault.{Fault}
 use Rattle.bgp_codec.specs.declared.fault.CodecError.{CodecError}
 use Rattle.bgp_codec.specs.declared.fault.CodecError.TheVariants as errors
-use Rattle.std.specs.Prelude.{slice_index, nat_lt, ◌==◌, not, if◌then◌else◌}
+use Rattle.std.specs.Prelude.{slice_index, nat_lt, ◌==◌, not}
 use Rattle.bgp_codec.specs.declared.open.Cap.{Cap}
 use Rattle.bgp_codec.specs.Opens.{value_at, cap_of, cap_at, caps_reading, param_at, open_fault}
 use Rattle.bgp_codec.specs.Reading.{◌>>=◌, Reader, all_of, Fails, Judged, IsNoWant}
 use Rattle.bgp_codec.specs.declared.attributes.Attrs.{Attrs}
-use Rattle.bgp_codec.specs.declared.message.Message.{Message}
-use Rattle.bgp_codec.specs.declared.message.Message.TheVariants.{AliveMsg}
-use Rattle.bgp_codec.specs.declared.rule.Rule.{Rule}
-use Rattle.bgp_codec.specs.Header.{kind_field}
-use Rattle.bgp_codec.specs.Faults.{notice_reading, reading}
 use Rattle.bgp_codec.specs.Opens.{is_unicast}
 use Rattle.bgp_codec.specs.Updates.{high_flags, is_known, raw_of, address_at, aggregator_of, attr_at, with_origin, with_aggregator, with_next_hop, with_other, has_code, put_raw, with_attr, attrs_from}
 use Rattle.std.proofs.lemmas.Bool.{le-ltb}
@@ -157,18 +152,3 @@ pub other_passed : (a : Attrs) (attr value : List ℕ) → has_code a (slice_ind
 other_passed a attr value none unknown optional =
     let f : nat_lt (slice_index attr 0) 128 ≡ false = le-ltb (slice_index attr 0) 128 optional in
     (with_other a (put_raw (raw_of (high_flags (slice_index attr 0)) (slice_index attr 1) value) a.other), rw (none, unknown, f) refl, tt)
-
--- ---- frames
-
--- the body of a NOTIFICATION or of a KEEPALIVE has no fault
-last_passed : (rule : Rule) (body : List ℕ) (b : Bool) → (m : Message) × ((let r : Result Message Fault = if b then Ok (notice_reading body) else Ok AliveMsg in r) ≡ Ok m) × Unit {0}
-last_passed rule body true = (notice_reading body, refl, tt)
-last_passed rule body false = (AliveMsg, refl, tt)
-
-pub frame_passed : (rule : Rule) (octets : List ℕ) → (kind_field octets ≡ 1 → ⊥) → (kind_field octets ≡ 2 → ⊥) → (m : Message) × (reading rule octets ≡ Ok m) × Unit {0}
-unfolding reading
-frame_passed rule octets no_open no_update =
-    let f1 : (kind_field octets == 1) ≡ false = ne_eqb (kind_field octets) 1 no_open in
-    let f2 : (kind_field octets == 2) ≡ false = ne_eqb (kind_field octets) 2 no_update in
-    let p = last_passed rule (drop 19 octets) (kind_field octets == 3) in
-    (p.0, rw (f1, f2) p.1, tt)

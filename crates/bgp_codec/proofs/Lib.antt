@@ -22,3 +22,4 @@ pub mod ReadingLemmas
 pub mod ReadWritable
 pub mod JudgingLemmas
 pub mod JudgingAttrs
+pub mod DecodingLemmas

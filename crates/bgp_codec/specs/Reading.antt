@@ -1,5 +1,5 @@
 -- Readers: functions from octets to a value, or to the first fault that is met from left to right.
-use Rattle.std.specs.Prelude.{◌≡◌, ◌<◌, ◌≢◌, ℕ, zero, suc, List, [], ◌∷◌, length, Result, Ok, Err}
+use Rattle.std.specs.Prelude.{◌≡◌, ◌<◌, ◌≢◌, ◌⊎◌, ℕ, zero, suc, List, [], ◌∷◌, length, Result, Ok, Err}
 use Rattle.bgp_codec.specs.declared.fault.Fault.{Fault}
 use Rattle.bgp_codec.specs.declared.fault.CodecError.{CodecError}
 use Rattle.bgp_codec.specs.declared.fault.CodecError.TheVariants as errors
@@ -65,3 +65,15 @@ Passes result read = Judges (λ x y. Unit {0}) result read
 -- an error is no want of memory
 abbrev pub IsNoWant : CodecError → Type 0
 IsNoWant error = error ≢ errors.Memory
+
+-- ---- what decoding answers
+
+-- an error is the fault that reading gives, and want of memory stands in its place only where its own data take memory; where reading gives a value it is want of memory
+abbrev pub Refuses : {Y : Type 0} → CodecError → Result Y Fault → Type 0
+Refuses e (Ok y) = e ≡ errors.Memory
+Refuses e (Err first) = (e ≡ errors.Fault first) ⊎ ((e ≡ errors.Memory) × (16 < length first.extra))
+
+-- a value is the one that reading gives, an error is a refusal of what it gives
+abbrev pub Decodes : {Y : Type 0} → Result Y CodecError → Result Y Fault → Type 0
+Decodes (Ok y) read = read ≡ Ok y
+Decodes (Err e) read = Refuses e read

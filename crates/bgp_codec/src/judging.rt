@@ -1,14 +1,12 @@
-//! The first fault of a frame, found without memory for what is read: what is left to do where
+//! The first fault of a body, found without memory for what is read: what is left to do where
 //! reading met want of memory, since a fault is answered before want of memory is. The only memory
 //! taken is that for the data of a fault, where they are longer than sixteen octets.
 
 ghost use Rattle.std.specs.Prelude.{◌≡◌, ◌≤◌, List, Some, Ok, false, length, slice_index};
-ghost use Rattle.bgp_codec.specs.Header.{IsFrame};
 ghost use Rattle.bgp_codec.specs.Reading.{Judges, Passes};
 ghost use Rattle.bgp_codec.specs.Judging.{Remembers, first_number};
 ghost use Rattle.bgp_codec.specs.Opens.{caps_reading, param_at, params_reading, open_reading};
 ghost use Rattle.bgp_codec.specs.Updates.{prefixes_reading, path_reading, path_numbers, has_code, with_value, with_attr, no_attrs, attrs_reading, missing, is_from, nlri_reading, parts_reading, update_reading};
-ghost use Rattle.bgp_codec.specs.Faults.{reading};
 ghost use Rattle.bgp_codec.specs.declared.attributes.Attrs.{Attrs};
 ghost use Rattle.bgp_codec.specs.declared.path.Segment.{Segment};
 
@@ -61,8 +59,9 @@ fn judge_params(alloc: Global, octets: &[u8]) -> Result<(), CodecError>
     Ok(())
 }
 
-// Passes the body of an OPEN.
-fn judge_open(alloc: Global, body: &[u8], rule: &Rule) -> Result<(), CodecError>
+// Passes the body of an OPEN: its first fault is answered, or want of memory where the data of that
+// fault are longer than sixteen octets and memory for them was refused.
+pub(crate) fn judge_open(alloc: Global, body: &[u8], rule: &Rule) -> Result<(), CodecError>
     requires { 10 ≤ length body.now }
     ensures { Passes result (open_reading rule.now body.now) }
 {
@@ -267,29 +266,11 @@ fn judge_parts(
     judge_nlri(alloc, peer, &came, nlri)
 }
 
-// Passes the body of an UPDATE.
-fn judge_update(alloc: Global, body: &[u8], peer: Option<Asn>) -> Result<(), CodecError>
+// Passes the body of an UPDATE, as that of an OPEN is passed.
+pub(crate) fn judge_update(alloc: Global, body: &[u8], peer: Option<Asn>) -> Result<(), CodecError>
     requires { 4 ≤ length body.now }
     ensures { Passes result (update_reading peer body.now) }
 {
     let (withdrawn, attrs, nlri) = parts_of(alloc, body)?;
     judge_parts(alloc, peer, withdrawn, attrs, nlri)
-}
-
-// ---- frames
-
-// Passes a frame: its first fault is answered, or want of memory where the data of that fault are
-// longer than sixteen octets and memory for them was refused.
-#[tactic(auto, unfolding(crate::specs::Faults::reading))]
-#[inline(never)]
-pub(crate) fn judge(alloc: Global, frame: &[u8], rule: &Rule) -> Result<(), CodecError>
-    requires { IsFrame frame.now }
-    ensures { Passes result (reading rule.now frame.now) }
-{
-    let (_, body) = frame.split_at(19);
-    match frame[18] {
-        1 => judge_open(alloc, body, rule),
-        2 => judge_update(alloc, body, rule.peer),
-        _ => Ok(()),
-    }
 }

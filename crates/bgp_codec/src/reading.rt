@@ -1,33 +1,69 @@
 //! From octets to messages.
 
 ghost use Rattle.std.specs.Prelude.{◌≡◌, ◌⊎◌, ◌≤◌, ◌<◌, length, IsOk, IfOk, IfErr, IfSome, Err};
+ghost use Rattle.bgp_codec.specs.declared.message.Message.TheVariants.{OpenMsg, UpdateMsg};
 ghost use Rattle.bgp_codec.specs.Header.{IsFrame, kind_field};
-ghost use Rattle.bgp_codec.specs.Reading.{Gives};
+ghost use Rattle.bgp_codec.specs.Reading.{Decodes, Gives};
 ghost use Rattle.bgp_codec.specs.Spelling.{Spells};
-ghost use Rattle.bgp_codec.specs.Faults.{reading, fault, RefusesAs};
+ghost use Rattle.bgp_codec.specs.Opens.{open_reading};
+ghost use Rattle.bgp_codec.specs.Updates.{update_reading};
+ghost use Rattle.bgp_codec.specs.Faults.{read_as, reading, fault, RefusesAs};
 
 use crate::fault::CodecError;
-use crate::judging::judge;
+use crate::judging::{judge_open, judge_update};
 use crate::message::Message;
 use crate::notice::read_notice;
 use crate::open::read_open;
-use crate::rule::Rule;
+use crate::rule::{Asn, Rule};
 use crate::update::read_update;
 use prefix_lanes::{a_prefix_is_its_bits, masking_clears_bits};
 use std::alloc::Global;
 
-// The message that a frame spells, or its first fault, unless it met want of memory before.
+// The OPEN of a body, or its first fault: where reading met want of memory before one, the octets
+// are passed over again without memory.
+#[inline(never)]
+fn decode_open(alloc: Global, body: &[u8], rule: &Rule) -> Result<Message, CodecError>
+    requires { 10 ≤ length body.now }
+    ensures { Decodes result (read_as OpenMsg (open_reading rule.now body.now)) }
+{
+    match read_open(alloc, body, rule) {
+        Ok(open) => Ok(Message::OpenMsg(open)),
+        Err(CodecError::Memory) => {
+            judge_open(alloc, body, rule)?;
+            Err(CodecError::Memory)
+        }
+        Err(error) => Err(error),
+    }
+}
+
+// The UPDATE of a body, or its first fault, looked for as that of an OPEN is.
+#[inline(never)]
+fn decode_update(alloc: Global, body: &[u8], peer: Option<Asn>) -> Result<Message, CodecError>
+    requires { 4 ≤ length body.now }
+    ensures { Decodes result (read_as UpdateMsg (update_reading peer body.now)) }
+{
+    match read_update(alloc, body, peer) {
+        Ok(update) => Ok(Message::UpdateMsg(update)),
+        Err(CodecError::Memory) => {
+            judge_update(alloc, body, peer)?;
+            Err(CodecError::Memory)
+        }
+        Err(error) => Err(error),
+    }
+}
+
+// The message that a frame spells, or its first fault, by its type.
 #[tactic(auto, unfolding(crate::specs::Faults::reading))]
-fn read(alloc: Global, frame: &[u8], rule: &Rule) -> Result<Message, CodecError>
+fn decode_by_type(alloc: Global, frame: &[u8], rule: &Rule) -> Result<Message, CodecError>
     requires { IsFrame frame.now }
-    ensures gives { Gives (λ message. message) result (reading rule.now frame.now) }
+    ensures decodes { Decodes result (reading rule.now frame.now) }
     ensures alive { kind_field frame.now ≡ 4 → IsOk result }
     ensures short { kind_field frame.now ≡ 3 → length frame.now ≤ 37 → IsOk result }
 {
     let (_, body) = frame.split_at(19);
     match frame[18] {
-        1 => Ok(Message::OpenMsg(read_open(alloc, body, rule)?)),
-        2 => Ok(Message::UpdateMsg(read_update(alloc, body, rule.peer)?)),
+        1 => decode_open(alloc, body, rule),
+        2 => decode_update(alloc, body, rule.peer),
         3 => read_notice(alloc, body),
         _ => Ok(Message::AliveMsg),
     }
@@ -57,9 +93,5 @@ pub fn decode(alloc: Global, frame: &[u8], rule: &Rule) -> Result<Message, Codec
 {
     a_prefix_is_its_bits();
     masking_clears_bits();
-    let message = read(alloc, frame, rule);
-    if matches!(message, Err(CodecError::Memory)) {
-        judge(alloc, frame, rule)?;
-    }
-    message
+    decode_by_type(alloc, frame, rule)
 }

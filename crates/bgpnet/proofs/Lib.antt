@@ -3,3 +3,4 @@ pub mod PrintingLemmas
 pub mod WritingLemmas
 pub mod CheckLemmas
 pub mod PlaceLemmas
+pub mod BlankLemmas

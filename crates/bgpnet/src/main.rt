@@ -11,6 +11,7 @@
 #![tactic(auto)]
 
 mod assignments;
+mod blanks;
 mod channel;
 mod command_line;
 mod digits;

@@ -2,25 +2,62 @@
 //! prints. Each call appends whole lines, with their ends; a refused call changes nothing.
 
 ghost use Rattle.std.specs.Prelude.{◌≡◌, ◌++◌, ◌≤◌, length, OnOk, OnErr};
-ghost use Rattle.net_text.specs.Printing.{line, message_line, fault_lines, truncated_line, refused_line, unstable_line, stable_line};
+ghost use Rattle.net_text.specs.Printing.{line, open_line, update_line, notice_line, message_line, fault_lines, truncated_line, refused_line, unstable_line, stable_line};
 
 use crate::checks::{put_refused, put_unstable};
-use crate::messages::{put_fault, put_message, put_truncated};
+use crate::messages::{put_fault, put_notice, put_open, put_truncated};
 use crate::tail::Tail;
-use bgp_codec::{Fault, Message};
+use crate::updates::put_update;
+use bgp_codec::{Fault, Message, Notice, Open, Update};
 use ranked_policy::Asn;
 use std::alloc::AllocError;
 
+// Appends the line of an OPEN.
+fn open_line(message: &Open, out: &mut Vec<u8>) -> Result<(), AllocError>
+    ensures ok { OnOk result (out.new.items ≡ out.old.items ++ line (open_line message.now)) }
+    ensures err { OnErr result (out.new.items ≡ out.old.items) }
+{
+    let mut tail = Tail::behind(out);
+    let result = put_open(&mut tail, message);
+    *out = tail.finish(result.is_ok());
+    result
+}
+
+// Appends the line of an UPDATE.
+fn update_line(message: &Update, out: &mut Vec<u8>) -> Result<(), AllocError>
+    ensures ok { OnOk result (out.new.items ≡ out.old.items ++ line (update_line message.now)) }
+    ensures err { OnErr result (out.new.items ≡ out.old.items) }
+{
+    let mut tail = Tail::behind(out);
+    let result = put_update(&mut tail, message);
+    *out = tail.finish(result.is_ok());
+    result
+}
+
+// Appends the line of a NOTIFICATION.
+fn notice_line(message: &Notice, out: &mut Vec<u8>) -> Result<(), AllocError>
+    ensures ok { OnOk result (out.new.items ≡ out.old.items ++ line (notice_line message.now)) }
+    ensures err { OnErr result (out.new.items ≡ out.old.items) }
+{
+    let mut tail = Tail::behind(out);
+    let result = put_notice(&mut tail, message);
+    *out = tail.finish(result.is_ok());
+    result
+}
+
 /// Appends the line of a message (RFC 4271 section 4): its kind, then what it says. It is refused
 /// only where memory was, and then changes nothing.
+#[tactic(auto, unfolding(crate::specs::Printing::message_line))]
 pub fn message_line(message: &Message, out: &mut Vec<u8>) -> Result<(), AllocError>
     ensures ok { OnOk result (out.new.items ≡ out.old.items ++ line (message_line message.now)) }
     ensures err { OnErr result (out.new.items ≡ out.old.items) }
 {
-    let mut tail = Tail::behind(out);
-    let result = put_message(&mut tail, message);
-    *out = tail.finish(result.is_ok());
-    result
+    match message {
+        Message::OpenMsg(message) => open_line(message, out),
+        Message::UpdateMsg(message) => update_line(message, out),
+        Message::NoticeMsg(message) => notice_line(message, out),
+        Message::AliveMsg => out.extend_from_slice(b"keepalive\n"),
+    }
 }
 
 /// Appends the two lines of a fault: its codes, and in hex the NOTIFICATION that tells of it

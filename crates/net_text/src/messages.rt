@@ -5,26 +5,11 @@
 ghost use Rattle.std.specs.Prelude.{◌≡◌, ◌++◌, ◌∷◌, [], ◌≤◌, length, IfOk, OnOk};
 ghost use Rattle.std.specs.List.{flat_map};
 ghost use Rattle.bgp_codec.specs.Spelling.{written};
-ghost use Rattle.net_text.specs.Printing.{line, message_line, open_line, cap_text, param_text, notice_line, notice_of, fault_lines, truncated_line};
+ghost use Rattle.net_text.specs.Printing.{line, open_line, cap_text, param_text, notice_line, notice_of, fault_lines, truncated_line};
 
 use crate::tail::Tail;
-use crate::updates::put_update;
 use bgp_codec::{Cap, Fault, Items, Message, NOBODY, Notice, Open, encode, notice_of};
 use std::alloc::{AllocError, Global};
-
-/// Appends the line of a message.
-#[tactic(auto, unfolding(crate::specs::Printing::message_line))]
-pub fn put_message(out: &mut Tail, message: &Message) -> Result<(), AllocError>
-    ensures text { OnOk result (out.new.text ≡ out.old.text ++ line (message_line message.now)) }
-    ensures front { out.new.front ≡ out.old.front }
-{
-    match message {
-        Message::OpenMsg(message) => put_open(out, message),
-        Message::UpdateMsg(message) => put_update(out, message),
-        Message::NoticeMsg(notice) => put_notice(out, notice),
-        Message::AliveMsg => out.put_text(b"keepalive\n"),
-    }
-}
 
 // Appends a capability.
 #[tactic(auto, unfolding(crate::specs::Printing::cap_text))]
@@ -60,9 +45,10 @@ fn put_params(out: &mut Tail, params: &[Items<Cap>]) -> Result<(), AllocError>
     Ok(())
 }
 
+/// Appends the line of an OPEN.
 #[tactic(auto, unfolding(crate::specs::Printing::open_line))]
 #[inline(never)]
-fn put_open(out: &mut Tail, message: &Open) -> Result<(), AllocError>
+pub fn put_open(out: &mut Tail, message: &Open) -> Result<(), AllocError>
     ensures text { OnOk result (out.new.text ≡ out.old.text ++ line (open_line message.now)) }
     ensures front { out.new.front ≡ out.old.front }
 {
@@ -76,8 +62,9 @@ fn put_open(out: &mut Tail, message: &Open) -> Result<(), AllocError>
     out.put_text(b"\n")
 }
 
+/// Appends the line of a NOTIFICATION.
 #[tactic(auto, unfolding(crate::specs::Printing::notice_line))]
-fn put_notice(out: &mut Tail, notice: &Notice) -> Result<(), AllocError>
+pub fn put_notice(out: &mut Tail, notice: &Notice) -> Result<(), AllocError>
     ensures text { OnOk result (out.new.text ≡ out.old.text ++ line (notice_line notice.now)) }
     ensures front { out.new.front ≡ out.old.front }
 {

@@ -1,6 +1,6 @@
 //! The first fault of a frame, with and without memory for what stands before it.
 
-use crate::judging::judge;
+use crate::judging::{judge_open, judge_update};
 use crate::rule::NOBODY;
 use crate::*;
 use std::alloc::{AllocError, Global};
@@ -34,6 +34,15 @@ struct Answered {
     judged: Result<(), CodecError>,
 }
 
+// The pass over the body of a frame, where its type has checks of its own.
+fn judge(alloc: Global, kind: u8, frame: &[u8], rule: &Rule) -> Result<(), CodecError> {
+    match kind {
+        1 if frame.len() >= 29 => judge_open(alloc, &frame[19..], rule),
+        2 if frame.len() >= 23 => judge_update(alloc, &frame[19..], rule.peer),
+        _ => Ok(()),
+    }
+}
+
 // None where the octets are no frame.
 fn ask_both(alloc: Global, octets: &[u8], rule: &Rule) -> Option<Answered> {
     laws::header_is_its_front();
@@ -48,7 +57,7 @@ fn ask_both(alloc: Global, octets: &[u8], rule: &Rule) -> Option<Answered> {
     }
     Some(Answered {
         read: decode(alloc, octets, rule),
-        judged: judge(alloc, octets, rule),
+        judged: judge(alloc, header.kind, octets, rule),
     })
 }
 

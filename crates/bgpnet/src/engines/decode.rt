@@ -1,10 +1,11 @@
 //! `bgpnet decode`: a stream of BGP octets in hex, as lines.
 
-ghost use Rattle.std.specs.Prelude.{◌≡◌, ◌⊎◌, IfOk, OnOk, OnErr, true, filter, not};
-ghost use Rattle.bgpnet.specs.Decoding.{output, is_blank, DecodeGives};
+ghost use Rattle.std.specs.Prelude.{◌≡◌, ◌⊎◌, IfOk, OnOk, OnErr, true};
+ghost use Rattle.bgpnet.specs.Decoding.{output, DecodeGives};
 ghost use Rattle.bgpnet.specs.Engine.{Printed, PrintedFront};
 
 use super::{INPUT_LIMIT, InputError, read_input, want_of_memory, write_out};
+use crate::blanks::remove_blanks;
 use crate::channel::{IoStopped, Sink, Source};
 use crate::digits::read_hex;
 use crate::status::REFUSED;
@@ -12,19 +13,6 @@ use crate::stream::stream_output;
 use bgp_codec::Rule;
 use hex::FromHexError;
 use std::alloc::{AllocError, Global};
-
-fn is_blank(octet: u8) -> bool
-    ensures { result ≡ is_blank octet }
-{
-    octet == b' ' || octet == b'\t' || octet == b'\r' || octet == b'\n'
-}
-
-// Takes the blanks out of a text, in its place.
-fn remove_blanks(text: &mut Vec<u8>)
-    ensures { text.new.items ≡ filter (λ octet. not (is_blank octet)) text.old.items }
-{
-    text.retain(|octet| !is_blank(*octet));
-}
 
 // What is printed for an input, and the status.
 fn decode_output(alloc: Global, rule: &Rule, input: Vec<u8>) -> Result<(Vec<u8>, u8), AllocError>

@@ -1,4 +1,4 @@
-use Rattle.std.proofs.Common.{◌≡◌, ◌∷◌, List, map, ap, subst, sym, ◌∙◌}
+use Rattle.std.proofs.Common.{List, map, subst}
 use Rattle.net_text.specs.Lexing.{Text, words_of}
 use Rattle.net_text.specs.Words.{path_of}
 use Rattle.net_text.proofs.RepeatLemmas.{IsCame, came_on, came_twice, was_absent, was_there, repeats}

@@ -6,8 +6,3 @@ pub decode-requires : goal.decode-requires
 decode-requires c =
     let good = c.in-Ok.ensures.good in
     is_frame c.args.octets.now c.in-Some.first.now c.in-Some.ensures.cases.enough c.in-Some.ensures.cases.same good.0 (omega (arith, good.1, c.if-octets-header.false))
-
-pub judge-requires : goal.judge-requires
-judge-requires c =
-    let good = c.in-Ok.ensures.good in
-    is_frame c.args.octets.now c.in-Some.first.now c.in-Some.ensures.cases.enough c.in-Some.ensures.cases.same good.0 (omega (arith, good.1, c.if-octets-header.false))
