@@ -8,7 +8,8 @@ pub type Asn = u32;
 pub enum Width {
     /// Two octets (RFC 4271).
     Two,
-    /// Four octets (RFC 6793).
+    /// Four octets (RFC 6793). Readers and writers do not look at it yet: they take numbers of two
+    /// octets under either width, and their contracts say so.
     Four,
 }
 

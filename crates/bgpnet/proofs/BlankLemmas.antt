@@ -1,17 +1,15 @@
 -- A turn more of the loops that look for blanks and take them out.
-use Rattle.std.proofs.Common.{◌≡◌, ℕ, zero, suc, ◌+◌, ◌-◌, ◌<◌, ◌≤◌, true, false, List, [], ◌∷◌, ◌++◌, length, get_or, set, take, drop, not, refl, sym, ap, subst, ◌∙◌, arith, ne_eqb}
-use Rattle.std.specs.Prelude.{min, filter}
-use Rattle.std.specs.List.{All, copy_within}
+use Rattle.std.proofs.Common.{◌≡◌, ℕ, zero, suc, Bool, ◌+◌, ◌-◌, ◌<◌, ◌≤◌, true, false, List, [], ◌∷◌, ◌++◌, length, get_or, set, take, drop, not, refl, sym, ap, subst, ◌∙◌, arith, ne_eqb}
+use Rattle.std.specs.Prelude.{nat_le, nat_lt, ◌&&◌, filter}
+use Rattle.std.proofs.lemmas.Bool.{leb-true, ltb-true}
+use Rattle.std.specs.List.{All, list_all, copy_within}
 use Rattle.std.proofs.Math.Seq.{take-add, paste}
 use Rattle.std.proofs.lemmas.List.{length-drop, get_or_default}
 use Rattle.std.proofs.lemmas.List.Edits.{take-paste, drop-paste, length-paste}
-use Rattle.std.proofs.lemmas.List.Elements.{All-more, All-head, All-tail, filter-append}
+use Rattle.std.proofs.lemmas.List.Elements.{All-head, All-tail, filter-append}
+use Rattle.std.proofs.lemmas.List.Sums.{AllPass-from_list_all}
 use Rattle.std.proofs.lemmas.List.Filters.{FiltersInPlace, FiltersInPlace-more_no, FiltersInPlace-more_set}
 use Rattle.bgpnet.specs.Decoding.{is_blank}
-
-pub still_least : (xs : List ℕ) (i least new x : ℕ) → i < length xs → x ≡ get_or xs i 0 → new ≡ min least x → All (λ o. least ≤ o) (take i xs) → All (λ o. new ≤ o) (take (i + 1) xs)
-still_least xs i least new x lt is e all =
-    All-more (λ o. new ≤ o) xs i 0 lt (λ k d h. omega (arith, all k d h)) (omega arith)
 
 -- what is above a space is no blank
 pub no_blank : (o : ℕ) → 32 < o → is_blank o ≡ false
@@ -22,8 +20,17 @@ no_blank o lt =
     let d = ne_eqb o 10 (λ e. omega arith) in
     rw (a, b, c, d) refl
 
-pub clean : (xs : List ℕ) (least : ℕ) → All (λ o. least ≤ o) xs → 32 < least → All (λ o. is_blank o ≡ false) xs
-clean xs least all lt = λ k d h. no_blank (get_or xs k d) (omega (arith, all k d h))
+both : (a b : Bool) → (a && b) ≡ true → (a ≡ true) × (b ≡ true)
+both true b e = (refl, e)
+both false b e = absurd cc
+
+-- octets above a space are no blanks
+clean : (xs : List ℕ) → list_all (nat_lt 32) xs ≡ true → All (λ o. is_blank o ≡ false) xs
+clean xs e = λ k d h. no_blank (get_or xs k d) (ltb-true 32 (get_or xs k d) (AllPass-from_list_all (nat_lt 32) xs e k d h))
+
+-- a clean piece in front
+pub piece_of : (xs : List ℕ) → (nat_le 64 (length xs) && list_all (nat_lt 32) (take 64 xs)) ≡ true → (64 ≤ length xs) × All (λ o. is_blank o ≡ false) (take 64 xs)
+piece_of xs e = let p = both (nat_le 64 (length xs)) (list_all (nat_lt 32) (take 64 xs)) e in (leb-true 64 (length xs) p.0, clean (take 64 xs) p.1)
 
 -- octets without a blank are all kept
 all_kept : (xs : List ℕ) → All (λ o. is_blank o ≡ false) xs → filter (λ o. not (is_blank o)) xs ≡ xs

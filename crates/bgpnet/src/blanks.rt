@@ -1,7 +1,7 @@
 //! Blanks taken out of a text, many octets at a time.
 
-ghost use Rattle.std.specs.Prelude.{◌≡◌, ◌≤◌, IsTrue, length, take, filter, not, false};
-ghost use Rattle.std.specs.List.{All};
+ghost use Rattle.std.specs.Prelude.{◌≡◌, ◌≤◌, ◌&&◌, nat_lt, nat_le, length, take, filter, not};
+ghost use Rattle.std.specs.List.{list_all};
 ghost use Rattle.bgpnet.specs.Decoding.{is_blank};
 
 // How many octets are looked at together.
@@ -13,24 +13,24 @@ fn is_blank(octet: u8) -> bool
     octet == b' ' || octet == b'\t' || octet == b'\r' || octet == b'\n'
 }
 
-// The least of the octets. There is no way out of its loop, so that a compiler can look at many of
-// them in one instruction.
-fn least(octets: &[u8; 64]) -> u8
-    ensures { All (λ octet. result ≤ octet) octets.now }
+// Whether each octet is above a space, and so no blank. There is no way out of its loop, so that a
+// compiler can look at many octets in one instruction.
+fn are_above_a_space(octets: &[u8; 64]) -> bool
+    ensures { result ≡ list_all (nat_lt 32) octets.now }
 {
-    let mut least = u8::MAX;
+    let mut are_above = true;
     for octet in octets {
-        least = least.min(*octet);
+        are_above = are_above & (*octet > b' ');
     }
-    least
+    are_above
 }
 
-// Whether a piece stands in front all of whose octets are above a space, and so no blanks.
+// Whether a piece stands in front whose octets are all above a space.
 fn has_clean_piece(octets: &[u8]) -> bool
-    ensures { IsTrue result → (64 ≤ length octets.now) × All (λ octet. is_blank octet ≡ false) (take 64 octets.now) }
+    ensures { result ≡ (nat_le 64 (length octets.now) && list_all (nat_lt 32) (take 64 octets.now)) }
 {
     match octets.first_chunk::<64>() {
-        Some(piece) => least(piece) > b' ',
+        Some(piece) => are_above_a_space(piece),
         None => false,
     }
 }

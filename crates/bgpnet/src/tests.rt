@@ -1,5 +1,6 @@
 //! What the program writes for what it reads, row by row, through `run_with`.
 
+mod blanks;
 mod check;
 mod decode;
 mod examples;

@@ -1,11 +1,11 @@
 use Rattle.std.proofs.Common.{arith, ◌∙◌, sym, ap, not}
-use Rattle.bgpnet.proofs.BlankLemmas.{moved_on, stayed, octet_kept, octet_dropped}
+use Rattle.bgpnet.proofs.BlankLemmas.{piece_of, moved_on, stayed, octet_kept, octet_dropped}
 use Rattle.bgpnet.proofs.blanks.pack.Goals.{then-kept-at, else-kept-at, then-not-is_blank, else-not-is_blank}
 use Rattle.bgpnet.proofs.blanks.pack.Goals as goal
 
 pub pieces-preserved-then-has_clean_piece : goal.pieces-preserved-then-has_clean_piece
 pieces-preserved-then-has_clean_piece c =
-    let piece = c.has_clean_piece.ensures c.if-has_clean_piece.true in
+    let piece = piece_of c.split_at.result.1.now (sym c.has_clean_piece.ensures ∙ c.if-has_clean_piece.true) in
     elim c.if-kept-at.branch [
       | then-kept-at w ↦ moved_on _ _ c.pieces.invariant c.split_at.ensures.back (omega (arith, c.pieces-test.true)) piece (w.text-is ∙ w.copy_within.ensures.after)
       | else-kept-at w ↦ stayed _ _ c.pieces.invariant c.split_at.ensures.back (omega (arith, c.pieces-test.true)) piece w.text-is w.if-kept-at.false
