@@ -283,11 +283,30 @@ fn no_attrs(alloc: Global) -> Attrs
     }
 }
 
+// How many attributes octets consist of that the table does not know, if they are good: what a list
+// of them has to hold.
+fn count_others(octets: &[u8]) -> usize
+    ensures { result ≤ length octets.now }
+{
+    let mut count = 0usize;
+    let mut at = 0usize;
+    'attrs: while at < octets.len() {
+        let (_, left) = octets.split_at(at);
+        let (head, size) = attr_sizes(left);
+        if !is_known(octet_at(left, 1)) {
+            count = count + 1;
+        }
+        at = at + head + size;
+    }
+    count
+}
+
 // The attributes that octets consist of.
 pub(crate) fn read_attrs(alloc: Global, octets: &[u8]) -> Result<Attrs, CodecError>
     ensures { Gives (λ attrs. attrs) result (attrs_reading octets.now) }
 {
     let mut attrs = no_attrs(alloc);
+    attrs.other.reserve(count_others(octets))?;
     let mut left = octets;
     'attrs: while !left.is_empty() {
         let (attr, value, rest) = read_attr(alloc, left)?;

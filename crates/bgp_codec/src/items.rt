@@ -43,6 +43,14 @@ impl<T> Items<T> {
         self.items
     }
 
+    // Makes room for so many items more. It changes no item.
+    pub(crate) fn reserve(&mut self, more: usize) -> Result<(), AllocError>
+        ensures { self.new ≡ self.old }
+    {
+        self.items.reserve(more)?;
+        Ok(())
+    }
+
     // Puts an item at a place; those from there on move up. A refused call leaves the list as it was.
     pub(crate) fn insert(&mut self, place: usize, item: T) -> Result<(), AllocError>
     where

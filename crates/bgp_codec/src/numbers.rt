@@ -1,6 +1,6 @@
-//! Numbers of several octets in a message (RFC 4271 section 4): the most significant octet first.
+//! Numbers and lengths in a message (RFC 4271 section 4): the most significant octet first.
 
-ghost use Rattle.std.specs.Prelude.{◌≡◌, ◌≤◌, slice_index};
+ghost use Rattle.std.specs.Prelude.{◌≡◌, ◌≤◌, length, slice_index};
 ghost use Rattle.bgp_codec.specs.Updates.{number_at, address_at};
 
 // The octet at a place, or zero behind the end.
@@ -32,4 +32,19 @@ pub(crate) fn address_at(octets: &[u8], at: usize) -> u32
         octet_at(octets, at + 2),
         octet_at(octets, at + 3),
     ])
+}
+
+// How many values octets consist of, if they are good, where each value has a second octet that says
+// how many units of so many octets follow it: what a list of the values has to hold.
+pub(crate) fn count_values(octets: &[u8], unit: usize) -> usize
+    requires { unit ≤ 2 }
+    ensures { result ≤ length octets.now }
+{
+    let mut count = 0usize;
+    let mut at = 0usize;
+    'values: while at + 1 < octets.len() {
+        at = at + 2 + unit * octets[at + 1] as usize;
+        count = count + 1;
+    }
+    count
 }

@@ -7,7 +7,7 @@ ghost use Rattle.bgp_codec.specs.Opens.{cap_octets, param_octets, open_octets, a
 
 use crate::fault::{CodecError, Fault, open_fault};
 use crate::items::Items;
-use crate::numbers::octet_at;
+use crate::numbers::{count_values, octet_at};
 use crate::octets::Octets;
 use crate::rule::{Asn, Rule};
 use std::alloc::Global;
@@ -66,6 +66,7 @@ fn read_caps(alloc: Global, octets: &[u8]) -> Result<Items<Cap>, CodecError>
     ensures { Gives (λ caps. caps) result (caps_reading octets.now) }
 {
     let mut caps = Vec::new(alloc);
+    caps.reserve(count_values(octets, 1))?;
     let mut left = octets;
     'caps: while !left.is_empty() {
         let (cap, rest) = read_cap(alloc, left)?;
@@ -91,6 +92,7 @@ fn read_params(alloc: Global, octets: &[u8]) -> Result<Items<Items<Cap>>, CodecE
     ensures { Gives (λ params. params) result (params_reading octets.now) }
 {
     let mut params = Vec::new(alloc);
+    params.reserve(count_values(octets, 1))?;
     let mut left = octets;
     'params: while !left.is_empty() {
         let (caps, rest) = read_param(alloc, left)?;

@@ -8,6 +8,7 @@ ghost use Rattle.bgp_codec.specs.Updates.{segment_code, segment_octets, path_oct
 
 use crate::fault::{CodecError, update_fault};
 use crate::items::Items;
+use crate::numbers::count_values;
 use crate::rule::Asn;
 use std::alloc::{AllocError, Global};
 
@@ -84,6 +85,7 @@ pub(crate) fn read_path(alloc: Global, octets: &[u8]) -> Result<Items<Segment>, 
     ensures { Gives (λ path. path) result (path_reading octets.now) }
 {
     let mut segments = Vec::new(alloc);
+    segments.reserve(count_values(octets, 2))?;
     let mut left = octets;
     'segments: while !left.is_empty() {
         let (segment, rest) = read_segment(alloc, left)?;

@@ -7,7 +7,7 @@ use Rattle.bgp_codec.proofs.attributes.read_attrs.Goals as goal
 
 pub returns-in_err-attr : goal.returns-in_err-attr
 returns-in_err-attr c =
-    let p = err_from_is_err_and c.from_residual.result c.from_residual.ensures.1 in
+    let p = err_from_is_err_and c.from_residual-in_err-attr.result c.from_residual-in_err-attr.ensures.1 in
     rw (p.1, p.2) (attrs_broken (attrs_reading c.args.octets.now) c.attrs.attrs c.attrs.left.now c.in_err-attr.field-0.0 (some_left _ c.attrs-test.ensures) c.in_err-attr.ensures.gives c.attrs.invariant)
 
 pub returns-in_err-add_attr : goal.returns-in_err-add_attr

@@ -6,7 +6,7 @@ use Rattle.bgp_codec.proofs.open.read_caps.Goals as goal
 
 pub returns-in_err-cap : goal.returns-in_err-cap
 returns-in_err-cap c =
-    let p = err_from_is_err_and c.from_residual.result c.from_residual.ensures.1 in
+    let p = err_from_is_err_and c.from_residual-in_err-cap.result c.from_residual-in_err-cap.ensures.1 in
     rw (p.1, p.2) (each_stop cap_at c.args.octets.now c.caps.left.now c.caps.caps.items c.in_err-cap.field-0.0 (some_left _ c.caps-test.ensures) c.caps.invariant c.in_err-cap.ensures)
 
 pub caps-preserved : goal.caps-preserved

@@ -6,7 +6,7 @@ use Rattle.bgp_codec.proofs.open.read_params.Goals as goal
 
 pub returns-in_err-caps : goal.returns-in_err-caps
 returns-in_err-caps c =
-    let p = err_from_is_err_and c.from_residual.result c.from_residual.ensures.1 in
+    let p = err_from_is_err_and c.from_residual-in_err-caps.result c.from_residual-in_err-caps.ensures.1 in
     rw (p.1, p.2) (each_stop param_at c.args.octets.now c.params.left.now c.params.params.items c.in_err-caps.field-0.0 (some_left _ c.params-test.ensures) c.params.invariant c.in_err-caps.ensures)
 
 pub params-preserved : goal.params-preserved

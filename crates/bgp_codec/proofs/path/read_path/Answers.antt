@@ -6,7 +6,7 @@ use Rattle.bgp_codec.proofs.path.read_path.Goals as goal
 
 pub returns-in_err-segment : goal.returns-in_err-segment
 returns-in_err-segment c =
-    let p = err_from_is_err_and c.from_residual.result c.from_residual.ensures.1 in
+    let p = err_from_is_err_and c.from_residual-in_err-segment.result c.from_residual-in_err-segment.ensures.1 in
     rw (p.1, p.2) (each_stop segment_at c.args.octets.now c.segments.left.now c.segments.segments.items c.in_err-segment.field-0.0 (some_left _ c.segments-test.ensures) c.segments.invariant c.in_err-segment.ensures)
 
 pub segments-preserved : goal.segments-preserved
