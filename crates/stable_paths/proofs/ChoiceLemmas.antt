@@ -1,11 +1,12 @@
 -- The first of a router's choices, one link more at a time.
-use Rattle.std.proofs.Common.{◌≡◌, ◌≢◌, ℕ, List, [], ◌∷◌, ◌++◌, length, refl, sym, ap, subst, ◌∙◌, arith, inl, inr, ◌⊎◌}
+use Rattle.std.proofs.Common.{◌≡◌, ◌≢◌, ℕ, Option, Some, None, List, [], ◌∷◌, ◌++◌, sym, ap, subst, ◌∙◌, arith, inl, inr, ◌⊎◌}
+use Rattle.std.specs.Prelude.{MatchOption}
 use Rattle.prefix_lanes.specs.Bits.{PrefixView}
 use Rattle.ranked_policy.specs.declared.network.Link.{Link}
 use Rattle.ranked_policy.specs.Orders.{IsStrictTotalOrder}
-use Rattle.ranked_policy.specs.Plans.{Joins, Linked}
+use Rattle.ranked_policy.specs.Plans.{Joins}
 use Rattle.ranked_policy.specs.Policies.{Table, IsPermitted, IsPreferred}
-use Rattle.stable_paths.specs.Stable.{IsChoice, IsFirst, IsFirstOrNone}
+use Rattle.stable_paths.specs.Stable.{IsChoice, IsFirstOrNone}
 use Rattle.stable_paths.proofs.ListLemmas.{same_or_not, any_split, any_more, any_last}
 
 -- a link has one other end
@@ -133,3 +134,17 @@ module _ (prefix : PrefixView) (paths : ℕ → List ℕ) (table : Table) where
               let theirs = y.before a x.choice (λ e. apart (sym e)) in
               absurd (order.irreflexive a x.choice.permitted (order.transitive a b a x.choice.permitted y.choice.permitted x.choice.permitted mine theirs))
         ]
+
+-- what was found over one more link is the first now; where nothing was, the first is what it was
+pub found_first : (next links : List Link) (prefix : PrefixView) (paths : ℕ → List ℕ) (table : Table) (found : Option (List ℕ)) (old new choice : List ℕ) → next ≡ links → found ≡ Some choice
+    → new ≡ choice → MatchOption found (IsFirstOrNone links prefix paths table old) (IsFirstOrNone links prefix paths table) → IsFirstOrNone next prefix paths table new
+found_first next links prefix paths table (Some x) old new choice all e is first =
+    let same : x ≡ choice = cc in
+    subst (λ (ls : List Link). IsFirstOrNone ls prefix paths table new) (sym all) (subst (IsFirstOrNone links prefix paths table) (same ∙ sym is) first)
+found_first next links prefix paths table None old new choice all e is first = absurd cc
+
+pub nothing_found : (next links : List Link) (prefix : PrefixView) (paths : ℕ → List ℕ) (table : Table) (found : Option (List ℕ)) (old new : List ℕ) → next ≡ links → found ≡ None
+    → new ≡ old → MatchOption found (IsFirstOrNone links prefix paths table old) (IsFirstOrNone links prefix paths table) → IsFirstOrNone next prefix paths table new
+nothing_found next links prefix paths table (Some x) old new all e is first = absurd cc
+nothing_found next links prefix paths table None old new all e is first =
+    subst (λ (ls : List Link). IsFirstOrNone ls prefix paths table new) (sym all) (subst (IsFirstOrNone links prefix paths table) (sym is) first)

@@ -1,7 +1,7 @@
 -- A router of a network has one table of policies, and so one best path.
-use Rattle.std.proofs.Common.{◌≡◌, ◌≢◌, ℕ, zero, suc, ◌+◌, ◌<◌, ◌≤◌, Bool, true, false, cond, List, [], ◌∷◌, length, map, get_or, refl, sym, ap, subst, ◌∙◌, arith, inl, inr, ◌⊎◌}
+use Rattle.std.proofs.Common.{◌≡◌, ◌≢◌, ℕ, zero, suc, ◌+◌, ◌<◌, ◌≤◌, Bool, true, false, cond, List, [], ◌∷◌, length, get_or, refl, sym, ap, subst, ◌∙◌, arith, inl, inr}
 use Rattle.std.specs.Prelude.{◌↔◌, IsTrue, slice_index}
-use Rattle.std.specs.List.{Any, AllPairs}
+use Rattle.std.specs.List.{AllPairs}
 use Rattle.std.proofs.lemmas.Bool.{cases_order}
 use Rattle.std.proofs.lemmas.List.{length-map, get_or-map}
 use Rattle.prefix_lanes.specs.Bits.{PrefixView}
@@ -10,10 +10,10 @@ use Rattle.ranked_policy.specs.declared.network.Rule.{Rule}
 use Rattle.ranked_policy.specs.declared.network.Origin.{Origin}
 use Rattle.ranked_policy.specs.declared.network.Link.{Link}
 use Rattle.ranked_policy.specs.Plans.{Plan, AreRules, AreOrigins, IsNetwork, IsRouter, IsOrigin, Linked, numbers}
-use Rattle.ranked_policy.specs.Policies.{Table, IsTable, IsTableOf, Originates, IsPermitted, IsPreferred}
+use Rattle.ranked_policy.specs.Policies.{Table, IsTable, IsTableOf, Originates, IsPermitted}
 use Rattle.ranked_policy.specs.Promises.{EachPolicyIsAnOrder}
-use Rattle.run_model.specs.Routes.{Network, IsStableAssignment}
-use Rattle.stable_paths.specs.Stable.{Problem, IsProblem, own_path, IsChoice, IsFirst, IsFirstOrNone, IsBestOf, IsBest, IsStable, MayHave}
+use Rattle.run_model.specs.Routes.{Network}
+use Rattle.stable_paths.specs.Stable.{Problem, IsProblem, own_path, IsChoice, IsFirstOrNone, IsBestOf, IsBest, IsStable, MayHave}
 use Rattle.stable_paths.specs.Judging.{IsLeastWithout, IsMoving}
 use Rattle.stable_paths.specs.Promises.{OneBest, NoOriginNoPath, Chooses, StableIsTheModels}
 use Rattle.stable_paths.proofs.ChoiceLemmas.{first_once}

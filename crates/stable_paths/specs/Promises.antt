@@ -1,7 +1,7 @@
 -- What the definitions of stable assignments say together.
-use Rattle.std.specs.Prelude.{ℕ, ◌≡◌, ◌↔◌, ◌&&◌, Bool, true, false, cond, List, []}
+use Rattle.std.specs.Prelude.{ℕ, ◌≡◌, ◌↔◌, Bool, true, false, List, []}
 use Rattle.prefix_lanes.specs.Bits.{PrefixView}
-use Rattle.ranked_policy.specs.Plans.{IsRouter, IsOrigin, Linked}
+use Rattle.ranked_policy.specs.Plans.{IsRouter, Linked}
 use Rattle.run_model.specs.Routes.{Network, IsStableAssignment}
 use Rattle.stable_paths.specs.Stable.{Problem, IsProblem, IsBest, IsStable}
 

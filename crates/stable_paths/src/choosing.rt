@@ -36,7 +36,7 @@ fn is_taken(policy: &Chosen, choice: &Path, best: &Path) -> bool
     policy.permits(choice) && (best.is_empty() || policy.prefers(choice, best))
 }
 
-// The better of the best over some links and the choice over one more, if it is one.
+// The choice over one more link, where it is one and better than the best over the links before it.
 fn better(
     alloc: Global,
     table: &PolicyTable,
@@ -44,26 +44,26 @@ fn better(
     policy: &Chosen,
     link: &Link,
     assignment: &Assignment,
-    best: Path,
-) -> Result<Path, StableError>
+    best: &Path,
+) -> Result<Option<Path>, StableError>
     requires { Speaks policy.now table.now prefix.now }
-    ensures best { (links : List Link) → IsFirstOrNone links prefix.now (path_of assignment.now) table.now best → IfOk result (IsFirstOrNone (links ++ link.now ∷ []) prefix.now (path_of assignment.now) table.now) }
+    ensures best { (links : List Link) → IsFirstOrNone links prefix.now (path_of assignment.now) table.now best.now → IfOk result (λ found. MatchOption found (IsFirstOrNone (links ++ link.now ∷ []) prefix.now (path_of assignment.now) table.now best.now) (IsFirstOrNone (links ++ link.now ∷ []) prefix.now (path_of assignment.now) table.now)) }
     ensures memory { IfErr result (λ e. e ≡ StableError.Memory) }
 {
     each_policy_is_an_order();
     let router = table.router();
     let Some(peer) = peer_over(link, router) else {
-        return Ok(best);
+        return Ok(None);
     };
     let path = assignment.path(peer);
     if path.is_empty() {
-        return Ok(best);
+        return Ok(None);
     }
     let choice = Path::from_router(alloc, router, path)?;
-    if is_taken(policy, &choice, &best) {
-        return Ok(choice);
+    if is_taken(policy, &choice, best) {
+        return Ok(Some(choice));
     }
-    Ok(best)
+    Ok(None)
 }
 
 /// The best of the choices of the router of a table.
@@ -86,7 +86,9 @@ pub(crate) fn best_of(
     let policy = table.for_prefix(prefix);
     let mut best = Path::new(alloc);
     for link in network.links() {
-        best = better(alloc, table, prefix, &policy, link, assignment, best)?;
+        if let Some(choice) = better(alloc, table, prefix, &policy, link, assignment, &best)? {
+            best = choice;
+        }
     }
     Ok(best)
 }

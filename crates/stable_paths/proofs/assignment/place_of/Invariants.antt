@@ -1,5 +1,5 @@
 -- those passed are other routers
-use Rattle.std.proofs.Common.{◌≡◌, ◌≢◌, take}
+use Rattle.std.proofs.Common.{◌≢◌, take}
 use Rattle.std.specs.List.{All}
 use Rattle.stable_paths.proofs.assignment.place_of.Given as goal
 

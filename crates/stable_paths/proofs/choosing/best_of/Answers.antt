@@ -1,11 +1,11 @@
-use Rattle.std.proofs.Common.{◌≡◌, ◌∙◌, ◌+◌, ◌++◌, ◌∷◌, [], List, ap, sym, subst, take, inl, inr, refl, length}
+use Rattle.std.proofs.Common.{◌∙◌, ◌∷◌, [], ap, take, inl, inr, refl}
 use Rattle.std.proofs.lemmas.List.{take_all, take_more}
-use Rattle.prefix_lanes.specs.Bits.{PrefixView}
-use Rattle.ranked_policy.specs.declared.network.Link.{Link}
 use Rattle.ranked_policy.specs.Plans.{Plan}
-use Rattle.stable_paths.specs.Stable.{path_of, IsFirstOrNone}
+use Rattle.stable_paths.specs.Stable.{path_of}
 use Rattle.stable_paths.proofs.ListLemmas.{never}
+use Rattle.stable_paths.proofs.ChoiceLemmas.{found_first, nothing_found}
 use Rattle.stable_paths.proofs.TableLemmas.{own_is, origin_here, first_at}
+use Rattle.stable_paths.proofs.choosing.best_of.Goals.{in-Some, in_default}
 use Rattle.stable_paths.proofs.choosing.best_of.Goals as goal
 
 pub returns-then-is_origin-clause-best : goal.returns-then-is_origin-clause-best
@@ -20,8 +20,12 @@ pub loop-link-preserved : goal.loop-link-preserved
 loop-link-preserved c =
     let items = c.links-link-items.result.now in
     let i = c.loop-link.link-index in
-    subst (λ (ls : List Link). IsFirstOrNone ls c.prefix-prefix.result.now (path_of c.args.assignment.now) c.args.table.now c.in_ok-best.best) (sym (take_more items i _ c.loop-link-test.true))
-    (c.in_ok-best.ensures.best (take i items) c.loop-link.invariant)
+    let found = c.in_ok-choice.ensures.best (take i items) c.loop-link.invariant in
+    let more = take_more items i _ c.loop-link-test.true in
+    elim c.match-branch-3.branch [
+      | in-Some w ↦ found_first _ _ _ _ _ c.in_ok-choice.field-0 _ _ _ more w.in-Some.is w.best-is found
+      | in_default w ↦ nothing_found _ _ _ _ _ c.in_ok-choice.field-0 _ _ more w.in_default.is w.best-is found
+    ]
 
 pub returns-clause-best : goal.returns-clause-best
 returns-clause-best c =

@@ -1,4 +1,4 @@
-use Rattle.std.proofs.Common.{◌≡◌, ◌≢◌, ◌∙◌, [], ap, sym, subst, refl}
+use Rattle.std.proofs.Common.{◌≢◌, ◌∙◌, [], sym}
 use Rattle.stable_paths.proofs.ListLemmas.{not_empty, never}
 use Rattle.stable_paths.proofs.TableLemmas.{may_by, may_not}
 use Rattle.stable_paths.proofs.judging.may_have.Goals as goal

@@ -1,7 +1,7 @@
-use Rattle.std.proofs.Common.{◌≡◌, ◌≤◌, List, length, ◌∙◌, ap, sym, subst, refl, inl, inr}
+use Rattle.std.proofs.Common.{◌≤◌, List, length, ◌∙◌, ap, subst, refl}
 use Rattle.ranked_policy.specs.declared.network.Router.{Router}
 use Rattle.ranked_policy.specs.Plans.{Plan}
-use Rattle.stable_paths.specs.Stable.{path_of, IsBest, MayHave}
+use Rattle.stable_paths.specs.Stable.{path_of, MayHave}
 use Rattle.stable_paths.proofs.ListLemmas.{never}
 use Rattle.stable_paths.proofs.TableLemmas.{stray, permitted_on, each_all}
 use Rattle.stable_paths.proofs.judging.permit_all.Goals as goal
