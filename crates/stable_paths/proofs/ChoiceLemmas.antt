@@ -148,3 +148,10 @@ pub nothing_found : (next links : List Link) (prefix : PrefixView) (paths : ℕ 
 nothing_found next links prefix paths table (Some x) old new all e is first = absurd cc
 nothing_found next links prefix paths table None old new all e is first =
     subst (λ (ls : List Link). IsFirstOrNone ls prefix paths table new) (sym all) (subst (IsFirstOrNone links prefix paths table) (sym is) first)
+
+-- a link of others gives no choice
+pub passed_by : (next links : List Link) (prefix : PrefixView) (paths : ℕ → List ℕ) (table : Table) (link : Link) (old new : List ℕ) (router : ℕ) → next ≡ links ++ link ∷ [] → router ≡ table.router
+    → ((v : ℕ) → Joins link router v → ⊥) → new ≡ old → IsFirstOrNone links prefix paths table old → IsFirstOrNone next prefix paths table new
+passed_by next links prefix paths table link old new router all same none is first =
+    let stay = stays prefix paths table links link old (λ path over. none over.peer (subst (λ (n : ℕ). Joins link n over.peer) (sym same) over.joins)) first in
+    subst (λ (ls : List Link). IsFirstOrNone ls prefix paths table new) (sym all) (subst (IsFirstOrNone (links ++ link ∷ []) prefix paths table) (sym is) stay)

@@ -36,25 +36,22 @@ fn is_taken(policy: &Chosen, choice: &Path, best: &Path) -> bool
     policy.permits(choice) && (best.is_empty() || policy.prefers(choice, best))
 }
 
-// The choice over one more link, where it is one and better than the best over the links before it.
+// The choice over one more link, to a peer at its other end, where it is one and better than the best
+// over the links before it.
+#[inline(never)]
 fn better(
     alloc: Global,
     table: &PolicyTable,
-    prefix: &Prefix,
     policy: &Chosen,
-    link: &Link,
+    peer: Asn,
     assignment: &Assignment,
     best: &Path,
 ) -> Result<Option<Path>, StableError>
-    requires { Speaks policy.now table.now prefix.now }
-    ensures best { (links : List Link) → IsFirstOrNone links prefix.now (path_of assignment.now) table.now best.now → IfOk result (λ found. MatchOption found (IsFirstOrNone (links ++ link.now ∷ []) prefix.now (path_of assignment.now) table.now best.now) (IsFirstOrNone (links ++ link.now ∷ []) prefix.now (path_of assignment.now) table.now)) }
+    ensures best { (links : List Link) (link : Link) (prefix : PrefixView) → Joins link table.now.router peer → Speaks policy.now table.now prefix → IsFirstOrNone links prefix (path_of assignment.now) table.now best.now → IfOk result (λ found. MatchOption found (IsFirstOrNone (links ++ link ∷ []) prefix (path_of assignment.now) table.now best.now) (IsFirstOrNone (links ++ link ∷ []) prefix (path_of assignment.now) table.now)) }
     ensures memory { IfErr result (λ e. e ≡ StableError.Memory) }
 {
     each_policy_is_an_order();
     let router = table.router();
-    let Some(peer) = peer_over(link, router) else {
-        return Ok(None);
-    };
     let path = assignment.path(peer);
     if path.is_empty() {
         return Ok(None);
@@ -86,8 +83,10 @@ pub(crate) fn best_of(
     let policy = table.for_prefix(prefix);
     let mut best = Path::new(alloc);
     for link in network.links() {
-        if let Some(choice) = better(alloc, table, prefix, &policy, link, assignment, &best)? {
-            best = choice;
+        if let Some(peer) = peer_over(link, router) {
+            if let Some(choice) = better(alloc, table, &policy, peer, assignment, &best)? {
+                best = choice;
+            }
         }
     }
     Ok(best)
