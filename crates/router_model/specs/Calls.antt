@@ -14,14 +14,14 @@ use Rattle.router_model.specs.declared.refusal.Stepped.{Stepped}
 use Rattle.router_model.specs.declared.refusal.Stepped.TheVariants as stepped
 use Rattle.router_model.specs.Settings.{Setting, linked, peers, is_origin}
 use Rattle.router_model.specs.State.{Router, undecided, is_waiting_peer}
-use Rattle.router_model.specs.Step.{Obeys, Ticks, Handles, Decides, Advertises, RouterEvent, after, overflows, is_greater}
+use Rattle.router_model.specs.Step.{Obeys, Ticks, Handles, Decides, Advertises, RouterEvent, after, overflows, is_greater, without_offer}
 
 -- a router with the stamp of its last event
 pub record Stamped : Type 0 where
   pub router : Router
   pub stamp : ℕ
 
--- the calls: what the router does by itself, the next put towards a peer, and an item with its stamp that comes from a peer
+-- the calls: a command, a second that passes, what the router does by itself, the next put towards a peer, and an item with its stamp that comes from a peer
 pub data Call : Type 0 where
   Obey : (command : Command) → Call
   Tick : Call
@@ -31,6 +31,7 @@ pub data Call : Type 0 where
   Decide : Call
   Advertise : Call
 
+-- what a call answers
 pub data Answer : Type 0 where
   Steps : (event : RouterEvent) → Answer
   Idle : Answer
@@ -38,6 +39,7 @@ pub data Answer : Type 0 where
 
 -- ---- whom an UPDATE is told
 
+-- a peer is told no UPDATE while so many octets wait to be put towards it
 abbrev pub outbox_limit : ℕ
 outbox_limit = 65536
 
@@ -80,6 +82,7 @@ blocked None None = None
 blocked None (Some v) = Some (error.Blocked v)
 
 module _ (g : Setting) (u : ℕ) where
+  -- a peer waits to be told and its outbox is below the limit
   abbrev pub has_room : Router → ℕ → Bool
   has_room x v = is_waiting_peer g u x v && nat_lt (octets_waiting (x.sides v).outbox) outbox_limit
 
@@ -140,6 +143,12 @@ module _ (g : Setting) (u : ℕ) where
       MatchResult r (λ s. (s ≡ stepped.Did) × (y ≡ stamped_after x call e)) (λ why. (why ≡ error.Memory) × (y ≡ x))
   Gives r Idle x call y = (r ≡ Ok stepped.Nothing) × (y ≡ x)
   Gives r (Refuses why) x call y = (r ≡ Err why) × (y ≡ x)
+
+-- ---- offers
+
+-- the router once its offer is made, by an event with this stamp
+abbrev pub offer_made : Stamped → ℕ → Stamped
+offer_made x stamp = record { router = without_offer x.router; stamp = stamp }
 
 -- ---- the calls and the steps
 

@@ -21,7 +21,7 @@ use Rattle.router_model.specs.declared.command.Command.TheVariants as command
 use Rattle.outbox.specs.declared.item.What.{What}
 use Rattle.outbox.specs.declared.item.What.TheVariants as item
 use Rattle.router_model.specs.Sides.{Side, Draft, AtHand, NoMessage, HasFault, HasUpdate, met, reset, second, signed, handled, front, at_hand, without_front, fed, uses, carried, told, marked, is_up}
-use Rattle.snap_marker.specs.Recordings.{RouterPart, MadeOffer, Recording, Snapshots, closed, acted_on, ends_channel, begun}
+use Rattle.snap_marker.specs.Recordings.{RouterPart, RouterOffer, MadeOffer, Recording, Snapshots, closed, acted_on, ends_channel, begun}
 use Rattle.router_model.specs.Settings.{Setting, linked, peers, is_origin, identifier}
 use Rattle.router_model.specs.State.{Router, open_of, rule_of, telling, undecided, untold, route, is_pending}
 
@@ -36,7 +36,7 @@ pub data Own : Type 0 where
 abbrev pub RouterEvent : Type 0
 RouterEvent = Event Own What MadeOffer
 
--- a piece has 1 to so many octets
+-- a piece has at least one octet, and at most so many
 abbrev pub HasSize : ℕ → What → Type 0
 HasSize cut (item.Piece e octets) = (1 ≤ length octets) × (length octets ≤ cut)
 HasSize cut (item.Dial e) = Unit {0}
@@ -48,7 +48,7 @@ HasSize cut (item.Shut e) = Unit {0}
 abbrev pub with_side : Router → ℕ → (Side → Side) → Router
 with_side x v change = record x { sides = λ y. cond (y == v) (change (x.sides y)) (x.sides y) }
 
--- with snapshots: the peer and the incarnation of a draft that leaves Established, and of the first of several peers' drafts that does
+-- the peer and the incarnation of a draft that leaves Established, and of the first of several peers' drafts that does
 abbrev pub close_at : ℕ → Option ℕ → Option (ℕ × ℕ)
 close_at v None = None
 close_at v (Some e) = Some (v, e)
@@ -61,20 +61,21 @@ abbrev pub first_close : List ℕ → (ℕ → Draft) → Option (ℕ × ℕ)
 first_close [] drafts = None
 first_close (v ∷ vs) drafts = or_first (close_at v (drafts v).left) (first_close vs drafts)
 
--- with snapshots: an UPDATE that is acted on is seen by the recording
+-- an UPDATE that is acted on joins the recorded channel of its peer
 abbrev pub seen : Bool → AtHand → ℕ → Snapshots → Snapshots
 seen true (HasUpdate u) v x = acted_on v (UpdateMsg u) x
 seen true NoMessage v x = x
 seen true (HasFault fault) v x = x
 seen false h v x = x
 
--- the draft of one side is carried out
+-- the draft of one side is carried out; what leaves Established loses the recording
 abbrev pub moved : Router → ℕ → AtHand → Draft → Router
 moved x v h a = record x {
   sides = λ y. cond (y == v) (carried h (x.sides y) a) (x.sides y);
   snapshots = seen a.acts h v (closed (close_at v a.left) x.snapshots);
 }
 
+-- what is put was in front of the outbox
 abbrev pub put_from : Side → What → Side
 put_from s x = record s { outbox = drop (length (passes x)) s.outbox }
 
@@ -92,13 +93,21 @@ telling_to x v (Some q) update = with_side x v (λ s. told s (update q))
 abbrev pub forgetting : Router → Router
 forgetting x = record x { kept = λ q. []; originated = λ q. false }
 
--- with snapshots: a recording waits for the marker of each peer but the one whose marker came first
+-- a recording waits for the marker of each peer but the one whose marker came first
 abbrev pub awaits : Option ℕ → ℕ → Bool
 awaits None v = true
 awaits (Some first) v = not (v == first)
 
+-- the number is above the last recorded one
 abbrev pub is_greater : Router → ℕ → Bool
 is_greater x s = nat_lt x.snapshots.last s
+
+-- the offer that waits in front, and the router once it is made
+abbrev pub next_offer : Router → Option RouterOffer
+next_offer x = slice_get x.snapshots.queue 0
+
+abbrev pub without_offer : Router → Router
+without_offer x = record x { snapshots = record x.snapshots { queue = drop 1 x.snapshots.queue } }
 
 abbrev pub says_where : Bool → List (Entry Message) → List (Entry Message)
 says_where b entries = cond b entries []
@@ -132,7 +141,7 @@ module _ (g : Setting) (u : ℕ) where
   abbrev pub telling_of : Router → PrefixView → Update
   telling_of x q = telling (identifier g.net.routers u) q (x.kept q)
 
-  -- ---- with snapshots: what is recorded, and a marker that comes
+  -- ---- what is recorded, and a marker that comes (Chandy and Lamport 1985)
 
   abbrev pub recorded_part : Router → RouterPart
   recorded_part x = record {
@@ -146,17 +155,18 @@ module _ (g : Setting) (u : ℕ) where
   abbrev pub recording_of : Router → ℕ → Option ℕ → Recording
   recording_of x s first = record { number = s; part = recorded_part x; waits = awaits first }
 
-  -- markers go to every Established peer, behind all that was appended before
+  -- the recording takes the state as it is; markers go to every Established peer, behind all that was appended before
   abbrev pub records : Router → ℕ → Option ℕ → Router
   records x s first = record x {
     sides = λ v. cond (linked g.net u v && is_up (x.sides v)) (marked s (x.sides v)) (x.sides v);
     snapshots = begun (peers g.net u) (λ v. is_up (x.sides v)) (recording_of x s first) x.snapshots;
   }
 
-  -- a marker is heeded in Established alone, for the end's own incarnation
+  -- a marker is heeded in Established alone, for the incarnation that the end joined
   abbrev pub heeds : Router → ℕ → ℕ → Bool
   heeds x v e = is_up (x.sides v) && uses (x.sides v).link e
 
+  -- a greater number is recorded; any other may end a channel
   abbrev pub marked_by : Router → ℕ → ℕ → Router
   marked_by x v s =
       cond (is_greater x s) (records x s (Some v))
@@ -167,7 +177,7 @@ module _ (g : Setting) (u : ℕ) where
   abbrev pub taken : Router → ℕ → What → Router
   taken x v (item.Dial e) = moved x v NoMessage (signed_at x v (sign.Dial e))
   taken x v (item.Piece e octets) = with_side x v (λ s. fed s e octets)
-  taken x v (item.Mark e s) = cond (heeds x v e) (marked_by x v s) x  -- with snapshots
+  taken x v (item.Mark e s) = cond (heeds x v e) (marked_by x v s) x
   taken x v (item.Shut e) = moved x v NoMessage (signed_at x v (sign.Shut e))
 
   -- ---- the steps
@@ -178,10 +188,11 @@ module _ (g : Setting) (u : ℕ) where
   obeyed x (command.Reset v) = moved x v NoMessage (resets_at x v)
   obeyed x (command.Originate q) = originating x q true
   obeyed x (command.Withdraw q) = originating x q false
-  obeyed x (command.Snapshot s) = records x s None  -- with snapshots
+  obeyed x (command.Snapshot s) = records x s None
   obeyed x command.Restart = forgetting (all_moved x (λ v. meets_at x v ManualStop))
 
-  -- where an event may come
+  -- where an event may come: what is originated already, or not originated, is no event; a message is handled where a whole
+  -- one or a fault waits, and an item is taken where none does
   abbrev pub MayObey : Router → Command → Type 0
   MayObey x (command.Start v) = linked g.net u v ≡ true
   MayObey x (command.Stop v) = linked g.net u v ≡ true
@@ -199,10 +210,9 @@ module _ (g : Setting) (u : ℕ) where
   May x (alone (Advertises v)) = is_some (untold g u x v) ≡ true
   May x (puts v i) = (linked g.net u v ≡ true) × HasSize g.net.settings.cut i × IsPrefix (passes i) (x.sides v).outbox
   May x (takes v i) = (linked g.net u v ≡ true) × (is_waiting (x.sides v).held ≡ false)
-  -- with snapshots
-  May x (offers made) = (made.router ≡ u) × (slice_get x.snapshots.queue 0 ≡ Some made.offer)
+  May x (offers made) = (made.router ≡ u) × (next_offer x ≡ Some made.offer)
 
-  -- what it leaves
+  -- what an event leaves
   abbrev pub after : Router → RouterEvent → Router
   after x (alone (Obeys c)) = obeyed x c
   after x (alone Ticks) = all_moved x (second_at x)
@@ -212,11 +222,10 @@ module _ (g : Setting) (u : ℕ) where
   after x (alone (Advertises v)) = telling_to x v (untold g u x v) (telling_of x)
   after x (puts v i) = with_side x v (λ s. put_from s i)
   after x (takes v i) = taken x v i
-  -- with snapshots
-  after x (offers made) = record x { snapshots = record x.snapshots { queue = drop 1 x.snapshots.queue } }
+  after x (offers made) = without_offer x
 
-  -- a dial of it would pass the greatest incarnation: a start, a reset and a tick dial a new number, and a dial taken may be
-  -- answered by its own
+  -- a dial of an event would pass the greatest incarnation: a start, a reset and a tick dial a number, and a Dial taken may be
+  -- answered by one
   abbrev pub overflows_by : Router → Command → Bool
   overflows_by x (command.Start v) = (meets_at x v ManualStart).overflows
   overflows_by x (command.Reset v) = (resets_at x v).overflows
