@@ -64,15 +64,16 @@ fn put_body(out: &mut Vec<u8>, message: &Message, rule: &Rule)
     }
 }
 
-/// How many octets a message has that is written, as far as a `usize` counts.
+/// How many octets [`put_message`] and [`encode`] write for a message, as far as a `usize` counts.
 pub fn written_len(message: &Message) -> usize
     ensures { result ≡ min (2 ^ 64 - 1) (length (written message.now)) }
 {
     body_len(message).saturating_add(19)
 }
 
-/// Appends the one spelling of a message that is written, for which there is room. It takes no
-/// memory, and cannot be refused.
+/// Appends the one spelling of a message that is written to a vector that has room for it. It takes
+/// no memory, cannot be refused, and never lowers the capacity: so what was reserved for several
+/// messages can be written one by one.
 pub fn put_message(out: &mut Vec<u8>, message: &Message, rule: &Rule)
     requires writable { IsWritable rule.now message.now }
     requires fits { length (written message.now) ≤ 4096 }

@@ -33,7 +33,7 @@ pub mod wrong_twins;
 
 pub use links::{end_facts_hold, first_in_first_out, joined_heard_its_own, link_runs_go_on};
 pub use network_links::network_runs_are_link_runs;
-pub use octets::{Framing, octets_are_entries};
+pub use octets::{Framing, octets_are_entries, passing_appends};
 pub use offers::{
     close_loses_the_recording, offer_runs_are_network_runs, one_offer_a_number, outcome_is_one,
     outcome_tells, settled_outcome_is_stable_and_stays,

@@ -1,4 +1,4 @@
-use Rattle.std.proofs.Common.{arith, ◌≡◌, ◌≤◌, length}
+use Rattle.std.proofs.Common.{arith, ◌≤◌, length}
 use Rattle.bgp_codec.specs.Spelling.{written_body}
 use Rattle.bgp_codec.proofs.WritingLemmas.{length-written, written_put}
 use Rattle.bgp_codec.proofs.writing.put_message.Goals as goal
