@@ -1,5 +1,5 @@
 //! Entries found again in the octets that pass, however they were cut.
-ghost use Rattle.run_model.specs.Octets.{NextFrameIsNextMessage, NextControlIsNextEntry, DroppedOctetsAreMessages, OctetsStayBeforeMark, NoStaleOctetWhileJoined, NoneDroppedBeforeAnswer};
+ghost use Rattle.run_model.specs.Octets.{NextFrameIsNextMessage, NextControlIsNextEntry, DroppedOctetsAreMessages, OctetsStayBeforeMark, NoStaleOctetWhileJoined, NoneDroppedBeforeAnswer, PassingAppends};
 ghost use Rattle.std.specs.Prelude.{ℕ, List};
 
 /// How messages of a type are written. An implementation has no code: its members are what a codec's contracts show.
@@ -31,4 +31,9 @@ pub fn octets_are_entries<M, F: Framing<M>>()
     ensures stay { OctetsStayBeforeMark M F.is_frame F.is_good F.written }
     ensures no_stale { NoStaleOctetWhileJoined M F.is_frame F.is_good F.written }
     ensures none_dropped { NoneDroppedBeforeAnswer M F.is_frame F.is_good F.written }
+{}
+
+/// What passes for entries and then for others passes for the first, and then for the others.
+pub fn passing_appends<M>()
+    ensures { PassingAppends M }
 {}
