@@ -31,6 +31,16 @@ originated_in ps q = list_any (λ p. same_prefix p q) ps
 abbrev pub peers_of : List Channel → List ℕ
 peers_of channels = map (λ c. c.peer) channels
 
+-- a link without the room in its list
+pub record Seen : Type 0 where
+  pub peer : ℕ
+  pub epoch : ℕ
+  pub is_open : Bool
+  pub updates : List Update
+
+abbrev pub seen : Channel → Seen
+seen c = record { peer = c.peer; epoch = c.epoch; is_open = c.is_open; updates = c.updates.items }
+
 -- what the first link to a peer has, or nothing where no link leads to it
 abbrev pub link_has : {A : Type 0} → A → (Channel → A) → List Channel → ℕ → A
 link_has nothing what [] v = nothing
@@ -93,6 +103,15 @@ router_of (offer.Lost l) = l.router
 abbrev pub number_of : Offer → ℕ
 number_of (offer.Part p) = p.number
 number_of (offer.Lost l) = l.number
+
+-- a part that says the same
+pub record IsCopy (p q : Part) : Type 0 where
+  pub router : p.router ≡ q.router
+  pub number : p.number ≡ q.number
+  pub kept : p.kept.items ≡ q.kept.items
+  pub originated : p.originated.items ≡ q.originated.items
+  pub pending : p.pending ≡ q.pending
+  pub channels : map seen p.channels.items ≡ map seen q.channels.items
 
 -- ---- what a router has recorded
 

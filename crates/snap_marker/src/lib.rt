@@ -6,6 +6,7 @@
 //! Left out: which markers a router heeds, when it sends its own, and what a collector makes of the offers.
 #![tactic(auto)]
 
+mod copying;
 mod links;
 mod mark_state;
 mod part;
@@ -14,3 +15,6 @@ mod refusal;
 pub use mark_state::MarkState;
 pub use part::{Cause, Channel, KeptPath, Lost, Offer, Part};
 pub use refusal::MarkError;
+
+#[cfg(test)]
+mod tests;

@@ -24,6 +24,13 @@ pub(crate) fn place_of(channels: &[Channel], peer: Asn) -> Option<usize>
     position_of(channels, peer)
 }
 
+/// Whether a link leads to a peer.
+pub(crate) fn leads_to(channels: &[Channel], peer: Asn) -> bool
+    ensures { result ≡ leads_to peer channels.now }
+{
+    channels.iter().any(|channel| peer == channel.peer)
+}
+
 /// The incarnation of the link to a peer, 0 where there is none.
 pub(crate) fn epoch_in(channels: &[Channel], peer: Asn) -> u32
     ensures { result ≡ epoch_in channels.now peer }

@@ -1,13 +1,13 @@
 //! What one router has recorded.
 
-ghost use Rattle.std.specs.Prelude.{ℕ, List, [], ◌∷◌, ◌++◌, ◌≡◌, ◌≤◌, ◌+◌, ◌-◌, false, OnOk, OnErr, Some, None, MatchOption, IfOk, IfSome, true, slice_get, drop};
+ghost use Rattle.std.specs.Prelude.{ℕ, List, ◌↔◌, IsTrue, [], ◌∷◌, ◌++◌, ◌≡◌, ◌≤◌, ◌+◌, ◌-◌, false, OnOk, OnErr, Some, None, MatchOption, IfOk, IfSome, true, slice_get, drop};
 ghost use Rattle.bgp_codec.specs.declared.message.Message.TheVariants.{UpdateMsg};
 ghost use Rattle.bgp_codec.specs.declared.update.Update as update;
 ghost use Rattle.snap_marker.specs.Recordings.{no_snapshots, begun_at, superseding, goes_on, ends_channel, closed, acted_on, without_first};
 ghost use Rattle.snap_marker.specs.Parts.{MarkView, snapshots_of, recording_of, peers_of, offers_owed, copy_for, is_heard, IsLink, IsOver, HasRoom};
 
 use crate::links::{
-    close_channel, copy_update, epoch_in, first_waiting, is_open, push_update, waits_in,
+    close_channel, copy_update, epoch_in, first_waiting, is_open, leads_to, push_update, waits_in,
 };
 use crate::part::{Cause, Lost, Offer, Part};
 use crate::refusal::MarkError;
@@ -77,6 +77,17 @@ impl MarkState {
         ensures unfinished { self.new.unfinished ≡ self.old.unfinished }
     {
         self.queue.pop_front();
+    }
+
+    /// Whether a link of the unfinished recording leads to the peer; true where nothing is being
+    /// recorded.
+    pub fn has_link(&self, peer: Asn) -> bool
+        ensures { IsTrue result ↔ IsLink self.now.unfinished peer }
+    {
+        match &self.unfinished {
+            None => true,
+            Some(part) => leads_to(&part.channels, peer),
+        }
     }
 
     // Queues an offer, for which there is room.
@@ -191,7 +202,7 @@ impl MarkState {
         peer: Asn,
         update: &Update,
     ) -> Result<Option<Update>, MarkError>
-        ensures copy { IfOk result (λ copy. copy ≡ copy_for self.old.unfinished peer update.now) }
+        ensures copy { IfOk result (λ copy. copy ≡ copy_for self.new.unfinished peer update.now) }
         ensures room { OnOk result (HasRoom self.new.unfinished peer) }
         ensures state { snapshots_of self.new ≡ snapshots_of self.old }
         ensures over { (peers : List ℕ) → IsOver peers self.old.unfinished → IsOver peers self.new.unfinished }
