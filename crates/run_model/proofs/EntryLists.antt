@@ -2,6 +2,7 @@
 use Rattle.std.proofs.Common.{◌≡◌, ℕ, ◌<◌, ◌==◌, Bool, true, false, cond, List, [], ◌∷◌, ◌++◌, length, Some, slice_get, refl, ap, sym, ◌∙◌, arith, append_assoc, subst}
 use Rattle.std.specs.Prelude.{max}
 use mathlib.Core.List.{IsPrefix}
+pub use Rattle.run_model.specs.Facts.{Sound}
 use Rattle.run_model.specs.Links.{Entry, Dial, Says, Mark, Shut, greatest_dial, said}
 use Rattle.std.proofs.lemmas.List.{append-nil}
 use Rattle.std.proofs.lemmas.Bool.Decides.{nat_tests}
@@ -24,14 +25,6 @@ module _ {M : Type 0} where
   said-append n (Says e m ∷ xs) ys = kept (n == e) m (said n xs) (said n ys) (said n (xs ++ ys)) (said-append n xs ys)
   said-append n (Mark e s ∷ xs) ys = said-append n xs ys
   said-append n (Shut e ∷ xs) ys = said-append n xs ys
-
-  -- each message, marker and close has the greatest number that was dialled before it
-  abbrev pub Sound : ℕ → List (Entry M) → Type 0
-  Sound hi [] = Unit {0}
-  Sound hi (Dial e ∷ rest) = Sound (max hi e) rest
-  Sound hi (Says e m ∷ rest) = (e ≡ hi) × Sound hi rest
-  Sound hi (Mark e s ∷ rest) = (e ≡ hi) × Sound hi rest
-  Sound hi (Shut e ∷ rest) = (e ≡ hi) × Sound hi rest
 
   pub sound-front : (hi : ℕ) (xs ys : List (Entry M)) → Sound hi (xs ++ ys) → Sound hi xs
   sound-front hi [] ys s = tt

@@ -1,12 +1,12 @@
-mod EntryLists
-mod LinkFacts
-mod AfterClose
-mod Incarnations
-mod MarkerFacts
-mod IncarnationRuns
-mod OctetFacts
-mod SessionFacts
-mod SessionRuns
+pub mod EntryLists
+pub mod LinkFacts
+pub mod AfterClose
+pub mod Incarnations
+pub mod MarkerFacts
+pub mod IncarnationRuns
+pub mod OctetFacts
+pub mod SessionFacts
+pub mod SessionRuns
 mod RecordingFacts
 mod RecordingRuns
 mod SettledFacts
@@ -46,3 +46,4 @@ pub mod SpeakerExamples
 pub mod Liftings
 pub mod StampedGathers
 pub mod GatheringExamples
+mod StepFacts

@@ -2,24 +2,13 @@
 use Rattle.std.proofs.Common.{◌≡◌, ◌≢◌, ℕ, ◌+◌, ◌<◌, ◌≤◌, ◌==◌, Bool, true, false, ◌&&◌, cond, List, [], ◌∷◌, ◌++◌, length, Some, slice_get, refl, ap, sym, ◌∙◌, arith, subst, inl, inr, ◌⊎◌}
 use Rattle.std.specs.Prelude.{max, nat_lt}
 use mathlib.Core.List.{IsPrefix}
+pub use Rattle.run_model.specs.Facts.{EndFacts}
 use Rattle.run_model.specs.Links.{Entry, Dial, Says, Mark, Shut, greatest_dial, said, Phase, Closed, Offered, Joined, End, Move, Dials, Tells, Marks, HangsUp, Takes, answers, next_incarnation, phase_joining, phase_at_dial, used_with, taking, after, May, Ends, LinkStep, moved, IsRun, ends_after, opening, UsedBeginsSaid}
 use Rattle.run_model.proofs.EntryLists.{greatest_dial-append, said-append, Sound, sound-front, sound-append, sound-none, prefix_trans, prefix_same, prefix_push, prefix_none, prefix_next, said_front}
 use Rattle.std.proofs.lemmas.List.{append-nil}
 use Rattle.std.proofs.lemmas.Bool.Decides.{nat_tests}
 
 module _ {M : Type 0} where
-  pub record EndFacts (a b : End M) : Type 0 where
-    -- what it took is a beginning of what the peer appended
-    pub front : IsPrefix a.taken b.appended
-    pub sound : Sound 0 a.appended
-    -- an end joins only what the peer dialled
-    pub joined : a.phase ≡ Joined → greatest_dial a.appended ≤ greatest_dial a.taken
-    -- nothing is said in an incarnation that the peer hasn't dialled
-    pub told : (n : ℕ) → greatest_dial b.appended < n → said n a.appended ≡ []
-    -- while it is joined it has used all that it took of its incarnation
-    pub whole : a.phase ≡ Joined → said (greatest_dial a.appended) a.used ≡ said (greatest_dial a.appended) a.taken
-    pub begins : (n : ℕ) → IsPrefix (said n a.used) (said n a.taken)
-
   pub greatest_dial_front : (xs ys : List (Entry M)) → IsPrefix xs ys → greatest_dial xs ≤ greatest_dial ys
   greatest_dial_front xs ys p = omega (arith, greatest_dial-append xs p.0, ap greatest_dial p.1)
 

@@ -9,7 +9,7 @@ use Rattle.std.proofs.lemmas.Bool.Decides.{nat_tests}
 use Rattle.run_model.specs.Octets.{Passing, Octet, Control, octets_of, passing, OnlyOctets, OnlyMessages, AllGood, IsFraming, NextFrameIsNextMessage, NextControlIsNextEntry, DroppedOctetsAreMessages, OctetsStayBeforeMark, NoStaleOctetWhileJoined, NoneDroppedBeforeAnswer}
 use Rattle.std.proofs.lemmas.List.{append-nil, append_cancel_left}
 
-octets_more : {M : Type 0} (e : ℕ) (xs ys : List ℕ) → octets_of {M = M} e (xs ++ ys) ≡ octets_of e xs ++ octets_of e ys
+pub octets_more : {M : Type 0} (e : ℕ) (xs ys : List ℕ) → octets_of {M = M} e (xs ++ ys) ≡ octets_of e xs ++ octets_of e ys
 octets_more e [] ys = refl
 octets_more e (x ∷ xs) ys = ap (λ w. Octet e x ∷ w) (octets_more e xs ys)
 
@@ -22,7 +22,7 @@ module _ {M : Type 0} where
   passing_more written (Shut e ∷ xs) ys = ap (λ w. Control (Shut e) ∷ w) (passing_more written xs ys)
 
   -- two runs of octets at the head of one list
-  meet : (e d : ℕ) (xs ys : List ℕ) (p q : List (Passing M)) → octets_of e xs ++ p ≡ octets_of d ys ++ q → ((t : List ℕ) × (xs ++ t ≡ ys)) ⊎ ((h : ℕ) × (t : List ℕ) × (xs ≡ ys ++ h ∷ t) × (q ≡ Octet e h ∷ (octets_of e t ++ p)))
+  pub meet : (e d : ℕ) (xs ys : List ℕ) (p q : List (Passing M)) → octets_of e xs ++ p ≡ octets_of d ys ++ q → ((t : List ℕ) × (xs ++ t ≡ ys)) ⊎ ((h : ℕ) × (t : List ℕ) × (xs ≡ ys ++ h ∷ t) × (q ≡ Octet e h ∷ (octets_of e t ++ p)))
   meet e d [] ys p q is = inl (ys, refl)
   meet e d (x ∷ xs) [] p q is = inr (x, xs, refl, sym is)
   meet e d (x ∷ xs) (y ∷ ys) p q is =
@@ -31,13 +31,13 @@ module _ {M : Type 0} where
         | inr b ↦ inr (b.0, b.1, (let same : x ≡ y = cc in cc (same, b.2)), b.3)
       ]
 
-  behind : (written : M → List ℕ) (past log : List (Entry M)) (p : List (Passing M)) → (front : IsPrefix past log) → IsPrefix (passing written past ++ p) (passing written log) → (q : List (Passing M)) × (p ++ q ≡ passing written front.0)
+  pub behind : (written : M → List ℕ) (past log : List (Entry M)) (p : List (Passing M)) → (front : IsPrefix past log) → IsPrefix (passing written past ++ p) (passing written log) → (q : List (Passing M)) × (p ++ q ≡ passing written front.0)
   behind written past log p front is =
       let whole : passing written past ++ (p ++ is.0) ≡ passing written past ++ passing written front.0 =
       sym (append_assoc (passing written past) p is.0) ∙ (is.1 ∙ (ap (passing written) (sym front.1) ∙ passing_more written past front.0)) in
       (is.0, append_cancel_left (passing written past) (p ++ is.0) (passing written front.0) whole)
 
-  at_end : (past log : List (Entry M)) (x : Entry M) (rest : List (Entry M)) → past ++ x ∷ rest ≡ log → slice_get log (length past) ≡ Some x
+  pub at_end : (past log : List (Entry M)) (x : Entry M) (rest : List (Entry M)) → past ++ x ∷ rest ≡ log → slice_get log (length past) ≡ Some x
   at_end [] log x rest e = ap (λ l. slice_get l 0) (sym e)
   at_end (y ∷ past) [] x rest e = absurd (cc (e))
   at_end (y ∷ past) (z ∷ log) x rest e = at_end past log x rest (cc (e))
@@ -50,7 +50,7 @@ module _ {M : Type 0} where
   sound-at hi e m (Mark d n ∷ xs) ys s = sound-at hi e m xs ys s.1
   sound-at hi e m (Shut d ∷ xs) ys s = sound-at hi e m xs ys s.1
 
-  good_rest : (good : M → Type 0) (past more : List (Entry M)) → AllGood good (past ++ more) → AllGood good more
+  pub good_rest : (good : M → Type 0) (past more : List (Entry M)) → AllGood good (past ++ more) → AllGood good more
   good_rest good [] more a = a
   good_rest good (Dial e ∷ past) more a = good_rest good past more a
   good_rest good (Says e m ∷ past) more a = good_rest good past more a.1

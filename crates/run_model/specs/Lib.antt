@@ -18,3 +18,5 @@ pub mod Gathering
 pub mod Exchange
 pub mod ThroughCut
 pub mod Speakers
+pub mod Steps
+pub mod Facts

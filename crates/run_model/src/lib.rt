@@ -26,11 +26,12 @@ pub mod quiet;
 pub mod recordings;
 pub mod routes;
 pub mod sessions;
+pub mod steps;
 #[cfg(test)]
 mod tests;
 pub mod wrong_twins;
 
-pub use links::{first_in_first_out, joined_heard_its_own, link_runs_go_on};
+pub use links::{end_facts_hold, first_in_first_out, joined_heard_its_own, link_runs_go_on};
 pub use network_links::network_runs_are_link_runs;
 pub use octets::{Framing, octets_are_entries, passing_appends};
 pub use offers::{
@@ -51,3 +52,4 @@ pub use quiet::{settled_stays, unfinished_snapshots_hold};
 pub use recordings::consistent_cut;
 pub use routes::{network_runs_go_on, settled_is_stable};
 pub use sessions::sessions_are_link_runs;
+pub use steps::{copies_are_a_cut, link_ends_keep_enough, states_of_runs};

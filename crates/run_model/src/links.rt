@@ -1,4 +1,5 @@
 //! First in, first out: what one end of a link uses of what the other says.
+ghost use Rattle.run_model.specs.Facts.{EndFactsHold};
 ghost use Rattle.run_model.specs.Links.{LinkRunsGoOn, UsedBeginsSaid, ActedBeginsSent, NoneUsedAfterClose, JoinedHeardItsOwn};
 
 /// Moves that are a run from where a run of link ends ends make a longer run: so a program's runs are built event by event.
@@ -22,4 +23,12 @@ pub fn first_in_first_out<M>()
 /// Premises: as those of `first_in_first_out`. It does not say that the peer is still joined: it may have hung up.
 pub fn joined_heard_its_own<M>()
     ensures { JoinedHeardItsOwn M }
+{}
+
+/// In every run what an end took is a beginning of what its peer appended, each message has the number dialled before it, an
+/// end joins only what its peer dialled, and it used what it took of the incarnation that it is joined in.
+///
+/// Premises: as those of `first_in_first_out`.
+pub fn end_facts_hold<M>()
+    ensures { EndFactsHold M }
 {}

@@ -2,11 +2,12 @@
 ghost use Rattle.std.specs.Prelude.{◌≡◌, length, ◌∷◌, [], List, ℕ};
 
 use super::{
-    Framing, close_loses_the_recording, consistent_cut, first_in_first_out, joined_heard_its_own,
-    link_runs_go_on, network_runs_are_link_runs, network_runs_go_on, octets_are_entries,
+    Framing, close_loses_the_recording, consistent_cut, copies_are_a_cut, end_facts_hold,
+    first_in_first_out, joined_heard_its_own, link_ends_keep_enough, link_runs_go_on,
+    network_runs_are_link_runs, network_runs_go_on, octets_are_entries,
     offer_runs_are_network_runs, one_offer_a_number, outcome_is_one, outcome_tells,
     recorded_at_one_event, recordings_make_a_cut, sessions_are_link_runs, settled_is_stable,
-    settled_outcome_is_stable_and_stays, settled_stays, unfinished_snapshots_hold,
+    settled_outcome_is_stable_and_stays, settled_stays, states_of_runs, unfinished_snapshots_hold,
 };
 
 /// Messages of one octet, each a frame.
@@ -25,6 +26,7 @@ fn laws_of_links_at_a_type() {
     link_runs_go_on::<u8>();
     first_in_first_out::<u8>();
     joined_heard_its_own::<u8>();
+    end_facts_hold::<u8>();
     octets_are_entries::<u8, OneOctet>();
     sessions_are_link_runs::<u8>();
 }
@@ -32,6 +34,9 @@ fn laws_of_links_at_a_type() {
 #[test]
 fn laws_of_snapshots_at_a_type() {
     consistent_cut::<u8>();
+    states_of_runs::<u8, u8, u32>();
+    link_ends_keep_enough::<u8, u8, u32>();
+    copies_are_a_cut::<u8, u8, u32>();
     network_runs_are_link_runs::<u8, u8, u32>();
     network_runs_go_on::<u8, u8, u32>();
     settled_is_stable::<u8, u8, u32>();

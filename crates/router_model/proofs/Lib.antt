@@ -1,0 +1,5 @@
+pub mod MessageLists
+pub mod Appending
+pub mod Answering
+pub mod Idling
+pub mod Quiet
