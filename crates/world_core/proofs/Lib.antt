@@ -1,2 +1,4 @@
 pub mod CarryLemmas
 pub mod UpdateLemmas
+pub mod Playing
+pub mod Stilling

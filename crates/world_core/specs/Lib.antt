@@ -1,2 +1,5 @@
 pub mod Duo
 pub mod SentAndActed
+pub mod World
+pub mod Keeping
+pub mod Schedules
