@@ -1,21 +1,19 @@
--- Whole schedules of two routers, played: the routes that they end with.
-use Rattle.std.specs.Prelude.{ℕ, zero, suc, ◌-◌, ◌≡◌, Bool, false, List, [], ◌∷◌, ◌++◌, length, Option, None, Some, Ok, Err}
+-- Whole schedules of two routers, played: the routes that they end with, and what they offer.
+use Rattle.std.specs.Prelude.{ℕ, ◌-◌, ◌≡◌, Bool, false, List, [], ◌∷◌, ◌++◌, length, Option, None, Some, Ok, Err}
 use Rattle.run_model.specs.Offers.{Finished, Lost, Cause, Closed, Superseded}
 use Rattle.router_model.specs.declared.command.Command.TheVariants as command
 use Rattle.snap_marker.specs.Recordings.{RouterOffer, MadeOffer}
 use Rattle.world_core.specs.declared.schedule.Event.{Event}
 use Rattle.world_core.specs.declared.schedule.Event.TheVariants as schedule
+use Rattle.world_core.specs.declared.schedule.Order.TheVariants as order
+use Rattle.world_core.specs.Orders.{events_of}
 use Rattle.world_core.specs.World.{Played, played, new_world}
-use Rattle.router_model.specs.Examples.{p, setting}
-
--- a turn of a router with one peer, and rounds of both
-abbrev pub turn : ℕ → ℕ → List Event
-turn u v = schedule.Put u v ∷ schedule.Take u v ∷ schedule.Handle u v ∷ schedule.Decide u ∷ schedule.Advertise u ∷ schedule.Offer u ∷ []
+use Rattle.router_model.specs.Examples.{p, pair, setting}
 
 abbrev pub rounds : ℕ → List Event
-rounds zero = []
-rounds (suc n) = turn 1 2 ++ turn 2 1 ++ rounds n
+rounds n = events_of pair (order.Rounds n)
 
+-- both start, and router 1 originates
 abbrev pub schedule_a : List Event
 schedule_a = schedule.Command 1 (command.Start 2) ∷ schedule.Command 2 (command.Start 1) ∷ schedule.Command 1 (command.Originate p) ∷ rounds 40
 

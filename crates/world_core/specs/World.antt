@@ -194,8 +194,3 @@ Gives g r (Stops fault) w event y = (r ≡ Err fault) × (y ≡ w)
 
 abbrev pub IsStepped : Setting → Result Stepped StepFault → World → Event → World → Type 0
 IsStepped g r w event y = Gives g r (world_answer g w event) w event y
-
--- what a call that plays a schedule is to answer: what is played, or want of memory at some event
-abbrev pub IsPlayed : Setting → List Event → Played → Type 0
-IsPlayed g events (Ok w) = played g (new_world g) 0 events ≡ Ok w
-IsPlayed g events (Err fault) = (played g (new_world g) 0 events ≡ Err fault) ⊎ (fault.why ≡ Memory)
