@@ -1,7 +1,11 @@
 pub mod WordLemmas
-pub mod ApplyLemmas
 pub mod KeptLemmas
 pub mod ChoiceLemmas
 pub mod RouterLemmas
-pub mod LeastLemmas
 pub mod LastLemmas
+pub mod PlaceLemmas
+pub mod RowChoices
+pub mod ChangeLemmas
+pub mod ViewLemmas
+pub mod RibLemmas
+pub mod SessionLemmas
