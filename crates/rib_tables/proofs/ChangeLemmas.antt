@@ -40,6 +40,11 @@ each_fails t [] none i p at = absurd (let lt = slice_get_within [] i p at in ome
 each_fails t (k ∷ ks) none zero p at = ap t (sym (some_of k p at)) ∙ or_false_left (t k) (list_any t ks) none
 each_fails t (k ∷ ks) none (suc i) p at = each_fails t ks (or_false_right (t k) (list_any t ks) none) i p (slice_get_tail k ks i p at)
 
+-- and the other way about
+pub each_passes : (t : PrefixView → Bool) (keys : List PrefixView) → ((i : ℕ) (p : PrefixView) → slice_get keys i ≡ Some p → t p ≡ false) → list_any t keys ≡ false
+each_passes t [] none = refl
+each_passes t (k ∷ ks) none = ap (λ (b : Bool). b || list_any t ks) (none 0 k refl) ∙ each_passes t ks (λ i p at. none (suc i) p at)
+
 pub place_from : (q : PrefixView) (keys : List PrefixView) (r : Option ℕ) → r ≡ position (is_prefix q) keys → is_some r ≡ list_any (is_prefix q) keys
     → MatchOption r ((i : ℕ) (p : PrefixView) → slice_get keys i ≡ Some p → is_prefix q p ≡ false) (λ i. slice_get keys i ≡ Some q)
 place_from q keys None is found = λ i p at. each_fails (is_prefix q) keys (sym found) i p at
@@ -49,7 +54,7 @@ place_from q keys (Some i) is found =
 
 -- ---- rows by their prefixes
 
-within : {X : Type 0} (xs : List X) (i : ℕ) → i < length xs → (x : X) × (slice_get xs i ≡ Some x)
+pub within : {X : Type 0} (xs : List X) (i : ℕ) → i < length xs → (x : X) × (slice_get xs i ≡ Some x)
 within {X} xs i lt = elim (slice_get_cases xs i).1 [ inl here ↦ (here.0, here.2) | inr past ↦ absurd (omega (arith, lt, past.0)) ]
 
 module _ (keys : List PrefixView) (rows : List Row) (listed : keys ≡ map (λ r. r.prefix) rows) where

@@ -9,3 +9,8 @@ pub mod ChangeLemmas
 pub mod ViewLemmas
 pub mod RibLemmas
 pub mod SessionLemmas
+pub mod SeenLemmas
+pub mod OpeningLemmas
+pub mod DecidingLemmas
+pub mod OneRowLemmas
+pub mod AskingLemmas

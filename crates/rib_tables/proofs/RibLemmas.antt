@@ -25,7 +25,7 @@ use Rattle.rib_tables.proofs.RowChoices.{some_of}
 use Rattle.rib_tables.proofs.ChangeLemmas.{key_at, row_at, once_at, map_after, from_map, to_map, hearing_keeps}
 use Rattle.rib_tables.proofs.ViewLemmas.{NoPeer, peer_or_not, no_row, no_peer, word_at}
 
-before_apart : (p q : PrefixView) → IsBefore p q → p ≡ q → ⊥
+pub before_apart : (p q : PrefixView) → IsBefore p q → p ≡ q → ⊥
 before_apart p q h e =
     let a = ap (λ (x : PrefixView). x.addr) e in
     let l = ap (λ (x : PrefixView). x.len) e in
@@ -61,7 +61,7 @@ peer_once peers apart i j a b at also e =
       ]
     ]
 
-row_once : (keys : List PrefixView) (rows : List Row) → keys ≡ map (λ r. r.prefix) rows → AllPairs (λ p q. p ≢ q) keys → (i j : ℕ) (a b : Row) → slice_get rows i ≡ Some a → slice_get rows j ≡ Some b → a.prefix ≡ b.prefix → i ≡ j
+pub row_once : (keys : List PrefixView) (rows : List Row) → keys ≡ map (λ r. r.prefix) rows → AllPairs (λ p q. p ≢ q) keys → (i j : ℕ) (a b : Row) → slice_get rows i ≡ Some a → slice_get rows j ≡ Some b → a.prefix ≡ b.prefix → i ≡ j
 row_once keys rows listed once i j a b at also e = once_at keys once i j b.prefix (key_at keys rows listed i a at ∙ ap Some e) (key_at keys rows listed j b also)
 
 -- ---- a change of all rows
@@ -160,7 +160,7 @@ row_or_not (x ∷ xs) q = elim (cases_Bool (is_prefix x.prefix q)) [
     none_in f none zero r at e = both_ways (is_prefix x.prefix q) f (is_prefix-from x.prefix q (ap (λ (s : Row). s.prefix) (some_of x r at) ∙ e))
     none_in f none (suc i) r at e = none i r at e
 
-said_map : (line : Row → List Word) (peers : List Peer) (f : Row → Row) → ((r : Row) → (f r).prefix ≡ r.prefix) → ((r : Row) → line (f r) ≡ line r) → (rows : List Row) → said_in line peers (map f rows) ≡ said_in line peers rows
+pub said_map : (line : Row → List Word) (peers : List Peer) (f : Row → Row) → ((r : Row) → (f r).prefix ≡ r.prefix) → ((r : Row) → line (f r) ≡ line r) → (rows : List Row) → said_in line peers (map f rows) ≡ said_in line peers rows
 said_map line peers f prefix same [] = refl
 said_map line peers f prefix same (r ∷ rs) =
     ap (λ (p : PrefixView). says_in peers p (line (f r)) ++ said_in line peers (map f rs)) (prefix r)

@@ -108,7 +108,7 @@ one_best law s is q a b x y =
 choice_as : (One Other : ℕ → List ℕ → Type 0) (t : Table) (q : PrefixView) (path : List ℕ) → ((v : ℕ) (p : List ℕ) → One v p → Other v p) → IsChoice One t q path → IsChoice Other t q path
 choice_as One Other t q path onto c = record { peer = c.peer; rest = c.rest; heard = onto c.peer c.rest c.heard; some = c.some; goes_on = c.goes_on; permitted = c.permitted }
 
-best_as : (Originated : Type 0) (One Other : ℕ → List ℕ → Type 0) (t : Table) (q : PrefixView) (path : List ℕ) → ((v : ℕ) (p : List ℕ) → One v p → Other v p) → ((v : ℕ) (p : List ℕ) → Other v p → One v p)
+pub best_as : (Originated : Type 0) (One Other : ℕ → List ℕ → Type 0) (t : Table) (q : PrefixView) (path : List ℕ) → ((v : ℕ) (p : List ℕ) → One v p → Other v p) → ((v : ℕ) (p : List ℕ) → Other v p → One v p)
     → IsBestOf Originated One t q path → IsBestOf Originated Other t q path
 best_as Originated One Other t q path onto back (inl own) = inl own
 best_as Originated One Other t q path onto back (inr x) = inr (

@@ -29,7 +29,7 @@ pub path_by_some : (router : ℕ) (rest : List ℕ) → rest ≢ [] → path_by 
 path_by_some router [] some = absurd (some refl)
 path_by_some router (v ∷ rest) some = refl
 
-path_by_none : (router : ℕ) (rest : List ℕ) → rest ≡ [] → path_by router rest ≡ []
+pub path_by_none : (router : ℕ) (rest : List ℕ) → rest ≡ [] → path_by router rest ≡ []
 path_by_none router rest e = ap (path_by router) e
 
 router_ahead : (x : ℕ) (xs : List ℕ) → x ∷ xs ≡ [] → ⊥

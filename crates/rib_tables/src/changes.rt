@@ -194,7 +194,7 @@ pub(crate) fn untold(rows: &[Row], peer: usize) -> PlaceSet
 }
 
 // What the peers wait for at one place, after a change of its row.
-pub(crate) fn wait_anew(peers: &[Peer], row: &Row, place: usize, waits: &mut [PlaceSet])
+fn wait_anew(peers: &[Peer], row: &Row, place: usize, waits: &mut [PlaceSet])
     requires place { place < 256 }
     requires len { length waits.old ≡ length peers.now }
     requires sent { length row.now.sent ≡ length peers.now }
@@ -210,6 +210,18 @@ pub(crate) fn wait_anew(peers: &[Peer], row: &Row, place: usize, waits: &mut [Pl
             waiting.take_out(place);
         }
     }
+}
+
+// The same, of a `Vec`.
+pub(crate) fn wait_all(peers: &[Peer], row: &Row, place: usize, waits: &mut Vec<PlaceSet>)
+    requires place { place < 256 }
+    requires len { length waits.old.items ≡ length peers.now }
+    requires sent { length row.now.sent ≡ length peers.now }
+    ensures len { length waits.new.items ≡ length waits.old.items }
+    ensures here { (k : ℕ) (p : Peer) (w : PlaceSet) → slice_get peers.now k ≡ Some p → slice_get waits.new.items k ≡ Some w → (has w place ≡ true ↔ ((p.up ≡ true) × (slice_get row.now.sent k ≢ Some (Sequence row.now.kept)))) }
+    ensures others { (k : ℕ) (w : PlaceSet) → slice_get waits.new.items k ≡ Some w → (v : PlaceSet) × (slice_get waits.old.items k ≡ Some v) × ((i : ℕ) → i ≢ place → has w i ≡ has v i) }
+{
+    wait_anew(peers, row, place, waits.as_mut_slice());
 }
 
 // The same, of a `Vec`.
@@ -264,7 +276,8 @@ fn clear_rows(alloc: Global, rows: &mut [Row], dirty: &mut PlaceSet)
     ensures rows { rows.new ≡ map clearing rows.old }
     ensures dirty { (i : ℕ) → i < length rows.old → has dirty.new i ≡ true }
 {
-    for (place, row) in rows.iter_mut().enumerate() {
+    for place in 0..rows.len() {
+        let row = &mut rows[place];
         row.kept = Path::new(alloc);
         row.originated = false;
         dirty.put(place);

@@ -59,4 +59,15 @@ impl PlaceSet {
         }
         None
     }
+
+    // Whether the set has one of the first so many places.
+    pub(crate) fn has_below(&self, places: usize) -> bool
+        ensures some { result ≡ true → (place : ℕ) × (place < places) × (has self.now place ≡ true) }
+        ensures none { result ≡ false → (place : ℕ) → place < places → has self.now place ≡ false }
+    {
+        match self.first() {
+            Some(place) => place < places,
+            None => false,
+        }
+    }
 }

@@ -11,7 +11,7 @@ ghost use Rattle.rib_tables.specs.Owners.{sources_of, IsSettled, IsServed, IsAwa
 
 use crate::changes::{
     announced_words, await_all, clear_all, forget_all, hear_update, keep_at, mark_words,
-    originate_at, place_of, place_of_peer, set_up, tell_at, untold, wait_anew,
+    originate_at, place_of, place_of_peer, set_up, tell_at, untold, wait_all,
 };
 use crate::opening::{keys_of, no_waits, peers_down, rows_of};
 use crate::place_set::PlaceSet;
@@ -209,14 +209,23 @@ impl<'a> Rib<'a> {
         self.waits[place] = PlaceSet::new();
     }
 
-    /// Originates a prefix from now on, or no longer. It takes no memory.
-    pub fn originate(&mut self, prefix: &Prefix, now: bool)
+    /// Originates a prefix from now on. It takes no memory.
+    pub fn originate(&mut self, prefix: &Prefix)
         requires { IsOrigin self.old.net.origins self.old.router prefix.now }
-        ensures on { now ≡ true → Originating self.old self.new prefix.now }
-        ensures off { now ≡ false → Withdrawing self.old self.new prefix.now }
+        ensures { Originating self.old self.new prefix.now }
     {
         let place = place_of(&self.keys, prefix).unwrap();
-        originate_at(&mut self.rows, place, now);
+        originate_at(&mut self.rows, place, true);
+        self.dirty.put(place);
+    }
+
+    /// Originates a prefix no longer. It takes no memory.
+    pub fn withdraw(&mut self, prefix: &Prefix)
+        requires { IsOrigin self.old.net.origins self.old.router prefix.now }
+        ensures { Withdrawing self.old self.new prefix.now }
+    {
+        let place = place_of(&self.keys, prefix).unwrap();
+        originate_at(&mut self.rows, place, false);
         self.dirty.put(place);
     }
 
@@ -228,12 +237,8 @@ impl<'a> Rib<'a> {
         let place = place_of(&self.keys, prefix).unwrap();
         keep_at(&mut self.rows, place, path);
         self.dirty.put(place);
-        wait_anew(
-            self.peers.as_slice(),
-            &self.rows[place],
-            place,
-            self.waits.as_mut_slice(),
-        );
+        let peers = self.peers.as_slice();
+        wait_all(peers, &self.rows[place], place, &mut self.waits);
     }
 
     /// A restart: no path is kept, and nothing is originated. It takes no memory.
@@ -321,10 +326,8 @@ impl<'a> Rib<'a> {
         ensures none { result ≡ false → AllServed self.now }
     {
         for waiting in self.waits.as_slice() {
-            if let Some(place) = waiting.first() {
-                if place < self.rows.len() {
-                    return true;
-                }
+            if waiting.has_below(self.rows.len()) {
+                return true;
             }
         }
         false
