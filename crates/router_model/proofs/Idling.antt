@@ -27,6 +27,7 @@ use Rattle.router_model.specs.State.{Router, is_untold, undecided, is_waiting_pe
 use Rattle.router_model.specs.Step.{Obeys, Handles, Decides, Advertises, RouterEvent, HasSize, MayObey, May}
 use Rattle.router_model.specs.Calls.{Call, Obey, Tick, Put, Take, Handle, Decide, Advertise, Idle, judged, if_so, put_event, advertise_event, blocked, has_room, bars, command_event, event_of, IsEventOf}
 use Rattle.router_model.specs.Laws.{IdleWhereNothingMayCome}
+use Rattle.router_model.proofs.Peers.{is_peer}
 
 -- what a judgement that answers nothing has passed
 idle : (why : Option RouterError) (event : Option RouterEvent) (ends over : Bool) → judged why event ends over ≡ Idle → (why ≡ None) × (event ≡ None)
@@ -99,32 +100,6 @@ none_found_at p q x xs v false e h hq hp none f = f h (missed p x (filter q xs) 
 pub none_found : (p q : ℕ → Bool) (xs : List ℕ) (v : ℕ) → list_any (nat_eq v) xs ≡ true → q v ≡ true → p v ≡ true → find p (filter q xs) ≡ None → ⊥
 none_found p q [] v h hq hp none = absurd cc
 none_found p q (x ∷ xs) v h hq hp none = none_found_at p q x xs v (nat_eq v x) refl h hq hp none (λ g n. none_found p q xs v g hq hp n)
-
-joins_other : (u v one other : ℕ) (all : List ℕ) (a b c d : Bool) → (one == u) ≡ a → (other == v) ≡ b → (one == v) ≡ c → (other == u) ≡ d
-    → ((a && b) || (c && d)) ≡ true → Contains all one → Contains all other → Contains all v
-joins_other u v one other all true true c d ea eb ec ed h k l = (let same : other ≡ v = grind (arith, nat_tests, eb) in subst (Contains all) same l)
-joins_other u v one other all true false true d ea eb ec ed h k l = (let same : one ≡ v = grind (arith, nat_tests, ec) in subst (Contains all) same k)
-joins_other u v one other all true false false d ea eb ec ed h k l = absurd cc
-joins_other u v one other all false b true d ea eb ec ed h k l = (let same : one ≡ v = grind (arith, nat_tests, ec) in subst (Contains all) same k)
-joins_other u v one other all false b false d ea eb ec ed h k l = absurd cc
-
-either : (b c : Bool) → (b || c) ≡ true → b ≡ false → c ≡ true
-either true c h e = absurd cc
-either false c h e = h
-
-known_at : (u v : ℕ) (all : List ℕ) (link : Link) (links : List Link) (b : Bool) → joins u v link ≡ b → (joins u v link || list_any (joins u v) links) ≡ true
-    → Contains all link.one × Contains all link.other → (list_any (joins u v) links ≡ true → Contains all v) → Contains all v
-known_at u v all link links true e h k f =
-    joins_other u v link.one link.other all (link.one == u) (link.other == v) (link.one == v) (link.other == u) refl refl refl refl e k.0 k.1
-known_at u v all link links false e h k f = f (either (joins u v link) (list_any (joins u v) links) h e)
-
-known : (u v : ℕ) (all : List ℕ) (links : List Link) → AllByRecursion (λ link. Contains all link.one × Contains all link.other) links → list_any (joins u v) links ≡ true → Contains all v
-known u v all [] k h = absurd cc
-known u v all (link ∷ links) k h = known_at u v all link links (joins u v link) refl h k.0 (known u v all links k.1)
-
-pub is_peer : (g : Setting) → IsNetwork g.net → (u v : ℕ) → linked g.net u v ≡ true → list_any (nat_eq v) (numbers g.net.routers) ≡ true
-is_peer g net u v h =
-    list_any-from_Contains nat_eq_equiv v (numbers g.net.routers) (known u v (numbers g.net.routers) g.net.links (recursion_from_All _ g.net.links net.plan.links.known) h)
 
 found_any_at : {A : Type 0} (p : A → Bool) (x : A) (xs : List A) (b : Bool) → is_some (cond b (Some x) (find p xs)) ≡ true → (is_some (find p xs) ≡ true → list_any p xs ≡ true) → (b || list_any p xs) ≡ true
 found_any_at p x xs true h f = refl

@@ -1,3 +1,4 @@
+pub mod Peers
 pub mod MessageLists
 pub mod Appending
 pub mod Answering

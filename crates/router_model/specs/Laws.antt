@@ -1,13 +1,14 @@
 -- What the definitions say together.
-use Rattle.std.specs.Prelude.{ℕ, ◌≡◌, ◌++◌, List, [], ◌∷◌}
+use Rattle.std.specs.Prelude.{ℕ, ◌≡◌, ◌≢◌, nat_eq, true, ◌++◌, List, [], ◌∷◌}
+use Rattle.std.specs.List.{list_any}
 use Rattle.bgp_codec.specs.declared.message.Message.{Message}
 use Rattle.bgp_codec.specs.Spelling.{written}
 use Rattle.run_model.specs.Links.{said}
 use Rattle.run_model.specs.Octets.{Passing, passing}
 use Rattle.run_model.specs.Network.{put_towards}
-use Rattle.ranked_policy.specs.Plans.{IsNetwork}
+use Rattle.ranked_policy.specs.Plans.{Plan, IsNetwork, IsRouter}
 use Rattle.outbox.specs.declared.item.What.{What}
-use Rattle.router_model.specs.Settings.{Setting}
+use Rattle.router_model.specs.Settings.{Setting, linked, peers}
 use Rattle.router_model.specs.State.{Router}
 use Rattle.router_model.specs.Messages.{updates_in}
 use Rattle.outbox.specs.Items.{passes}
@@ -18,6 +19,18 @@ use Rattle.router_model.specs.Calls.{Stamped, Call, Steps, Idle, answer, IsEvent
 abbrev pub all_passes : List What → List (Passing Message)
 all_passes [] = []
 all_passes (i ∷ is) = passes i ++ all_passes is
+
+-- two routers that a link joins
+pub record AreLinked (net : Plan) (u v : ℕ) : Type 0 where
+  pub apart : u ≢ v
+  pub back : linked net v u ≡ true
+  pub one : IsRouter net.routers u
+  pub other : IsRouter net.routers v
+  pub peer : list_any (nat_eq v) (peers net u) ≡ true
+
+-- a link joins two routers of the network, whichever it names first, and each is among the peers of the other
+abbrev pub LinkedRoutersArePeers : Type 0
+LinkedRoutersArePeers = (net : Plan) → IsNetwork net → (u v : ℕ) → linked net u v ≡ true → AreLinked net u v
 
 -- what a step appends towards a peer is what it says; what it puts stood in front and is gone; nothing else changes there
 abbrev pub StepsAppendWhatTheySay : Type 0

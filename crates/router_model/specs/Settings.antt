@@ -33,6 +33,10 @@ joins u v link = ((link.one == u) && (link.other == v)) || ((link.one == v) && (
 abbrev pub linked : Plan → ℕ → ℕ → Bool
 linked net u v = list_any (joins u v) net.links
 
+-- u is a router of the network
+abbrev pub is_router : Setting → ℕ → Bool
+is_router g u = list_any (λ n. u == n) (numbers g.net.routers)
+
 -- the peers of a router, rising
 abbrev pub peers : Plan → ℕ → List ℕ
 peers net u = filter (linked net u) (numbers net.routers)

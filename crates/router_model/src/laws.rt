@@ -1,6 +1,11 @@
 //! What the definitions of one router say together. Each is the contract of a function without work of its own.
 
-ghost use Rattle.router_model.specs.Laws.{StepsAppendWhatTheySay, AnswersAreSteps, IdleWhereNothingMayCome, SentIsWhatIsSaid};
+ghost use Rattle.router_model.specs.Laws.{StepsAppendWhatTheySay, AnswersAreSteps, IdleWhereNothingMayCome, LinkedRoutersArePeers, SentIsWhatIsSaid};
+
+/// A link joins two routers of the network, whichever it names first, and each is among the peers of the other.
+pub fn linked_routers_are_peers()
+    ensures { LinkedRoutersArePeers }
+{}
 
 /// The items that a step puts towards a peer, then the outbox, are the old outbox, then what the step says: nothing
 /// waiting is lost, changed or overtaken.
