@@ -51,7 +51,7 @@ by_length message = length message ∷ message
 -- they are a framing
 abbrev pub LengthsAreFrames : Type 0
 LengthsAreFrames =
-    IsFraming {M = List ℕ} (λ octets. (message : List ℕ) × (octets ≡ by_length message)) (λ message. Unit {0}) by_length
+    IsFraming (λ octets. (message : List ℕ) × (octets ≡ by_length message))
 
 -- ---- two sessions that come up, and one that comes up again
 

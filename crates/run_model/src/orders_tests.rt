@@ -1,8 +1,8 @@
 //! Each law at a concrete type, and small networks of which it is known what holds.
 ghost use Rattle.run_model.specs.CausalOrder.{CausalOrdersAreRuns};
 ghost use Rattle.run_model.specs.ThroughCut.{RunsPassThroughCuts};
-ghost use Rattle.std.specs.Prelude.{ℕ};
-ghost use Rattle.run_model.specs.Speakers.{Speaker, SpeakerStep, Word, CounterStep, CountersDoNotCommute, ForetoldIsNoRun, NotAllOffersStand, NotByRouters, NotThroughAnyCut, NotWhateverIsCollected, SpeakersPutsCommute, TiesAreNotTurned, ToldIsARun, ToldThroughTheCut, TwoJournalsGathered};
+ghost use Rattle.std.specs.Prelude.{ℕ, Bool};
+ghost use Rattle.run_model.specs.Speakers.{LinkedCounterStep, Speaker, SpeakerStep, Word, CountersDoNotCommute, ForetoldIsNoRun, NotAllOffersStand, NotByRouters, NotThroughAnyCut, NotWhateverIsCollected, SpeakersPutsCommute, TiesAreNotTurned, ToldIsARun, ToldThroughTheCut, TwoJournalsGathered};
 
 use crate::orders::{
     JournalLines, Routers, WholeLines, causal_orders_are_runs, causal_orders_end_alike,
@@ -14,10 +14,12 @@ use crate::orders::{
     threads_are_a_run,
 };
 
-/// Routers that add up what they take, and send their totals.
+/// Routers that add up what they take, and send their totals to those that they are linked with.
 struct Counters;
 
 impl Routers for Counters {
+    ghost Setting = { ℕ → ℕ → Bool };
+
     ghost State = { ℕ };
 
     ghost Own = { ℕ };
@@ -26,13 +28,15 @@ impl Routers for Counters {
 
     ghost Offer = { ℕ };
 
-    ghost step = { CounterStep };
+    ghost step = { LinkedCounterStep };
 }
 
 /// Routers that append numbers and put them later.
 struct Speakers;
 
 impl Routers for Speakers {
+    ghost Setting = { Unit {0} };
+
     ghost State = { Speaker };
 
     ghost Own = { Word };
@@ -41,7 +45,7 @@ impl Routers for Speakers {
 
     ghost Offer = { ℕ };
 
-    ghost step = { SpeakerStep };
+    ghost step = { λ setting. SpeakerStep };
 }
 
 /// Lines of journals as pairs of stamp and router.
@@ -83,6 +87,13 @@ fn laws_of_speakers()
 {
     causal_orders_are_runs::<Speakers>();
     runs_pass_through_cuts::<Speakers>();
+}
+
+/// A law at a network that is a variable.
+fn law_of_linked_counters()
+    ensures { (linked : ℕ → ℕ → Bool) → CausalOrdersAreRuns (LinkedCounterStep linked) }
+{
+    causal_orders_are_runs::<Counters>();
 }
 
 /// A small run, and its order is causal.
@@ -142,6 +153,7 @@ fn each_law_at_a_type() {
 fn small_networks() {
     puts_of_speakers_commute();
     laws_of_speakers();
+    law_of_linked_counters();
     told_is_a_run();
     foretold_is_no_run();
     told_through_a_cut();

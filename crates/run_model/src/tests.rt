@@ -1,5 +1,5 @@
 //! Each law at a type of messages, prefixes and paths.
-ghost use Rattle.std.specs.Prelude.{◌≡◌, length, ◌∷◌, [], List, ℕ};
+ghost use Rattle.std.specs.Prelude.{◌≡◌, length, List, ℕ};
 
 use super::{
     Framing, close_loses_the_recording, consistent_cut, copies_are_a_cut, end_facts_hold,
@@ -10,15 +10,11 @@ use super::{
     settled_outcome_is_stable_and_stays, settled_stays, states_of_runs, unfinished_snapshots_hold,
 };
 
-/// Messages of one octet, each a frame.
+/// Frames of one octet.
 struct OneOctet;
 
-impl Framing<u8> for OneOctet {
+impl Framing for OneOctet {
     ghost is_frame = { λ octets. length octets ≡ 1 };
-
-    ghost is_good = { λ message. Unit {0} };
-
-    ghost written = { λ message. message ∷ [] };
 }
 
 #[test]
