@@ -47,3 +47,5 @@ pub mod Liftings
 pub mod StampedGathers
 pub mod GatheringExamples
 mod StepFacts
+mod FactLaws
+mod StreamFacts
