@@ -49,3 +49,4 @@ pub mod GatheringExamples
 mod StepFacts
 mod FactLaws
 mod StreamFacts
+mod CutLengths

@@ -45,8 +45,8 @@ pub use offers::{
 pub use orders::{
     JournalLines, Routers, WholeLines, causal_orders_are_runs, causal_orders_end_alike,
     gathered_events_are_stamped, gathered_is_one, gathered_stamps_rise, gathering_lifts,
-    journals_can_be_gathered, offers_stand, puts_come_earlier, runs_are_causal_orders,
-    runs_have_their_cuts, runs_pass_through_cuts, sorting_by_stamp_gathers,
+    journals_can_be_gathered, offers_stand, parts_are_as_long, puts_come_earlier,
+    runs_are_causal_orders, runs_have_their_cuts, runs_pass_through_cuts, sorting_by_stamp_gathers,
     sorting_by_stamp_then_router_gathers, stamps_change_no_item, stamps_give_causal_orders,
     stamps_give_the_collectors_order, steps_are_takes_in_order, takes_have_their_puts,
     threads_are_a_run,

@@ -4,7 +4,7 @@ ghost use Rattle.run_model.specs.Exchange.{PutsComeEarlier};
 ghost use Rattle.run_model.specs.Gathering.{GatheredEventsAreStamped, GatheredIsOne, GatheredStampsRise, GatheringLifts, JournalsCanBeGathered, SortingByStampGathers, SortingByStampThenRouterGathers};
 ghost use Rattle.run_model.specs.Network.{Event, StepsAreTakesInOrder};
 ghost use Rattle.run_model.specs.Stamps.{StampsChangeNoItem, StampsGiveCausalOrders, StampsGiveTheCollectorsOrder, ThreadsAreARun};
-ghost use Rattle.run_model.specs.ThroughCut.{OffersStand, RunsHaveTheirCuts, RunsPassThroughCuts};
+ghost use Rattle.run_model.specs.ThroughCut.{OffersStand, PartsAreAsLong, RunsHaveTheirCuts, RunsPassThroughCuts};
 ghost use Rattle.std.specs.Prelude.{ℕ};
 
 /// The routers of a network: their states, what they do alone, the items that they pass, the offers that they make, and
@@ -227,4 +227,13 @@ pub fn runs_pass_through_cuts<Net: Routers>()
 /// the cut. Offers of other kinds may stand otherwise; each router's own keep their order.
 pub fn offers_stand<Net: Routers>()
     ensures { OffersStand Net.Own Net.Item Net.Offer }
+{}
+
+/// The first part of the reordered run is as long as all events inside, and the early puts; both parts together are as long
+/// as the run.
+///
+/// Premise: the list has each router of the run's events once; others may stand in it. The cut is any number of own first
+/// events for each router.
+pub fn parts_are_as_long<Net: Routers>()
+    ensures { PartsAreAsLong Net.Own Net.Item Net.Offer }
 {}
