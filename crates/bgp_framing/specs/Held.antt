@@ -38,3 +38,7 @@ IsFirst octets (Bad fault) = (frames : List (List ℕ)) (rest : List ℕ) → Sp
 -- what stands in front is the first frame, where there is one
 abbrev pub NextIsFirst : Type 0
 NextIsFirst = (octets : List ℕ) (next : Next) → IsNext octets next → IsFirst octets next
+
+-- there is one answer
+abbrev pub OneNext : Type 0
+OneNext = (octets : List ℕ) (a b : Next) → IsNext octets a → IsNext octets b → a ≡ b
