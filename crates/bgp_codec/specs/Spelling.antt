@@ -1,10 +1,11 @@
 -- How each message is spelt (RFC 4271 section 4), and the one spelling that is written.
-use Rattle.std.specs.Prelude.{◌≡◌, ℕ, ◌+◌, ◌≤◌, ◌<◌, List, [], ◌∷◌, ◌++◌, length, slice_index}
+use Rattle.std.specs.Prelude.{◌≡◌, ℕ, ◌+◌, ◌≤◌, ◌<◌, ◌⊎◌, List, [], ◌∷◌, ◌++◌, length, slice_index}
 use Rattle.std.specs.Int.{w16, to_be_bytes}
 use Rattle.marker_lanes.specs.Marker.{marker}
 use Rattle.bgp_codec.specs.declared.message.Message.{Message}
 use Rattle.bgp_codec.specs.declared.message.Message.TheVariants.{OpenMsg, UpdateMsg, NoticeMsg, AliveMsg}
 use Rattle.bgp_codec.specs.declared.notice.Notice.{Notice}
+use Rattle.bgp_codec.specs.declared.open.Open.{Open}
 use Rattle.bgp_codec.specs.declared.rule.Rule.{Rule}
 use Rattle.bgp_codec.specs.Opens.{SpellsOpen, OpenFits, open_octets}
 use Rattle.bgp_codec.specs.Updates.{SpellsUpdate, UpdateFits, update_octets}
@@ -63,3 +64,11 @@ written_body AliveMsg = []
 -- the one spelling that is written
 abbrev pub written : Message → List ℕ
 written message = framed (kind_of message) (written_body message)
+
+-- what is written has the nineteen octets of a header, and those of its body
+abbrev pub WrittenHasAHeader : Type 0
+WrittenHasAHeader = (message : Message) → length (written message) ≡ 19 + length (written_body message)
+
+-- section 4.2: the hold time of an OPEN that is writable is 0, or 3 seconds and more
+abbrev pub OpenHasAHoldTime : Type 0
+OpenHasAHoldTime = (rule : Rule) (message : Open) → IsWritable rule (OpenMsg message) → (message.hold ≡ 0) ⊎ (3 ≤ message.hold)

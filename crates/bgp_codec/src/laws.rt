@@ -2,6 +2,7 @@
 //! above this crate calls the function whose law it needs.
 
 ghost use Rattle.bgp_codec.specs.Header.{HeaderIsItsFront, HeaderFaultIsShort};
+ghost use Rattle.bgp_codec.specs.Spelling.{WrittenHasAHeader, OpenHasAHoldTime};
 ghost use Rattle.bgp_codec.specs.Faults.{OneMessageOrFault, FaultFitsAMessage, WrittenIsSpelt, WrittenIsRead, SpeltIsWritable};
 
 use prefix_lanes::{a_prefix_is_its_bits, masking_clears_bits};
@@ -33,6 +34,17 @@ pub fn written_is_read()
 /// has no more octets than they have: so what was read can be written.
 pub fn spelt_is_writable()
     ensures { SpeltIsWritable }
+{}
+
+/// What is written for a message has the nineteen octets of a header, and those of its body.
+pub fn written_has_a_header()
+    ensures { WrittenHasAHeader }
+{}
+
+/// The hold time of an OPEN that is writable is 0 seconds, or 3 and more: one that a session takes.
+/// By `spelt_is_writable` that is so of every OPEN that was read.
+pub fn open_has_a_hold_time()
+    ensures { OpenHasAHoldTime }
 {}
 
 /// The checks of a header and its Length look at the first nineteen octets alone.

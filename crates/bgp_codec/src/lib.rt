@@ -47,7 +47,7 @@ pub use path::{Segment, SegmentKind};
 pub use reading::decode;
 pub use rule::{Asn, NOBODY, Rule, Width};
 pub use update::Update;
-pub use writing::encode;
+pub use writing::{encode, put_message, written_len};
 
 #[cfg(test)]
 mod tests;

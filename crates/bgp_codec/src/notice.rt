@@ -52,7 +52,8 @@ pub(crate) fn read_notice(alloc: Global, body: &[u8]) -> Result<Message, CodecEr
 // Appends the body of a NOTIFICATION, for which there is room.
 pub(crate) fn put_notice(out: &mut Vec<u8>, notice: &Notice)
     requires { vec_len out.old + length (notice_octets notice.now) ≤ vec_capacity out.old }
-    ensures { out.new.items ≡ out.old.items ++ notice_octets notice.now }
+    ensures items { out.new.items ≡ out.old.items ++ notice_octets notice.now }
+    ensures capacity { vec_capacity out.old ≤ vec_capacity out.new }
 {
     out.push_reserved(notice.code);
     out.push_reserved(notice.sub);

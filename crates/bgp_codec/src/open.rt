@@ -270,6 +270,7 @@ fn put_params(out: &mut Vec<u8>, params: &[Items<Cap>])
     requires fit { AllByRecursion ParamFits params.now }
     requires room { vec_len out.old + length (flat_map param_octets params.now) ≤ vec_capacity out.old }
     ensures items { out.new.items ≡ out.old.items ++ flat_map param_octets params.now }
+    ensures capacity { vec_capacity out.old ≤ vec_capacity out.new }
 {
     for caps in params {
         let caps = caps.as_slice();
@@ -283,7 +284,8 @@ fn put_params(out: &mut Vec<u8>, params: &[Items<Cap>])
 pub(crate) fn put_open(out: &mut Vec<u8>, message: &Open)
     requires fit { OpenFits message.now }
     requires room { vec_len out.old + length (open_octets message.now) ≤ vec_capacity out.old }
-    ensures { out.new.items ≡ out.old.items ++ open_octets message.now }
+    ensures items { out.new.items ≡ out.old.items ++ open_octets message.now }
+    ensures capacity { vec_capacity out.old ≤ vec_capacity out.new }
 {
     let [asn_high, asn_low] = message.asn.to_be_bytes();
     let [hold_high, hold_low] = message.hold.to_be_bytes();

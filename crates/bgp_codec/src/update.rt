@@ -155,7 +155,8 @@ fn put_len(out: &mut Vec<u8>, len: usize)
 pub(crate) fn put_update(out: &mut Vec<u8>, message: &Update)
     requires fit { UpdateFits message.now }
     requires room { vec_len out.old + length (update_octets message.now) ≤ vec_capacity out.old }
-    ensures { out.new.items ≡ out.old.items ++ update_octets message.now }
+    ensures items { out.new.items ≡ out.old.items ++ update_octets message.now }
+    ensures capacity { vec_capacity out.old ≤ vec_capacity out.new }
 {
     let withdrawn = message.withdrawn.as_slice();
     put_len(out, prefixes_len(withdrawn));

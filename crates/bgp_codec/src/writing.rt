@@ -53,7 +53,8 @@ fn kind_of(message: &Message) -> u8
 fn put_body(out: &mut Vec<u8>, message: &Message, rule: &Rule)
     requires fit { IsWritable rule.now message.now }
     requires room { vec_len out.old + length (written_body message.now) ≤ vec_capacity out.old }
-    ensures { out.new.items ≡ out.old.items ++ written_body message.now }
+    ensures items { out.new.items ≡ out.old.items ++ written_body message.now }
+    ensures capacity { vec_capacity out.old ≤ vec_capacity out.new }
 {
     match message {
         Message::OpenMsg(message) => put_open(out, message),
@@ -61,6 +62,28 @@ fn put_body(out: &mut Vec<u8>, message: &Message, rule: &Rule)
         Message::NoticeMsg(notice) => put_notice(out, notice),
         Message::AliveMsg => {}
     }
+}
+
+/// How many octets [`put_message`] and [`encode`] write for a message, as far as a `usize` counts.
+pub fn written_len(message: &Message) -> usize
+    ensures { result ≡ min (2 ^ 64 - 1) (length (written message.now)) }
+{
+    body_len(message).saturating_add(19)
+}
+
+/// Appends the one spelling of a message that is written to a vector that has room for it. It takes
+/// no memory, cannot be refused, and never lowers the capacity: so what was reserved for several
+/// messages can be written one by one.
+pub fn put_message(out: &mut Vec<u8>, message: &Message, rule: &Rule)
+    requires writable { IsWritable rule.now message.now }
+    requires fits { length (written message.now) ≤ 4096 }
+    requires room { vec_len out.old + length (written message.now) ≤ vec_capacity out.old }
+    ensures items { out.new.items ≡ out.old.items ++ written message.now }
+    ensures capacity { vec_capacity out.old ≤ vec_capacity out.new }
+{
+    let len = body_len(message);
+    put_header(out, kind_of(message), len);
+    put_body(out, message, rule);
 }
 
 /// Appends the one spelling of a message that is written.
@@ -81,7 +104,6 @@ pub fn encode(message: &Message, rule: &Rule, out: &mut Vec<u8>) -> Result<(), C
         return Err(CodecError::TooLong);
     }
     out.reserve(19 + len)?;
-    put_header(out, kind_of(message), len);
-    put_body(out, message, rule);
+    put_message(out, message, rule);
     Ok(())
 }

@@ -123,3 +123,7 @@ module _ (M : Type 0) where
       → (dropped : List (Passing M)) → OnlyOctets dropped
       → IsPrefix (passing written (ends_after opening moves u v).taken ++ dropped) (passing written (ends_after opening moves v u).appended)
       → dropped ≡ []
+
+-- what passes for entries and then others passes for the first, and then for the others
+abbrev pub PassingAppends : (M : Type 0) → Type 0
+PassingAppends M = (written : M → List ℕ) (xs ys : List (Entry M)) → passing written (xs ++ ys) ≡ passing written xs ++ passing written ys

@@ -37,7 +37,7 @@ pub use links::{
     moves_keep_end_facts,
 };
 pub use network_links::network_runs_are_link_runs;
-pub use octets::{Framing, octets_are_entries};
+pub use octets::{Framing, octets_are_entries, passing_appends};
 pub use offers::{
     close_loses_the_recording, offer_runs_are_network_runs, one_offer_a_number, outcome_is_one,
     outcome_tells, settled_outcome_is_stable_and_stays,

@@ -1,5 +1,5 @@
 //! Entries found again in the octets that pass, however they were cut.
-ghost use Rattle.run_model.specs.Octets.{NextFrameIsNextMessage, HeldBeginsNextMessage, NextControlIsNextEntry, DroppedOctetsAreMessages, OctetsStayBeforeMark, NoStaleOctetWhileJoined, NoneDroppedBeforeAnswer};
+ghost use Rattle.run_model.specs.Octets.{NextFrameIsNextMessage, HeldBeginsNextMessage, NextControlIsNextEntry, DroppedOctetsAreMessages, OctetsStayBeforeMark, NoStaleOctetWhileJoined, NoneDroppedBeforeAnswer, PassingAppends};
 ghost use Rattle.std.specs.Prelude.{ℕ, List};
 
 /// Which octets are frames. An implementation has no code: its member is what a codec's contracts show.
@@ -28,4 +28,9 @@ pub fn octets_are_entries<M, F: Framing>()
     ensures stay { OctetsStayBeforeMark M }
     ensures no_stale { NoStaleOctetWhileJoined M F.is_frame }
     ensures none_dropped { NoneDroppedBeforeAnswer M }
+{}
+
+/// What passes for entries and then for others passes for the first, and then for the others.
+pub fn passing_appends<M>()
+    ensures { PassingAppends M }
 {}

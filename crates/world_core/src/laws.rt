@@ -1,9 +1,14 @@
-//! The laws of two ends, over every list of events.
+//! The laws of two ends and of a world of routers, over every list of events.
 
+ghost use Rattle.world_core.specs.Keeping.{WhatIsPlayedIsARun, WhatIsPlayedIsReplayed, StepsAreReplayed, PlayedWorldsKeepTheirPromises, NothingWhereNoStepIs};
 ghost use Rattle.world_core.specs.SentAndActed.{AlwaysInOrder, NoFaultWaits};
 
 use bgp_codec::laws::header_is_its_front;
 use bgp_framing::laws::{splits_in_pieces, splits_into_nothing, splits_once};
+use router_model::laws::{
+    answers_are_steps, idle_where_nothing_may_come, linked_routers_are_peers,
+};
+use router_runs::updates_pass_in_order;
 
 /// After every list of events, what a side acted on is a beginning of what the other sent: whole
 /// frames, in order, once each, however the octets were cut. It says nothing of when they arrive.
@@ -24,4 +29,40 @@ pub fn no_fault_waits()
     splits_once();
     splits_in_pieces();
     splits_into_nothing();
+}
+
+/// The events that a schedule did are a run of the network's routers, and the last state of the run has all that the world
+/// holds: routers, pipes and offers.
+pub fn what_is_played_is_a_run()
+    ensures { WhatIsPlayedIsARun }
+{
+    answers_are_steps();
+}
+
+/// A world that was played comes out again where the events that it did are played alone; none of them is refused.
+pub fn what_is_played_is_replayed()
+    ensures { WhatIsPlayedIsReplayed }
+{}
+
+/// A step from a world that comes out of its own events leads to one that does.
+pub fn steps_are_replayed()
+    ensures { StepsAreReplayed }
+{}
+
+/// Every world that was played stands at the end of a run, and in it the UPDATEs that each router acted on in an
+/// incarnation of a session are a beginning of those that its peer sent in it: in order, once each.
+pub fn played_worlds_keep_their_promises()
+    ensures { PlayedWorldsKeepTheirPromises }
+{
+    answers_are_steps();
+    linked_routers_are_peers();
+    updates_pass_in_order();
+}
+
+/// An event answers that there is nothing to do only where no step of the network has its name; or all outboxes of a router
+/// whose peers wait to be told are full.
+pub fn nothing_where_no_step_is()
+    ensures { NothingWhereNoStepIs }
+{
+    idle_where_nothing_may_come();
 }

@@ -13,11 +13,14 @@
 
 mod duo;
 mod event;
+pub mod examples;
 pub mod laws;
+mod schedule;
 mod side_end;
 
 pub use duo::Duo;
 pub use event::{DuoEvent, DuoFault, Side, Stepped};
+pub use schedule::{Event, Order, PlayFault, StepFault};
 
 #[cfg(test)]
 mod tests;

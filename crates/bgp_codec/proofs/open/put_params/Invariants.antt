@@ -10,4 +10,5 @@ invariant-loop-caps l =
       items : l.out.items ++ flat_map param_octets (drop l.caps-index l.params) ≡ l.fn.out.items ++ flat_map param_octets l.params;
       room : vec_len l.out + length (flat_map param_octets (drop l.caps-index l.params)) ≤ vec_capacity l.out;
       fit : AllByRecursion ParamFits (drop l.caps-index l.params);
+      capacity : vec_capacity l.fn.out ≤ vec_capacity l.out;
     }

@@ -1,0 +1,6 @@
+pub mod Peers
+pub mod MessageLists
+pub mod Appending
+pub mod Answering
+pub mod Idling
+pub mod Quiet

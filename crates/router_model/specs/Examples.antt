@@ -1,0 +1,183 @@
+-- Small cases that show what the definitions say: two routers of one link, and a router whose peer is hostile.
+use Rattle.std.specs.Prelude.{ℕ, ◌+◌, ◌≡◌, ◌==◌, cond, List, [], ◌∷◌, ◌++◌, Option, Some, replicate}
+use Rattle.marker_lanes.specs.Marker.{marker}
+use Rattle.prefix_lanes.specs.Bits.{PrefixView}
+use Rattle.session_fsm.specs.declared.state.State.TheVariants.{Idle, Active, OpenSent, OpenConfirm, Established}
+use Rattle.ranked_policy.specs.Plans.{Plan}
+use Rattle.run_model.specs.Network.{alone, takes}
+use Rattle.outbox.specs.Items.{next_item}
+use Rattle.router_model.specs.declared.command.Command.TheVariants as command
+use Rattle.outbox.specs.declared.item.What.{What}
+use Rattle.outbox.specs.declared.item.What.TheVariants as item
+use Rattle.router_model.specs.declared.refusal.RouterError.TheVariants as error
+use Rattle.router_model.specs.Settings.{Setting}
+use Rattle.router_model.specs.State.{new_router}
+use Rattle.router_model.specs.Step.{Obeys, Ticks, Handles, Decides}
+use Rattle.router_model.specs.Calls.{Stamped, Call, Obey, Tick, Put, Take, Handle, Decide, Advertise, Answer, Steps, Refuses, answer, stamped_after}
+use Rattle.router_model.specs.Calls as calls
+
+-- routers 1 and 2, linked; router 1 is the origin of 10.1.0.0/16
+abbrev pub p : PrefixView
+p = record { addr = 167837696; len = 16 }
+
+abbrev pub pair : Plan
+pair = record {
+  settings = record { hold = 90; restart = 0; cut = 4096; pipe = 64 };
+  routers = record { asn = 1; id = 167772161; rules = [] } ∷ record { asn = 2; id = 167772162; rules = [] } ∷ [];
+  links = record { one = 1; other = 2 } ∷ [];
+  origins = record { prefix = p; router = 1 } ∷ [];
+}
+
+-- router 2 goes through router 1
+abbrev pub behind : List ℕ → List ℕ
+behind [] = []
+behind (v ∷ path) = 2 ∷ v ∷ path
+
+abbrev pub setting : Setting
+setting = record { net = pair; best = λ u q originated words. cond (u == 1) (cond originated (1 ∷ []) []) (behind (words 1)) }
+
+abbrev pub fresh : ℕ → Stamped
+fresh u = record { router = new_router setting; stamp = 0 }
+
+-- the state that calls leave, and the answer of the next one
+abbrev pub left_by : Stamped → Call → Answer → ℕ → Stamped
+left_by x call (Steps e) u = stamped_after setting u x call e
+left_by x call calls.Idle u = x
+left_by x call (Refuses why) u = x
+
+abbrev pub after_calls : ℕ → Stamped → List Call → Stamped
+after_calls u x [] = x
+after_calls u x (c ∷ cs) = after_calls u (left_by x c (answer setting u x c) u) cs
+
+abbrev pub answers : ℕ → Stamped → List Call → List Answer
+answers u x [] = []
+answers u x (c ∷ cs) = answer setting u x c ∷ answers u (left_by x c (answer setting u x c) u) cs
+
+-- a prefix is originated and decided once; nobody is there to be told; router 2 is no origin
+abbrev pub OriginatesOnce : Type 0
+OriginatesOnce =
+    (answers 1 (fresh 1) (Obey (command.Originate p) ∷ Obey (command.Originate p) ∷ Decide ∷ Decide ∷ Advertise ∷ Obey (command.Start 3) ∷ [])
+    ≡ Steps (alone (Obeys (command.Originate p))) ∷ calls.Idle ∷ Steps (alone Decides) ∷ calls.Idle ∷ calls.Idle ∷ Refuses error.NoSuchPeer ∷ [])
+    × (answers 2 (fresh 2) (Obey (command.Originate p) ∷ []) ≡ Refuses error.NotOrigin ∷ [])
+
+-- both start; router 1 dials; router 2 takes that, and is in OpenSent; router 1 takes router 2's dial, and says its OPEN
+abbrev pub open_1 : List ℕ
+open_1 = marker ++ 0 ∷ 29 ∷ 1 ∷ 4 ∷ 0 ∷ 1 ∷ 0 ∷ 90 ∷ 10 ∷ 0 ∷ 0 ∷ 1 ∷ 0 ∷ []
+
+abbrev pub dialled_1 : Stamped
+dialled_1 = after_calls 1 (fresh 1) (Obey (command.Start 2) ∷ Put 2 ∷ [])
+
+abbrev pub joined_2 : Stamped
+joined_2 = after_calls 2 (fresh 2) (Obey (command.Start 1) ∷ Take 1 2 (item.Dial 1) ∷ [])
+
+abbrev pub joined_1 : Stamped
+joined_1 = after_calls 1 dialled_1 (Take 2 4 (item.Dial 1) ∷ [])
+
+abbrev pub item_next : Stamped → ℕ → Option What
+item_next x v = next_item 4096 (x.router.sides v).outbox
+
+abbrev pub StartsAndSaysOpen : Type 0
+StartsAndSaysOpen =
+    ((after_calls 1 (fresh 1) (Obey (command.Start 2) ∷ [])).stamp ≡ 1)
+    × (item_next (after_calls 1 (fresh 1) (Obey (command.Start 2) ∷ [])) 2 ≡ Some (item.Dial 1))
+    × (dialled_1.stamp ≡ 2) × (joined_2.stamp ≡ 3) × ((joined_2.router.sides 1).session.state ≡ OpenSent)
+    × (item_next joined_1 2 ≡ Some (item.Piece 1 open_1))
+
+-- ---- a hostile peer: router 1 after Start(2), and items from 2
+
+abbrev pub started : Stamped
+started = after_calls 1 (fresh 1) (Obey (command.Start 2) ∷ [])
+
+abbrev pub from_2 : What → Call
+from_2 i = Take 2 0 i
+
+abbrev pub hears : List Call → Stamped
+hears cs = after_calls 1 started cs
+
+-- a faulty header is held until it is handled; then the fault is told, and the incarnation is shut
+abbrev pub faulty : List ℕ
+faulty = 254 ∷ replicate 18 255
+
+abbrev pub unmarked_notice : List ℕ
+unmarked_notice = marker ++ 0 ∷ 21 ∷ 3 ∷ 1 ∷ 1 ∷ []
+
+abbrev pub two_puts : Stamped → Option What × Option What
+two_puts x = (item_next x 2, item_next (after_calls 1 x (Put 2 ∷ [])) 2)
+
+abbrev pub FaultyHeaderCloses : Type 0
+FaultyHeaderCloses =
+    (answers 1 started (from_2 (item.Dial 1) ∷ from_2 (item.Piece 1 faulty) ∷ from_2 (item.Dial 2) ∷ Handle 2 ∷ [])
+    ≡ Steps (takes 2 (item.Dial 1)) ∷ Steps (takes 2 (item.Piece 1 faulty)) ∷ Refuses (error.Held 2) ∷ Steps (alone (Handles 2)) ∷ [])
+    × (two_puts (hears (Put 2 ∷ from_2 (item.Dial 1) ∷ from_2 (item.Piece 1 faulty) ∷ Handle 2 ∷ []))
+    ≡ (Some (item.Piece 1 (open_1 ++ unmarked_notice)), Some (item.Shut 1)))
+
+-- octets of another incarnation, a marker before Established and an old dial change nothing but what was taken
+abbrev pub with_strays : Stamped
+with_strays = hears (from_2 (item.Dial 1) ∷ from_2 (item.Piece 2 (marker ++ 0 ∷ 19 ∷ 4 ∷ [])) ∷ from_2 (item.Mark 1 5) ∷ from_2 (item.Dial 0) ∷ [])
+
+abbrev pub without_strays : Stamped
+without_strays = hears (from_2 (item.Dial 1) ∷ [])
+
+abbrev pub StrayItemsAreDropped : Type 0
+StrayItemsAreDropped =
+    (with_strays.router.sides 2 ≡ without_strays.router.sides 2) × (with_strays.router.snapshots ≡ without_strays.router.snapshots)
+    × (with_strays.stamp ≡ without_strays.stamp + 3) × ((without_strays.router.sides 2).session.state ≡ OpenSent)
+
+-- the greatest incarnation is shut: the session waits in Active, and no dial is left as its timer expires
+abbrev pub ticks : ℕ → List Call
+ticks n = replicate n Tick
+
+abbrev pub greatest_shut : Stamped
+greatest_shut = hears (from_2 (item.Dial 4294967295) ∷ from_2 (item.Shut 4294967295) ∷ [])
+
+abbrev pub NoIncarnationIsLeft : Type 0
+NoIncarnationIsLeft =
+    ((greatest_shut.router.sides 2).session.state ≡ Active)
+    × (answer setting 1 (after_calls 1 greatest_shut (ticks 118)) Tick ≡ Steps (alone Ticks))
+    × (answer setting 1 (after_calls 1 greatest_shut (ticks 119)) Tick ≡ Refuses error.EpochEnd)
+
+-- what was held of an incarnation is gone as it closes
+abbrev pub open_2 : List ℕ
+open_2 = marker ++ 0 ∷ 29 ∷ 1 ∷ 4 ∷ 0 ∷ 2 ∷ 0 ∷ 90 ∷ 10 ∷ 0 ∷ 0 ∷ 2 ∷ 0 ∷ []
+
+abbrev pub second_incarnation : Stamped
+second_incarnation =
+    hears (from_2 (item.Dial 1) ∷ from_2 (item.Piece 1 (255 ∷ [])) ∷ from_2 (item.Shut 1) ∷ from_2 (item.Dial 2) ∷ from_2 (item.Piece 2 open_2) ∷ Handle 2 ∷ [])
+
+abbrev pub OldOctetsAreGone : Type 0
+OldOctetsAreGone =
+    ((second_incarnation.router.sides 2).session.state ≡ OpenConfirm) × ((second_incarnation.router.sides 2).link.epoch ≡ 2)
+
+-- the last stamp
+abbrev pub NoStampIsLeft : Type 0
+NoStampIsLeft = answer setting 1 started (Take 2 4611686018427387904 (item.Dial 1)) ≡ Refuses error.StampEnd
+
+-- an OPEN of another number than the peer's
+abbrev pub open_3 : List ℕ
+open_3 = marker ++ 0 ∷ 29 ∷ 1 ∷ 4 ∷ 0 ∷ 3 ∷ 0 ∷ 90 ∷ 10 ∷ 0 ∷ 0 ∷ 2 ∷ 0 ∷ []
+
+abbrev pub after_open_3 : Stamped
+after_open_3 = hears (Put 2 ∷ from_2 (item.Dial 1) ∷ Put 2 ∷ from_2 (item.Piece 1 open_3) ∷ Handle 2 ∷ [])
+
+abbrev pub WrongNumberCloses : Type 0
+WrongNumberCloses =
+    (two_puts after_open_3 ≡ (Some (item.Piece 1 (marker ++ 0 ∷ 21 ∷ 3 ∷ 2 ∷ 2 ∷ [])), Some (item.Shut 1)))
+    × ((after_open_3.router.sides 2).session.state ≡ Idle)
+
+-- an UPDATE whose path does not begin with the peer is acted on nowhere
+abbrev pub strange_update : List ℕ
+strange_update =
+    marker ++ 0 ∷ 44 ∷ 2 ∷ 0 ∷ 0 ∷ 0 ∷ 18 ∷ 64 ∷ 1 ∷ 1 ∷ 0 ∷ 64 ∷ 2 ∷ 4 ∷ 2 ∷ 1 ∷ 0 ∷ 1 ∷ 64 ∷ 3 ∷ 4 ∷ 10 ∷ 0 ∷ 0 ∷ 1 ∷ 16 ∷ 10 ∷ 1 ∷ []
+
+abbrev pub established : Stamped
+established =
+    hears (Put 2 ∷ from_2 (item.Dial 1) ∷ from_2 (item.Piece 1 open_2) ∷ Handle 2 ∷ from_2 (item.Piece 1 (marker ++ 0 ∷ 19 ∷ 4 ∷ [])) ∷ Handle 2 ∷ Put 2 ∷ [])
+
+abbrev pub after_strange : Stamped
+after_strange = after_calls 1 established (from_2 (item.Piece 1 strange_update) ∷ Handle 2 ∷ [])
+
+abbrev pub StrangePathCloses : Type 0
+StrangePathCloses =
+    ((established.router.sides 2).session.state ≡ Established)
+    × (two_puts after_strange ≡ (Some (item.Piece 1 (marker ++ 0 ∷ 21 ∷ 3 ∷ 3 ∷ 11 ∷ [])), Some (item.Shut 1)))
+    × ((after_strange.router.sides 2).session.state ≡ Idle) × ((after_strange.router.sides 2).acted 1 ≡ [])

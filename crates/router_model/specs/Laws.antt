@@ -1,0 +1,57 @@
+-- What the definitions say together.
+use Rattle.std.specs.Prelude.{ℕ, ◌≡◌, ◌≢◌, nat_eq, true, ◌++◌, List, [], ◌∷◌}
+use Rattle.std.specs.List.{list_any}
+use Rattle.bgp_codec.specs.declared.message.Message.{Message}
+use Rattle.bgp_codec.specs.Spelling.{written}
+use Rattle.run_model.specs.Links.{said}
+use Rattle.run_model.specs.Octets.{Passing, passing}
+use Rattle.run_model.specs.Network.{put_towards}
+use Rattle.ranked_policy.specs.Plans.{Plan, IsNetwork, IsRouter}
+use Rattle.outbox.specs.declared.item.What.{What}
+use Rattle.router_model.specs.Settings.{Setting, linked, peers}
+use Rattle.router_model.specs.State.{Router}
+use Rattle.router_model.specs.Messages.{updates_in}
+use Rattle.outbox.specs.Items.{passes}
+use Rattle.router_model.specs.Step.{RouterEvent, May, Step, after, says}
+use Rattle.router_model.specs.Calls.{Stamped, Call, Steps, Idle, answer, IsEventOf}
+
+-- the octets and entries of items
+abbrev pub all_passes : List What → List (Passing Message)
+all_passes [] = []
+all_passes (i ∷ is) = passes i ++ all_passes is
+
+-- two routers that a link joins
+pub record AreLinked (net : Plan) (u v : ℕ) : Type 0 where
+  pub apart : u ≢ v
+  pub back : linked net v u ≡ true
+  pub one : IsRouter net.routers u
+  pub other : IsRouter net.routers v
+  pub peer : list_any (nat_eq v) (peers net u) ≡ true
+
+-- a link joins two routers of the network, whichever it names first, and each is among the peers of the other
+abbrev pub LinkedRoutersArePeers : Type 0
+LinkedRoutersArePeers = (net : Plan) → IsNetwork net → (u v : ℕ) → linked net u v ≡ true → AreLinked net u v
+
+-- what a step appends towards a peer is what it says; what it puts stood in front and is gone; nothing else changes there
+abbrev pub StepsAppendWhatTheySay : Type 0
+StepsAppendWhatTheySay =
+    (g : Setting) (u v : ℕ) (x y : Router) (e : RouterEvent) → Step g u x e y
+    → all_passes (put_towards v e) ++ (y.sides v).outbox ≡ (x.sides v).outbox ++ passing written (says g u x e v)
+
+-- a step that a call answers is one, of an event that the call can be
+abbrev pub AnswersAreSteps : Type 0
+AnswersAreSteps =
+    (g : Setting) → IsNetwork g.net → (u : ℕ) (x : Stamped) (call : Call) (e : RouterEvent)
+    → answer g u x call ≡ Steps e → IsEventOf call e × Step g u x.router e (after g u x.router e)
+
+-- and a call is idle exactly where none of the events that it can be may come
+abbrev pub IdleWhereNothingMayCome : Type 0
+IdleWhereNothingMayCome =
+    (g : Setting) → IsNetwork g.net → (u : ℕ) (x : Stamped) (call : Call)
+    → answer g u x call ≡ Idle → (e : RouterEvent) → IsEventOf call e → May g u x.router e → ⊥
+
+-- the history of UPDATEs sent, incarnation by incarnation, is that of what is said: an Advertise alone says one, and joins it
+abbrev pub SentIsWhatIsSaid : Type 0
+SentIsWhatIsSaid =
+    (g : Setting) (u v n : ℕ) (x y : Router) (e : RouterEvent) → Step g u x e y
+    → (y.sides v).sent n ≡ (x.sides v).sent n ++ updates_in (said n (says g u x e v))

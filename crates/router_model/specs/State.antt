@@ -1,0 +1,134 @@
+-- A router as plain data: its sides, its kept paths, what it originates and what it records, and what follows from these. It has
+-- no stamps, tables or buffers: words are those of the histories (RFC 4271 section 3.2), and routes those of the words.
+use Rattle.std.specs.Prelude.{ℕ, nat_eq, Bool, false, ◌&&◌, ◌||◌, not, cond, List, [], ◌∷◌, Option, None, Some}
+use Rattle.std.specs.List.{find, list_any}
+use Rattle.std.specs.Cmp.Lexicographic.{pointwise}
+use Rattle.prefix_lanes.specs.Bits.{PrefixView}
+use Rattle.bgp_codec.specs.declared.message.Message.{Message}
+use Rattle.bgp_codec.specs.declared.message.Message.TheVariants.{OpenMsg}
+use Rattle.bgp_codec.specs.declared.update.Update.{Update}
+use Rattle.bgp_codec.specs.declared.attributes.Attrs.{Attrs}
+use Rattle.bgp_codec.specs.declared.path.SegmentKind.TheVariants.{AsSequence}
+use Rattle.bgp_codec.specs.declared.rule.Rule.{Rule}
+use Rattle.bgp_codec.specs.declared.rule.Width.TheVariants.{Two}
+use Rattle.link_epoch.specs.Ends as links
+use Rattle.session_fsm.specs.Table as sessions
+use Rattle.ranked_policy.specs.Plans.{Plan}
+use Rattle.rib_tables.specs.declared.word.Word.{Word}
+use Rattle.rib_tables.specs.Words.{nothing, announced_word, path_in, lists}
+use Rattle.snap_marker.specs.Recordings.{Snapshots, no_snapshots}
+use Rattle.router_model.specs.Settings.{Setting, linked, peers, prefixes, identifier}
+use Rattle.router_model.specs.Sides.{Side, is_up}
+
+pub record Router : Type 0 where
+  pub sides : ℕ → Side  -- towards each peer
+  pub kept : PrefixView → List ℕ
+  pub originated : PrefixView → Bool
+  pub snapshots : Snapshots
+
+-- ---- the messages that a router says of itself
+
+-- its OPEN has its number, the network's hold time, its identifier and no parameters (RFC 4271 section 4.2)
+abbrev pub open_of : Plan → ℕ → Message
+open_of net u = OpenMsg (record { asn = u; hold = net.settings.hold; id = identifier net.routers u; params = [] })
+
+abbrev pub no_attributes : Attrs
+no_attributes = record {
+  origin = None;
+  path = None;
+  next_hop = None;
+  med = None;
+  local_pref = None;
+  atomic = false;
+  aggregator = None;
+  other = [];
+}
+
+-- one withdrawn prefix, and no attributes (section 4.3)
+abbrev pub withdrawal : PrefixView → Update
+withdrawal q = record { withdrawn = q ∷ []; attrs = no_attributes; nlri = [] }
+
+-- one prefix with ORIGIN IGP, the path as one AS_SEQUENCE, and the router's identifier as NEXT_HOP (section 5.1)
+abbrev pub announcement : ℕ → PrefixView → List ℕ → Update
+announcement id q path = record {
+  withdrawn = [];
+  attrs = record no_attributes { origin = Some 0; path = Some (record { kind = AsSequence; numbers = path } ∷ []); next_hop = Some id };
+  nlri = q ∷ [];
+}
+
+-- a path is told by an announcement, the empty one by a withdrawal
+abbrev pub telling : ℕ → PrefixView → List ℕ → Update
+telling id q [] = withdrawal q
+telling id q (v ∷ path) = announcement id q (v ∷ path)
+
+-- what a peer says is read as the peer's: its OPEN and its paths name its number (sections 6.2 and 6.3)
+abbrev pub rule_of : ℕ → Rule
+rule_of v = record { width = Two; peer = Some v }
+
+-- ---- words
+
+-- the word on a prefix after an UPDATE, in which an announcement wins over a withdrawal (section 4.3)
+abbrev pub word_after : Word → Update → PrefixView → Word
+word_after word u q = cond (lists u.nlri q) (announced_word u.attrs) (cond (lists u.withdrawn q) nothing word)
+
+abbrev pub last_word : Word → List Update → PrefixView → Word
+last_word word [] q = word
+last_word word (u ∷ us) q = last_word (word_after word u q) us q
+
+-- the last word heard in the incarnation that a side is in (Adj-RIB-In), and the last told (Adj-RIB-Out, section 3.2)
+abbrev pub heard : Side → PrefixView → Word
+heard s q = last_word nothing (s.acted s.link.epoch) q
+
+abbrev pub last_told : Side → PrefixView → Word
+last_told s q = last_word nothing (s.sent s.link.epoch) q
+
+-- ---- routes, and what waits
+
+abbrev pub same_path : List ℕ → List ℕ → Bool
+same_path a b = pointwise nat_eq a b
+
+module _ (g : Setting) (u : ℕ) where
+  -- the path heard from a peer whose session is Established, the empty one from every other
+  abbrev pub path_from : Router → PrefixView → ℕ → List ℕ
+  path_from x q v = cond (linked g.net u v && is_up (x.sides v)) (path_in (heard (x.sides v) q)) []
+
+  -- the best of the choices now (section 9.1)
+  abbrev pub route : Router → PrefixView → List ℕ
+  route x q = g.best u q (x.originated q) (path_from x q)
+
+  -- the least prefix whose kept path is not the route
+  abbrev pub is_undecided : Router → PrefixView → Bool
+  is_undecided x q = not (same_path (x.kept q) (route x q))
+
+  abbrev pub undecided : Router → Option PrefixView
+  undecided x = find (is_undecided x) (prefixes g)
+
+  -- the least prefix whose last word to a peer is not the kept path, where the session is Established
+  abbrev pub is_untold : Router → ℕ → PrefixView → Bool
+  is_untold x v q = not (same_path (x.kept q) (path_in (last_told (x.sides v) q)))
+
+  abbrev pub untold : Router → ℕ → Option PrefixView
+  untold x v = cond (linked g.net u v && is_up (x.sides v)) (find (is_untold x v) (prefixes g)) None
+
+  -- an Established peer waits to be told
+  abbrev pub is_waiting_peer : Router → ℕ → Bool
+  is_waiting_peer x v = cond (is_up (x.sides v)) (list_any (is_untold x v) (prefixes g)) false
+
+  -- some kept path is not the route, or an Established peer was not told one
+  abbrev pub is_pending : Router → Bool
+  is_pending x = list_any (is_undecided x) (prefixes g) || list_any (is_waiting_peer x) (peers g.net u)
+
+-- ---- the opening: every session is Idle, and nothing was dialled, kept, originated or recorded
+
+abbrev pub new_side : Setting → Side
+new_side g = record {
+  session = sessions.opening (record { hold = g.net.settings.hold; restart = g.net.settings.restart });
+  link = links.opening;
+  outbox = [];
+  held = [];
+  acted = λ e. [];
+  sent = λ e. [];
+}
+
+abbrev pub new_router : Setting → Router
+new_router g = record { sides = λ v. new_side g; kept = λ q. []; originated = λ q. false; snapshots = no_snapshots }

@@ -1,0 +1,282 @@
+-- The steps of one router: where each event may come, and what it leaves. What a router may choose stands in the event: how many
+-- octets a put takes, and the peer that an UPDATE is told.
+use Rattle.std.specs.Prelude.{ℕ, ◌≡◌, ◌≤◌, ◌==◌, nat_lt, Bool, true, false, ◌&&◌, not, cond, List, [], ◌∷◌, length, drop, slice_get, Option, None, Some, is_some}
+use Rattle.std.specs.List.{list_any}
+use mathlib.Core.List.{IsPrefix}
+use Rattle.prefix_lanes.specs.Bits.{PrefixView}
+use Rattle.bgp_codec.specs.declared.message.Message.{Message}
+use Rattle.bgp_codec.specs.declared.message.Message.TheVariants.{UpdateMsg}
+use Rattle.bgp_codec.specs.declared.update.Update.{Update}
+use Rattle.bgp_framing.specs.Held.{is_waiting}
+use Rattle.link_epoch.specs.declared.link_end.Sign.{Sign}
+use Rattle.link_epoch.specs.declared.link_end.Sign.TheVariants as sign
+use Rattle.session_fsm.specs.declared.event.FsmEvent.{FsmEvent}
+use Rattle.session_fsm.specs.declared.event.FsmEvent.TheVariants.{ManualStart, ManualStop}
+use Rattle.rib_tables.specs.Words.{is_prefix}
+use Rattle.run_model.specs.Links.{Entry, Says, Mark}
+use Rattle.run_model.specs.Network.{Event, alone, puts, takes, offers}
+use Rattle.outbox.specs.Items.{passes}
+use Rattle.router_model.specs.declared.command.Command.{Command}
+use Rattle.router_model.specs.declared.command.Command.TheVariants as command
+use Rattle.outbox.specs.declared.item.What.{What}
+use Rattle.outbox.specs.declared.item.What.TheVariants as item
+use Rattle.router_model.specs.Sides.{Side, Draft, AtHand, NoMessage, HasFault, HasUpdate, met, reset, second, signed, handled, front, at_hand, without_front, fed, uses, carried, told, marked, is_up}
+use Rattle.snap_marker.specs.Recordings.{RouterPart, RouterOffer, MadeOffer, Recording, Snapshots, closed, acted_on, ends_channel, begun}
+use Rattle.router_model.specs.Settings.{Setting, linked, peers, is_origin, identifier}
+use Rattle.router_model.specs.State.{Router, open_of, rule_of, telling, undecided, untold, route, is_pending}
+
+-- what a router does alone
+pub data Own : Type 0 where
+  Obeys : (command : Command) → Own
+  Ticks : Own
+  Handles : (peer : ℕ) → Own
+  Decides : Own
+  Advertises : (peer : ℕ) → Own
+
+abbrev pub RouterEvent : Type 0
+RouterEvent = Event Own What MadeOffer
+
+-- a piece has at least one octet, and at most so many
+abbrev pub HasSize : ℕ → What → Type 0
+HasSize cut (item.Piece e octets) = (1 ≤ length octets) × (length octets ≤ cut)
+HasSize cut (item.Dial e) = Unit {0}
+HasSize cut (item.Mark e s) = Unit {0}
+HasSize cut (item.Shut e) = Unit {0}
+
+-- ---- changes of a router
+
+abbrev pub with_side : Router → ℕ → (Side → Side) → Router
+with_side x v change = record x { sides = λ y. cond (y == v) (change (x.sides y)) (x.sides y) }
+
+-- the peer and the incarnation of a draft that leaves Established, and of the first of several peers' drafts that does
+abbrev pub close_at : ℕ → Option ℕ → Option (ℕ × ℕ)
+close_at v None = None
+close_at v (Some e) = Some (v, e)
+
+abbrev pub or_first : Option (ℕ × ℕ) → Option (ℕ × ℕ) → Option (ℕ × ℕ)
+or_first None other = other
+or_first (Some close) other = Some close
+
+abbrev pub first_close : List ℕ → (ℕ → Draft) → Option (ℕ × ℕ)
+first_close [] drafts = None
+first_close (v ∷ vs) drafts = or_first (close_at v (drafts v).left) (first_close vs drafts)
+
+-- an UPDATE that is acted on joins the recorded channel of its peer
+abbrev pub seen : Bool → AtHand → ℕ → Snapshots → Snapshots
+seen true (HasUpdate u) v x = acted_on v (UpdateMsg u) x
+seen true NoMessage v x = x
+seen true (HasFault fault) v x = x
+seen false h v x = x
+
+-- the draft of one side is carried out; what leaves Established loses the recording
+abbrev pub moved : Router → ℕ → AtHand → Draft → Router
+moved x v h a = record x {
+  sides = λ y. cond (y == v) (carried h (x.sides y) a) (x.sides y);
+  snapshots = seen a.acts h v (closed (close_at v a.left) x.snapshots);
+}
+
+-- what is put was in front of the outbox
+abbrev pub put_from : Side → What → Side
+put_from s x = record s { outbox = drop (length (passes x)) s.outbox }
+
+abbrev pub originating : Router → PrefixView → Bool → Router
+originating x q b = record x { originated = λ p. cond (is_prefix q p) b (x.originated p) }
+
+abbrev pub keeping : Router → Option PrefixView → (PrefixView → List ℕ) → Router
+keeping x None path = x
+keeping x (Some q) path = record x { kept = λ p. cond (is_prefix q p) (path q) (x.kept p) }
+
+abbrev pub telling_to : Router → ℕ → Option PrefixView → (PrefixView → Update) → Router
+telling_to x v None update = x
+telling_to x v (Some q) update = with_side x v (λ s. told s (update q))
+
+abbrev pub forgetting : Router → Router
+forgetting x = record x { kept = λ q. []; originated = λ q. false }
+
+-- a recording waits for the marker of each peer but the one whose marker came first
+abbrev pub awaits : Option ℕ → ℕ → Bool
+awaits None v = true
+awaits (Some first) v = not (v == first)
+
+-- the number is above the last recorded one
+abbrev pub is_greater : Router → ℕ → Bool
+is_greater x s = nat_lt x.snapshots.last s
+
+-- the offer that waits in front, and the router once it is made
+abbrev pub next_offer : Router → Option RouterOffer
+next_offer x = slice_get x.snapshots.queue 0
+
+abbrev pub without_offer : Router → Router
+without_offer x = record x { snapshots = record x.snapshots { queue = drop 1 x.snapshots.queue } }
+
+abbrev pub says_where : Bool → List (Entry Message) → List (Entry Message)
+says_where b entries = cond b entries []
+
+module _ (g : Setting) (u : ℕ) where
+  -- ---- the drafts of its events
+
+  abbrev pub meets_at : Router → ℕ → FsmEvent → Draft
+  meets_at x v e = met (open_of g.net u) (x.sides v) e
+
+  abbrev pub resets_at : Router → ℕ → Draft
+  resets_at x v = reset (open_of g.net u) (x.sides v)
+
+  abbrev pub second_at : Router → ℕ → Draft
+  second_at x v = second (open_of g.net u) (x.sides v)
+
+  abbrev pub signed_at : Router → ℕ → Sign → Draft
+  signed_at x v s = signed (open_of g.net u) (x.sides v) s
+
+  abbrev pub handled_at : Router → ℕ → Draft
+  handled_at x v = handled (open_of g.net u) (front (rule_of v) (x.sides v).held) (x.sides v)
+
+  -- the drafts of all peers' sides are carried out
+  abbrev pub all_moved : Router → (ℕ → Draft) → Router
+  all_moved x drafts = record x {
+    sides = λ v. cond (linked g.net u v) (carried NoMessage (x.sides v) (drafts v)) (x.sides v);
+    snapshots = closed (first_close (peers g.net u) drafts) x.snapshots;
+  }
+
+  -- the UPDATE that tells a peer of a prefix
+  abbrev pub telling_of : Router → PrefixView → Update
+  telling_of x q = telling (identifier g.net.routers u) q (x.kept q)
+
+  -- ---- what is recorded, and a marker that comes (Chandy and Lamport 1985)
+
+  abbrev pub recorded_part : Router → RouterPart
+  recorded_part x = record {
+    kept = x.kept;
+    originated = x.originated;
+    incarnation = λ v. (x.sides v).link.epoch;
+    pending = is_pending g u x;
+    channel = λ v. [];
+  }
+
+  abbrev pub recording_of : Router → ℕ → Option ℕ → Recording
+  recording_of x s first = record { number = s; part = recorded_part x; waits = awaits first }
+
+  -- the recording takes the state as it is; markers go to every Established peer, behind all that was appended before
+  abbrev pub records : Router → ℕ → Option ℕ → Router
+  records x s first = record x {
+    sides = λ v. cond (linked g.net u v && is_up (x.sides v)) (marked s (x.sides v)) (x.sides v);
+    snapshots = begun (peers g.net u) (λ v. is_up (x.sides v)) (recording_of x s first) x.snapshots;
+  }
+
+  -- a marker is heeded in Established alone, for the incarnation that the end joined
+  abbrev pub heeds : Router → ℕ → ℕ → Bool
+  heeds x v e = is_up (x.sides v) && uses (x.sides v).link e
+
+  -- a greater number is recorded; any other may end a channel
+  abbrev pub marked_by : Router → ℕ → ℕ → Router
+  marked_by x v s =
+      cond (is_greater x s) (records x s (Some v))
+      (record x { snapshots = ends_channel (peers g.net u) v s x.snapshots.unfinished x.snapshots })
+
+  -- ---- an item is taken
+
+  abbrev pub taken : Router → ℕ → What → Router
+  taken x v (item.Dial e) = moved x v NoMessage (signed_at x v (sign.Dial e))
+  taken x v (item.Piece e octets) = with_side x v (λ s. fed s e octets)
+  taken x v (item.Mark e s) = cond (heeds x v e) (marked_by x v s) x
+  taken x v (item.Shut e) = moved x v NoMessage (signed_at x v (sign.Shut e))
+
+  -- ---- the steps
+
+  abbrev pub obeyed : Router → Command → Router
+  obeyed x (command.Start v) = moved x v NoMessage (meets_at x v ManualStart)
+  obeyed x (command.Stop v) = moved x v NoMessage (meets_at x v ManualStop)
+  obeyed x (command.Reset v) = moved x v NoMessage (resets_at x v)
+  obeyed x (command.Originate q) = originating x q true
+  obeyed x (command.Withdraw q) = originating x q false
+  obeyed x (command.Snapshot s) = records x s None
+  obeyed x command.Restart = forgetting (all_moved x (λ v. meets_at x v ManualStop))
+
+  -- where an event may come: what is originated already, or not originated, is no event; a message is handled where a whole
+  -- one or a fault waits, and an item is taken where none does
+  abbrev pub MayObey : Router → Command → Type 0
+  MayObey x (command.Start v) = linked g.net u v ≡ true
+  MayObey x (command.Stop v) = linked g.net u v ≡ true
+  MayObey x (command.Reset v) = linked g.net u v ≡ true
+  MayObey x (command.Originate q) = (is_origin g.net.origins u q ≡ true) × (x.originated q ≡ false)
+  MayObey x (command.Withdraw q) = (is_origin g.net.origins u q ≡ true) × (x.originated q ≡ true)
+  MayObey x (command.Snapshot s) = is_greater x s ≡ true
+  MayObey x command.Restart = Unit {0}
+
+  abbrev pub May : Router → RouterEvent → Type 0
+  May x (alone (Obeys c)) = MayObey x c
+  May x (alone Ticks) = Unit {0}
+  May x (alone (Handles v)) = (linked g.net u v ≡ true) × (is_waiting (x.sides v).held ≡ true)
+  May x (alone Decides) = is_some (undecided g u x) ≡ true
+  May x (alone (Advertises v)) = is_some (untold g u x v) ≡ true
+  May x (puts v i) = (linked g.net u v ≡ true) × HasSize g.net.settings.cut i × IsPrefix (passes i) (x.sides v).outbox
+  May x (takes v i) = (linked g.net u v ≡ true) × (is_waiting (x.sides v).held ≡ false)
+  May x (offers made) = (made.router ≡ u) × (next_offer x ≡ Some made.offer)
+
+  -- what an event leaves
+  abbrev pub after : Router → RouterEvent → Router
+  after x (alone (Obeys c)) = obeyed x c
+  after x (alone Ticks) = all_moved x (second_at x)
+  after x (alone (Handles v)) =
+      moved (with_side x v without_front) v (at_hand (front (rule_of v) (x.sides v).held)) (handled_at x v)
+  after x (alone Decides) = keeping x (undecided g u x) (route g u x)
+  after x (alone (Advertises v)) = telling_to x v (untold g u x v) (telling_of x)
+  after x (puts v i) = with_side x v (λ s. put_from s i)
+  after x (takes v i) = taken x v i
+  after x (offers made) = without_offer x
+
+  -- a dial of an event would pass the greatest incarnation: a start, a reset and a tick dial a number, and a Dial taken may be
+  -- answered by one
+  abbrev pub overflows_by : Router → Command → Bool
+  overflows_by x (command.Start v) = (meets_at x v ManualStart).overflows
+  overflows_by x (command.Reset v) = (resets_at x v).overflows
+  overflows_by x _ = false
+
+  abbrev pub overflows_taking : Router → ℕ → What → Bool
+  overflows_taking x v (item.Dial e) = (signed_at x v (sign.Dial e)).overflows
+  overflows_taking x v _ = false
+
+  abbrev pub overflows : Router → RouterEvent → Bool
+  overflows x (alone (Obeys c)) = overflows_by x c
+  overflows x (takes v i) = overflows_taking x v i
+  overflows x (alone Ticks) = list_any (λ v. (second_at x v).overflows) (peers g.net u)
+  overflows x _ = false
+
+  -- a step: an event that may come, whose numbers fit, and what it leaves
+  pub record Step (x : Router) (e : RouterEvent) (y : Router) : Type 0 where
+    pub may : May x e
+    pub numbers : overflows x e ≡ false
+    pub leaves : y ≡ after x e
+
+  -- ---- what a step appends towards a peer
+
+  abbrev pub says_markers : Router → ℕ → ℕ → List (Entry Message)
+  says_markers x s v = says_where (linked g.net u v && is_up (x.sides v)) (Mark (x.sides v).link.epoch s ∷ [])
+
+  abbrev pub says_by : Router → Command → ℕ → List (Entry Message)
+  says_by x (command.Start w) v = says_where (v == w) (meets_at x w ManualStart).says
+  says_by x (command.Stop w) v = says_where (v == w) (meets_at x w ManualStop).says
+  says_by x (command.Reset w) v = says_where (v == w) (resets_at x w).says
+  says_by x (command.Originate q) v = []
+  says_by x (command.Withdraw q) v = []
+  says_by x (command.Snapshot s) v = says_markers x s v
+  says_by x command.Restart v = says_where (linked g.net u v) (meets_at x v ManualStop).says
+
+  abbrev pub says_of_taken : Router → ℕ → What → ℕ → List (Entry Message)
+  says_of_taken x w (item.Dial e) v = says_where (v == w) (signed_at x w (sign.Dial e)).says
+  says_of_taken x w (item.Piece e octets) v = []
+  says_of_taken x w (item.Mark e s) v = says_where (heeds x w e && is_greater x s) (says_markers x s v)
+  says_of_taken x w (item.Shut e) v = says_where (v == w) (signed_at x w (sign.Shut e)).says
+
+  abbrev pub says_update : Router → ℕ → Option PrefixView → List (Entry Message)
+  says_update x v None = []
+  says_update x v (Some q) = Says (x.sides v).link.epoch (UpdateMsg (telling_of x q)) ∷ []
+
+  abbrev pub says : Router → RouterEvent → ℕ → List (Entry Message)
+  says x (alone (Obeys c)) v = says_by x c v
+  says x (alone Ticks) v = says_where (linked g.net u v) (second_at x v).says
+  says x (alone (Handles w)) v = says_where (v == w) (handled_at x w).says
+  says x (alone Decides) v = []
+  says x (alone (Advertises w)) v = says_where (v == w) (says_update x v (untold g u x w))
+  says x (puts w i) v = []
+  says x (takes w i) v = says_of_taken x w i v
+  says x (offers made) v = []

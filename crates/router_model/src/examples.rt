@@ -1,0 +1,47 @@
+//! Small cases that show what the definitions say, each computed: two routers of one link, and a router whose peer is
+//! hostile.
+
+ghost use Rattle.router_model.specs.Examples.{OriginatesOnce, StartsAndSaysOpen, FaultyHeaderCloses, StrayItemsAreDropped, NoIncarnationIsLeft, OldOctetsAreGone, NoStampIsLeft, WrongNumberCloses, StrangePathCloses};
+
+/// A prefix is originated once and decided once; there is nobody to tell; a router that is no peer, and a router that is
+/// no origin, are refused.
+pub fn originates_once()
+    ensures { OriginatesOnce }
+{}
+
+/// Two routers start: the dials, the stamps, and the octets of the OPEN.
+pub fn starts_and_says_open()
+    ensures { StartsAndSaysOpen }
+{}
+
+/// The event whose stamp would pass 2^62 is refused.
+pub fn no_stamp_is_left()
+    ensures { NoStampIsLeft }
+{}
+
+/// A faulty header waits until it is handled; then its fault is told, and the incarnation is shut.
+pub fn faulty_header_closes()
+    ensures { FaultyHeaderCloses }
+{}
+
+/// Octets of another incarnation, a marker before Established and an old dial change nothing but the stamp.
+pub fn stray_items_are_dropped()
+    ensures { StrayItemsAreDropped }
+{}
+
+/// The greatest incarnation is shut: the retry that would dial the next is refused.
+pub fn no_incarnation_is_left()
+    ensures { NoIncarnationIsLeft }
+{}
+
+/// What was held of an incarnation is gone as it closes.
+pub fn old_octets_are_gone()
+    ensures { OldOctetsAreGone }
+{}
+
+/// An OPEN of another number than the peer's, and a path that does not begin with the peer, close the session with their
+/// NOTIFICATION.
+pub fn faults_close()
+    ensures number { WrongNumberCloses }
+    ensures path { StrangePathCloses }
+{}

@@ -1,0 +1,29 @@
+//! What the definitions of one router say together. Each is the contract of a function without work of its own.
+
+ghost use Rattle.router_model.specs.Laws.{StepsAppendWhatTheySay, AnswersAreSteps, IdleWhereNothingMayCome, LinkedRoutersArePeers, SentIsWhatIsSaid};
+
+/// A link joins two routers of the network, whichever it names first, and each is among the peers of the other.
+pub fn linked_routers_are_peers()
+    ensures { LinkedRoutersArePeers }
+{}
+
+/// The items that a step puts towards a peer, then the outbox, are the old outbox, then what the step says: nothing
+/// waiting is lost, changed or overtaken.
+pub fn steps_append_what_they_say()
+    ensures { StepsAppendWhatTheySay }
+{}
+
+/// Where a call answers that an event is done, the event is one that the call can be, and a step.
+pub fn answers_are_steps()
+    ensures { AnswersAreSteps }
+{}
+
+/// A call answers that there is nothing to do only where none of the events that it can be may come.
+pub fn idle_where_nothing_may_come()
+    ensures { IdleWhereNothingMayCome }
+{}
+
+/// The history of UPDATEs sent in an incarnation is that of the UPDATEs said in it.
+pub fn sent_is_what_is_said()
+    ensures { SentIsWhatIsSaid }
+{}

@@ -1,0 +1,17 @@
+pub mod Peers
+pub mod Closes
+pub mod Moving
+pub mod Doing
+pub mod Rows
+pub mod Handling
+pub mod Signing
+pub mod Octets
+pub mod Stepping
+pub mod Events
+pub mod Running
+pub mod Streams
+pub mod Passing
+pub mod Goodness
+pub mod Saying
+pub mod Keeping
+pub mod Leaving

@@ -1,0 +1,39 @@
+-- Events of a session that a step of one side is in the laws of runs.
+use Rattle.std.specs.Prelude.{◌≡◌, ◌≢◌, true, false, List, [], ◌∷◌, ◌++◌, Ok}
+use mathlib.Core.Logic.{◌⊎◌}
+use Rattle.bgp_codec.specs.declared.message.Message.{Message}
+use Rattle.link_epoch.specs.declared.link_end.Phase.TheVariants as phase
+use Rattle.run_model.specs.Links.{Entry, Says, End, answers}
+use Rattle.run_model.specs.Sessions.{SessionEvent, Fits}
+use Rattle.run_model.specs.Facts.{EndFacts}
+use Rattle.router_model.specs.Sides.{Side, Draft, AtHand, at_hand, carried, without_front}
+use Rattle.router_runs.specs.Reading.{Reads, MayComeAll, sides_after, state_of, model_side}
+
+-- a side is this end, whose peer's end is b, and what holds of both in every run holds
+pub record Stands (s : Side) (a b : End Message) : Type 0 where
+  pub reads : Reads s a
+  pub fits : Fits (state_of s.session.state) a
+  pub mine : EndFacts a b
+  pub theirs : EndFacts b a
+
+-- from one side to the other by events of its session, which append and take these entries
+pub record Does (s t : Side) (new past : List (Entry Message)) (a b : End Message) : Type 0 where
+  pub events : List (SessionEvent Message)
+  pub may : MayComeAll (model_side s a) b events
+  pub state : (sides_after (model_side s a) events).state ≡ state_of t.session.state
+  pub stands : Stands t (sides_after (model_side s a) events).end b
+  pub appends : (sides_after (model_side s a) events).end.appended ≡ a.appended ++ new
+  pub takes : (sides_after (model_side s a) events).end.taken ≡ a.taken ++ past
+
+-- a draft that takes nothing: it stays joined and drops nothing, or joins by a dial of its own, or is not joined
+pub record Row (s : Side) (h : AtHand) (d : Draft) (a b : End Message) : Type 0 where
+  pub does : Does s (carried h s d) d.says [] a b
+  pub joined : d.link.phase ≡ phase.Joined
+      → ((s.link.phase ≡ phase.Joined) × (d.link.epoch ≡ s.link.epoch) × (d.drops ≡ false)) ⊎ ((s.link.phase ≢ phase.Joined) × (answers a ≡ true))
+  pub apart : d.link.phase ≢ phase.Joined → (s.link.phase ≢ phase.Joined) ⊎ (d.drops ≡ true)
+
+-- a draft that handles a message: it stays joined and drops nothing else, or drops what is held
+pub record Hand (s : Side) (m : Message) (d : Draft) (a b : End Message) : Type 0 where
+  pub does : Does s (carried (at_hand (Ok m)) (without_front s) d) d.says (Says s.link.epoch m ∷ []) a b
+  pub joined : d.link.phase ≡ phase.Joined → (d.link.epoch ≡ s.link.epoch) × (d.drops ≡ false)
+  pub apart : d.link.phase ≢ phase.Joined → d.drops ≡ true

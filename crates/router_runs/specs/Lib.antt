@@ -1,0 +1,7 @@
+pub mod Runs
+pub mod Promises
+pub mod Reading
+pub mod Moving
+pub mod Doing
+pub mod Kept
+pub mod Said

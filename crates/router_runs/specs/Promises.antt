@@ -1,0 +1,40 @@
+-- What holds of every run of a network of routers: first in, first out in each incarnation of a session, from end to end.
+use Rattle.std.specs.Prelude.{ℕ, ◌≡◌, Bool, true, false, List}
+use mathlib.Core.List.{IsPrefix}
+use Rattle.bgp_codec.specs.declared.message.Message.{Message}
+use Rattle.run_model.specs.Links.{said}
+use Rattle.run_model.specs.Network as runs
+use Rattle.run_model.specs.Network.{NetworkEvent}
+use Rattle.outbox.specs.declared.item.What.{What}
+use Rattle.snap_marker.specs.Recordings.{MadeOffer}
+use Rattle.router_model.specs.Messages.{updates_in}
+use Rattle.router_model.specs.Settings.{Setting, IsSetting, linked}
+use Rattle.router_model.specs.Sides.{is_up}
+use Rattle.router_model.specs.Step.{Own}
+use Rattle.router_runs.specs.Runs.{RunOrder, RunState, IsRunTo, logged_steps, side_of, log_of, octets_of_all, stream}
+
+-- from u to v in incarnation e: the messages that v used are a beginning of those that u said; their octets were taken, what was
+-- taken was put, and what was put was said; the UPDATEs among them are those that v acted on, and those said are those sent
+pub record PassesInOrder (state : RunState) (u v e : ℕ) : Type 0 where
+  pub used : List Message
+  pub begins : IsPrefix used (said e (log_of state u v))
+  pub taken : IsPrefix (octets_of_all used) (stream e (state.taken u v))
+  pub put : IsPrefix (stream e (state.taken u v)) (stream e (state.put u v))
+  pub appended : IsPrefix (stream e (state.put u v)) (octets_of_all (said e (log_of state u v)))
+  pub acted : updates_in used ≡ (side_of state v u).acted e
+  pub sent : updates_in (said e (log_of state u v)) ≡ (side_of state u v).sent e
+
+-- so the UPDATEs that v acted on are a beginning of those that u sent: in order, once each
+abbrev pub UpdatesPassInOrder : Type 0
+UpdatesPassInOrder =
+    (g : Setting) → IsSetting g → (order : RunOrder) (state : RunState) → IsRunTo g order state
+    → (u v e : ℕ) → linked g.net u v ≡ true
+    → PassesInOrder state u v e × IsPrefix ((side_of state v u).acted e) ((side_of state u v).sent e)
+
+-- nothing is acted on after the close: where an event leaves Established, no later one acts on an UPDATE of that incarnation
+abbrev pub NothingIsActedOnAfterTheClose : Type 0
+NothingIsActedOnAfterTheClose =
+    (g : Setting) → IsSetting g → (before later : RunOrder) (d : NetworkEvent Own What MadeOffer) (old new last : RunState)
+    → IsRunTo g before old → runs.NetworkStep (logged_steps g) old d new → runs.Run (logged_steps g) new later last
+    → (v : ℕ) → is_up (side_of old d.router v) ≡ true → is_up (side_of new d.router v) ≡ false
+    → (side_of last d.router v).acted (side_of old d.router v).link.epoch ≡ (side_of new d.router v).acted (side_of old d.router v).link.epoch

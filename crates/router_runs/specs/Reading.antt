@@ -1,0 +1,71 @@
+-- A side of a router as an end of a link and a session in the laws of runs.
+use Rattle.std.specs.Prelude.{ℕ, ◌≡◌, true, false, List, [], ◌∷◌, Option}
+use Rattle.bgp_codec.specs.declared.message.Message.{Message}
+use Rattle.link_epoch.specs.Ends.{hung_up}
+use Rattle.link_epoch.specs.declared.link_end.Phase.{Phase}
+use Rattle.link_epoch.specs.declared.link_end.Phase.TheVariants as phase
+use Rattle.session_fsm.specs.Table.{SessionView}
+use Rattle.session_fsm.specs.declared.state.State.{State}
+use Rattle.session_fsm.specs.declared.state.State.TheVariants as state
+use Rattle.run_model.specs.Links as links
+use Rattle.run_model.specs.Links.{End, Says, Shut, incarnation, heard_number, has_shut, said}
+use Rattle.run_model.specs.Sessions as model
+use Rattle.run_model.specs.Sessions.{SessionState, SessionEvent, MayCome, side_after}
+use Rattle.router_model.specs.Messages.{updates_in}
+use Rattle.router_model.specs.Sides.{Side, Draft}
+
+abbrev pub phase_of : Phase → links.Phase
+phase_of phase.Shut = links.Closed
+phase_of phase.Offered = links.Offered
+phase_of phase.Joined = links.Joined
+
+abbrev pub state_of : State → SessionState
+state_of state.Idle = model.Idle
+state_of state.Connect = model.Connect
+state_of state.Active = model.Active
+state_of state.OpenSent = model.OpenSent
+state_of state.OpenConfirm = model.OpenConfirm
+state_of state.Established = model.Established
+
+-- the phase that a session's state goes with
+abbrev pub phase_in : State → Phase
+phase_in state.Idle = phase.Shut
+phase_in state.Connect = phase.Offered
+phase_in state.Active = phase.Shut
+phase_in state.OpenSent = phase.Joined
+phase_in state.OpenConfirm = phase.Joined
+phase_in state.Established = phase.Joined
+
+-- a side is this end: its numbers, its phase and its histories are those of what the end appended, took and used
+pub record Reads (s : Side) (a : End Message) : Type 0 where
+  pub phase : a.phase ≡ phase_of s.link.phase
+  pub epoch : s.link.epoch ≡ incarnation a
+  pub heard : s.link.heard ≡ heard_number a
+  pub is_shut : s.link.heard_is_shut ≡ has_shut (heard_number a) a.taken
+  pub acted : (e : ℕ) → s.acted e ≡ updates_in (said e a.used)
+  pub sent : (e : ℕ) → s.sent e ≡ updates_in (said e a.appended)
+
+-- the end with its session's state
+abbrev pub model_side : Side → End Message → model.Side Message
+model_side s a = record { state = state_of s.session.state; end = a }
+
+-- events of a session that may come one after another, the peer's end being b, and the side that they leave
+abbrev pub MayComeAll : model.Side Message → End Message → List (SessionEvent Message) → Type 0
+MayComeAll x b [] = Unit {0}
+MayComeAll x b (e ∷ es) = MayCome x b e × MayComeAll (side_after x e) b es
+
+abbrev pub sides_after : model.Side Message → List (SessionEvent Message) → model.Side Message
+sides_after x [] = x
+sides_after x (e ∷ es) = sides_after (side_after x e) es
+
+-- the draft of a joined side that closes with this NOTIFICATION
+abbrev pub closing : Side → SessionView → Message → Option ℕ → Draft
+closing s session n left = record {
+  session = session;
+  link = hung_up s.link;
+  says = Says s.link.epoch n ∷ Shut s.link.epoch ∷ [];
+  drops = true;
+  acts = false;
+  left = left;
+  overflows = false;
+}

@@ -1,0 +1,67 @@
+-- Runs of a network of routers: each router steps by itself, and a take gets the next item that the peer put.
+use Rattle.std.specs.Prelude.{ℕ, ◌≡◌, ◌==◌, cond, List, [], ◌∷◌, ◌++◌, map}
+use Rattle.std.specs.List.{concat}
+use Rattle.bgp_codec.specs.declared.message.Message.{Message}
+use Rattle.bgp_codec.specs.Spelling.{written}
+use Rattle.ranked_policy.specs.Plans.{IsRouter}
+use Rattle.run_model.specs.Links.{Entry}
+use Rattle.run_model.specs.Network as runs
+use Rattle.run_model.specs.Network.{Order, Steps, NetworkState, Run}
+use Rattle.outbox.specs.declared.item.What.{What}
+use Rattle.outbox.specs.declared.item.What.TheVariants as item
+use Rattle.snap_marker.specs.Recordings.{MadeOffer}
+use Rattle.router_model.specs.Settings.{Setting}
+use Rattle.router_model.specs.Sides.{Side}
+use Rattle.router_model.specs.State.{Router, new_router}
+use Rattle.router_model.specs.Step.{Own, RouterEvent, Step, says}
+
+-- a router, and all that it ever appended towards each peer, put already or not; no router keeps the second
+pub record Logged : Type 0 where
+  pub router : Router
+  pub log : ℕ → List (Entry Message)
+
+abbrev pub new_logged : Setting → Logged
+new_logged g = record { router = new_router g; log = λ v. [] }
+
+-- a step of router u, and what it appends
+pub record LoggedStep (g : Setting) (u : ℕ) (old : Logged) (e : RouterEvent) (new : Logged) : Type 0 where
+  pub known : IsRouter g.net.routers u
+  pub step : Step g u old.router e new.router
+  pub log : new.log ≡ (λ v. old.log v ++ says g u old.router e v)
+
+abbrev pub logged_steps : Setting → Steps Logged Own What MadeOffer
+logged_steps g = LoggedStep g
+
+-- the events of a run, in their order, each with its router
+abbrev pub RunOrder : Type 0
+RunOrder = Order Own What MadeOffer
+
+-- the routers, the items put and taken in each direction, and the offers made
+abbrev pub RunState : Type 0
+RunState = NetworkState Logged What MadeOffer
+
+-- a run from the opening, in which no router has done anything, to this state
+abbrev pub IsRunTo : Setting → RunOrder → RunState → Type 0
+IsRunTo g order state = Run (logged_steps g) (runs.opening (λ u. new_logged g)) order state
+
+-- the side of router u towards v in a state of a run
+abbrev pub side_of : RunState → ℕ → ℕ → Side
+side_of state u v = (state.routers u).router.sides v
+
+-- all that router u ever appended towards v
+abbrev pub log_of : RunState → ℕ → ℕ → List (Entry Message)
+log_of state u v = (state.routers u).log v
+
+-- ---- messages and octets of an incarnation
+
+-- messages as they are written, one behind another (RFC 4271 section 4)
+abbrev pub octets_of_all : List Message → List ℕ
+octets_of_all ms = concat (map written ms)
+
+-- the octets of the pieces of an incarnation, up to its end
+abbrev pub stream : ℕ → List What → List ℕ
+stream e [] = []
+stream e (item.Dial f ∷ is) = stream e is
+stream e (item.Piece f octets ∷ is) = cond (e == f) (octets ++ stream e is) (stream e is)
+stream e (item.Mark f s ∷ is) = stream e is
+stream e (item.Shut f ∷ is) = cond (e == f) [] (stream e is)

@@ -1,0 +1,56 @@
+-- What routers say: each message of a run is one of these, and can be read by every peer.
+use Rattle.std.specs.Prelude.{ℕ, ◌≡◌, true, false, ◌≤◌, ◌<◌, ◌^◌, List, [], length}
+use Rattle.std.specs.List.{AllByRecursion}
+use mathlib.Core.Logic.{◌⊎◌}
+use Rattle.prefix_lanes.specs.Bits.{PrefixView}
+use Rattle.bgp_codec.specs.declared.message.Message.{Message}
+use Rattle.bgp_codec.specs.declared.message.Message.TheVariants.{OpenMsg, UpdateMsg, NoticeMsg, AliveMsg}
+use Rattle.bgp_codec.specs.declared.update.Update.{Update}
+use Rattle.ranked_policy.specs.Paths.{BeginsWith}
+use Rattle.ranked_policy.specs.Plans.{IsRouter, IsNamed}
+use Rattle.run_model.specs.Octets.{AllGood}
+use Rattle.router_model.specs.Sides.{is_up}
+use Rattle.router_model.specs.Settings.{linked, Setting, identifier}
+use Rattle.router_model.specs.State.{open_of, telling}
+use Rattle.router_runs.specs.Runs.{RunState, RunOrder, IsRunTo}
+use Rattle.router_model.specs.Settings.{IsSetting}
+use Rattle.router_runs.specs.Runs.{side_of, log_of}
+use Rattle.router_runs.specs.Kept.{IsGood, Reached}
+
+-- the numbers of a path fit two octets
+abbrev pub IsSmall : List ℕ → Type 0
+IsSmall path = AllByRecursion (λ n. n < 2 ^ 16) path
+
+pub record IsFinePath (u : ℕ) (path : List ℕ) : Type 0 where
+  pub begins : BeginsWith path u
+  pub short : length path ≤ 16
+  pub small : IsSmall path
+
+-- a path that router u may keep
+abbrev pub MayKeep : ℕ → List ℕ → Type 0
+MayKeep u path = (path ≡ []) ⊎ IsFinePath u path
+
+-- an UPDATE that router u may tell
+abbrev pub IsToldBy : Setting → ℕ → Update → Type 0
+IsToldBy g u x = (q : PrefixView) × (path : List ℕ) × IsNamed g.net.origins q × MayKeep u path × (x ≡ telling (identifier g.net.routers u) q path)
+
+-- a message that router u may say: its OPEN, an UPDATE as above, a NOTIFICATION without data, a KEEPALIVE
+abbrev pub IsSaid : Setting → ℕ → Message → Type 0
+IsSaid g u (OpenMsg o) = OpenMsg o ≡ open_of g.net u
+IsSaid g u (UpdateMsg x) = IsToldBy g u x
+IsSaid g u (NoticeMsg n) = n.extra ≡ []
+IsSaid g u AliveMsg = Unit {0}
+
+-- it is written as a frame, and each peer of the router reads it back
+abbrev pub SaidIsGood : Type 0
+SaidIsGood = (g : Setting) → IsSetting g → (u : ℕ) → IsRouter g.net.routers u → (m : Message) → IsSaid g u m → IsGood u m
+
+-- what is kept through a run of all routers: of each link, of what is said, and of the kept paths; and no session is up where there is no link
+pub record Kept (g : Setting) (state : RunState) : Type 0 where
+  pub reached : Reached g state
+  pub said : (u v : ℕ) → linked g.net u v ≡ true → AllGood (IsSaid g u) (log_of state u v)
+  pub paths : (u : ℕ) (q : PrefixView) → MayKeep u ((state.routers u).router.kept q)
+  pub apart : (u v : ℕ) → linked g.net u v ≡ false → is_up (side_of state u v) ≡ false
+
+abbrev pub RunsKeep : Type 0
+RunsKeep = (g : Setting) → IsSetting g → (order : RunOrder) (state : RunState) → IsRunTo g order state → Kept g state

@@ -1,0 +1,14 @@
+//! What holds of every run of a network of routers, in which each router steps by itself and a take gets the next item
+//! that the peer put.
+//!
+//! The promises are the contracts of public functions with empty bodies, about the definitions of `router_model` and of
+//! runs (`specs/Runs`): so a crate whose calls are steps of these routers has them by calling the functions.
+//!
+//! Left out: that anything arrives, ends or settles.
+#![tactic(auto)]
+
+pub mod laws;
+
+pub use laws::{
+    nothing_is_acted_on_after_the_close, runs_keep, updates_pass_in_order, what_is_said_is_good,
+};

@@ -1,0 +1,53 @@
+-- What holds of every world that was played, or stepped from one that was.
+use Rattle.std.specs.Prelude.{ℕ, ◌≡◌, true, List, Ok}
+use mathlib.Core.List.{IsPrefix}
+use mathlib.Core.Logic.{◌⊎◌}
+use Rattle.run_model.specs.Network as runs
+use Rattle.run_model.specs.Network.{NetworkEvent}
+use Rattle.outbox.specs.declared.item.What.{What}
+use Rattle.snap_marker.specs.Recordings.{MadeOffer}
+use Rattle.router_model.specs.declared.refusal.RouterError.TheVariants as error
+use Rattle.router_model.specs.Settings.{Setting, IsSetting, linked}
+use Rattle.router_model.specs.Step.{Own, RouterEvent}
+use Rattle.router_model.specs.Calls.{Advertise, Refuses, answer}
+use Rattle.router_runs.specs.Runs.{RunOrder, RunState, IsRunTo, logged_steps}
+use Rattle.world_core.specs.declared.schedule.Event.{Event}
+use Rattle.world_core.specs.declared.schedule.Event.TheVariants as schedule
+use Rattle.world_core.specs.World.{World, Does, Nothing, new_world, world_answer, world_after, played, name_of, AgreesWith, IsRunOfWorld, IsReplayed}
+
+-- it stands at the end of a run, and the UPDATEs that each router acted on in an incarnation of a session are a beginning of those
+-- that its peer sent in it
+pub record KeepsItsPromises (g : Setting) (w : World) : Type 0 where
+  pub run : IsRunOfWorld g w
+  pub in_order : (u v e : ℕ) → linked g.net u v ≡ true
+      → IsPrefix (((w.routers v).router.sides u).acted e) (((w.routers u).router.sides v).sent e)
+
+-- what is played is a run
+abbrev pub WhatIsPlayedIsARun : Type 0
+WhatIsPlayedIsARun =
+    (g : Setting) → IsSetting g → (events : List Event) (w : World) → played g (new_world g) 0 events ≡ Ok w → IsRunOfWorld g w
+
+abbrev pub PlayedWorldsKeepTheirPromises : Type 0
+PlayedWorldsKeepTheirPromises =
+    (g : Setting) → IsSetting g → (events : List Event) (w : World) → played g (new_world g) 0 events ≡ Ok w → KeepsItsPromises g w
+
+-- what is played comes out again when its events that were done are played alone; so does the world that a step leaves
+abbrev pub WhatIsPlayedIsReplayed : Type 0
+WhatIsPlayedIsReplayed = (g : Setting) (events : List Event) (w : World) → played g (new_world g) 0 events ≡ Ok w → IsReplayed g w
+
+abbrev pub StepsAreReplayed : Type 0
+StepsAreReplayed =
+    (g : Setting) (w : World) (event : Event) (u : ℕ) (e : RouterEvent) (stamp : ℕ) → IsReplayed g w
+    → world_answer g w event ≡ Does u e stamp → IsReplayed g (world_after g w event u e stamp)
+
+-- outboxes are full: each peer of the router that waits to be told has one at the limit
+abbrev pub IsBlocked : Setting → World → Event → Type 0
+IsBlocked g w event = (u v : ℕ) × (event ≡ schedule.Advertise u) × (answer g u (w.routers u) Advertise ≡ Refuses (error.Blocked v))
+
+-- an event answers that there is nothing to do only where no step has its name, full outboxes aside
+abbrev pub NothingWhereNoStepIs : Type 0
+NothingWhereNoStepIs =
+    (g : Setting) → IsSetting g → (w : World) (order : RunOrder) (state : RunState) → IsRunTo g order state → AgreesWith g w state
+    → (event : Event) → world_answer g w event ≡ Nothing
+    → IsBlocked g w event
+    ⊎ ((d : NetworkEvent Own What MadeOffer) (new : RunState) → name_of d.router d.event ≡ event → runs.NetworkStep (logged_steps g) state d new → ⊥)

@@ -1,0 +1,64 @@
+//! The events of a schedule, the orders that stand for many of them, and why one is refused.
+
+use ranked_policy::Asn;
+use router_model::{Command, RouterError};
+use thiserror::Error;
+
+/// An event of a schedule: it names a router, and a peer where it needs one.
+#[derive(Clone, Copy, Debug, PartialEq, Eq)]
+pub enum Event {
+    /// The router obeys a command.
+    Command(Asn, Command),
+    /// A second passes at the router.
+    Tick(Asn),
+    /// The first router puts the next item towards the second.
+    Put(Asn, Asn),
+    /// The first router takes the next item from the second.
+    Take(Asn, Asn),
+    /// The first router handles the message of the second that waits in front.
+    Handle(Asn, Asn),
+    /// The router sets one kept path that is not its route.
+    Decide(Asn),
+    /// The router tells one waiting peer of one prefix.
+    Advertise(Asn),
+    /// The router makes the offer that waits in front of its queue.
+    Offer(Asn),
+}
+
+/// An order of a schedule: one event, or so many rounds or ticks of all routers.
+#[derive(Clone, Copy, Debug, PartialEq, Eq)]
+pub enum Order {
+    /// One event.
+    One(Event),
+    /// So many times each router, rising, a turn: for each peer, rising, one Put, one Take, one Handle; then one
+    /// Decide, one Advertise, one Offer.
+    Rounds(u32),
+    /// So many times each router, rising, a Tick.
+    Ticks(u32),
+}
+
+/// Why an event was refused. The world is as it was.
+#[derive(Clone, Copy, Debug, PartialEq, Eq, Error)]
+pub enum StepFault {
+    /// The network has no such router.
+    #[error("no such router")]
+    NoSuchRouter,
+    /// No link joins the two routers.
+    #[error("no such link")]
+    NoSuchLink,
+    /// The router refused it.
+    #[error("{0}")]
+    Refused(RouterError),
+    /// A growth was refused.
+    #[error("memory")]
+    Memory,
+}
+
+/// Why a schedule was not played to its end.
+#[derive(Clone, Copy, Debug, PartialEq, Eq)]
+pub struct PlayFault {
+    /// The place of the refused event, counted from 0; 0 too where memory was refused at the opening.
+    pub at: usize,
+    /// Why it was refused.
+    pub why: StepFault,
+}
