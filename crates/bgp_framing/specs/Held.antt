@@ -1,6 +1,5 @@
 -- What a framer holds, and what stands in front of it.
-use Rattle.std.specs.Prelude.{◌≡◌, ℕ, ◌≤◌, nat_le, ◌&&◌, ◌||◌, Bool, List, [], ◌∷◌, length, take, slice_range, Some, is_some, ◌⊎◌}
-use Rattle.bgp_codec.specs.declared.fault.Fault.{Fault}
+use Rattle.std.specs.Prelude.{◌≡◌, ℕ, ◌≤◌, nat_le, ◌&&◌, ◌||◌, Bool, List, [], ◌∷◌, length, take, slice_range, Some, is_some}
 use Rattle.bgp_codec.specs.Header.{header_fault, length_field, IsFrame}
 use Rattle.bgp_framing.specs.Frames.{Splits, IsPartial}
 use Rattle.bgp_framing.specs.declared.framer.Next.{Next}
