@@ -8,3 +8,4 @@ pub mod TableLemmas
 pub mod Reached
 pub mod PeerLemmas
 pub mod WaysOn
+mod TestLemmas
