@@ -4,3 +4,4 @@ pub mod Appending
 pub mod Answering
 pub mod Idling
 pub mod Quiet
+pub mod AnyItem

@@ -1,6 +1,6 @@
 //! What the definitions of one router say together. Each is the contract of a function without work of its own.
 
-ghost use Rattle.router_model.specs.Laws.{StepsAppendWhatTheySay, AnswersAreSteps, IdleWhereNothingMayCome, LinkedRoutersArePeers, SentIsWhatIsSaid};
+ghost use Rattle.router_model.specs.Laws.{StepsAppendWhatTheySay, AnswersAreSteps, IdleWhereNothingMayCome, LinkedRoutersArePeers, SentIsWhatIsSaid, AnyItemIsTaken, WhatWaitsIsHandled};
 
 /// A link joins two routers of the network, whichever it names first, and each is among the peers of the other.
 pub fn linked_routers_are_peers()
@@ -26,4 +26,11 @@ pub fn idle_where_nothing_may_come()
 /// The history of UPDATEs sent in an incarnation is that of the UPDATEs said in it.
 pub fn sent_is_what_is_said()
     ensures { SentIsWhatIsSaid }
+{}
+
+/// Whatever a peer hands in is taken, unless a message of the peer waits to be handled or no stamp is left; and a message
+/// or fault that waits is handled. So nothing that a peer hands in stops a router.
+pub fn any_item_is_answered()
+    ensures taken { AnyItemIsTaken }
+    ensures handled { WhatWaitsIsHandled }
 {}
