@@ -5,3 +5,4 @@ pub mod Answering
 pub mod Idling
 pub mod Quiet
 pub mod AnyItem
+pub mod Commuting

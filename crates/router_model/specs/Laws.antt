@@ -5,7 +5,8 @@ use Rattle.bgp_codec.specs.declared.message.Message.{Message}
 use Rattle.bgp_codec.specs.Spelling.{written}
 use Rattle.run_model.specs.Links.{said}
 use Rattle.run_model.specs.Octets.{Passing, passing}
-use Rattle.run_model.specs.Network.{alone, takes, put_towards}
+use Rattle.run_model.specs.Network.{alone, puts, takes, put_towards}
+use Rattle.run_model.specs.Exchange.{PutsCommute}
 use Rattle.bgp_framing.specs.Held.{is_waiting}
 use Rattle.ranked_policy.specs.Plans.{Plan, IsNetwork, IsRouter}
 use Rattle.outbox.specs.declared.item.What.{What}
@@ -78,3 +79,12 @@ abbrev pub WhatWaitsIsHandled : Type 0
 WhatWaitsIsHandled =
     (g : Setting) (u v : ℕ) (x : Stamped) → linked g.net u v ≡ true → is_waiting (x.router.sides v).held ≡ true → x.stamp < greatest_stamp
     → answer g u x (Handle v) ≡ Steps (alone (Handles v))
+
+-- a put may change places with each event that puts nothing in its direction: so runs pass through their cuts
+abbrev pub RouterPutsCommute : Type 0
+RouterPutsCommute = (g : Setting) → PutsCommute (Step g)
+
+-- and what an event says is the same before a put and behind it
+abbrev pub PutsLeaveWhatIsSaid : Type 0
+PutsLeaveWhatIsSaid =
+    (g : Setting) (u v : ℕ) (i : What) (x y : Router) → Step g u x (puts v i) y → (e : RouterEvent) (w : ℕ) → says g u y e w ≡ says g u x e w

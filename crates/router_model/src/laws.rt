@@ -1,6 +1,6 @@
 //! What the definitions of one router say together. Each is the contract of a function without work of its own.
 
-ghost use Rattle.router_model.specs.Laws.{StepsAppendWhatTheySay, AnswersAreSteps, IdleWhereNothingMayCome, LinkedRoutersArePeers, SentIsWhatIsSaid, AnyItemIsTaken, WhatWaitsIsHandled};
+ghost use Rattle.router_model.specs.Laws.{StepsAppendWhatTheySay, AnswersAreSteps, IdleWhereNothingMayCome, LinkedRoutersArePeers, SentIsWhatIsSaid, AnyItemIsTaken, WhatWaitsIsHandled, RouterPutsCommute, PutsLeaveWhatIsSaid};
 
 /// A link joins two routers of the network, whichever it names first, and each is among the peers of the other.
 pub fn linked_routers_are_peers()
@@ -33,4 +33,11 @@ pub fn sent_is_what_is_said()
 pub fn any_item_is_answered()
     ensures taken { AnyItemIsTaken }
     ensures handled { WhatWaitsIsHandled }
+{}
+
+/// A put may change places with each event of the router that puts nothing in its direction, and what the event says is
+/// the same on either side of the put. So a run may be reordered to pass through a consistent cut.
+pub fn puts_commute()
+    ensures commute { RouterPutsCommute }
+    ensures said { PutsLeaveWhatIsSaid }
 {}
