@@ -4,16 +4,11 @@ use Rattle.std.specs.Prelude.{nat_lt}
 use Rattle.run_model.specs.Links.{Entry, Dial, Says, Mark, Shut, greatest_dial, said, Phase, Closed, Offered, Joined, End, Move, Dials, Tells, Marks, HangsUp, Takes, answers, next_incarnation, phase_joining, used_with, after, May, Ends, LinkStep, moved, IsRun, ends_after, opening, close_of, NoneUsedAfterClose}
 use Rattle.run_model.proofs.EntryLists.{greatest_dial-append, said-append}
 use Rattle.run_model.proofs.LinkFacts.{answers_true}
+pub use Rattle.run_model.specs.Facts.{IsPast}
 use Rattle.std.proofs.lemmas.List.{append-nil}
 use Rattle.std.proofs.lemmas.Bool.Decides.{nat_tests}
 
 module _ {M : Type 0} where
-  -- an end that isn't closed is past e
-  pub record IsPast (e : ℕ) (us : List M) (a : End M) : Type 0 where
-    pub low : a.phase ≢ Closed → e < greatest_dial a.appended
-    pub reached : e ≤ greatest_dial a.appended
-    pub same : said e a.used ≡ us
-
   joins_closed : (a : End M) (d : ℕ) (p : Phase) (b : Bool) → p ≡ Closed → cond b (phase_joining p) p ≡ Closed
   joins_closed a d Closed true is = refl
   joins_closed a d Closed false is = refl

@@ -47,3 +47,6 @@ pub mod Liftings
 pub mod StampedGathers
 pub mod GatheringExamples
 mod StepFacts
+mod FactLaws
+mod StreamFacts
+mod CutLengths

@@ -266,5 +266,4 @@ pub lengths_are_frames : LengthsAreFrames
 lengths_are_frames = record {
   some = λ f is e. absurd (let k = is.1 in cc (k, e));
   prefix_free = λ f h a b is there e. heads_of f h a b is.0 there.0 is.1 there.1 e;
-  frames = λ m good. (m, refl);
 }

@@ -53,7 +53,7 @@ module _ {M : Type 0} where
       elim (prefix_last taken before (Mark e s) (subst (IsPrefix taken) shape front)) [
         | inl short ↦ (
             let now_is : now ≡ before ++ Mark e s ∷ grown.0 = sym grown.1 ∙ (ap (λ l. l ++ grown.0) shape ∙ append_assoc before (Mark e s ∷ []) grown.0) in
-            let stay = octets_stay_before_mark (λ f. Unit {0}) (λ m. Unit {0}) written taken before grown.0 e s held short only (subst (λ l. IsPrefix (passing written taken ++ held) (passing written l)) now_is is) in
+            let stay = octets_stay_before_mark written taken before grown.0 e s held short only (subst (λ l. IsPrefix (passing written taken ++ held) (passing written l)) now_is is) in
             let whole : passing written appended ≡ passing written before ++ passing written (Mark e s ∷ []) = ap (passing written) shape ∙ passing_more written before (Mark e s ∷ []) in
             subst (IsPrefix (passing written taken ++ held)) (sym whole) (prefix_push (passing written taken ++ held) (passing written before) (passing written (Mark e s ∷ [])) stay))
         | inr all ↦ (

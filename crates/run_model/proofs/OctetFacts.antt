@@ -6,7 +6,7 @@ use Rattle.run_model.specs.Links.{Entry, Dial, Says, Mark, Shut, greatest_dial, 
 use Rattle.run_model.proofs.IncarnationRuns.{all_facts, joined_heard, answers_above}
 use Rattle.run_model.proofs.EntryLists.{Sound, said-append}
 use Rattle.std.proofs.lemmas.Bool.Decides.{nat_tests}
-use Rattle.run_model.specs.Octets.{Passing, Octet, Control, octets_of, passing, OnlyOctets, OnlyMessages, AllGood, IsFraming, NextFrameIsNextMessage, NextControlIsNextEntry, DroppedOctetsAreMessages, OctetsStayBeforeMark, NoStaleOctetWhileJoined, NoneDroppedBeforeAnswer}
+use Rattle.run_model.specs.Octets.{Passing, Octet, Control, octets_of, passing, OnlyOctets, OnlyMessages, AllGood, AllFrames, IsFraming, NextFrameIsNextMessage, HeldBeginsNextMessage, NextControlIsNextEntry, DroppedOctetsAreMessages, OctetsStayBeforeMark, NoStaleOctetWhileJoined, NoneDroppedBeforeAnswer}
 use Rattle.std.proofs.lemmas.List.{append-nil, append_cancel_left}
 
 pub octets_more : {M : Type 0} (e : ℕ) (xs ys : List ℕ) → octets_of {M = M} e (xs ++ ys) ≡ octets_of e xs ++ octets_of e ys
@@ -57,29 +57,29 @@ module _ {M : Type 0} where
   good_rest good (Mark e s ∷ past) more a = good_rest good past more a
   good_rest good (Shut e ∷ past) more a = good_rest good past more a
 
-  stale_head : (frame : List ℕ → Type 0) (good : M → Type 0) (written : M → List ℕ) → IsFraming frame good written → (past : List (Entry M)) (n d b : ℕ) (bs held : List ℕ) (q : List (Passing M)) (entries : List (Entry M)) → AllGood good entries → Sound 0 (past ++ entries) → greatest_dial past ≡ n → ((f rest : List ℕ) → frame f → held ≢ f ++ rest)
+  stale_head : (frame : List ℕ → Type 0) (written : M → List ℕ) → IsFraming frame → (past : List (Entry M)) (n d b : ℕ) (bs held : List ℕ) (q : List (Passing M)) (entries : List (Entry M)) → AllFrames frame written entries → Sound 0 (past ++ entries) → greatest_dial past ≡ n → ((f rest : List ℕ) → frame f → held ≢ f ++ rest)
       → (octets_of n held ++ (Octet d b ∷ (octets_of d bs ++ q)) ≡ passing written entries) → d ≡ n
-  stale_head frame good written code past n d b bs [] q [] all s t whole h = absurd (cc (h))
-  stale_head frame good written code past n d b bs (x ∷ held) q [] all s t whole h = absurd (cc (h))
-  stale_head frame good written code past n d b bs [] q (Dial e ∷ r) all s t whole h = absurd (cc (h))
-  stale_head frame good written code past n d b bs (x ∷ held) q (Dial e ∷ r) all s t whole h = absurd (cc (h))
-  stale_head frame good written code past n d b bs [] q (Mark e k ∷ r) all s t whole h = absurd (cc (h))
-  stale_head frame good written code past n d b bs (x ∷ held) q (Mark e k ∷ r) all s t whole h = absurd (cc (h))
-  stale_head frame good written code past n d b bs [] q (Shut e ∷ r) all s t whole h = absurd (cc (h))
-  stale_head frame good written code past n d b bs (x ∷ held) q (Shut e ∷ r) all s t whole h = absurd (cc (h))
-  stale_head frame good written code past n d b bs held q (Says e m ∷ r) all s t whole h =
+  stale_head frame written code past n d b bs [] q [] all s t whole h = absurd (cc (h))
+  stale_head frame written code past n d b bs (x ∷ held) q [] all s t whole h = absurd (cc (h))
+  stale_head frame written code past n d b bs [] q (Dial e ∷ r) all s t whole h = absurd (cc (h))
+  stale_head frame written code past n d b bs (x ∷ held) q (Dial e ∷ r) all s t whole h = absurd (cc (h))
+  stale_head frame written code past n d b bs [] q (Mark e k ∷ r) all s t whole h = absurd (cc (h))
+  stale_head frame written code past n d b bs (x ∷ held) q (Mark e k ∷ r) all s t whole h = absurd (cc (h))
+  stale_head frame written code past n d b bs [] q (Shut e ∷ r) all s t whole h = absurd (cc (h))
+  stale_head frame written code past n d b bs (x ∷ held) q (Shut e ∷ r) all s t whole h = absurd (cc (h))
+  stale_head frame written code past n d b bs held q (Says e m ∷ r) all s t whole h =
       let number : e ≡ n = (let k = sound-at 0 e m past r s in omega (arith, k, t)) in
       elim (meet e n (written m) held (passing written r) (Octet d b ∷ (octets_of d bs ++ q)) (sym h)) [
-        | inl a ↦ absurd (whole (written m) a.0 (code.frames m all.0) (sym a.1))
+        | inl a ↦ absurd (whole (written m) a.0 (all.0) (sym a.1))
         | inr a ↦ (let same : d ≡ e = cc (a.3) in same ∙ number)
       ]
 
   -- while the end is joined, no octet of another incarnation comes
-  pub no_stale_octet : (frame : List ℕ → Type 0) (good : M → Type 0) (written : M → List ℕ) → IsFraming frame good written → (past log : List (Entry M)) (n d b : ℕ) (bs held : List ℕ) → AllGood good log → IsPrefix past log → Sound 0 log → greatest_dial past ≡ n
+  pub no_stale_octet : (frame : List ℕ → Type 0) (written : M → List ℕ) → IsFraming frame → (past log : List (Entry M)) (n d b : ℕ) (bs held : List ℕ) → AllFrames frame written log → IsPrefix past log → Sound 0 log → greatest_dial past ≡ n
       → ((f rest : List ℕ) → frame f → held ≢ f ++ rest) → IsPrefix (passing written past ++ (octets_of n held ++ octets_of d (b ∷ bs))) (passing written log) → d ≡ n
-  no_stale_octet frame good written code past log n d b bs held all front s t whole is =
+  no_stale_octet frame written code past log n d b bs held all front s t whole is =
       let k = behind written past log (octets_of n held ++ octets_of d (b ∷ bs)) front is in
-      stale_head frame good written code past n d b bs held k.0 front.0 (good_rest good past front.0 (subst (AllGood good) (sym front.1) all)) (subst (Sound 0) (sym front.1) s) t whole
+      stale_head frame written code past n d b bs held k.0 front.0 (good_rest (λ m. frame (written m)) past front.0 (subst (AllFrames frame written) (sym front.1) all)) (subst (Sound 0) (sym front.1) s) t whole
       (sym (append_assoc (octets_of n held) (octets_of d (b ∷ bs)) k.0) ∙ k.1)
 
   -- a message's octets at the head of octets and a control item
@@ -110,9 +110,9 @@ module _ {M : Type 0} where
       let t = dropped_head written x r k.0 q k.1 (sym k.3) in
       (Says e m ∷ t.0, t.1, t.2, ap (λ w. octets_of e (written m) ++ w) t.3 ∙ k.2, ap (λ w. Says e m ∷ w) t.4)
 
-module _ {M : Type 0} (frame : List ℕ → Type 0) (good : M → Type 0) (written : M → List ℕ) where
-  pub dropped_are_messages : DroppedOctetsAreMessages M frame good written
-  dropped_are_messages past log x stale front only is =
+module _ {M : Type 0} where
+  pub dropped_are_messages : DroppedOctetsAreMessages M
+  dropped_are_messages written past log x stale front only is =
       let b = behind written past log (stale ++ Control x ∷ []) front is in
       let t = dropped_head written x front.0 stale b.0 only (sym (append_assoc stale (Control x ∷ []) b.0) ∙ b.1) in
       let whole : past ++ (t.0 ++ x ∷ t.1) ≡ log = ap (λ w. past ++ w) t.4 ∙ front.1 in
@@ -143,15 +143,15 @@ module _ {M : Type 0} where
       let b = behind written past log stale front is in
       none_stale_head written past stale b.0 front.0 (subst (Sound 0) (sym front.1) s) (subst (λ l. said (greatest_dial past) l ≡ []) (sym front.1) none) only b.1
 
-  frame_head : (frame : List ℕ → Type 0) (good : M → Type 0) (written : M → List ℕ) → IsFraming frame good written → (e : ℕ) (f rest bytes : List ℕ) (q : List (Passing M)) (entries : List (Entry M))
-      → AllGood good entries → frame f → f ≡ bytes → (octets_of e (f ++ rest) ++ q ≡ passing written entries) → (m : M) × (r : List (Entry M)) × (f ≡ written m) × (entries ≡ Says e m ∷ r)
-  frame_head frame good written code e f rest [] q entries all is_frame is h = absurd (code.some f is_frame is)
-  frame_head frame good written code e f rest (b ∷ bs) q [] all is_frame is h = absurd (let h' : octets_of e ((b ∷ bs) ++ rest) ++ q ≡ [] = ap (λ w. octets_of e (w ++ rest) ++ q) (sym is) ∙ h in cc (h'))
-  frame_head frame good written code e f rest (b ∷ bs) q (Dial d ∷ r) all is_frame is h = absurd (let h' : octets_of e ((b ∷ bs) ++ rest) ++ q ≡ passing written (Dial d ∷ r) = ap (λ w. octets_of e (w ++ rest) ++ q) (sym is) ∙ h in cc (h'))
-  frame_head frame good written code e f rest (b ∷ bs) q (Mark d s ∷ r) all is_frame is h = absurd (let h' : octets_of e ((b ∷ bs) ++ rest) ++ q ≡ passing written (Mark d s ∷ r) = ap (λ w. octets_of e (w ++ rest) ++ q) (sym is) ∙ h in cc (h'))
-  frame_head frame good written code e f rest (b ∷ bs) q (Shut d ∷ r) all is_frame is h = absurd (let h' : octets_of e ((b ∷ bs) ++ rest) ++ q ≡ passing written (Shut d ∷ r) = ap (λ w. octets_of e (w ++ rest) ++ q) (sym is) ∙ h in cc (h'))
-  frame_head frame good written code e f rest (b ∷ bs) q (Says d n ∷ r) all is_frame is h =
-      let theirs : frame (written n) = code.frames n all.0 in
+  frame_head : (frame : List ℕ → Type 0) (written : M → List ℕ) → IsFraming frame → (e : ℕ) (f rest bytes : List ℕ) (q : List (Passing M)) (entries : List (Entry M))
+      → AllFrames frame written entries → frame f → f ≡ bytes → (octets_of e (f ++ rest) ++ q ≡ passing written entries) → (m : M) × (r : List (Entry M)) × (f ≡ written m) × (entries ≡ Says e m ∷ r)
+  frame_head frame written code e f rest [] q entries all is_frame is h = absurd (code.some f is_frame is)
+  frame_head frame written code e f rest (b ∷ bs) q [] all is_frame is h = absurd (let h' : octets_of e ((b ∷ bs) ++ rest) ++ q ≡ [] = ap (λ w. octets_of e (w ++ rest) ++ q) (sym is) ∙ h in cc (h'))
+  frame_head frame written code e f rest (b ∷ bs) q (Dial d ∷ r) all is_frame is h = absurd (let h' : octets_of e ((b ∷ bs) ++ rest) ++ q ≡ passing written (Dial d ∷ r) = ap (λ w. octets_of e (w ++ rest) ++ q) (sym is) ∙ h in cc (h'))
+  frame_head frame written code e f rest (b ∷ bs) q (Mark d s ∷ r) all is_frame is h = absurd (let h' : octets_of e ((b ∷ bs) ++ rest) ++ q ≡ passing written (Mark d s ∷ r) = ap (λ w. octets_of e (w ++ rest) ++ q) (sym is) ∙ h in cc (h'))
+  frame_head frame written code e f rest (b ∷ bs) q (Shut d ∷ r) all is_frame is h = absurd (let h' : octets_of e ((b ∷ bs) ++ rest) ++ q ≡ passing written (Shut d ∷ r) = ap (λ w. octets_of e (w ++ rest) ++ q) (sym is) ∙ h in cc (h'))
+  frame_head frame written code e f rest (b ∷ bs) q (Says d n ∷ r) all is_frame is h =
+      let theirs : frame (written n) = all.0 in
       let same : f ≡ written n = elim (meet d e (written n) (f ++ rest) (passing written r) q (sym h)) [
         | inl a ↦ code.prefix_free f (written n) rest a.0 is_frame theirs (sym a.1)
         | inr a ↦ code.prefix_free f (written n) (rest ++ a.0 ∷ a.1) [] is_frame theirs (sym (append_assoc f rest (a.0 ∷ a.1)) ∙ (sym a.2 ∙ sym (append-nil (written n))))
@@ -161,31 +161,62 @@ module _ {M : Type 0} where
       let epoch : e ≡ d = cc (h') in
       (n, r, same, cc (epoch))
 
-module _ {M : Type 0} (frame : List ℕ → Type 0) (good : M → Type 0) (written : M → List ℕ) where
-  pub next_frame : NextFrameIsNextMessage M frame good written
-  next_frame code past log e f rest all is_frame front is =
+module _ {M : Type 0} (frame : List ℕ → Type 0) where
+  pub next_frame : NextFrameIsNextMessage M frame
+  next_frame written code past log e f rest all is_frame front is =
       let b = behind written past log (octets_of e (f ++ rest)) front is in
-      let s = frame_head frame good written code e f rest f b.0 front.0 (good_rest good past front.0 (subst (AllGood good) (sym front.1) all)) is_frame refl b.1 in
+      let s = frame_head frame written code e f rest f b.0 front.0 (good_rest (λ m. frame (written m)) past front.0 (subst (AllFrames frame written) (sym front.1) all)) is_frame refl b.1 in
       (s.0, s.2, at_end past log (Says e s.0) s.1 (ap (λ w. past ++ w) (sym s.3) ∙ front.1))
 
 module _ {M : Type 0} where
-  item_head : (frame : List ℕ → Type 0) (good : M → Type 0) (written : M → List ℕ) → IsFraming frame good written → (e : ℕ) (x : Entry M) (held : List ℕ) (q : List (Passing M)) (entries : List (Entry M)) → AllGood good entries
-      → ((f rest : List ℕ) → frame f → held ≢ f ++ rest) → (octets_of e held ++ Control x ∷ q ≡ passing written entries) → (held ≡ []) × (r : List (Entry M)) × (entries ≡ x ∷ r)
-  item_head frame good written code e x [] q [] all whole h = absurd (cc (h))
-  item_head frame good written code e x (b ∷ bs) q [] all whole h = absurd (cc (h))
-  item_head frame good written code e x [] q (Dial d ∷ r) all whole h = (refl, r, cc (h))
-  item_head frame good written code e x (b ∷ bs) q (Dial d ∷ r) all whole h = absurd (cc (h))
-  item_head frame good written code e x [] q (Mark d s ∷ r) all whole h = (refl, r, cc (h))
-  item_head frame good written code e x (b ∷ bs) q (Mark d s ∷ r) all whole h = absurd (cc (h))
-  item_head frame good written code e x [] q (Shut d ∷ r) all whole h = (refl, r, cc (h))
-  item_head frame good written code e x (b ∷ bs) q (Shut d ∷ r) all whole h = absurd (cc (h))
-  item_head frame good written code e x held q (Says d n ∷ r) all whole h = absurd (elim (meet d e (written n) held (passing written r) (Control x ∷ q) (sym h)) [ inl a ↦ whole (written n) a.0 (code.frames n all.0) (sym a.1) | inr a ↦ cc (a.3) ])
+  held_head : (frame : List ℕ → Type 0) (written : M → List ℕ) → IsFraming frame → (e b : ℕ) (bs : List ℕ) (q : List (Passing M)) (entries : List (Entry M)) → AllFrames frame written entries → octets_of e (b ∷ bs) ++ q ≡ passing written entries
+      → (m : M) × (r : List (Entry M)) × (entries ≡ Says e m ∷ r) × frame (written m) × (IsPrefix (b ∷ bs) (written m) ⊎ IsPrefix (written m) (b ∷ bs))
+  held_head frame written code e b bs q [] all h = absurd (cc (h))
+  held_head frame written code e b bs q (Dial d ∷ r) all h = absurd (cc (h))
+  held_head frame written code e b bs q (Mark d s ∷ r) all h = absurd (cc (h))
+  held_head frame written code e b bs q (Shut d ∷ r) all h = absurd (cc (h))
+  held_head frame written code e b bs q (Says d n ∷ r) all h =
+      let number : e ≡ d = same_number (written n) (passing written r) (code.some (written n) all.0) h in
+      let either : IsPrefix (b ∷ bs) (written n) ⊎ IsPrefix (written n) (b ∷ bs) = elim (meet d e (written n) (b ∷ bs) (passing written r) q (sym h)) [
+        | inl k ↦ inr (k.0, k.1)
+        | inr k ↦ inl (k.0 ∷ k.1, sym k.2)
+      ] in
+      (n, r, ap (λ i. Says i n ∷ r) (sym number), all.0, either)
+    where
+      same_number : (ws : List ℕ) (p : List (Passing M)) → ws ≢ [] → octets_of e (b ∷ bs) ++ q ≡ octets_of d ws ++ p → e ≡ d
+      same_number [] p some h = absurd (some refl)
+      same_number (w ∷ ws) p some h = cc (h)
 
-module _ {M : Type 0} (frame : List ℕ → Type 0) (good : M → Type 0) (written : M → List ℕ) where
-  pub next_item : NextControlIsNextEntry M frame good written
-  next_item code past log e x held all front is whole =
+  held_at : (frame : List ℕ → Type 0) (written : M → List ℕ) → IsFraming frame → (e : ℕ) (held : List ℕ) (past log : List (Entry M)) (front : IsPrefix past log) → AllFrames frame written log → held ≢ [] → (q : List (Passing M)) → octets_of e held ++ q ≡ passing written front.0
+      → (m : M) × (slice_get log (length past) ≡ Some (Says e m)) × frame (written m) × (IsPrefix held (written m) ⊎ IsPrefix (written m) held)
+  held_at frame written code e [] past log front all some q h = absurd (some refl)
+  held_at frame written code e (b ∷ bs) past log front all some q h =
+      let k = held_head frame written code e b bs q front.0 (good_rest (λ m. frame (written m)) past front.0 (subst (AllFrames frame written) (sym front.1) all)) h in
+      (k.0, at_end past log (Says e k.0) k.1 (ap (λ w. past ++ w) (sym k.2) ∙ front.1), k.3, k.4)
+
+module _ {M : Type 0} (frame : List ℕ → Type 0) where
+  pub held_begins : HeldBeginsNextMessage M frame
+  held_begins written code past log e held all front some is =
+      let b = behind written past log (octets_of e held) front is in held_at frame written code e held past log front all some b.0 b.1
+
+module _ {M : Type 0} where
+  item_head : (frame : List ℕ → Type 0) (written : M → List ℕ) → IsFraming frame → (e : ℕ) (x : Entry M) (held : List ℕ) (q : List (Passing M)) (entries : List (Entry M)) → AllFrames frame written entries
+      → ((f rest : List ℕ) → frame f → held ≢ f ++ rest) → (octets_of e held ++ Control x ∷ q ≡ passing written entries) → (held ≡ []) × (r : List (Entry M)) × (entries ≡ x ∷ r)
+  item_head frame written code e x [] q [] all whole h = absurd (cc (h))
+  item_head frame written code e x (b ∷ bs) q [] all whole h = absurd (cc (h))
+  item_head frame written code e x [] q (Dial d ∷ r) all whole h = (refl, r, cc (h))
+  item_head frame written code e x (b ∷ bs) q (Dial d ∷ r) all whole h = absurd (cc (h))
+  item_head frame written code e x [] q (Mark d s ∷ r) all whole h = (refl, r, cc (h))
+  item_head frame written code e x (b ∷ bs) q (Mark d s ∷ r) all whole h = absurd (cc (h))
+  item_head frame written code e x [] q (Shut d ∷ r) all whole h = (refl, r, cc (h))
+  item_head frame written code e x (b ∷ bs) q (Shut d ∷ r) all whole h = absurd (cc (h))
+  item_head frame written code e x held q (Says d n ∷ r) all whole h = absurd (elim (meet d e (written n) held (passing written r) (Control x ∷ q) (sym h)) [ inl a ↦ whole (written n) a.0 (all.0) (sym a.1) | inr a ↦ cc (a.3) ])
+
+module _ {M : Type 0} (frame : List ℕ → Type 0) where
+  pub next_item : NextControlIsNextEntry M frame
+  next_item written code past log e x held all front is whole =
       let b = behind written past log (octets_of e held ++ Control x ∷ []) front is in
-      let s = item_head frame good written code e x held b.0 front.0 (good_rest good past front.0 (subst (AllGood good) (sym front.1) all)) whole (sym (append_assoc (octets_of e held) (Control x ∷ []) b.0) ∙ b.1) in
+      let s = item_head frame written code e x held b.0 front.0 (good_rest (λ m. frame (written m)) past front.0 (subst (AllFrames frame written) (sym front.1) all)) whole (sym (append_assoc (octets_of e held) (Control x ∷ []) b.0) ∙ b.1) in
       (s.0, at_end past log x s.1 (ap (λ w. past ++ w) (sym s.2) ∙ front.1))
 
 -- octets at the head of a list do not reach past an entry that is no message
@@ -198,9 +229,9 @@ module _ {M : Type 0} where
       let rest = octets_stop os q p r x only (cc (h)) in
       let same : ◌≡◌ {A = Passing M} (Octet e b) y = cc (h) in (rest.0, cc (same, rest.1))
 
-module _ {M : Type 0} (frame : List ℕ → Type 0) (good : M → Type 0) (written : M → List ℕ) where
-  pub octets_stay_before_mark : OctetsStayBeforeMark M frame good written
-  octets_stay_before_mark taken before later e s octets front only is =
+module _ {M : Type 0} where
+  pub octets_stay_before_mark : OctetsStayBeforeMark M
+  octets_stay_before_mark written taken before later e s octets front only is =
       let whole : IsPrefix taken (before ++ Mark e s ∷ later) = (front.0 ++ Mark e s ∷ later, sym (append_assoc taken front.0 (Mark e s ∷ later)) ∙ ap (λ i. i ++ Mark e s ∷ later) front.1) in
       let b = behind written taken (before ++ Mark e s ∷ later) octets whole is in
       let split : octets ++ b.0 ≡ passing written front.0 ++ Control (Mark e s) ∷ passing written later = b.1 ∙ passing_more written front.0 (Mark e s ∷ later) in
@@ -208,17 +239,18 @@ module _ {M : Type 0} (frame : List ℕ → Type 0) (good : M → Type 0) (writt
       (stop.0, append_assoc (passing written taken) octets stop.0 ∙ (ap (λ i. passing written taken ++ i) stop.1 ∙ (sym (passing_more written taken front.0) ∙ ap (passing written) front.1)))
 
 -- of the ends of a run
-module _ {M : Type 0} (frame : List ℕ → Type 0) (good : M → Type 0) (written : M → List ℕ) where
-  pub no_stale_octet_while_joined : NoStaleOctetWhileJoined M frame good written
-  no_stale_octet_while_joined code moves r u v apart all joined e octet octets held whole is =
+module _ {M : Type 0} (frame : List ℕ → Type 0) where
+  pub no_stale_octet_while_joined : NoStaleOctetWhileJoined M frame
+  no_stale_octet_while_joined written code moves r u v apart all joined e octet octets held whole is =
       let facts = all_facts moves r in
       let front = (facts u v apart).front in
       let sound = (facts v u (λ q. apart (sym q))).sound in
-      no_stale_octet frame good written code (ends_after opening moves u v).taken (ends_after opening moves v u).appended (greatest_dial (ends_after opening moves u v).appended) e octet octets held all front sound
+      no_stale_octet frame written code (ends_after opening moves u v).taken (ends_after opening moves v u).appended (greatest_dial (ends_after opening moves u v).appended) e octet octets held all front sound
       (joined_heard moves r u v apart joined) whole is
 
-  pub none_dropped_before_answer : NoneDroppedBeforeAnswer M frame good written
-  none_dropped_before_answer moves r u v apart answer dropped only is =
+module _ {M : Type 0} where
+  pub none_dropped_before_answer : NoneDroppedBeforeAnswer M
+  none_dropped_before_answer written moves r u v apart answer dropped only is =
       let facts = all_facts moves r in
       let a : End M = ends_after opening moves u v in
       let above : greatest_dial a.appended < greatest_dial a.taken = answers_above a answer in

@@ -63,6 +63,7 @@ module _ {M P W : Type 0} (g : Network M P W) where
     pub none : offers_for s q ≡ []
 
   pub record InWindow (n : Router M P W) (q : List (Offer M P W)) (s : ℕ) : Type 0 where
+    pub recorded : n.recorder.copy s ≢ None
     pub part : n.recorder.part s ≡ None
     pub unfinished : n.recorder.unfinished ≡ Some s
     pub none : offers_for s q ≡ []
@@ -71,6 +72,7 @@ module _ {M P W : Type 0} (g : Network M P W) where
     pub offer : Offer M P W
     pub one : offers_for s q ≡ offer ∷ []
     pub unfinished : n.recorder.unfinished ≢ Some s
+    pub recorded : n.recorder.copy s ≢ None
     pub below : s ≤ n.recorder.last
     pub fact : OfferFact u n s offer
 
@@ -80,10 +82,10 @@ module _ {M P W : Type 0} (g : Network M P W) where
   -- an event that leaves the unfinished recording and offers nothing of this number
   stage_same : (u : ℕ) (n n' : Router M P W) (q os : List (Offer M P W)) (s : ℕ) → Keeps n n' s → n'.recorder.unfinished ≡ n.recorder.unfinished → offers_for s os ≡ [] → Stage u n q s → Stage u n' (q ++ os) s
   stage_same u n n' q os s k same none (inl h) = inl (record { copy = k.copy ∙ h.copy; part = k.part ∙ h.part; unfinished = λ e. h.unfinished (sym same ∙ e); none = no_more s q os none ∙ h.none })
-  stage_same u n n' q os s k same none (inr (inl h)) = inr (inl (record { part = k.part ∙ h.part; unfinished = same ∙ h.unfinished; none = no_more s q os none ∙ h.none }))
+  stage_same u n n' q os s k same none (inr (inl h)) = inr (inl (record { recorded = λ e. h.recorded (sym k.copy ∙ e); part = k.part ∙ h.part; unfinished = same ∙ h.unfinished; none = no_more s q os none ∙ h.none }))
   stage_same u n n' q os s k same none (inr (inr h)) =
       let l = k.last in let b = h.below in
-      inr (inr (record { offer = h.offer; one = no_more s q os none ∙ h.one; unfinished = λ e. h.unfinished (sym same ∙ e); below = omega (arith, l, b); fact = fact_keeps u n n' s h.offer k h.fact }))
+      inr (inr (record { offer = h.offer; one = no_more s q os none ∙ h.one; unfinished = λ e. h.unfinished (sym same ∙ e); recorded = λ e. h.recorded (sym k.copy ∙ e); below = omega (arith, l, b); fact = fact_keeps u n n' s h.offer k h.fact }))
 
   -- one that ends the unfinished recording of another number
   stage_other : (u : ℕ) (n n' : Router M P W) (q os : List (Offer M P W)) (s : ℕ) → Keeps n n' s → n.recorder.unfinished ≢ Some s → n'.recorder.unfinished ≢ Some s → offers_for s os ≡ [] → Stage u n q s → Stage u n' (q ++ os) s
@@ -91,14 +93,14 @@ module _ {M P W : Type 0} (g : Network M P W) where
   stage_other u n n' q os s k was now none (inr (inl h)) = absurd (was h.unfinished)
   stage_other u n n' q os s k was now none (inr (inr h)) =
       let l = k.last in let b = h.below in
-      inr (inr (record { offer = h.offer; one = no_more s q os none ∙ h.one; unfinished = now; below = omega (arith, l, b); fact = fact_keeps u n n' s h.offer k h.fact }))
+      inr (inr (record { offer = h.offer; one = no_more s q os none ∙ h.one; unfinished = now; recorded = λ e. h.recorded (sym k.copy ∙ e); below = omega (arith, l, b); fact = fact_keeps u n n' s h.offer k h.fact }))
 
   -- one that ends the unfinished recording of this number, by its one offer
-  stage_offers : (u : ℕ) (n n' : Router M P W) (q os : List (Offer M P W)) (s : ℕ) (o : Offer M P W) → n.recorder.unfinished ≡ Some s → n'.recorder.unfinished ≢ Some s → s ≤ n'.recorder.last → offers_for s os ≡ o ∷ []
+  stage_offers : (u : ℕ) (n n' : Router M P W) (q os : List (Offer M P W)) (s : ℕ) (o : Offer M P W) → n'.recorder.copy s ≡ n.recorder.copy s → n.recorder.unfinished ≡ Some s → n'.recorder.unfinished ≢ Some s → s ≤ n'.recorder.last → offers_for s os ≡ o ∷ []
       → (n.recorder.part s ≡ None → OfferFact u n' s o) → Stage u n q s → Stage u n' (q ++ os) s
-  stage_offers u n n' q os s o was now low one fact (inl h) = absurd (h.unfinished was)
-  stage_offers u n n' q os s o was now low one fact (inr (inl h)) = inr (inr (record { offer = o; one = first_one s q os h.none ∙ one; unfinished = now; below = low; fact = fact h.part }))
-  stage_offers u n n' q os s o was now low one fact (inr (inr h)) = absurd (h.unfinished was)
+  stage_offers u n n' q os s o copy was now low one fact (inl h) = absurd (h.unfinished was)
+  stage_offers u n n' q os s o copy was now low one fact (inr (inl h)) = inr (inr (record { recorded = λ e. h.recorded (sym copy ∙ e); offer = o; one = first_one s q os h.none ∙ one; unfinished = now; below = low; fact = fact h.part }))
+  stage_offers u n n' q os s o copy was now low one fact (inr (inr h)) = absurd (h.unfinished was)
 
   -- a close
   close_keeps : (u : ℕ) (n : Router M P W) (v s : ℕ) → Keeps n (router_after g u n (Acts (Moves v HangsUp))) s
@@ -117,7 +119,7 @@ module _ {M P W : Type 0} (g : Network M P W) where
       by_number true here =
           let same : k ≡ s = grind (arith, nat_tests, here) in
           let was : n.recorder.unfinished ≡ Some s = is ∙ ap (λ (i : ℕ). Some i) same in
-          stage_offers u n (router_after g u n (Acts (Moves v HangsUp))) q (lost_by_close true (Some k) v e) s (Lost k v e Closed) was (after is) (low s was) (lost_here s k v e Closed same) (λ p. p) h
+          stage_offers u n (router_after g u n (Acts (Moves v HangsUp))) q (lost_by_close true (Some k) v e) s (Lost k v e Closed) refl was (after is) (low s was) (lost_here s k v e Closed same) (λ p. p) h
       by_number false here =
           let apart : k ≢ s = grind (arith, nat_tests, here) in
           stage_other u n (router_after g u n (Acts (Moves v HangsUp))) q (lost_by_close true (Some k) v e) s (close_keeps u n v s) (λ x. apart (cc (is, x))) (after is) (lost_elsewhere s k v e Closed apart) h
@@ -127,6 +129,7 @@ module _ {M P W : Type 0} (g : Network M P W) where
     pub last : n'.recorder.last ≡ k
     pub unfinished : n'.recorder.unfinished ≡ cond whole (Some k) None
     pub part : (s : ℕ) → n'.recorder.part s ≡ n.recorder.part s
+    pub here : n'.recorder.copy k ≢ None
     pub copy : (s : ℕ) → (s == k) ≡ false → n'.recorder.copy s ≡ n.recorder.copy s
     pub kept : (s : ℕ) → (s == k) ≡ false → n'.kept_at s ≡ n.kept_at s
     pub originated : (s : ℕ) → (s == k) ≡ false → n'.originated_at s ≡ n.originated_at s
@@ -136,6 +139,7 @@ module _ {M P W : Type 0} (g : Network M P W) where
     last = refl;
     unfinished = refl;
     part = λ s. refl;
+    here = λ e. (let hit : (k == k) ≡ true = grind (arith, nat_tests) in let f = rw hit at e in cc f);
     copy = λ s e. rw e refl;
     kept = λ s e. rw e refl;
     originated = λ s e. rw e refl;
@@ -146,6 +150,7 @@ module _ {M P W : Type 0} (g : Network M P W) where
     last = refl;
     unfinished = refl;
     part = λ s. refl;
+    here = λ e. (let hit : (k == k) ≡ true = grind (arith, nat_tests) in let f = rw hit at e in cc f);
     copy = λ s e. rw e refl;
     kept = λ s e. rw e refl;
     originated = λ s e. rw e refl;
@@ -171,7 +176,7 @@ module _ {M P W : Type 0} (g : Network M P W) where
       → NotRecorded n q k → Stage u n' (q ++ (first ++ then)) k
   record_here u n n' k true q first then now above none h r =
       let nothing : offers_for k (first ++ then) ≡ [] = first_one k first then none ∙ rw h refl in
-      inr (inl (record { part = now.part k ∙ r.part; unfinished = now.unfinished; none = no_more k q (first ++ then) nothing ∙ r.none }))
+      inr (inl (record { recorded = now.here; part = now.part k ∙ r.part; unfinished = now.unfinished; none = no_more k q (first ++ then) nothing ∙ r.none }))
   record_here u n n' k false q first then now above none h r =
       let one : offers_for k (first ++ then) ≡ Lost k h.0 (greatest_dial (n.recorder.ends h.0).appended) NotUp ∷ [] =
       first_one k first then none ∙ rw h.2 (lost_here k k h.0 (greatest_dial (n.recorder.ends h.0).appended) NotUp refl) in
@@ -180,6 +185,7 @@ module _ {M P W : Type 0} (g : Network M P W) where
         offer = Lost k h.0 (greatest_dial (n.recorder.ends h.0).appended) NotUp;
         one = first_one k q (first ++ then) r.none ∙ one;
         unfinished = λ e. cc (now.unfinished, e);
+        recorded = now.here;
         below = omega (arith, l);
         fact = now.part k ∙ r.part;
       }))
@@ -208,7 +214,7 @@ module _ {M P W : Type 0} (g : Network M P W) where
           let one : offers_for s (first ++ then) ≡ Lost j sup.0 (greatest_dial (n.recorder.ends sup.0).appended) Superseded ∷ [] =
           no_more s first then rest ∙ rw sup.2 (lost_here s j sup.0 (greatest_dial (n.recorder.ends sup.0).appended) Superseded same) in
           let l = now.last in let b = low s was in
-          stage_offers u n n' q (first ++ then) s (Lost j sup.0 (greatest_dial (n.recorder.ends sup.0).appended) Superseded) was (λ e. none_now whole k s apart (sym now.unfinished ∙ e)) (omega (arith, l, b, above)) one
+          stage_offers u n n' q (first ++ then) s (Lost j sup.0 (greatest_dial (n.recorder.ends sup.0).appended) Superseded) (now.copy s (let miss : (s == k) ≡ false = grind (arith, nat_tests, apart) in miss)) was (λ e. none_now whole k s apart (sym now.unfinished ∙ e)) (omega (arith, l, b, above)) one
           (λ p. now.part s ∙ p) h
       by_number false here =
           let other : j ≢ s = grind (arith, nat_tests, here) in
@@ -242,7 +248,7 @@ module _ {M P W : Type 0} (g : Network M P W) where
       let now : n'.recorder.part s ≡ Some n.recorder.channel = ap (λ i. cond i (Some n.recorder.channel) (n.recorder.part s)) is in
       let q' : IsPartOf g u n s n.recorder.channel part = subst (λ i. IsPartOf g u n i n.recorder.channel part) same p in
       let fact : OfferFact u n' s (Finished k part) = (n.recorder.channel, now, part_of_keeps u n n' s n.recorder.channel part refl refl refl q') in
-      stage_offers u n n' q (Finished k part ∷ []) s (Finished k part) here (λ e. cc e) (low s here) (part_here s k part same) (λ x. fact) h
+      stage_offers u n n' q (Finished k part ∷ []) s (Finished k part) refl here (λ e. cc e) (low s here) (part_here s k part same) (λ x. fact) h
   finish_stage u n k s part q false is was low p h =
       let apart : k ≢ s = grind (arith, nat_tests, is) in
       let n' : Router M P W = router_after g u n (Acts (Finishes k)) in

@@ -1,10 +1,10 @@
 -- What holds of the offers in every state of a run.
-use Rattle.std.proofs.Common.{◌≡◌, ◌≢◌, ℕ, ◌≤◌, ◌==◌, Bool, true, false, cond, List, [], ◌∷◌, ◌++◌, length, Some, slice_get, refl, ap, sym, ◌∙◌, arith, subst, inl, inr, ◌⊎◌}
+use Rattle.std.proofs.Common.{◌≡◌, ◌≢◌, ℕ, ◌≤◌, ◌==◌, Bool, true, false, cond, List, [], ◌∷◌, ◌++◌, length, Some, None, slice_get, refl, ap, sym, ◌∙◌, arith, subst, inl, inr, ◌⊎◌}
 use mathlib.Core.List.{IsPrefix}
 use Rattle.run_model.specs.Links.{End}
 use Rattle.run_model.specs.Routes.{Network, Router, Routers, Event, NetworkStep, router_after, MayHappen, IsNetworkRun, routers_after}
-use Rattle.run_model.specs.Offers.{Offer, offers_for, Queues, Made, Offering, OfferEvent, Happens, Makes, OfferStep, made_by, MayOffer, offering_after, IsOfferRun, offerings_after, first_offering, network_step, network_steps, final, OffersAside, AtMostOneOffer, RecordedOrOffered}
-use Rattle.run_model.proofs.EntryLists.{prefix_push, prefix_next}
+use Rattle.run_model.specs.Offers.{Offer, offers_for, Queues, Made, Offering, OfferEvent, Happens, Makes, OfferStep, made_by, MayOffer, offering_after, IsOfferRun, offerings_after, first_offering, network_step, network_steps, final, OffersAside, AtMostOneOffer, NoOfferBeforeItsRecording, RecordedOrOffered}
+use Rattle.run_model.proofs.EntryLists.{prefix_none, prefix_push, prefix_next}
 use Rattle.run_model.proofs.MarkerFacts.{prefix_length}
 use Rattle.run_model.proofs.RecordingRuns.{RunFacts, holds_start}
 use Rattle.run_model.proofs.SettledFacts.{recorders_of, facts_step}
@@ -98,6 +98,11 @@ module _ {M P W : Type 0} (g : Network M P W) where
   recorded_case u s n q c is (inr (inl h)) = inl (h.unfinished, h.none)
   recorded_case u s n q c is (inr (inr h)) = inr (h.unfinished, rw h.one refl)
 
+  none_case : (u s : ℕ) (n : Router M P W) (q : List (Offer M P W)) → n.recorder.copy s ≡ None → Stage g u n q s → offers_for s q ≡ []
+  none_case u s n q is (inl h) = h.none
+  none_case u s n q is (inr (inl h)) = h.none
+  none_case u s n q is (inr (inr h)) = absurd (h.recorded is)
+
 module _ {M P W : Type 0} where
   pub offers_aside : OffersAside M P W
   offers_aside g ts r = aside_from g ts (first_offering g) r
@@ -111,3 +116,10 @@ module _ {M P W : Type 0} where
 
   pub recorded_or_offered : RecordedOrOffered M P W
   recorded_or_offered g ts r u s c is = recorded_case g u s ((final g ts).routers u) ((final g ts).queued u) c is ((final_facts g ts r).stages u s)
+
+  pub no_offer_before_its_recording : NoOfferBeforeItsRecording M P W
+  no_offer_before_its_recording g ts r u s is =
+      let h = final_facts g ts r in
+      let none = none_case g u s ((final g ts).routers u) ((final g ts).queued u) is (h.stages u s) in
+      let front = offers_front g s (made_by u (final g ts).made) ((final g ts).queued u) (h.made u) in
+      (none, prefix_none (offers_for s (made_by u (final g ts).made)) (offers_for s ((final g ts).queued u)) front none)

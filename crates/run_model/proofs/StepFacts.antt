@@ -1,18 +1,16 @@
 -- Facts of a run's state, for one router's next event.
-use Rattle.std.proofs.Common.{◌≡◌, ◌≢◌, ℕ, suc, ◌==◌, ◌<◌, ◌≤◌, max, nat_lt, Bool, ◌&&◌, ◌||◌, not, cond, true, false, List, [], ◌∷◌, ◌++◌, refl, ap, sym, ◌∙◌, subst, Some, inl, inr, arith}
+use Rattle.std.proofs.Common.{◌≡◌, ℕ, suc, ◌==◌, ◌<◌, ◌≤◌, max, nat_lt, Bool, ◌&&◌, ◌||◌, not, cond, true, false, List, [], ◌∷◌, ◌++◌, refl, ap, sym, ◌∙◌, subst, Some, inl, inr, arith}
 use mathlib.Core.List.{IsPrefix}
-use Rattle.run_model.specs.Links.{Entry, Dial, Says, Mark, Shut, End, Move, after, greatest_dial, has_shut, incarnation, heard_number, dialling, next_incarnation, LinkStep, opening, ends_after}
+use Rattle.run_model.specs.Links.{Entry, Dial, Says, Mark, Shut, End, greatest_dial, has_shut, incarnation, heard_number, dialling, next_incarnation, LinkStep, opening, ends_after}
 use Rattle.run_model.proofs.EntryLists.{Sound, sound-front, greatest_dial-append}
-use Rattle.run_model.specs.Sessions.{moves_of}
 use Rattle.run_model.specs.Octets.{passing}
 use Rattle.run_model.specs.Recordings.{Finishes, recorder_after}
 use Rattle.run_model.specs.Routes.{Network, Routers, Event, Acts, NetworkStep, router_after, advanced, routers_after, IsRunOf, reached, first_routers}
 use Rattle.run_model.specs.Places.{IsCutOfLink, RecordsAt, step_of, after_own, end_inside}
 use Rattle.run_model.specs.NetworkLinks.{reached_end, moves_between}
-use Rattle.run_model.specs.Steps.{TakenBeginsAppended, UpByFit, SessionEventsFit, MayInTurn, side_of, CopiesAreACut, CopiesAreTheState, heard_with, heard_in, LinkEndsKeepEnough}
+use Rattle.run_model.specs.Steps.{NetworkEndFactsHold, CopiesAreACut, CopiesAreTheState, heard_with, heard_in, LinkEndsKeepEnough}
 use Rattle.run_model.proofs.LinkFacts.{EndFacts}
 use Rattle.run_model.proofs.IncarnationRuns.{all_facts}
-use Rattle.run_model.proofs.SessionFacts.{MayAll, established_up, up_established, event_fits}
 use Rattle.run_model.proofs.NetworkLinkRuns.{network_runs_are_link_runs}
 use Rattle.run_model.proofs.SettledFacts.{some_same}
 use Rattle.run_model.proofs.PlaceFacts.{records_its_state}
@@ -21,31 +19,13 @@ use Rattle.run_model.proofs.WholeCut.{recordings_make_a_cut}
 use Rattle.run_model.proofs.OctetCut.{taken_octets_are_inside}
 use Rattle.std.proofs.lemmas.Bool.Decides.{nat_tests}
 
-module _ {M : Type 0} where
-  pub up_by_fit : UpByFit M
-  up_by_fit state a fit = (established_up state a fit, up_established state a fit)
-
-  in_turn : (a b : End M) (ms : List (Move M)) → MayAll a b ms → MayInTurn a b ms
-  in_turn a b [] h = tt
-  in_turn a b (m ∷ ms) h = (h.0, in_turn (after a m) b ms h.1)
-
 module _ {M P W : Type 0} where
-  facts_of : (g : Network M P W) (ts : List (NetworkStep M P W)) → IsRunOf g ts → (u v : ℕ) → u ≢ v → EndFacts (reached_end g ts u v) (reached_end g ts v u)
+  pub facts_of : NetworkEndFactsHold M P W
   facts_of g ts r u v apart =
       let f = network_runs_are_link_runs g ts r u v apart in
       let moves : List (LinkStep M) = moves_between g (first_routers g) u v ts in
       subst (λ (b : End M). EndFacts (reached_end g ts u v) b) f.2
       (subst (λ (a : End M). EndFacts a (ends_after opening moves v u)) f.1 (all_facts moves f.0 u v apart))
-
-  pub taken_begins_appended : TakenBeginsAppended M P W
-  taken_begins_appended g ts r u v apart = (facts_of g ts r u v apart).front
-
-  pub session_events_fit : SessionEventsFit M P W
-  session_events_fit g ts r u v apart state event fit may =
-      let a : End M = reached_end g ts u v in
-      let b : End M = reached_end g ts v u in
-      let l = event_fits (side_of state a) b event fit (facts_of g ts r u v apart) (facts_of g ts r v u (λ e. apart (sym e))) may in
-      (in_turn a b (moves_of a event) l.0, l.1)
 
   -- a cut of recordings leaves each router where it recorded
   inside_is : (g : Network M P W) (ts : List (NetworkStep M P W)) → IsRunOf g ts → (u s v : ℕ) (c : ℕ → End M) → (reached g ts u).recorder.copy s ≡ Some c

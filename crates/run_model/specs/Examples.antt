@@ -1,7 +1,8 @@
 -- Small runs and assignments that show what the definitions say.
 use Rattle.std.specs.Prelude.{ℕ, length, ◌≡◌, ◌==◌, nat_lt, Bool, true, false, cond, List, [], ◌∷◌, ◌++◌}
 use Rattle.run_model.specs.Links.{Dial, Says, Shut, Joined, Move, Dials, Tells, HangsUp, Takes, LinkStep, IsRun, opening, ends_after, is_up, incarnation}
-use Rattle.run_model.specs.Octets.{IsFraming}
+use Rattle.run_model.specs.Octets.{Octet, Control, IsFraming}
+use Rattle.run_model.specs.Streams.{octets_in}
 use Rattle.run_model.specs.Sessions.{SessionEvent, Starts, Confirms, AcceptsOpen, AcceptsKeepalive, Closes, Passes, Connect, OpenSent, Established, SessionStep, IsSessionRun, first_sides, sides_after}
 use Rattle.run_model.specs.Recordings.{Moves, EndsChannel, IgnoresMarker, Begins, Follows, Finishes}
 use Rattle.run_model.specs.Routes.{Network, Event, Acts, Advertise, Decide, Command, IsSettled, IsNetwork, first_routers}
@@ -51,7 +52,12 @@ by_length message = length message ∷ message
 -- they are a framing
 abbrev pub LengthsAreFrames : Type 0
 LengthsAreFrames =
-    IsFraming {M = List ℕ} (λ octets. (message : List ℕ) × (octets ≡ by_length message)) (λ message. Unit {0}) by_length
+    IsFraming (λ octets. (message : List ℕ) × (octets ≡ by_length message))
+
+-- the octets of incarnation 1, up to its end, where octets of another stand between them and others behind it
+abbrev pub StreamEndsAtShut : Type 0
+StreamEndsAtShut =
+    octets_in {M = ℕ} 1 (Octet 1 5 ∷ Octet 2 7 ∷ Octet 1 6 ∷ Control (Shut 1) ∷ Octet 1 9 ∷ []) ≡ 5 ∷ 6 ∷ []
 
 -- ---- two sessions that come up, and one that comes up again
 

@@ -19,4 +19,5 @@ pub mod Exchange
 pub mod ThroughCut
 pub mod Speakers
 pub mod Steps
+pub mod Streams
 pub mod Facts

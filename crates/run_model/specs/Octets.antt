@@ -1,6 +1,7 @@
 -- What passes a direction of a link: the octets of messages, cut anyhow, and the other entries whole.
 use Rattle.std.specs.Prelude.{ℕ, ◌≡◌, ◌≢◌, true, List, [], ◌∷◌, ◌++◌, length, Some, slice_get}
 use mathlib.Core.List.{IsPrefix}
+use mathlib.Core.Logic.{◌⊎◌}
 use Rattle.run_model.specs.Links.{Entry, Dial, Says, Mark, Shut, Joined, LinkStep, IsRun, opening, ends_after, answers, incarnation}
 
 -- an octet of an incarnation, or an entry that is no message
@@ -33,7 +34,7 @@ module _ {M : Type 0} where
   OnlyMessages (Mark e s ∷ rest) = ⊥
   OnlyMessages (Shut e ∷ rest) = ⊥
 
-  -- every message of these entries is good for its receiver
+  -- every message of these entries is good, whatever that is
   abbrev pub AllGood : (M → Type 0) → List (Entry M) → Type 0
   AllGood is_good [] = Unit {0}
   AllGood is_good (Dial e ∷ rest) = AllGood is_good rest
@@ -41,38 +42,66 @@ module _ {M : Type 0} where
   AllGood is_good (Mark e s ∷ rest) = AllGood is_good rest
   AllGood is_good (Shut e ∷ rest) = AllGood is_good rest
 
--- frames tell where they end (RFC 4271 section 4.1: the length stands in the header): none is empty, none begins another;
--- and a good message is written as one
-pub record IsFraming {M : Type 0} (is_frame : List ℕ → Type 0) (is_good : M → Type 0) (written : M → List ℕ) : Type 0 where
+  -- every message of these entries is written as a frame
+  abbrev pub AllFrames : (List ℕ → Type 0) → (M → List ℕ) → List (Entry M) → Type 0
+  AllFrames is_frame written entries = AllGood (λ m. is_frame (written m)) entries
+
+-- frames tell where they end (RFC 4271 section 4.1: the length stands in the header): none is empty, none begins another
+pub record IsFraming (is_frame : List ℕ → Type 0) : Type 0 where
   pub some : (f : List ℕ) → is_frame f → f ≢ []
   pub prefix_free : (f g a b : List ℕ) → is_frame f → is_frame g → f ++ a ≡ g ++ b → f ≡ g
-  pub frames : (m : M) → is_good m → is_frame (written m)
 
-module _ (M : Type 0) (is_frame : List ℕ → Type 0) (is_good : M → Type 0) (written : M → List ℕ) where
+-- of every way in which messages are written
+module _ (M : Type 0) (is_frame : List ℕ → Type 0) where
   -- where a whole frame stands behind what was taken, it is the next message
   abbrev pub NextFrameIsNextMessage : Type 0
   NextFrameIsNextMessage =
-      IsFraming is_frame is_good written → (taken appended : List (Entry M)) (e : ℕ) (f rest : List ℕ)
-      → AllGood is_good appended
+      (written : M → List ℕ) → IsFraming is_frame → (taken appended : List (Entry M)) (e : ℕ) (f rest : List ℕ)
+      → AllFrames is_frame written appended
       → is_frame f → IsPrefix taken appended
       → IsPrefix (passing written taken ++ octets_of e (f ++ rest)) (passing written appended)
       → (m : M) × (f ≡ written m) × (slice_get appended (length taken) ≡ Some (Says e m))
 
+  -- octets that are held begin the next message, or it begins them
+  abbrev pub HeldBeginsNextMessage : Type 0
+  HeldBeginsNextMessage =
+      (written : M → List ℕ) → IsFraming is_frame → (taken appended : List (Entry M)) (e : ℕ) (held : List ℕ)
+      → AllFrames is_frame written appended
+      → IsPrefix taken appended → held ≢ []
+      → IsPrefix (passing written taken ++ octets_of e held) (passing written appended)
+      → (m : M) × (slice_get appended (length taken) ≡ Some (Says e m)) × is_frame (written m)
+      × (IsPrefix held (written m) ⊎ IsPrefix (written m) held)
+
   -- where none stands whole and another entry comes, no octet is held, and the entry is the next one
   abbrev pub NextControlIsNextEntry : Type 0
   NextControlIsNextEntry =
-      IsFraming is_frame is_good written
-      → (taken appended : List (Entry M)) (e : ℕ) (x : Entry M) (held : List ℕ) → AllGood is_good appended
+      (written : M → List ℕ) → IsFraming is_frame
+      → (taken appended : List (Entry M)) (e : ℕ) (x : Entry M) (held : List ℕ) → AllFrames is_frame written appended
       → IsPrefix taken appended
       → IsPrefix (passing written taken ++ (octets_of e held ++ Control x ∷ [])) (passing written appended)
       → ((f rest : List ℕ) → is_frame f → held ≢ f ++ rest) → (held ≡ [])
       × (slice_get appended (length taken) ≡ Some x)
 
+  -- to an end that is joined no octet of another incarnation comes
+  abbrev pub NoStaleOctetWhileJoined : Type 0
+  NoStaleOctetWhileJoined =
+      (written : M → List ℕ) → IsFraming is_frame → (moves : List (LinkStep M)) → IsRun opening moves → (u v : ℕ)
+      → u ≢ v → AllFrames is_frame written (ends_after opening moves v u).appended
+      → (ends_after opening moves u v).phase ≡ Joined
+      → (e octet : ℕ) (octets held : List ℕ) → ((f rest : List ℕ) → is_frame f → held ≢ f ++ rest)
+      → IsPrefix
+      (passing written (ends_after opening moves u v).taken
+      ++ (octets_of (incarnation (ends_after opening moves u v)) held ++ octets_of e (octet ∷ octets)))
+      (passing written (ends_after opening moves v u).appended)
+      → e ≡ incarnation (ends_after opening moves u v)
+
+-- of messages that are written anyhow
+module _ (M : Type 0) where
   -- where octets were dropped and another entry comes, the octets were those of whole messages, and the entry stands behind
   abbrev pub DroppedOctetsAreMessages : Type 0
   DroppedOctetsAreMessages =
-      (taken appended : List (Entry M)) (x : Entry M) (dropped : List (Passing M)) → IsPrefix taken appended
-      → OnlyOctets dropped
+      (written : M → List ℕ) (taken appended : List (Entry M)) (x : Entry M) (dropped : List (Passing M))
+      → IsPrefix taken appended → OnlyOctets dropped
       → IsPrefix (passing written taken ++ (dropped ++ Control x ∷ [])) (passing written appended)
       → (messages : List (Entry M)) × OnlyMessages messages × (passing written messages ≡ dropped)
       × IsPrefix (taken ++ (messages ++ x ∷ [])) appended
@@ -81,27 +110,15 @@ module _ (M : Type 0) (is_frame : List ℕ → Type 0) (is_good : M → Type 0) 
   -- appended inside, octet by octet
   abbrev pub OctetsStayBeforeMark : Type 0
   OctetsStayBeforeMark =
-      (taken before later : List (Entry M)) (e s : ℕ) (octets : List (Passing M)) → IsPrefix taken before
-      → OnlyOctets octets
+      (written : M → List ℕ) (taken before later : List (Entry M)) (e s : ℕ) (octets : List (Passing M))
+      → IsPrefix taken before → OnlyOctets octets
       → IsPrefix (passing written taken ++ octets) (passing written (before ++ Mark e s ∷ later))
       → IsPrefix (passing written taken ++ octets) (passing written before)
-
-  -- to an end that is joined no octet of another incarnation comes
-  abbrev pub NoStaleOctetWhileJoined : Type 0
-  NoStaleOctetWhileJoined =
-      IsFraming is_frame is_good written → (moves : List (LinkStep M)) → IsRun opening moves → (u v : ℕ) → u ≢ v
-      → AllGood is_good (ends_after opening moves v u).appended → (ends_after opening moves u v).phase ≡ Joined
-      → (e octet : ℕ) (octets held : List ℕ) → ((f rest : List ℕ) → is_frame f → held ≢ f ++ rest)
-      → IsPrefix
-      (passing written (ends_after opening moves u v).taken
-      ++ (octets_of (incarnation (ends_after opening moves u v)) held ++ octets_of e (octet ∷ octets)))
-      (passing written (ends_after opening moves v u).appended)
-      → e ≡ incarnation (ends_after opening moves u v)
 
   -- an end that is about to join by its own dial has dropped no octet since the dial that it answers
   abbrev pub NoneDroppedBeforeAnswer : Type 0
   NoneDroppedBeforeAnswer =
-      (moves : List (LinkStep M)) → IsRun opening moves → (u v : ℕ) → u ≢ v
+      (written : M → List ℕ) (moves : List (LinkStep M)) → IsRun opening moves → (u v : ℕ) → u ≢ v
       → answers (ends_after opening moves u v) ≡ true
       → (dropped : List (Passing M)) → OnlyOctets dropped
       → IsPrefix (passing written (ends_after opening moves u v).taken ++ dropped) (passing written (ends_after opening moves v u).appended)

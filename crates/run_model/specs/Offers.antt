@@ -276,6 +276,13 @@ RecordedOrOffered M P W =
     → ((((final g ts).routers u).recorder.unfinished ≡ Some s) × (offers_for s ((final g ts).queued u) ≡ []))
     ⊎ ((((final g ts).routers u).recorder.unfinished ≢ Some s) × (length (offers_for s ((final g ts).queued u)) ≡ 1))
 
+-- and before it recorded a number, a router has queued and made no offer for it
+abbrev pub NoOfferBeforeItsRecording : (M P W : Type 0) → Type 0
+NoOfferBeforeItsRecording M P W =
+    (g : Network M P W) (ts : List (OfferStep M P W)) → IsOfferRunOf g ts → (u s : ℕ)
+    → ((final g ts).routers u).recorder.copy s ≡ None
+    → (offers_for s ((final g ts).queued u) ≡ []) × (offers_for s (made_by u (final g ts).made) ≡ [])
+
 -- a Lost that an event queued stays the router's one offer for that number
 abbrev pub LostIsFinal : (M P W : Type 0) → Type 0
 LostIsFinal M P W =

@@ -1,5 +1,5 @@
 -- Examples: small networks of toy speakers, which append numbers towards a peer and put them later, in order.
-use Rattle.std.specs.Prelude.{◌≡◌, ℕ, ◌+◌, ◌==◌, if◌then◌else◌, Bool, List, [], ◌∷◌, ◌++◌, Some, slice_get, filter, All}
+use Rattle.std.specs.Prelude.{◌≡◌, ℕ, ◌+◌, ◌==◌, if◌then◌else◌, Bool, true, List, [], ◌∷◌, ◌++◌, Some, slice_get, filter, All}
 use Rattle.std.specs.List.Sorted.{IsNonDecreasingBy}
 use Rattle.run_model.specs.Network.{Steps, Journal, Order, NetworkEvent, NetworkState, alone, puts, takes, offers, offers_in, opening, Run}
 use Rattle.run_model.specs.Journals.{events_of, IsJournal}
@@ -96,6 +96,13 @@ CounterStep u old (alone n) new = new ≡ old + n
 CounterStep u old (puts to x) new = (x ≡ old) × (new ≡ old)
 CounterStep u old (takes from x) new = new ≡ old + x
 CounterStep u old (offers n) new = (n ≡ old) × (new ≡ old)
+
+-- the same in a network: they send only to those that they are linked with
+abbrev pub LinkedCounterStep : (ℕ → ℕ → Bool) → Steps ℕ ℕ ℕ ℕ
+LinkedCounterStep linked u old (alone n) new = CounterStep u old (alone n) new
+LinkedCounterStep linked u old (puts to x) new = (linked u to ≡ true) × CounterStep u old (puts to x) new
+LinkedCounterStep linked u old (takes from x) new = CounterStep u old (takes from x) new
+LinkedCounterStep linked u old (offers n) new = CounterStep u old (offers n) new
 
 -- their puts do not commute
 abbrev pub CountersDoNotCommute : Type 0

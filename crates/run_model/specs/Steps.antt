@@ -1,45 +1,21 @@
--- What a state of a run gives to the next event of one router: of its ends, its sessions and its offers.
+-- What a state of a run gives to the next event of one router: of its ends and its recordings.
 use Rattle.std.specs.Prelude.{ℕ, ◌≡◌, ◌≢◌, ◌==◌, nat_lt, Bool, true, false, cond, List, [], ◌∷◌, ◌++◌, Some}
 use mathlib.Core.Logic.{◌⊎◌}
 use mathlib.Core.List.{IsPrefix}
-use Rattle.run_model.specs.Links.{Entry, Dial, Says, Mark, Shut, End, Move, May, after, is_up, has_shut, incarnation, heard_number, dialling, next_incarnation}
-use Rattle.run_model.specs.Sessions.{SessionState, Established, SessionEvent, Side, Fits, MayCome, moves_of, state_after, afters}
+use Rattle.run_model.specs.Links.{Entry, Dial, Says, Mark, Shut, End, has_shut, incarnation, heard_number, dialling, next_incarnation}
+use Rattle.run_model.specs.Facts.{EndFacts}
 use Rattle.run_model.specs.Octets.{Passing, passing, OnlyOctets}
 use Rattle.run_model.specs.Recordings.{Act, Finishes}
 use Rattle.run_model.specs.Routes.{Network, IsNetwork, NetworkStep, records, HasAllParts, IsRunOf, reached}
 use Rattle.run_model.specs.Places.{IsCutOfLink, step_of}
 use Rattle.run_model.specs.NetworkLinks.{reached_end}
 
--- in every run of the network, what an end took is a beginning of what its peer appended
-abbrev pub TakenBeginsAppended : (M P W : Type 0) → Type 0
-TakenBeginsAppended M P W =
+-- in every run of the network the facts of link ends hold of both ends of each link: among them that what an end took is a
+-- beginning of what its peer appended
+abbrev pub NetworkEndFactsHold : (M P W : Type 0) → Type 0
+NetworkEndFactsHold M P W =
     (g : Network M P W) (ts : List (NetworkStep M P W)) → IsRunOf g ts → (u v : ℕ) → u ≢ v
-    → IsPrefix (reached_end g ts u v).taken (reached_end g ts v u).appended
-
--- an end that is as its session's state says is up exactly where the session is Established
-abbrev pub UpByFit : Type 0 → Type 0
-UpByFit M =
-    (state : SessionState) (a : End M) → Fits state a
-    → (state ≡ Established → is_up a ≡ true) × (is_up a ≡ true → state ≡ Established)
-
-module _ {M : Type 0} where
-  -- moves that may be made one after another, while the peer's end b stands still
-  abbrev pub MayInTurn : End M → End M → List (Move M) → Type 0
-  MayInTurn a b [] = Unit {0}
-  MayInTurn a b (m ∷ ms) = May a b m × MayInTurn (after a m) b ms
-
-  abbrev pub side_of : SessionState → End M → Side M
-  side_of state a = record { state = state; end = a }
-
--- in every run of the network, an event that may come to a session is moves that may be made, and leaves the end as the
--- session's new state says
-abbrev pub SessionEventsFit : (M P W : Type 0) → Type 0
-SessionEventsFit M P W =
-    (g : Network M P W) (ts : List (NetworkStep M P W)) → IsRunOf g ts → (u v : ℕ) → u ≢ v
-    → (state : SessionState) (event : SessionEvent M) → Fits state (reached_end g ts u v)
-    → MayCome (side_of state (reached_end g ts u v)) (reached_end g ts v u) event
-    → MayInTurn (reached_end g ts u v) (reached_end g ts v u) (moves_of (reached_end g ts u v) event)
-    × Fits (state_after (side_of state (reached_end g ts u v)) event) (afters (reached_end g ts u v) (moves_of (reached_end g ts u v) event))
+    → EndFacts (reached_end g ts u v) (reached_end g ts v u)
 
 -- of a snapshot that every router finished, the copies of the ends are what a consistent cut leaves of each link; and octets
 -- that were taken by then, handled or not, had been appended by then

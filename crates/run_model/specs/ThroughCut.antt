@@ -1,5 +1,6 @@
 -- A run reordered so that it passes through a consistent cut (Chandy and Lamport 1985, theorem 1).
-use Rattle.std.specs.Prelude.{◌≡◌, ℕ, ◌||◌, not, ltb, Bool, false, if◌then◌else◌, List, [], ◌∷◌, ◌++◌, length, take, drop, filter, All, ◌⊎◌}
+use Rattle.std.specs.Prelude.{◌≡◌, ℕ, ◌+◌, ◌==◌, ◌||◌, not, ltb, Bool, false, if◌then◌else◌, List, [], ◌∷◌, ◌++◌, length, take, drop, filter, All, ◌⊎◌}
+use Rattle.std.specs.List.{sum_by}
 use Rattle.run_model.specs.Network.{Order, Journal, Steps, Event, NetworkState, alone, puts, takes, offers, puts_in, takes_in, offers_in, opening, Run}
 use Rattle.run_model.specs.Journals.{puts_towards, takes_from, offers_made, events_of, IsJournal}
 use Rattle.run_model.specs.CausalOrder.{IsCausal, closing}
@@ -128,3 +129,15 @@ OffersStand Own Item Offer =
     (cut : ℕ → ℕ) (order : Order Own Item Offer) (kind : Offer → Bool)
     → ((u : ℕ) → filter kind (offers_made (inside cut order u)) ≡ [])
     → filter kind (offers_in (first_part cut order ++ second_part cut order)) ≡ filter kind (offers_in order)
+
+-- each event's router stands among these once
+abbrev pub StandOnce : {Own Item Offer : Type 0} → List ℕ → Order Own Item Offer → Type 0
+StandOnce routers order = All (λ d. length (filter (λ u. u == d.router) routers) ≡ 1) order
+
+-- the first part is as long as all that is inside, and the early puts; the two are as long as the order
+abbrev pub PartsAreAsLong : (Own Item Offer : Type 0) → Type 0
+PartsAreAsLong Own Item Offer =
+    (cut : ℕ → ℕ) (order : Order Own Item Offer) (routers : List ℕ) → StandOnce routers order
+    → (length (first_part cut order)
+    ≡ sum_by (λ u. length (inside cut order u)) routers + sum_by (λ u. length (early cut order u)) routers)
+    × (length (first_part cut order) + length (second_part cut order) ≡ length order)

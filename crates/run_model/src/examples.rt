@@ -1,6 +1,6 @@
 //! Small runs and assignments that show what the definitions say, each with its proof, so that none of them is empty or
 //! holds of everything.
-ghost use Rattle.run_model.specs.Examples.{DialAtOnceJoins, LengthsAreFrames, SessionsComeUp, SettledRun, MovingRun, ResetRun};
+ghost use Rattle.run_model.specs.Examples.{DialAtOnceJoins, LengthsAreFrames, StreamEndsAtShut, SessionsComeUp, SettledRun, MovingRun, ResetRun};
 ghost use Rattle.run_model.specs.RankedExamples.{DisagreeHasTwo, RingHasNone};
 
 /// Two ends that dial at once offer the same number, and each joins by the other's dial.
@@ -11,6 +11,11 @@ pub fn dial_at_once()
 /// Messages that are written behind their length are a framing: no frame is empty or begins another.
 pub fn lengths_are_frames()
     ensures { LengthsAreFrames }
+{}
+
+/// The octets of an incarnation are those before its end, and of that incarnation alone.
+pub fn stream_ends_at_shut()
+    ensures { StreamEndsAtShut }
 {}
 
 /// Two sessions that come up from Idle to Established; and after a close one that answers the next number at once.

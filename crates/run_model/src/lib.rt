@@ -27,11 +27,15 @@ pub mod recordings;
 pub mod routes;
 pub mod sessions;
 pub mod steps;
+pub mod streams;
 #[cfg(test)]
 mod tests;
 pub mod wrong_twins;
 
-pub use links::{end_facts_hold, first_in_first_out, joined_heard_its_own, link_runs_go_on};
+pub use links::{
+    end_facts_hold, entries_add_up, first_in_first_out, joined_heard_its_own, link_runs_go_on,
+    moves_keep_end_facts,
+};
 pub use network_links::network_runs_are_link_runs;
 pub use octets::{Framing, octets_are_entries, passing_appends};
 pub use offers::{
@@ -41,8 +45,8 @@ pub use offers::{
 pub use orders::{
     JournalLines, Routers, WholeLines, causal_orders_are_runs, causal_orders_end_alike,
     gathered_events_are_stamped, gathered_is_one, gathered_stamps_rise, gathering_lifts,
-    journals_can_be_gathered, offers_stand, puts_come_earlier, runs_are_causal_orders,
-    runs_have_their_cuts, runs_pass_through_cuts, sorting_by_stamp_gathers,
+    journals_can_be_gathered, offers_stand, parts_are_as_long, puts_come_earlier,
+    runs_are_causal_orders, runs_have_their_cuts, runs_pass_through_cuts, sorting_by_stamp_gathers,
     sorting_by_stamp_then_router_gathers, stamps_change_no_item, stamps_give_causal_orders,
     stamps_give_the_collectors_order, steps_are_takes_in_order, takes_have_their_puts,
     threads_are_a_run,
@@ -51,5 +55,6 @@ pub use places::{recorded_at_one_event, recordings_make_a_cut};
 pub use quiet::{settled_stays, unfinished_snapshots_hold};
 pub use recordings::consistent_cut;
 pub use routes::{network_runs_go_on, settled_is_stable};
-pub use sessions::sessions_are_link_runs;
+pub use sessions::{session_events_lead_on, sessions_are_link_runs};
 pub use steps::{copies_are_a_cut, link_ends_keep_enough, states_of_runs};
+pub use streams::{no_octet_is_stale, octets_of_an_incarnation};

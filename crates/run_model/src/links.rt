@@ -1,5 +1,5 @@
 //! First in, first out: what one end of a link uses of what the other says.
-ghost use Rattle.run_model.specs.Facts.{EndFactsHold};
+ghost use Rattle.run_model.specs.Facts.{EndFactsHold, MovesKeepFacts, NotDialledIsNotShut, ClosingLeaves, PastStaysPast, EntriesAddUp};
 ghost use Rattle.run_model.specs.Links.{LinkRunsGoOn, UsedBeginsSaid, ActedBeginsSent, NoneUsedAfterClose, JoinedHeardItsOwn};
 
 /// Moves that are a run from where a run of link ends ends make a longer run: so a program's runs are built event by event.
@@ -31,4 +31,23 @@ pub fn joined_heard_its_own<M>()
 /// Premises: as those of `first_in_first_out`.
 pub fn end_facts_hold<M>()
     ensures { EndFactsHold M }
+{}
+
+/// The same move by move, for a state that is reached in some other way: a move that may be made keeps these facts of both
+/// ends (`keeps`); by them a number that was not dialled is not shut (`not_shut`). An end that hangs up is past its
+/// incarnation (`closes`), and stays past it, using no more of it (`stays_past`).
+///
+/// Premises: the facts hold of both ends, and the move is one that `May` allows; none of facts for `closes` and
+/// `stays_past`.
+pub fn moves_keep_end_facts<M>()
+    ensures keeps { MovesKeepFacts M }
+    ensures not_shut { NotDialledIsNotShut M }
+    ensures closes { ClosingLeaves M }
+    ensures stays_past { PastStaysPast M }
+{}
+
+/// Of entries behind others, what was dialled, said and shut, and what passes for them, is that of the ones and then of the
+/// others. No premise.
+pub fn entries_add_up<M>()
+    ensures { EntriesAddUp M }
 {}

@@ -1,5 +1,5 @@
 //! What routers offer of a snapshot, and how it comes out.
-ghost use Rattle.run_model.specs.Offers.{OfferRunsGoOn, OffersAside, AtMostOneOffer, RecordedOrOffered, LostIsFinal, FirstCloseIsLost, PartsAreRecorded, NotAbandonedHasAllParts, SettledOutcomeIsSettled, MismatchNeverComes, SettledOutcomeIsStable, SettledOutcomeStays, OutcomeIsOne};
+ghost use Rattle.run_model.specs.Offers.{OfferRunsGoOn, OffersAside, AtMostOneOffer, RecordedOrOffered, NoOfferBeforeItsRecording, LostIsFinal, FirstCloseIsLost, PartsAreRecorded, NotAbandonedHasAllParts, SettledOutcomeIsSettled, MismatchNeverComes, SettledOutcomeIsStable, SettledOutcomeStays, OutcomeIsOne};
 
 /// Events that are a run from where a run ends make a longer run (`on`). A run with offers is a run of the network when
 /// they are left aside, so that every law of links, recordings and routes holds of it (`run`).
@@ -11,12 +11,14 @@ pub fn offer_runs_are_network_runs<M, P, W>()
 {}
 
 /// Each router queues at most one offer for each number, and makes at most one (`one`); for a number that it recorded it
-/// either records still, with no offer queued, or has queued one (`recorded`).
+/// either records still, with no offer queued, or has queued one (`recorded`); before it recorded the number it has queued
+/// and made none (`none_before`).
 ///
 /// Premises: each event is one that `MayOffer` allows. It does not say that an offer that is queued is ever made.
 pub fn one_offer_a_number<M, P, W>()
     ensures one { AtMostOneOffer M P W }
     ensures recorded { RecordedOrOffered M P W }
+    ensures none_before { NoOfferBeforeItsRecording M P W }
 {}
 
 /// A Lost that was queued stays the router's one offer for its number (`lost`). The first close of a session in a router's

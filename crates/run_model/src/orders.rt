@@ -4,16 +4,20 @@ ghost use Rattle.run_model.specs.Exchange.{PutsComeEarlier};
 ghost use Rattle.run_model.specs.Gathering.{GatheredEventsAreStamped, GatheredIsOne, GatheredStampsRise, GatheringLifts, JournalsCanBeGathered, SortingByStampGathers, SortingByStampThenRouterGathers};
 ghost use Rattle.run_model.specs.Network.{Event, StepsAreTakesInOrder};
 ghost use Rattle.run_model.specs.Stamps.{StampsChangeNoItem, StampsGiveCausalOrders, StampsGiveTheCollectorsOrder, ThreadsAreARun};
-ghost use Rattle.run_model.specs.ThroughCut.{OffersStand, RunsHaveTheirCuts, RunsPassThroughCuts};
+ghost use Rattle.run_model.specs.ThroughCut.{OffersStand, PartsAreAsLong, RunsHaveTheirCuts, RunsPassThroughCuts};
 ghost use Rattle.std.specs.Prelude.{ℕ};
 
 /// The routers of a network: their states, what they do alone, the items that they pass, the offers that they make, and
 /// how each goes from one state to another by one event.
 ///
-/// The four are types of proofs, so a state may hold functions and histories that no code has. `step` says of a router,
-/// its old state, an event and its new state that the event leads from one to the other. It speaks of that router alone;
-/// which item a take gets is said by the network.
+/// All are of proofs alone, so a state may hold functions and histories that no code has. `step` says of a router, its
+/// old state, an event and its new state that the event leads from one to the other. It speaks of that router alone;
+/// which item a take gets is said by the network. What all steps hang on and no step changes, as the links and the
+/// routes' rules of the network, is their `Setting`, of which each law speaks for every value; where there is none it is
+/// `Unit {0}`.
 pub trait Routers {
+    ghost Setting: { Type 0 };
+
     ghost State: { Type 0 };
 
     ghost Own: { Type 0 };
@@ -22,7 +26,7 @@ pub trait Routers {
 
     ghost Offer: { Type 0 };
 
-    ghost step: { ℕ → State → Event Own Item Offer → State → Type 0 };
+    ghost step: { Setting → ℕ → State → Event Own Item Offer → State → Type 0 };
 }
 
 /// The lines of routers' journals, as far as gathering looks at them: each event's stamp, and whose it is.
@@ -53,7 +57,7 @@ pub trait WholeLines {
 /// Premise: in the old state what was taken from each direction is a beginning of what was put in it, as in each state
 /// of a run. It says no more of what a router does than its own relation does.
 pub fn steps_are_takes_in_order<Net: Routers>()
-    ensures { StepsAreTakesInOrder Net.step }
+    ensures { (setting : Net.Setting) → StepsAreTakesInOrder (Net.step setting) }
 {}
 
 /// Every causal order of journals is a run of the network from its opening, and ends in the journals' last states,
@@ -63,7 +67,7 @@ pub fn steps_are_takes_in_order<Net: Routers>()
 /// router's journal, and nothing else; it is causal; its offers stand in the collector's order. It does not say that
 /// journals have a causal order, nor that they have only one.
 pub fn causal_orders_are_runs<Net: Routers>()
-    ensures { CausalOrdersAreRuns Net.step }
+    ensures { (setting : Net.Setting) → CausalOrdersAreRuns (Net.step setting) }
 {}
 
 /// Causal orders of the same journals and offers end in one state, which the journals say: in each direction the items
@@ -80,7 +84,7 @@ pub fn causal_orders_end_alike<Net: Routers>()
 /// No premise but the run. With [`causal_orders_are_runs`] it says that runs are the causal orders of journals, and
 /// nothing else.
 pub fn runs_are_causal_orders<Net: Routers>()
-    ensures { RunsAreCausalOrders Net.step }
+    ensures { (setting : Net.Setting) → RunsAreCausalOrders (Net.step setting) }
 {}
 
 /// An order is causal exactly where each take, the k-th of its direction, has the item of the k-th put of that
@@ -181,7 +185,7 @@ pub fn gathered_events_are_stamped<Net: Routers>()
 /// value under a lock is known to nobody else. It does not say that two threads ever ran at once, nor when an item
 /// arrives.
 pub fn threads_are_a_run<Net: Routers>()
-    ensures { ThreadsAreARun Net.step }
+    ensures { (setting : Net.Setting) → ThreadsAreARun (Net.step setting) }
 {}
 
 /// The exchange: a put may change places with the events of its router before it, and the journal leads to the same
@@ -193,7 +197,7 @@ pub fn threads_are_a_run<Net: Routers>()
 /// it and never look at the count, meets the first two. It does not say that a put may pass another one of its
 /// direction.
 pub fn puts_come_earlier<Net: Routers>()
-    ensures { PutsComeEarlier Net.step }
+    ensures { (setting : Net.Setting) → PutsComeEarlier (Net.step setting) }
 {}
 
 /// At each cut a run has its routers' states: each router's first events lead it there, and the others from there to its
@@ -202,7 +206,7 @@ pub fn puts_come_earlier<Net: Routers>()
 /// No premise but the run; the cut is any number of own first events for each router. It does not say that the cut is
 /// consistent.
 pub fn runs_have_their_cuts<Net: Routers>()
-    ensures { RunsHaveTheirCuts Net.step }
+    ensures { (setting : Net.Setting) → RunsHaveTheirCuts (Net.step setting) }
 {}
 
 /// Every run passes through each of its consistent cuts, reordered: first the events inside and the early puts, then
@@ -214,7 +218,7 @@ pub fn runs_have_their_cuts<Net: Routers>()
 /// state is that after its events inside and then its early puts, what was taken is what was taken inside, and what was
 /// put is what was put inside and what was taken of the rest. It does not say which cuts are consistent.
 pub fn runs_pass_through_cuts<Net: Routers>()
-    ensures { RunsPassThroughCuts Net.step }
+    ensures { (setting : Net.Setting) → RunsPassThroughCuts (Net.step setting) }
 {}
 
 /// In the reordered run the offers of a kind that no router made inside stand as they stood.
@@ -223,4 +227,13 @@ pub fn runs_pass_through_cuts<Net: Routers>()
 /// the cut. Offers of other kinds may stand otherwise; each router's own keep their order.
 pub fn offers_stand<Net: Routers>()
     ensures { OffersStand Net.Own Net.Item Net.Offer }
+{}
+
+/// The first part of the reordered run is as long as all events inside, and the early puts; both parts together are as long
+/// as the run.
+///
+/// Premise: the list has each router of the run's events once; others may stand in it. The cut is any number of own first
+/// events for each router.
+pub fn parts_are_as_long<Net: Routers>()
+    ensures { PartsAreAsLong Net.Own Net.Item Net.Offer }
 {}

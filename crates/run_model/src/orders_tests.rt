@@ -1,23 +1,25 @@
 //! Each law at a concrete type, and small networks of which it is known what holds.
 ghost use Rattle.run_model.specs.CausalOrder.{CausalOrdersAreRuns};
 ghost use Rattle.run_model.specs.ThroughCut.{RunsPassThroughCuts};
-ghost use Rattle.std.specs.Prelude.{ℕ};
-ghost use Rattle.run_model.specs.Speakers.{Speaker, SpeakerStep, Word, CounterStep, CountersDoNotCommute, ForetoldIsNoRun, NotAllOffersStand, NotByRouters, NotThroughAnyCut, NotWhateverIsCollected, SpeakersPutsCommute, TiesAreNotTurned, ToldIsARun, ToldThroughTheCut, TwoJournalsGathered};
+ghost use Rattle.std.specs.Prelude.{ℕ, Bool};
+ghost use Rattle.run_model.specs.Speakers.{LinkedCounterStep, Speaker, SpeakerStep, Word, CountersDoNotCommute, ForetoldIsNoRun, NotAllOffersStand, NotByRouters, NotThroughAnyCut, NotWhateverIsCollected, SpeakersPutsCommute, TiesAreNotTurned, ToldIsARun, ToldThroughTheCut, TwoJournalsGathered};
 
 use crate::orders::{
     JournalLines, Routers, WholeLines, causal_orders_are_runs, causal_orders_end_alike,
     gathered_events_are_stamped, gathered_is_one, gathered_stamps_rise, gathering_lifts,
-    journals_can_be_gathered, offers_stand, puts_come_earlier, runs_are_causal_orders,
-    runs_have_their_cuts, runs_pass_through_cuts, sorting_by_stamp_gathers,
+    journals_can_be_gathered, offers_stand, parts_are_as_long, puts_come_earlier,
+    runs_are_causal_orders, runs_have_their_cuts, runs_pass_through_cuts, sorting_by_stamp_gathers,
     sorting_by_stamp_then_router_gathers, stamps_change_no_item, stamps_give_causal_orders,
     stamps_give_the_collectors_order, steps_are_takes_in_order, takes_have_their_puts,
     threads_are_a_run,
 };
 
-/// Routers that add up what they take, and send their totals.
+/// Routers that add up what they take, and send their totals to those that they are linked with.
 struct Counters;
 
 impl Routers for Counters {
+    ghost Setting = { ℕ → ℕ → Bool };
+
     ghost State = { ℕ };
 
     ghost Own = { ℕ };
@@ -26,13 +28,15 @@ impl Routers for Counters {
 
     ghost Offer = { ℕ };
 
-    ghost step = { CounterStep };
+    ghost step = { LinkedCounterStep };
 }
 
 /// Routers that append numbers and put them later.
 struct Speakers;
 
 impl Routers for Speakers {
+    ghost Setting = { Unit {0} };
+
     ghost State = { Speaker };
 
     ghost Own = { Word };
@@ -41,7 +45,7 @@ impl Routers for Speakers {
 
     ghost Offer = { ℕ };
 
-    ghost step = { SpeakerStep };
+    ghost step = { λ setting. SpeakerStep };
 }
 
 /// Lines of journals as pairs of stamp and router.
@@ -83,6 +87,13 @@ fn laws_of_speakers()
 {
     causal_orders_are_runs::<Speakers>();
     runs_pass_through_cuts::<Speakers>();
+}
+
+/// A law at a network that is a variable.
+fn law_of_linked_counters()
+    ensures { (linked : ℕ → ℕ → Bool) → CausalOrdersAreRuns (LinkedCounterStep linked) }
+{
+    causal_orders_are_runs::<Counters>();
 }
 
 /// A small run, and its order is causal.
@@ -129,6 +140,7 @@ fn each_law_at_a_type() {
     runs_have_their_cuts::<Counters>();
     runs_pass_through_cuts::<Counters>();
     offers_stand::<Counters>();
+    parts_are_as_long::<Counters>();
     sorting_by_stamp_gathers::<Pairs>();
     sorting_by_stamp_then_router_gathers::<Pairs>();
     journals_can_be_gathered::<Pairs>();
@@ -142,6 +154,7 @@ fn each_law_at_a_type() {
 fn small_networks() {
     puts_of_speakers_commute();
     laws_of_speakers();
+    law_of_linked_counters();
     told_is_a_run();
     foretold_is_no_run();
     told_through_a_cut();

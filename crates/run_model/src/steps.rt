@@ -1,24 +1,31 @@
 //! What a state of a run gives to the next event of one router.
-ghost use Rattle.run_model.specs.Steps.{TakenBeginsAppended, UpByFit, SessionEventsFit, CopiesAreACut, CopiesAreTheState, LinkEndsKeepEnough};
+ghost use Rattle.run_model.specs.Steps.{NetworkEndFactsHold, CopiesAreACut, CopiesAreTheState, LinkEndsKeepEnough};
 
-/// What an end took is a beginning of what its peer appended (`front`); an event that may come to a session whose end fits
-/// its state is moves that may be made, and leaves the end fitting the new state (`fits`), which is up exactly where the
-/// session is Established (`up`).
+/// In every run of the network the facts of link ends hold of both ends of each link: what an end took is a beginning of
+/// what its peer appended, each message has the number dialled before it, an end joins only what its peer dialled, and it
+/// used what it took of the incarnation that it is joined in. With [`crate::session_events_lead_on`] a session event that
+/// may come at an end that fits its session's state leaves the end fitting the new one.
+///
+/// Premises: each event is one that `MayHappen` allows.
 pub fn states_of_runs<M, P, W>()
-    ensures front { TakenBeginsAppended M P W }
-    ensures up { UpByFit M }
-    ensures fits { SessionEventsFit M P W }
+    ensures { NetworkEndFactsHold M P W }
 {}
 
 /// What stands as recorded of a snapshot that every router finished is a consistent cut with its channels, octets included
 /// (`cut`); and it is the router's state after the whole event that recorded (`state`).
+///
+/// Premises: each event is one that `MayHappen` allows; for `cut` that links lead both ways, that the snapshot has a part
+/// of every router, and for the octets that a router holds none where it took all that had been appended; for `state`
+/// that behind the act that records a number the event of the router at most finishes it.
 pub fn copies_are_a_cut<M, P, W>()
     ensures cut { CopiesAreACut M P W }
     ensures state { CopiesAreTheState M P W }
 {}
 
-/// A link end keeps enough: the greatest number heard, whether it is shut, and the next number to dial are those of all that
-/// it took and appended.
+/// In every run of the network a link end keeps enough by three values: the greatest number heard, whether that is shut,
+/// and the next number to dial, kept entry by entry, are those of all that it took and appended.
+///
+/// Premises: each event is one that `MayHappen` allows.
 pub fn link_ends_keep_enough<M, P, W>()
     ensures { LinkEndsKeepEnough M P W }
 {}

@@ -1,24 +1,21 @@
 //! Each law at a type of messages, prefixes and paths.
-ghost use Rattle.std.specs.Prelude.{◌≡◌, length, ◌∷◌, [], List, ℕ};
+ghost use Rattle.std.specs.Prelude.{◌≡◌, length, List, ℕ};
 
 use super::{
     Framing, close_loses_the_recording, consistent_cut, copies_are_a_cut, end_facts_hold,
-    first_in_first_out, joined_heard_its_own, link_ends_keep_enough, link_runs_go_on,
-    network_runs_are_link_runs, network_runs_go_on, octets_are_entries,
-    offer_runs_are_network_runs, one_offer_a_number, outcome_is_one, outcome_tells,
-    recorded_at_one_event, recordings_make_a_cut, sessions_are_link_runs, settled_is_stable,
+    entries_add_up, first_in_first_out, joined_heard_its_own, link_ends_keep_enough,
+    link_runs_go_on, moves_keep_end_facts, network_runs_are_link_runs, network_runs_go_on,
+    no_octet_is_stale, octets_are_entries, octets_of_an_incarnation, offer_runs_are_network_runs,
+    one_offer_a_number, outcome_is_one, outcome_tells, recorded_at_one_event,
+    recordings_make_a_cut, session_events_lead_on, sessions_are_link_runs, settled_is_stable,
     settled_outcome_is_stable_and_stays, settled_stays, states_of_runs, unfinished_snapshots_hold,
 };
 
-/// Messages of one octet, each a frame.
+/// Frames of one octet.
 struct OneOctet;
 
-impl Framing<u8> for OneOctet {
+impl Framing for OneOctet {
     ghost is_frame = { λ octets. length octets ≡ 1 };
-
-    ghost is_good = { λ message. Unit {0} };
-
-    ghost written = { λ message. message ∷ [] };
 }
 
 #[test]
@@ -27,6 +24,11 @@ fn laws_of_links_at_a_type() {
     first_in_first_out::<u8>();
     joined_heard_its_own::<u8>();
     end_facts_hold::<u8>();
+    moves_keep_end_facts::<u8>();
+    entries_add_up::<u8>();
+    session_events_lead_on::<u8>();
+    octets_of_an_incarnation::<u8>();
+    no_octet_is_stale::<u8, OneOctet>();
     octets_are_entries::<u8, OneOctet>();
     sessions_are_link_runs::<u8>();
 }

@@ -2,4 +2,4 @@ use Rattle.run_model.proofs.Exchanges.{puts_come_earlier}
 use Rattle.run_model.proofs.orders.puts_come_earlier.Goals as goal
 
 pub returns : goal.returns
-returns g c = puts_come_earlier g.Net.Routers.step
+returns g c = λ setting. puts_come_earlier (g.Net.Routers.step setting)
