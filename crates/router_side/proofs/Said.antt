@@ -1,0 +1,57 @@
+-- What is said grows at its end.
+use Rattle.std.proofs.Common.{◌≡◌, ℕ, ◌==◌, Bool, true, false, cond, List, [], ◌∷◌, ◌++◌, append_assoc, refl, ap, sym, ◌∙◌}
+use Rattle.std.specs.Prelude.{Option}
+use Rattle.std.proofs.lemmas.List.{append-nil}
+use Rattle.std.proofs.Math.Path.{fun_ext}
+use Rattle.bgp_codec.specs.declared.update.Update.{Update}
+use Rattle.router_side.specs.declared.told.Told.{Told}
+use Rattle.router_side.specs.SideOf.{history, told_by}
+use Rattle.bgp_codec.specs.declared.message.Message.{Message}
+use Rattle.bgp_codec.specs.Spelling.{written}
+use Rattle.run_model.specs.Links.{Entry}
+use Rattle.run_model.specs.Octets.{Passing, octets_of}
+use Rattle.router_side.specs.declared.say.Say.{Say}
+use Rattle.session_fsm.specs.Table.{SessionView, kept_alive}
+use Rattle.router_model.specs.Sides.{Side, AtHand, NoMessage, HasFault, HasUpdate, Draft, tells_fault, with_update, acted_with}
+use Rattle.router_side.specs.Sayings.{entries_of, all_entries, said_where, told_of, update_of, update_in, acted_where}
+
+pub said_on : (own_open : Message) (told : Option Message) (xs : List Say) (x : Say) → all_entries own_open told (xs ++ x ∷ []) ≡ all_entries own_open told xs ++ entries_of own_open told x
+said_on own_open told [] x = append-nil (entries_of own_open told x)
+said_on own_open told (y ∷ xs) x =
+    ap (λ (w : List (Entry Message)). entries_of own_open told y ++ w) (said_on own_open told xs x)
+    ∙ sym (append_assoc (entries_of own_open told y) (all_entries own_open told xs) (entries_of own_open told x))
+
+-- a fault that is at hand is told of, and nothing else
+pub says_given : (g : AtHand) (a : Draft) → record a { says = a.says ++ said_where a.link.epoch (told_of g) } ≡ tells_fault a g
+says_given NoMessage a = ap (λ (w : List (Entry Message)). record a { says = w }) (append-nil a.says)
+says_given (HasFault fault) a = refl
+says_given (HasUpdate update) a = ap (λ (w : List (Entry Message)). record a { says = w }) (append-nil a.says)
+
+-- ---- the UPDATEs of each incarnation
+
+under : (b c : Bool) (t u : Update) (us : List Update) → cond b (t ∷ cond c (us ++ u ∷ []) us) (cond c (us ++ u ∷ []) us) ≡ cond c (cond b (t ∷ us) us ++ u ∷ []) (cond b (t ∷ us) us)
+under true true t u us = refl
+under true false t u us = refl
+under false true t u us = refl
+under false false t u us = refl
+
+history_at : (ts : List Told) (t : Told) (n : ℕ) → history (ts ++ t ∷ []) n ≡ with_update (history ts) t.epoch t.update n
+history_at [] t n = refl
+history_at (s ∷ ts) t n = rw (history_at ts t n) (under (n == s.epoch) (n == t.epoch) s.update t.update (history ts n))
+
+pub history_on : (ts : List Told) (t : Told) → history (ts ++ t ∷ []) ≡ with_update (history ts) t.epoch t.update
+history_on ts t = fun_ext (history_at ts t)
+
+pub acted_is : (b : Bool) (g : AtHand) (e : ℕ) (h : ℕ → List Update) → acted_where b (update_of g) e h ≡ acted_with b g e h
+acted_is true NoMessage e h = refl
+acted_is true (HasFault fault) e h = refl
+acted_is true (HasUpdate u) e h = refl
+acted_is false NoMessage e h = refl
+acted_is false (HasFault fault) e h = refl
+acted_is false (HasUpdate u) e h = refl
+
+-- an UPDATE that is told
+pub told_is : (s : Side) (m : Message) (session : SessionView) (outbox : List (Passing Message)) (sent : ℕ → List Update) → session ≡ kept_alive s.session
+    → outbox ≡ s.outbox ++ octets_of s.link.epoch (written m) → sent ≡ acted_where true (update_in m) s.link.epoch s.sent
+    → record s { session = session; outbox = outbox; sent = sent } ≡ told_by s m
+told_is s m session outbox sent a b c = rw (a, b, c, append-nil (octets_of {M = Message} s.link.epoch (written m))) refl

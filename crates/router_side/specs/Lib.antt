@@ -1,0 +1,3 @@
+pub mod Sayings
+pub mod Drafts
+pub mod SideOf

@@ -1,0 +1,59 @@
+-- A side of the code as a side of the definitions, and the room that a change of it needs.
+use Rattle.std.specs.Prelude.{ℕ, ◌≤◌, ◌<◌, ◌==◌, true, cond, List, [], ◌∷◌, length, Option}
+use Rattle.std.specs.Vec.{vec_len, vec_capacity}
+use Rattle.bgp_codec.specs.declared.message.Message.{Message}
+use Rattle.bgp_codec.specs.declared.update.Update.{Update}
+use Rattle.bgp_codec.specs.Spelling.{written}
+use Rattle.link_epoch.specs.Ends as links
+use Rattle.session_fsm.specs.Table as sessions
+use Rattle.session_fsm.specs.declared.config.SessionConfig.{SessionConfig}
+use Rattle.run_model.specs.Links.{Says}
+use Rattle.outbox.specs.Items.{next_item, left_behind}
+use Rattle.router_model.specs.Sides.{Side, appended}
+use Rattle.router_side.specs.declared.draft.Sketch.{Sketch}
+use Rattle.router_side.specs.declared.side.SideEnd.{SideEnd}
+use Rattle.router_side.specs.declared.told.Told.{Told}
+use Rattle.router_side.specs.Sayings.{size_where, all_sizes, update_in, acted_where}
+
+-- the UPDATEs of an incarnation
+abbrev pub history : List Told → ℕ → List Update
+history [] n = []
+history (t ∷ ts) n = cond (n == t.epoch) (t.update ∷ history ts n) (history ts n)
+
+abbrev pub side : SideEnd → Side
+side s = record {
+  session = s.session;
+  link = s.link;
+  outbox = s.outbox.passing;
+  held = s.framer.octets;
+  acted = history s.acted.items;
+  sent = history s.sent.items;
+}
+
+-- the opening: Idle, and nothing was dialled, said, taken, acted on or sent
+abbrev pub side_opening : SessionConfig → Side
+side_opening config = record { session = sessions.opening config; link = links.opening; outbox = []; held = []; acted = λ e. []; sent = λ e. [] }
+
+-- a draft can be carried out without memory
+pub record HasRoom (own_open : Message) (told : Option Message) (a : Sketch) (s : SideEnd) : Type 0 where
+  pub octets : all_sizes (length (written own_open)) (size_where told) a.says ≤ s.outbox.room
+  pub places : length a.says ≤ s.outbox.places
+  pub acted : vec_len s.acted < vec_capacity s.acted
+
+-- a side whose next item is put
+abbrev pub put_next : Side → ℕ → Side
+put_next s cut = record s { outbox = left_behind (next_item cut s.outbox) s.outbox }
+
+-- a message is told in the side's incarnation: an UPDATE joins those sent, and the KeepaliveTimer is set again
+abbrev pub told_by : Side → Message → Side
+told_by s m = record (appended s (Says s.link.epoch m)) { session = sessions.kept_alive s.session; sent = acted_where true (update_in m) s.link.epoch s.sent }
+
+-- a message can be told without memory
+pub record HasRoomToTell (m : Message) (s : SideEnd) : Type 0 where
+  pub octets : length (written m) ≤ s.outbox.room
+  pub places : 1 ≤ s.outbox.places
+  pub sent : vec_len s.sent < vec_capacity s.sent
+
+-- a marker can be appended without memory
+abbrev pub HasRoomToMark : SideEnd → Type 0
+HasRoomToMark s = 1 ≤ s.outbox.places

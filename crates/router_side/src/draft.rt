@@ -1,0 +1,197 @@
+//! What an event will make of a side: worked out first, so that nothing has changed where it is
+//! refused.
+
+ghost use Rattle.std.specs.Prelude.{◌≡◌, ◌≤◌, ◌<◌, ◌+◌, ◌*◌, [], length};
+ghost use Rattle.session_fsm.specs.Table.{IsGoodEvent};
+ghost use Rattle.router_model.specs.Sides.{draft_of, does, does_all, dials, hangs_up, meets, joins, obeys, obeys_all, comes, answers, is_connecting, NoMessage};
+ghost use Rattle.router_side.specs.Drafts.{draft, hand, sketch_of};
+
+use crate::at_hand::Given;
+use crate::say::{Say, Says};
+use bgp_codec::Message;
+use link_epoch::{Heard, LinkEnd};
+use session_fsm::{Action, FsmEvent, Session, State};
+
+/// A draft: the session and the link end as they are to be, and what is to be done besides. The
+/// router's OPEN and what is at hand are only named by its contracts, since what is said is kept in
+/// short.
+#[derive(Drop)]
+pub struct Sketch {
+    /// The session as it is to be.
+    pub session: Session,
+    /// The link end as it is to be.
+    pub link: LinkEnd,
+    /// What is appended.
+    pub says: Says,
+    /// Whether the octets held are forgotten.
+    pub drops: bool,
+    /// Whether the UPDATE at hand is acted on.
+    pub acts: bool,
+    /// The incarnation in which Established is left, where it is.
+    pub left: Option<u32>,
+    /// Whether a dial would pass the greatest incarnation: then the draft is not to be carried out.
+    pub overflows: bool,
+}
+
+impl Sketch {
+    /// A draft in which nothing is done.
+    pub fn new(session: Session, link: LinkEnd) -> Sketch
+        ensures { result ≡ sketch_of session link }
+    {
+        Sketch {
+            session,
+            link,
+            says: Says::new(),
+            drops: false,
+            acts: false,
+            left: None,
+            overflows: false,
+        }
+    }
+
+    #[tactic(auto, using(crate::proofs::Said::said_on))]
+    fn dial(&mut self, own_open: &Message, given: &Given)
+        requires { length self.old.says < 40 }
+        ensures after { draft own_open.now (hand given.now) self.new ≡ dials (draft own_open.now (hand given.now) self.old) }
+        ensures grows { length self.new.says ≤ length self.old.says + 1 }
+    {
+        match self.link.dial() {
+            Ok(dialled) => self.says.push(Say::Dial(dialled.epoch)),
+            Err(_) => self.overflows = true,
+        }
+    }
+
+    #[tactic(auto, using(crate::proofs::Said::said_on))]
+    fn hang_up(&mut self, own_open: &Message, given: &Given)
+        requires { length self.old.says < 40 }
+        ensures after { draft own_open.now (hand given.now) self.new ≡ hangs_up (draft own_open.now (hand given.now) self.old) }
+        ensures grows { length self.new.says ≤ length self.old.says + 1 }
+    {
+        if let Some(number) = self.link.hang_up() {
+            self.says.push(Say::Shut(number));
+        }
+        self.drops = true;
+    }
+
+    #[tactic(auto, using(crate::proofs::Said::said_on))]
+    fn does(&mut self, own_open: &Message, given: &Given, action: Action)
+        requires { length self.old.says < 40 }
+        ensures after { draft own_open.now (hand given.now) self.new ≡ does own_open.now (hand given.now) (draft own_open.now (hand given.now) self.old) action }
+        ensures grows { length self.new.says ≤ length self.old.says + 1 }
+    {
+        let epoch = self.link.epoch();
+        match action {
+            Action::Dial => self.dial(own_open, given),
+            Action::SendOpen => self.says.push(Say::Open(epoch)),
+            Action::SendAlive => self.says.push(Say::Alive(epoch)),
+            Action::SendNotice(code) => self.says.push(Say::Notice(epoch, code)),
+            Action::SendGiven => self.says.push(Say::Given(epoch)),
+            Action::HangUp => self.hang_up(own_open, given),
+            Action::Act => self.acts = true,
+            Action::Up => {}
+            Action::Down => self.left = Some(epoch),
+        }
+    }
+
+    fn does_all(&mut self, own_open: &Message, given: &Given, actions: &[Action])
+        requires { length self.old.says + length actions.now ≤ 40 }
+        ensures after { draft own_open.now (hand given.now) self.new ≡ does_all own_open.now (hand given.now) (draft own_open.now (hand given.now) self.old) actions.now }
+        ensures grows { length self.new.says ≤ length self.old.says + length actions.now }
+    {
+        for action in actions {
+            self.does(own_open, given, *action);
+        }
+    }
+
+    #[tactic(auto, unfolding(router_model::specs::Sides::meets))]
+    fn meets(&mut self, own_open: &Message, given: &Given, event: FsmEvent)
+        requires good { IsGoodEvent event }
+        requires room { length self.old.says ≤ 36 }
+        ensures after { draft own_open.now (hand given.now) self.new ≡ meets own_open.now (hand given.now) (draft own_open.now (hand given.now) self.old) event }
+        ensures grows { length self.new.says ≤ length self.old.says + 4 }
+    {
+        let actions = self.session.on(event);
+        self.does_all(own_open, given, actions.as_slice());
+    }
+
+    fn joins(&self, action: Action) -> bool
+        ensures { result ≡ joins (draft_of self.now.session self.now.link) action }
+    {
+        match action {
+            Action::Dial => self.link.is_awaited(),
+            Action::SendOpen
+            | Action::SendAlive
+            | Action::SendNotice(_)
+            | Action::SendGiven
+            | Action::HangUp
+            | Action::Act
+            | Action::Up
+            | Action::Down => false,
+        }
+    }
+
+    #[tactic(auto, unfolding(router_model::specs::Sides::obeys))]
+    fn obeys(&mut self, own_open: &Message, given: &Given, action: Action)
+        requires { length self.old.says ≤ 35 }
+        ensures after { draft own_open.now (hand given.now) self.new ≡ obeys own_open.now (hand given.now) (draft own_open.now (hand given.now) self.old) action }
+        ensures grows { length self.new.says ≤ length self.old.says + 5 }
+    {
+        let joins = self.joins(action);
+        self.does(own_open, given, action);
+        if joins {
+            self.meets(own_open, given, FsmEvent::TcpCrAcked);
+        }
+    }
+
+    fn obeys_all(&mut self, own_open: &Message, given: &Given, actions: &[Action])
+        requires { length self.old.says + 5 * length actions.now ≤ 40 }
+        ensures after { draft own_open.now (hand given.now) self.new ≡ obeys_all own_open.now (hand given.now) (draft own_open.now (hand given.now) self.old) actions.now }
+        ensures grows { length self.new.says ≤ length self.old.says + 5 * length actions.now }
+    {
+        for action in actions {
+            self.obeys(own_open, given, *action);
+        }
+    }
+
+    /// An event comes to the session, and its actions are obeyed in their order.
+    #[tactic(auto, unfolding(router_model::specs::Sides::comes))]
+    pub fn comes(&mut self, own_open: &Message, given: &Given, event: FsmEvent)
+        requires good { IsGoodEvent event }
+        requires room { length self.old.says ≤ 20 }
+        ensures after { draft own_open.now (hand given.now) self.new ≡ comes own_open.now (hand given.now) (draft own_open.now (hand given.now) self.old) event }
+        ensures grows { length self.new.says ≤ length self.old.says + 20 }
+    {
+        let actions = self.session.on(event);
+        self.obeys_all(own_open, given, actions.as_slice());
+    }
+
+    /// What a sign of the peer means to the session.
+    #[tactic(auto, unfolding(router_model::specs::Sides::answers))]
+    pub fn answers(&mut self, own_open: &Message, heard: Heard)
+        requires { self.old.says ≡ [] }
+        ensures after { draft own_open.now NoMessage self.new ≡ answers own_open.now (draft own_open.now NoMessage self.old) heard }
+        ensures few { length self.new.says ≤ 40 }
+    {
+        let nothing = Given::Nothing;
+        match heard {
+            Heard::Quiet => {}
+            Heard::Joined => self.comes(own_open, &nothing, FsmEvent::TcpCrAcked),
+            Heard::Offered(_) => {
+                if is_connecting(self.session.state()) {
+                    self.dial(own_open, &nothing);
+                    self.comes(own_open, &nothing, FsmEvent::TcpConnectionConfirmed);
+                }
+            }
+            Heard::Closed => self.comes(own_open, &nothing, FsmEvent::TcpConnectionFails),
+        }
+    }
+}
+
+fn is_connecting(state: State) -> bool
+    ensures { result ≡ is_connecting state }
+{
+    match state {
+        State::Connect | State::Active => true,
+        State::Idle | State::OpenSent | State::OpenConfirm | State::Established => false,
+    }
+}

@@ -1,0 +1,116 @@
+//! What is said in short is appended to an outbox, a message as its octets.
+
+ghost use Rattle.std.specs.Prelude.{◌≡◌, ◌≤◌, ◌<◌, ◌+◌, ◌*◌, ◌++◌, length};
+ghost use Rattle.bgp_codec.specs.Spelling.{written};
+ghost use Rattle.run_model.specs.Octets.{passing};
+ghost use Rattle.router_model.specs.Sides.{notification};
+ghost use Rattle.router_side.specs.Sayings.{told_of, entries_of, all_entries, size_where, size_of, all_sizes, IsSayable, IsSayableWhere};
+ghost use Rattle.router_side.specs.Drafts.{hand};
+
+use crate::at_hand::Given;
+use crate::say::Say;
+use bgp_codec::laws::written_has_a_header;
+use bgp_codec::{Message, NOBODY, Notice, Octets};
+use outbox::{Control, Outbox};
+use run_model::passing_appends;
+use std::alloc::Global;
+
+// How many octets an entry has.
+fn size_of(say: Say, own_open: usize, told: usize) -> usize
+    ensures { result ≡ size_of own_open told say }
+{
+    match say {
+        Say::Dial(_) | Say::Shut(_) => 0,
+        Say::Open(_) => own_open,
+        Say::Alive(_) => 19,
+        Say::Notice(_, _) => 21,
+        Say::Given(_) => told,
+    }
+}
+
+#[tactic(auto, using(crate::proofs::Sizes::one_size))]
+// How many octets all entries have, where the OPEN and the message that tells of a fault have so many.
+pub(crate) fn size_of_all(says: &[Say], own_open: usize, told: usize) -> usize
+    requires own { own_open ≤ 4096 }
+    requires told { told ≤ 4096 }
+    requires few { length says.now ≤ 40 }
+    ensures { result ≡ all_sizes own_open told says.now }
+{
+    let mut size = 0;
+    for say in says {
+        size += size_of(*say, own_open, told);
+    }
+    size
+}
+
+#[tactic(auto, using(crate::proofs::Sizes::told_len))]
+/// How many octets the message has that tells of what is at hand.
+pub(crate) fn size_told(given: &Given) -> usize
+    requires { IsSayableWhere (told_of (hand given.now)) }
+    ensures { result ≡ size_where (told_of (hand given.now)) }
+{
+    written_has_a_header();
+    match given {
+        Given::Nothing | Given::Update(_) => 0,
+        Given::Fault(notice) => 21 + notice.extra.len(),
+    }
+}
+
+// A NOTIFICATION of this code, without data.
+fn notice(alloc: Global, code: u8) -> Message
+    ensures { result ≡ notification code }
+{
+    Message::NoticeMsg(Notice {
+        code,
+        sub: 0,
+        extra: Octets::short(alloc, &[]),
+    })
+}
+
+#[tactic(auto, using(crate::proofs::Sizes::alive_len, crate::proofs::Sizes::notice_len))]
+fn append(alloc: Global, outbox: &mut Outbox, own_open: &Message, told: &Option<Message>, say: Say)
+    requires own { IsSayable own_open.now }
+    requires told { IsSayableWhere told.now }
+    requires octets { size_of (length (written own_open.now)) (size_where told.now) say ≤ outbox.old.room }
+    requires place { 1 ≤ outbox.old.places }
+    ensures passing { outbox.new.passing ≡ outbox.old.passing ++ passing written (entries_of own_open.now told.now say) }
+    ensures room { outbox.old.room ≤ outbox.new.room + size_of (length (written own_open.now)) (size_where told.now) say }
+    ensures places { outbox.old.places ≤ outbox.new.places + 1 }
+{
+    written_has_a_header();
+    match say {
+        Say::Dial(epoch) => outbox.push_control(Control::Dial(epoch)),
+        Say::Shut(epoch) => outbox.push_control(Control::Shut(epoch)),
+        Say::Open(epoch) => outbox.push_message(epoch, own_open, &NOBODY),
+        Say::Alive(epoch) => outbox.push_message(epoch, &Message::AliveMsg, &NOBODY),
+        Say::Notice(epoch, code) => {
+            let message = notice(alloc, code);
+            outbox.push_message(epoch, &message, &NOBODY);
+        }
+        Say::Given(epoch) => {
+            if let Some(message) = told {
+                outbox.push_message(epoch, message, &NOBODY);
+            }
+        }
+    }
+}
+
+/// Appends all entries in their order, for which there is room. It takes no memory.
+pub(crate) fn append_all(
+    alloc: Global,
+    outbox: &mut Outbox,
+    own_open: &Message,
+    told: &Option<Message>,
+    says: &[Say],
+)
+    requires own { IsSayable own_open.now }
+    requires told { IsSayableWhere told.now }
+    requires octets { all_sizes (length (written own_open.now)) (size_where told.now) says.now ≤ outbox.old.room }
+    requires places { length says.now ≤ outbox.old.places }
+    ensures { outbox.new.passing ≡ outbox.old.passing ++ passing written (all_entries own_open.now told.now says.now) }
+{
+    passing_appends::<Message>();
+    for say in says {
+        append(alloc, outbox, own_open, told, *say);
+    }
+}

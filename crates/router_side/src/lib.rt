@@ -1,0 +1,33 @@
+//! One side of a router: what it keeps towards one peer.
+//!
+//! Its contract: a [`SideEnd`] is a side of `router_model` (`specs/SideOf`). An event is drafted
+//! first ([`Sketch`]: small values by copy), judged, given room, and then carried out by appends
+//! alone, so that a refusal has changed nothing; each draft is the definition's
+//! (`specs/Drafts`), and carrying it out is `carried`. The octets of the peer are taken, read as
+//! messages and faults, and handled as the session's events (RFC 4271 section 8); UPDATEs and
+//! markers are appended behind all that waits.
+//!
+//! What a draft says is kept in short (`specs/Sayings`): a message is encoded once, in the outbox.
+//! Each UPDATE that is acted on or sent is moved into the history of its incarnation, and never
+//! copied.
+//!
+//! Left out: which peers there are, stamps, tables, and what a router records.
+#![tactic(auto)]
+
+mod at_hand;
+mod draft;
+mod enqueue;
+mod reading;
+mod say;
+mod side;
+mod told;
+
+pub use at_hand::Given;
+pub use draft::Sketch;
+pub use reading::{opened, read_front};
+pub use say::{Say, Says};
+pub use side::SideEnd;
+pub use told::Told;
+
+#[cfg(test)]
+mod tests;

@@ -1,0 +1,110 @@
+//! What stands in front of the octets of a peer, and the event that it brings.
+
+ghost use Rattle.std.specs.Prelude.{◌≡◌, true, Ok, Err, IfOk};
+ghost use Rattle.bgp_codec.specs.declared.message.Message.TheVariants.{NoticeMsg};
+ghost use Rattle.bgp_codec.specs.Header.{IsFrame};
+ghost use Rattle.bgp_codec.specs.Faults.{reading};
+ghost use Rattle.bgp_framing.specs.Held.{is_waiting};
+ghost use Rattle.session_fsm.specs.Table.{IsGoodEvent};
+ghost use Rattle.router_model.specs.Sides.{front, event_of, at_hand};
+ghost use Rattle.router_side.specs.Sayings.{told_of, IsSayableWhere};
+ghost use Rattle.router_side.specs.Drafts.{hand};
+
+use crate::at_hand::Given;
+use bgp_codec::laws::{
+    fault_fits_a_message, header_fault_is_short, header_is_its_front, open_has_a_hold_time,
+    spelt_is_writable, written_has_a_header,
+};
+use bgp_codec::{CodecError, Fault, Message, Notice, Rule, decode};
+use bgp_framing::{Framer, Next};
+use session_fsm::FsmEvent;
+use std::alloc::{AllocError, Global};
+
+// What a frame reads as.
+fn read_frame(
+    alloc: Global,
+    frame: &[u8],
+    rule: &Rule,
+) -> Result<Result<Message, Fault>, AllocError>
+    requires { IsFrame frame.now }
+    ensures read { IfOk result (λ read. read ≡ reading rule.now frame.now) }
+    ensures good { IfOk result (λ read. IsGoodEvent (event_of read)) }
+    ensures told { IfOk result (λ read. IsSayableWhere (told_of (at_hand read))) }
+{
+    spelt_is_writable();
+    open_has_a_hold_time();
+    fault_fits_a_message();
+    written_has_a_header();
+    match decode(alloc, frame, rule) {
+        Ok(message) => Ok(Ok(message)),
+        Err(CodecError::Fault(fault)) => Ok(Err(fault)),
+        Err(CodecError::TooLong | CodecError::Memory) => Err(AllocError),
+    }
+}
+
+/// What stands in front of the octets held, as a message or a fault. It is refused only where
+/// memory was.
+pub fn read_front(
+    alloc: Global,
+    framer: &Framer,
+    rule: &Rule,
+) -> Result<Result<Message, Fault>, AllocError>
+    requires { is_waiting framer.now.octets ≡ true }
+    ensures read { IfOk result (λ read. read ≡ front rule.now framer.now.octets) }
+    ensures good { IfOk result (λ read. IsGoodEvent (event_of read)) }
+    ensures told { IfOk result (λ read. IsSayableWhere (told_of (at_hand read))) }
+{
+    header_is_its_front();
+    header_fault_is_short();
+    written_has_a_header();
+    match framer.next() {
+        Next::Whole(_, end) => {
+            let (frame, _) = framer.bytes().split_at(end);
+            read_frame(alloc, frame, rule)
+        }
+        Next::More => unreachable!(),
+        Next::Bad(fault) => Ok(Err(fault)),
+    }
+}
+
+fn fault_event(fault: &Fault) -> FsmEvent
+    ensures { result ≡ event_of (Err fault.now) }
+{
+    match fault.code {
+        1 => FsmEvent::BgpHeaderErr,
+        2 => FsmEvent::BgpOpenMsgErr,
+        _ => FsmEvent::UpdateMsgErr,
+    }
+}
+
+fn notice_event(notice: &Notice) -> FsmEvent
+    ensures { result ≡ event_of (Ok (NoticeMsg notice.now)) }
+{
+    if notice.code == 2 && notice.sub == 1 {
+        FsmEvent::NotifMsgVerErr
+    } else {
+        FsmEvent::NotifMsg
+    }
+}
+
+/// The event that it brings, and what is at hand with it. An UPDATE is moved.
+pub fn opened(read: Result<Message, Fault>) -> (FsmEvent, Given)
+    ensures event { result.0 ≡ event_of read }
+    ensures given { hand result.1 ≡ at_hand read }
+{
+    match read {
+        Ok(Message::OpenMsg(open)) => (FsmEvent::BgpOpen { hold: open.hold }, Given::Nothing),
+        Ok(Message::UpdateMsg(update)) => (FsmEvent::UpdateMsg, Given::Update(update)),
+        Ok(Message::NoticeMsg(notice)) => (notice_event(&notice), Given::Nothing),
+        Ok(Message::AliveMsg) => (FsmEvent::KeepAliveMsg, Given::Nothing),
+        Err(fault) => {
+            let event = fault_event(&fault);
+            let notice = Notice {
+                code: fault.code,
+                sub: fault.sub,
+                extra: fault.extra,
+            };
+            (event, Given::Fault(notice))
+        }
+    }
+}
