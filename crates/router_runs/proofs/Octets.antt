@@ -16,7 +16,7 @@ use Rattle.link_epoch.specs.declared.link_end.Phase.{Phase}
 use Rattle.link_epoch.specs.declared.link_end.Phase.TheVariants as phase
 use Rattle.run_model.specs.Links as links
 use Rattle.run_model.specs.Links.{Entry, Dial, Says, Mark, Shut, End, incarnation, heard_number, answers, greatest_dial}
-use Rattle.run_model.specs.Octets.{Passing, Octet, Control, octets_of, passing, OnlyOctets, AllGood, IsFraming}
+use Rattle.run_model.specs.Octets.{Passing, Octet, Control, octets_of, passing, OnlyOctets, AllGood, AllFrames, IsFraming}
 use Rattle.run_model.proofs.OctetFacts.{octets_more, passing_more, meet, behind, at_end, good_rest, none_stale, no_stale_octet}
 use Rattle.run_model.proofs.IncarnationRuns.{answers_above}
 use Rattle.router_model.specs.Sides.{Side, Draft, AtHand, at_hand, carried, without_front, front, read_front, rest_behind, fed, uses, is_joined}
@@ -27,16 +27,23 @@ use Rattle.router_runs.specs.Kept.{IsGood, Holds}
 
 -- ---- frames
 
-pub framing : (u : ℕ) → IsFraming IsFrame (IsGood u) written
-framing u = record {
+pub framing : IsFraming IsFrame
+framing = record {
   some = λ f is. λ none. (let l = is.has_header in let z : length f ≡ 0 = ap length none in omega (arith, l, z));
   prefix_free = λ f g a b is theirs same.
       let one = front_of front_law (f ++ a) f a is refl in
       let other = front_of front_law (f ++ a) g b theirs same in
       let size : length f ≡ length g = sym one.field ∙ other.field in
       sym (take-append_seam f a) ∙ (ap (λ n. take n (f ++ a)) size ∙ (ap (take (length g)) same ∙ take-append_seam g b));
-  frames = λ m good. good.0;
 }
+
+-- messages that are good are written as frames
+pub are_frames : (u : ℕ) (entries : List (Entry Message)) → AllGood (IsGood u) entries → AllFrames IsFrame written entries
+are_frames u [] all = tt
+are_frames u (Dial e ∷ rest) all = are_frames u rest all
+are_frames u (Says e m ∷ rest) all = (all.0.0, are_frames u rest all.1)
+are_frames u (Mark e n ∷ rest) all = are_frames u rest all
+are_frames u (Shut e ∷ rest) all = are_frames u rest all
 
 pub waiting_frame : (f rest : List ℕ) → IsFrame f → is_waiting (f ++ rest) ≡ true
 waiting_frame f rest is =
@@ -91,7 +98,7 @@ found_head u e b bs q (Dial d ∷ r) all h waits = absurd (cc (h))
 found_head u e b bs q (Mark d s ∷ r) all h waits = absurd (cc (h))
 found_head u e b bs q (Shut d ∷ r) all h waits = absurd (cc (h))
 found_head u e b bs q (Says d n ∷ r) all h waits =
-    let some : written n ≢ [] = (framing u).some (written n) all.0.0 in
+    let some : written n ≢ [] = framing.some (written n) all.0.0 in
     let number : e ≡ d = same_number e d b bs (written n) (passing written r) q some h in
     elim (meet d e (written n) (b ∷ bs) (passing written r) q (sym h)) [
       | inl k ↦ (n, k.0, all.0, sym k.1, (r, ap (λ i. Says i n ∷ r) (sym number)))
@@ -215,7 +222,7 @@ holds_piece u s e octets items a b x own here all waits k is =
         let number : heard_number a ≡ n = own (here j) ∙ sym x.reads.epoch in
         let there : IsPrefix (passing written a.taken ++ (octets_of n s.held ++ octets_of e (o ∷ os))) (passing written b.appended) =
         subst (λ w. IsPrefix w (passing written b.appended)) (ap (λ w. w ++ octets_of e (o ∷ os)) (k.passed ∙ ap (λ w. passing written a.taken ++ w) same) ∙ append_assoc (passing written a.taken) (octets_of n s.held) (octets_of e (o ∷ os))) is in
-        let stale : e ≡ n = no_stale_octet IsFrame (IsGood u) written (framing u) a.taken b.appended n e o os s.held all x.mine.front x.theirs.sound number whole there in
+        let stale : e ≡ n = no_stale_octet IsFrame written framing a.taken b.appended n e o os s.held (are_frames u b.appended all) x.mine.front x.theirs.sound number whole there in
         let hit : (e == n) ≡ true = grind (arith, nat_tests, stale) in
         let used : uses s.link e ≡ true = ap (λ p. is_joined p && (e == n)) j ∙ hit in
         ap (λ w. w ++ octets_of e (o ∷ os)) same ∙ (ap (λ i. octets_of n s.held ++ octets_of i (o ∷ os)) stale ∙ (sym (octets_more n s.held (o ∷ os)) ∙ ap (λ c. octets_of n (cond c (s.held ++ o ∷ os) s.held)) (sym used)))
