@@ -6,3 +6,6 @@ pub mod Idling
 pub mod Quiet
 pub mod AnyItem
 pub mod Commuting
+pub mod Leaving
+pub mod Recording
+pub mod Losing

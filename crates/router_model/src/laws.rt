@@ -1,6 +1,15 @@
 //! What the definitions of one router say together. Each is the contract of a function without work of its own.
 
 ghost use Rattle.router_model.specs.Laws.{StepsAppendWhatTheySay, AnswersAreSteps, IdleWhereNothingMayCome, LinkedRoutersArePeers, SentIsWhatIsSaid, AnyItemIsTaken, WhatWaitsIsHandled, RouterPutsCommute, PutsLeaveWhatIsSaid};
+ghost use Rattle.router_model.specs.Recording.{LeavingLosesTheRecording, RecordingsGoOn};
+
+/// Where the session with a peer leaves Established while a snapshot is recorded, its loss is queued by the least such
+/// peer, in the incarnation that was left, and the recording ends (`loses`). Otherwise numbers rise, what is recorded goes
+/// on or is new, and a part is queued as its recording ends (`goes_on`).
+pub fn leaving_loses_the_recording()
+    ensures loses { LeavingLosesTheRecording }
+    ensures goes_on { RecordingsGoOn }
+{}
 
 /// A link joins two routers of the network, whichever it names first, and each is among the peers of the other.
 pub fn linked_routers_are_peers()
