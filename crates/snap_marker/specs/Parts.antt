@@ -54,6 +54,10 @@ epoch_in = link_has 0 (λ c. c.epoch)
 abbrev pub messages : List Update → List Message
 messages updates = map UpdateMsg updates
 
+abbrev pub is_empty : List Message → Bool
+is_empty [] = true
+is_empty (m ∷ ms) = false
+
 abbrev pub channel_in : List Channel → ℕ → List Message
 channel_in = link_has [] (λ c. messages c.updates.items)
 

@@ -1,9 +1,9 @@
 //! The links of a part, by peer.
 
-ghost use Rattle.std.specs.Prelude.{◌≡◌, ◌≤◌, ◌<◌, [], ◌∷◌, ◌++◌, true, false, cond, Some, None, length, MatchOption, IfOk, OnOk};
+ghost use Rattle.std.specs.Prelude.{◌≡◌, ◌≤◌, ◌<◌, [], ◌∷◌, ◌++◌, true, false, not, cond, Some, None, length, MatchOption, IfOk, OnOk};
 ghost use Rattle.bgp_codec.specs.declared.message.Message.TheVariants.{UpdateMsg};
 ghost use Rattle.std.specs.List.{find, list_any, position};
-ghost use Rattle.snap_marker.specs.Parts.{peers_of, epoch_in, waits_in, channel_in, room_in, is_heard_in, with_link, IsAt, leads, leads_to};
+ghost use Rattle.snap_marker.specs.Parts.{peers_of, epoch_in, waits_in, channel_in, is_empty, messages, room_in, is_heard_in, with_link, IsAt, leads, leads_to};
 
 use crate::part::Channel;
 use bgp_codec::Update;
@@ -89,6 +89,28 @@ pub(crate) fn is_heard(channels: &[Channel], peer: Asn) -> bool
         }
     }
     false
+}
+
+/// Whether the channel of a peer has an UPDATE.
+pub(crate) fn has_updates(channels: &[Channel], peer: Asn) -> bool
+    ensures { result ≡ not (is_empty (channel_in channels.now peer)) }
+{
+    for channel in channels {
+        if peer == channel.peer {
+            return !is_empty(&channel.updates);
+        }
+    }
+    false
+}
+
+// Whether there is no UPDATE.
+fn is_empty(updates: &[Update]) -> bool
+    ensures { result ≡ is_empty (messages updates.now) }
+{
+    match updates {
+        [] => true,
+        [_, ..] => false,
+    }
 }
 
 /// The marker of a peer has come.

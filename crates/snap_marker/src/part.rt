@@ -1,8 +1,9 @@
 //! What is recorded of a snapshot, and what is offered of it.
 
-ghost use Rattle.std.specs.Prelude.{◌≡◌};
-ghost use Rattle.snap_marker.specs.Parts.{router_of, number_of};
+ghost use Rattle.std.specs.Prelude.{◌≡◌, not};
+ghost use Rattle.snap_marker.specs.Parts.{router_of, number_of, part_of, is_empty};
 
+use crate::links::{epoch_in, has_updates};
 use bgp_codec::Update;
 use prefix_lanes::Prefix;
 use ranked_policy::{Asn, Path};
@@ -102,5 +103,21 @@ impl Offer {
             Offer::Part(part) => part.number,
             Offer::Lost(lost) => lost.number,
         }
+    }
+}
+
+impl Part {
+    /// The incarnation of the link to a peer, 0 where the part has no such link.
+    pub fn epoch(&self, peer: Asn) -> u32
+        ensures { result ≡ (part_of self.now).incarnation peer }
+    {
+        epoch_in(&self.channels, peer)
+    }
+
+    /// Whether the channel of a peer has an UPDATE.
+    pub fn is_in_flight(&self, peer: Asn) -> bool
+        ensures { result ≡ not (is_empty ((part_of self.now).channel peer)) }
+    {
+        has_updates(&self.channels, peer)
     }
 }

@@ -1,0 +1,216 @@
+//! What the offers for one snapshot show.
+
+ghost use Rattle.std.specs.Prelude.{◌≡◌, map, true, false, not, ◌==◌, Option, Some, None, MatchOption};
+ghost use Rattle.std.specs.List.{find};
+ghost use Rattle.std.specs.Option.{option_map};
+ghost use Rattle.snap_marker.specs.Parts.{part_of, cause_of};
+ghost use Rattle.run_model.specs.Offers.{Abandoned};
+ghost use Rattle.run_model.specs.Offers as model;
+ghost use Rattle.snap_collector.specs.Verdicts.{any_lost, abandoned_or, all_parts, decides, has_part, pending, in_flight, mismatch, fault_at, first_fault, moving_or_settled, verdict};
+ghost use Rattle.snap_collector.specs.Collecting.{member_of, made_in, why_of, outcome_of, has_offered};
+
+use crate::members::MemberOf;
+use crate::outcome::{Outcome, Why};
+use ranked_policy::Asn;
+use snap_marker::{Lost, Offer};
+
+/// Whether the router has offered.
+pub(crate) fn has_offered(offers: &[Offer], router: Asn) -> bool
+    ensures { result ≡ has_offered (made_in offers.now) router }
+{
+    for offer in offers {
+        if router == offer.router() {
+            return true;
+        }
+    }
+    false
+}
+
+/// The first recording that was lost.
+fn first_lost(offers: &[Offer]) -> Option<&Lost>
+    ensures { MatchOption result
+        ((any_lost (made_in offers.now) ≡ false) × ((other : model.Outcome) → abandoned_or (made_in offers.now) other ≡ other))
+        (λ lost. (any_lost (made_in offers.now) ≡ true) × ((other : model.Outcome) → abandoned_or (made_in offers.now) other ≡ Abandoned lost.now.router lost.now.peer lost.now.epoch (cause_of lost.now.cause))) }
+{
+    for offer in offers {
+        match offer {
+            Offer::Part(_part) => {}
+            Offer::Lost(lost) => return Some(lost),
+        }
+    }
+    None
+}
+
+/// Whether the router has offered a part.
+fn has_part(offers: &[Offer], router: Asn) -> bool
+    ensures { result ≡ has_part (made_in offers.now) router (λ part. true) }
+{
+    for offer in offers {
+        match offer {
+            Offer::Part(part) => {
+                if router == part.router {
+                    return true;
+                }
+            }
+            Offer::Lost(_lost) => {}
+        }
+    }
+    false
+}
+
+/// Whether every router has offered a part.
+fn all_parts(members: &[MemberOf], offers: &[Offer]) -> bool
+    ensures { result ≡ all_parts (map member_of members.now) (made_in offers.now) }
+{
+    for member in members {
+        if !has_part(offers, member.router) {
+            return false;
+        }
+    }
+    true
+}
+
+/// Whether the offers decide their snapshot: one is a loss, or every router has offered a part.
+pub(crate) fn decides(members: &[MemberOf], offers: &[Offer]) -> bool
+    ensures { result ≡ decides (map member_of members.now) (made_in offers.now) }
+{
+    match first_lost(offers) {
+        Some(_lost) => true,
+        None => all_parts(members, offers),
+    }
+}
+
+/// Whether a part of the router is pending.
+fn pending(offers: &[Offer], router: Asn) -> bool
+    ensures { result ≡ pending (made_in offers.now) router }
+{
+    for offer in offers {
+        match offer {
+            Offer::Part(part) => {
+                if router == part.router && part.pending {
+                    return true;
+                }
+            }
+            Offer::Lost(_lost) => {}
+        }
+    }
+    false
+}
+
+/// Whether the channel from a peer has an UPDATE, in a part of the router.
+fn in_flight(offers: &[Offer], router: Asn, peer: Asn) -> bool
+    ensures { result ≡ in_flight (made_in offers.now) router peer }
+{
+    for offer in offers {
+        match offer {
+            Offer::Part(part) => {
+                if router == part.router && part.is_in_flight(peer) {
+                    return true;
+                }
+            }
+            Offer::Lost(_lost) => {}
+        }
+    }
+    false
+}
+
+/// Whether a part of the peer names another incarnation of its link to the router than this.
+fn names_another(offers: &[Offer], peer: Asn, router: Asn, epoch: u32) -> bool
+    ensures { result ≡ has_part (made_in offers.now) peer (λ other. not (epoch == other.incarnation router)) }
+{
+    for offer in offers {
+        match offer {
+            Offer::Part(part) => {
+                if peer == part.router && epoch != part.epoch(router) {
+                    return true;
+                }
+            }
+            Offer::Lost(_lost) => {}
+        }
+    }
+    false
+}
+
+/// Whether parts of the router and of the peer name two incarnations of their link.
+fn mismatch(offers: &[Offer], router: Asn, peer: Asn) -> bool
+    ensures { result ≡ mismatch (made_in offers.now) router peer }
+{
+    for offer in offers {
+        match offer {
+            Offer::Part(part) => {
+                if router == part.router && names_another(offers, peer, router, part.epoch(peer)) {
+                    return true;
+                }
+            }
+            Offer::Lost(_lost) => {}
+        }
+    }
+    false
+}
+
+/// The least peer whose channel to the router has an UPDATE.
+fn first_in_flight(offers: &[Offer], router: Asn, peers: &[Asn]) -> Option<Asn>
+    ensures { result ≡ find (in_flight (made_in offers.now) router) peers.now }
+{
+    peers
+        .iter()
+        .copied()
+        .find(|peer| in_flight(offers, router, *peer))
+}
+
+/// The least peer whose part names another incarnation of the link than the router's.
+fn first_mismatch(offers: &[Offer], router: Asn, peers: &[Asn]) -> Option<Asn>
+    ensures { result ≡ find (mismatch (made_in offers.now) router) peers.now }
+{
+    peers
+        .iter()
+        .copied()
+        .find(|peer| mismatch(offers, router, *peer))
+}
+
+/// The first fault of a router's part.
+fn fault_at(offers: &[Offer], member: &MemberOf) -> Option<Why>
+    ensures { option_map why_of result ≡ fault_at (made_in offers.now) (member_of member.now) }
+{
+    if pending(offers, member.router) {
+        return Some(Why::Pending);
+    }
+    match first_in_flight(offers, member.router, member.peers.as_slice()) {
+        Some(peer) => Some(Why::InFlight(peer)),
+        None => match first_mismatch(offers, member.router, member.peers.as_slice()) {
+            Some(peer) => Some(Why::Mismatch(peer)),
+            None => None,
+        },
+    }
+}
+
+/// The outcome of parts of every router: the first fault of them, or settled.
+fn faults(members: &[MemberOf], offers: &[Offer]) -> Outcome
+    ensures { outcome_of result ≡ moving_or_settled (first_fault (map member_of members.now) (made_in offers.now)) }
+{
+    for member in members {
+        if let Some(why) = fault_at(offers, member) {
+            return Outcome::Moving {
+                router: member.router,
+                why,
+            };
+        }
+    }
+    Outcome::Settled
+}
+
+/// The verdict on the offers for one snapshot.
+pub(crate) fn verdict(members: &[MemberOf], offers: &[Offer]) -> Outcome
+    ensures { outcome_of result ≡ verdict (map member_of members.now) (made_in offers.now) }
+{
+    match first_lost(offers) {
+        Some(lost) => Outcome::Abandoned(*lost),
+        None => {
+            if all_parts(members, offers) {
+                faults(members, offers)
+            } else {
+                Outcome::Waiting
+            }
+        }
+    }
+}
