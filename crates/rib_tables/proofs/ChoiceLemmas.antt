@@ -1,9 +1,8 @@
 -- The first of a router's choices, one peer more at a time.
-use Rattle.std.proofs.Common.{◌≡◌, ◌≢◌, ℕ, false, List, [], ◌∷◌, ◌++◌, length, sym, ap, subst, ◌∙◌, arith, inl, inr, ◌⊎◌}
+use Rattle.std.proofs.Common.{◌≡◌, ◌≢◌, ℕ, false, List, [], length, sym, ap, ◌∙◌, inl, inr, ◌⊎◌}
 use Rattle.std.specs.Prelude.{◌==◌, IsTrue}
 use Rattle.std.specs.Str.{bytes_eq}
 use Rattle.std.proofs.lemmas.Bool.{cases_Bool, both_ways, eq-eqb}
-use Rattle.std.proofs.lemmas.List.Elements.{Contains-append_left, Contains-push, Contains-push_cases}
 use Rattle.std.proofs.lemmas.Slice.Eq.{bytes_eq-Decides}
 use Rattle.prefix_lanes.specs.Bits.{PrefixView}
 use Rattle.ranked_policy.specs.Orders.{IsStrictTotalOrder}
@@ -11,8 +10,7 @@ use Rattle.ranked_policy.specs.Policies.{Table, IsPermitted, IsPreferred}
 use Rattle.rib_tables.specs.declared.word.Word.{Word}
 use Rattle.rib_tables.specs.declared.word.Word.TheVariants.{Sequence, Other}
 use Rattle.rib_tables.specs.Words.{path_in}
-use Rattle.rib_tables.specs.Tables.{Words, word_of}
-use Rattle.rib_tables.specs.Choices.{Hears, IsChoice, IsFirstOrNone}
+use Rattle.rib_tables.specs.Choices.{IsFirstOrNone}
 
 -- two paths are the same or not
 pub same_or_not : (p q : List ℕ) → (p ≡ q) ⊎ (p ≢ q)

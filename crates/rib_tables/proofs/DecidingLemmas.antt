@@ -1,7 +1,7 @@
 -- The best of a row, and the first row that has not its best.
-use Rattle.std.proofs.Common.{◌≡◌, ◌≢◌, ℕ, suc, ◌<◌, ◌≤◌, ◌+◌, Bool, true, false, List, [], ◌∷◌, length, get_or, refl, sym, ap, subst, ◌∙◌, arith, inl, inr, ◌⊎◌, Some, None, Option}
-use Rattle.std.specs.Prelude.{◌↔◌, IsTrue, MatchOption}
-use Rattle.std.specs.List.{slice_get, Contains}
+use Rattle.std.proofs.Common.{◌≡◌, ◌≢◌, ℕ, ◌<◌, ◌≤◌, ◌+◌, true, false, List, [], ◌∷◌, length, get_or, refl, sym, ap, subst, ◌∙◌, arith, inl, inr, Some, None, Option}
+use Rattle.std.specs.Prelude.{◌↔◌, MatchOption}
+use Rattle.std.specs.List.{slice_get}
 use Rattle.std.proofs.lemmas.Bool.{cases_order, both_ways, false≢true}
 use Rattle.std.proofs.lemmas.Option.{slice_get_within, get_or_from_slice_get, slice_get-get_or}
 use Rattle.ranked_policy.specs.declared.network.Router.{Router}
@@ -13,7 +13,7 @@ use Rattle.rib_tables.specs.declared.row.Peer.{Peer}
 use Rattle.rib_tables.specs.declared.row.Row.{Row}
 use Rattle.rib_tables.specs.Places.{has}
 use Rattle.rib_tables.specs.Choices.{IsFirstOrNone, IsBestOf}
-use Rattle.rib_tables.specs.Rows.{RowHears, IsRow, IsRowBest, AreDecided, AreJudged, AllBest, IsFirstUndecided, path_by}
+use Rattle.rib_tables.specs.Rows.{RowHears, IsRow, IsRowBest, AreDecided, AllBest, IsFirstUndecided}
 use Rattle.rib_tables.proofs.RouterLemmas.{one_table, table_stands, best_once}
 use Rattle.rib_tables.proofs.RowChoices.{some_of}
 use Rattle.rib_tables.proofs.ChangeLemmas.{from_map}

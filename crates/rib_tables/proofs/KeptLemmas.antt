@@ -1,14 +1,10 @@
 -- Kept paths by their look-up.
-use Rattle.std.proofs.Common.{◌≡◌, ◌≢◌, ℕ, zero, suc, ◌<◌, ◌≤◌, true, false, [], ◌∷◌, ◌++◌, length, take, set, get_or, refl, sym, subst, ◌∙◌, arith, inl, inr}
-use Rattle.std.specs.List.{All}
-use Rattle.std.proofs.lemmas.Bool.{cases_Bool, cond-true, cond-false, false_from_ne_true}
-use Rattle.std.proofs.lemmas.List.{take_all}
-use Rattle.std.proofs.lemmas.List.Elements.{All-head, All-tail}
+use Rattle.std.proofs.Common.{◌≡◌, true, false, [], ◌∷◌, refl}
+use Rattle.std.proofs.lemmas.Bool.{cond-true, cond-false}
 use Rattle.prefix_lanes.specs.Bits.{PrefixView}
 use Rattle.rib_tables.specs.Tables.{Kept}
 use Rattle.rib_tables.specs.Words.{is_prefix}
-use Rattle.rib_tables.specs.Tables.{Paths, path_of, Keeps}
-use Rattle.rib_tables.proofs.WordLemmas.{is_prefix-true, is_prefix-from}
+use Rattle.rib_tables.specs.Tables.{Paths, path_of}
 
 pub path_of-first : (k : Kept) (ks : Paths) (q : PrefixView) → is_prefix k.prefix q ≡ true → path_of (k ∷ ks) q ≡ k.path
 unfolding path_of

@@ -1,10 +1,10 @@
 -- A change of the row of one prefix: the owner's invariant, and what look-ups see.
-use Rattle.std.proofs.Common.{◌≡◌, ◌≢◌, ℕ, zero, suc, ◌<◌, ◌≤◌, ◌+◌, Bool, true, false, cond, List, [], ◌∷◌, ◌++◌, length, get_or, set, map, refl, sym, ap, subst, ◌∙◌, arith, inl, inr, ◌⊎◌, Some, None, Option, rules}
+use Rattle.std.proofs.Common.{◌≡◌, ◌≢◌, ℕ, ◌<◌, Bool, true, false, List, length, set, map, refl, sym, ap, subst, ◌∙◌, arith, inl, inr, ◌⊎◌, Some, None, Option, rules}
 use Rattle.std.specs.Prelude.{◌↔◌, MatchOption, IsSome}
 use Rattle.std.specs.List.{slice_get, Contains}
 use Rattle.std.proofs.lemmas.Bool.{cases_Bool, cases_order, both_ways, cond-true, cond-false, false≢true, false_from_ne_true}
 use Rattle.std.proofs.lemmas.List.{length-set}
-use Rattle.std.proofs.lemmas.Option.{slice_get_within, get_or_from_slice_get, slice_get-get_or}
+use Rattle.std.proofs.lemmas.Option.{slice_get_within}
 use Rattle.prefix_lanes.specs.Bits.{PrefixView}
 use Rattle.ranked_policy.specs.declared.network.Origin.{Origin}
 use Rattle.ranked_policy.specs.Plans.{Plan, IsNamed, IsOrigin}
@@ -14,10 +14,10 @@ use Rattle.rib_tables.specs.declared.place_set.PlaceSet.{PlaceSet}
 use Rattle.rib_tables.specs.declared.row.Peer.{Peer}
 use Rattle.rib_tables.specs.declared.row.Row.{Row}
 use Rattle.rib_tables.specs.Places.{has}
-use Rattle.rib_tables.specs.Words.{nothing, is_prefix}
-use Rattle.rib_tables.specs.Tables.{Words, Paths, word_of, path_of, Keeps}
-use Rattle.rib_tables.specs.Owners.{RibView, TellsKept, Originating, Withdrawing, KeepsPath, Clears}
-use Rattle.rib_tables.specs.Rows.{IsRow, AreRows, AreDecided, AreWaiting, IsWaiting, IsRowBest, IsRib, Marks, on, telling, keeping, originating, clearing, said_in, established_in, originated_in, kept_in, view_of}
+use Rattle.rib_tables.specs.Words.{is_prefix}
+use Rattle.rib_tables.specs.Tables.{word_of, Keeps}
+use Rattle.rib_tables.specs.Owners.{TellsKept, Originating, Withdrawing, KeepsPath, Clears}
+use Rattle.rib_tables.specs.Rows.{IsRow, AreRows, AreWaiting, IsRowBest, IsRib, Marks, on, telling, keeping, originating, clearing, said_in, established_in, originated_in, kept_in, view_of}
 use Rattle.rib_tables.proofs.WordLemmas.{is_prefix-true, is_prefix-from}
 use Rattle.rib_tables.proofs.RowChoices.{some_of}
 use Rattle.rib_tables.proofs.ChangeLemmas.{from_map, to_map, key_at, row_at, set_at_key, marks_one}
@@ -133,8 +133,11 @@ module _ (net : Plan) (router : ℕ) (peers : List Peer) (keys : List PrefixView
       let same : y.0.prefix ≡ p = sym (ap (λ (s : Row). s.prefix) y.2 ∙ f_prefix y.0) ∙ x.4 in
       elim (prefix_or_not q (originating now) y.0) [
         | inl e ↦ inl (sym same ∙ e, sym (ap (λ (s : Row). s.originated) (y.2 ∙ on_here q (originating now) y.0 e)) ∙ x.3)
-        | inr apart ↦ inr ((λ e. apart (same ∙ e)), subst (Contains (originated_in rows)) same
-            (originated_listed rows x.0 y.0 y.1 (sym (ap (λ (s : Row). s.originated) (y.2 ∙ on_there q (originating now) y.0 apart)) ∙ x.3)))
+        | inr apart ↦ inr (
+          (λ e. apart (same ∙ e)),
+          subst (Contains (originated_in rows)) same
+              (originated_listed rows x.0 y.0 y.1 (sym (ap (λ (s : Row). s.originated) (y.2 ∙ on_there q (originating now) y.0 apart)) ∙ x.3)),
+        )
       ]
 
   still : (p : PrefixView) → p ≢ q → Contains (originated_in rows) p → Contains (originated_in (map f rows)) p

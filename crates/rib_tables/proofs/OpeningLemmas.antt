@@ -1,9 +1,9 @@
 -- A router's tables as it starts.
-use Rattle.std.proofs.Common.{◌≡◌, ◌≢◌, ℕ, zero, suc, ◌<◌, ◌≤◌, ◌+◌, Bool, true, false, cond, List, [], ◌∷◌, ◌++◌, length, get_or, take, map, refl, sym, ap, subst, ◌∙◌, arith, inl, inr, ◌⊎◌, Some}
+use Rattle.std.proofs.Common.{◌≡◌, ℕ, zero, suc, ◌<◌, ◌+◌, true, false, cond, List, [], ◌∷◌, ◌++◌, length, get_or, take, map, refl, sym, ap, subst, ◌∙◌, arith, inl, inr, ◌⊎◌, Some}
 use Rattle.std.specs.Prelude.{◌↔◌}
 use Rattle.std.specs.List.{slice_get, All, AllPairs, Contains, list_any}
-use Rattle.std.proofs.lemmas.Bool.{cases_Bool, cases_order, both_ways, cond-false, false≢true, false_from_ne_true}
-use Rattle.std.proofs.lemmas.List.{length-map, length-append, length-take-le, take_more, map-append, get_or-map, get_or-take}
+use Rattle.std.proofs.lemmas.Bool.{cases_Bool, both_ways, cond-false, false≢true, false_from_ne_true}
+use Rattle.std.proofs.lemmas.List.{length-map, length-take-le, take_more, map-append, get_or-map, get_or-take}
 use Rattle.std.proofs.lemmas.Option.{slice_get_within, get_or_from_slice_get, slice_get-get_or}
 use Rattle.prefix_lanes.specs.Bits.{PrefixView}
 use Rattle.ranked_policy.specs.declared.network.Origin.{Origin}
@@ -15,10 +15,10 @@ use Rattle.rib_tables.specs.declared.row.Peer.{Peer}
 use Rattle.rib_tables.specs.declared.row.Row.{Row}
 use Rattle.rib_tables.specs.Places.{has}
 use Rattle.rib_tables.specs.Words.{nothing, is_prefix}
-use Rattle.rib_tables.specs.Tables.{Words, word_of, path_of, IsSilent}
+use Rattle.rib_tables.specs.Tables.{word_of, IsSilent}
 use Rattle.rib_tables.specs.Choices.{Speaks}
 use Rattle.rib_tables.specs.Owners.{IsNew}
-use Rattle.rib_tables.specs.Rows.{IsRow, AreRows, IsRowBest, IsRib, IsFresh, AreFresh, said_in, established_in, originated_in, view_of}
+use Rattle.rib_tables.specs.Rows.{IsRow, AreRows, IsRowBest, IsRib, IsFresh, AreFresh, said_in, view_of}
 use Rattle.rib_tables.proofs.WordLemmas.{is_prefix-true}
 use Rattle.rib_tables.proofs.RouterLemmas.{one_table}
 use Rattle.rib_tables.proofs.RowChoices.{some_of}

@@ -1,14 +1,13 @@
 -- Sets of places, a bit at a time.
-use Rattle.std.proofs.Common.{◌≡◌, ◌≢◌, ℕ, zero, suc, ◌<◌, ◌≤◌, ◌+◌, ◌-◌, ◌*◌, ◌/◌, ◌%◌, ◌^◌, Bool, true, false, List, [], ◌∷◌, length, get_or, set, refl, sym, ap, subst, ◌∙◌, arith, inl, inr}
+use Rattle.std.proofs.Common.{◌≡◌, ◌≢◌, ℕ, zero, suc, ◌<◌, ◌+◌, ◌-◌, ◌*◌, ◌/◌, ◌%◌, ◌^◌, true, false, List, [], ◌∷◌, length, get_or, set, refl, sym, ap, ◌∙◌, arith, inl, inr}
 use Rattle.std.specs.Prelude.{◌==◌}
-use Rattle.std.specs.Int.{bit_at, w64, bit_not, trailing_zeros}
+use Rattle.std.specs.Int.{bit_at, w64, trailing_zeros}
 use Rattle.std.specs.Int.RustNames.{bit_or}
 use lib.Bits.{bit_and}
-use Rattle.std.proofs.lemmas.Bool.{cases_Bool, cases_order, eq-eqb, eqb-true, ne_eqb}
-use Rattle.std.proofs.lemmas.List.{get_or-set_same, get_or-set_other}
+use Rattle.std.proofs.lemmas.Bool.{cases_order, eq-eqb, ne_eqb}
+use Rattle.std.proofs.lemmas.List.{get_or-set_other}
 use Rattle.std.proofs.lemmas.Grind.{get_or-set_at}
-use Rattle.std.proofs.lemmas.Nat.Bits.{bit_at-zero, bit_at_set_same, bit_at_set_other, bit_at_clear_same, bit_at_clear_other, bit_at-trailing_zeros, bit_at-lt, shr_and_one}
-use Rattle.rib_tables.specs.declared.place_set.PlaceSet.{PlaceSet}
+use Rattle.std.proofs.lemmas.Nat.Bits.{bit_at-zero, bit_at_set_same, bit_at_set_other, bit_at_clear_same, bit_at_clear_other, bit_at-trailing_zeros, shr_and_one}
 use Rattle.rib_tables.specs.Places.{has}
 
 pub has-is : (ws : List ℕ) (p : ℕ) → has (record { words = ws }) p ≡ (bit_at (get_or ws (p / 64) 0) (p % 64) == 1)

@@ -1,29 +1,29 @@
 -- The owner's invariant, and what its calls do, by rows.
-use Rattle.std.proofs.Common.{◌≡◌, ◌≢◌, ℕ, zero, suc, ◌<◌, ◌≤◌, ◌+◌, Bool, true, false, ◌||◌, cond, List, [], ◌∷◌, ◌++◌, length, get_or, set, map, refl, sym, ap, subst, ◌∙◌, arith, inl, inr, ◌⊎◌, Some}
+use Rattle.std.proofs.Common.{◌≡◌, ◌≢◌, ℕ, zero, suc, ◌<◌, Bool, true, false, ◌||◌, cond, List, [], ◌∷◌, ◌++◌, length, get_or, set, map, refl, sym, ap, subst, ◌∙◌, arith, inl, inr, ◌⊎◌, Some}
 use Rattle.std.specs.Prelude.{◌↔◌, Option, None, MatchOption, IsSome}
 use Rattle.std.proofs.Common.{rules}
-use Rattle.std.specs.List.{slice_get, AllPairs, Contains}
-use Rattle.std.proofs.lemmas.Bool.{cases_Bool, cases_order, both_ways, cond-true, cond-false, false_from_ne_true}
+use Rattle.std.specs.List.{slice_get, AllPairs}
+use Rattle.std.proofs.lemmas.Bool.{cases_Bool, cases_order, both_ways, cond-true, cond-false}
 use Rattle.std.proofs.lemmas.List.{length-map, length-set, get_or-map, get_or-set_same}
 use Rattle.std.proofs.lemmas.Option.{slice_get_within, get_or_from_slice_get, slice_get-get_or}
 use Rattle.prefix_lanes.specs.Bits.{PrefixView}
 use Rattle.bgp_codec.specs.declared.update.Update.{Update}
 use Rattle.ranked_policy.specs.declared.network.Origin.{Origin}
-use Rattle.ranked_policy.specs.Plans.{Plan, IsNetwork, IsNamed, IsBefore, Linked}
+use Rattle.ranked_policy.specs.Plans.{Plan, IsNamed, IsBefore}
 use Rattle.rib_tables.specs.declared.word.Word.{Word}
 use Rattle.rib_tables.specs.declared.word.Word.TheVariants.{Sequence}
 use Rattle.rib_tables.specs.declared.place_set.PlaceSet.{PlaceSet}
 use Rattle.rib_tables.specs.declared.row.Peer.{Peer}
 use Rattle.rib_tables.specs.declared.row.Row.{Row}
 use Rattle.rib_tables.specs.Places.{has}
-use Rattle.rib_tables.specs.Words.{nothing, announced_word, Announces, Withdraws, Mentions, Says, is_prefix, lists, mentions}
+use Rattle.rib_tables.specs.Words.{nothing, announced_word, Announces, Mentions, Says, is_prefix, lists, mentions}
 use Rattle.rib_tables.specs.Tables.{Words, word_of, Applies}
-use Rattle.rib_tables.specs.Owners.{RibView, HearsUpdate}
-use Rattle.rib_tables.specs.Rows.{says_in, said_in, established_in, kept_in, originated_in, view_of, IsRow, AreRows, AreDecided, AreWaiting, IsWaiting, IsRowBest, IsRib, AreFit, Marks, hearing, hearing_all, hearing_update}
+use Rattle.rib_tables.specs.Owners.{HearsUpdate}
+use Rattle.rib_tables.specs.Rows.{says_in, said_in, established_in, kept_in, originated_in, view_of, IsRow, AreRows, AreDecided, IsRowBest, IsRib, AreFit, Marks, hearing, hearing_all, hearing_update}
 use Rattle.rib_tables.proofs.WordLemmas.{is_prefix-true, is_prefix-from, decides_lists, decides_mentions, by_test}
 use Rattle.rib_tables.proofs.RowChoices.{some_of}
 use Rattle.rib_tables.proofs.ChangeLemmas.{key_at, row_at, once_at, map_after, from_map, to_map, hearing_keeps}
-use Rattle.rib_tables.proofs.ViewLemmas.{NoPeer, peer_or_not, no_row, no_peer, word_at}
+use Rattle.rib_tables.proofs.ViewLemmas.{peer_or_not, no_row, no_peer, word_at}
 
 pub before_apart : (p q : PrefixView) → IsBefore p q → p ≡ q → ⊥
 before_apart p q h e =

@@ -1,6 +1,6 @@
 -- A router of a network has one table of policies, and so one best path.
 use Rattle.std.proofs.Common.{◌≡◌, ℕ, zero, suc, ◌<◌, List, [], ◌∷◌, length, get_or, refl, sym, ap, subst, ◌∙◌, arith, inl, inr}
-use Rattle.std.specs.Prelude.{◌↔◌, Result, Ok, Err, IfOk}
+use Rattle.std.specs.Prelude.{◌↔◌}
 use Rattle.std.specs.List.{AllPairs, Contains}
 use Rattle.std.proofs.lemmas.Bool.{cases_order}
 use Rattle.std.proofs.lemmas.List.{length-map, get_or-map}
@@ -13,7 +13,7 @@ use Rattle.ranked_policy.specs.Policies.{Table, IsTable, IsTableOf, Originates}
 use Rattle.ranked_policy.specs.Promises.{EachPolicyIsAnOrder}
 use Rattle.rib_tables.specs.declared.word.Word.TheVariants.{Sequence}
 use Rattle.rib_tables.specs.Words.{path_in}
-use Rattle.rib_tables.specs.Choices.{SourcesView, Hears, IsChoice, IsFirstOrNone, IsOwn, IsBestOf, IsBest}
+use Rattle.rib_tables.specs.Choices.{Hears, IsChoice, IsOwn, IsBestOf}
 use Rattle.rib_tables.specs.Promises.{OneBest, HasPathOf, BestAmongPaths, BestOverWords}
 use Rattle.rib_tables.specs.declared.word.Word.{Word}
 use Rattle.rib_tables.specs.declared.word.Word.TheVariants as word

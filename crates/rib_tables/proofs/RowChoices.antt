@@ -1,8 +1,8 @@
 -- The first of a router's choices over rows, one peer more at a time.
-use Rattle.std.proofs.Common.{◌≡◌, ◌≢◌, ℕ, suc, ◌<◌, ◌+◌, Bool, true, false, List, [], ◌∷◌, length, get_or, refl, sym, ap, subst, ◌∙◌, arith, inl, inr, ◌⊎◌, Some, None}
-use Rattle.std.specs.Prelude.{◌↔◌, Option}
+use Rattle.std.proofs.Common.{◌≡◌, ◌≢◌, ℕ, ◌+◌, true, List, [], ◌∷◌, refl, sym, ap, subst, ◌∙◌, arith, inl, inr, ◌⊎◌, Some, None}
+use Rattle.std.specs.Prelude.{Option}
 use Rattle.std.specs.List.{slice_get}
-use Rattle.std.proofs.lemmas.Bool.{cases_order, false≢true}
+use Rattle.std.proofs.lemmas.Bool.{cases_order}
 use Rattle.prefix_lanes.specs.Bits.{PrefixView}
 use Rattle.ranked_policy.specs.Orders.{IsStrictTotalOrder}
 use Rattle.ranked_policy.specs.Policies.{Table, IsPermitted, IsPreferred}
@@ -10,7 +10,7 @@ use Rattle.rib_tables.specs.declared.word.Word.{Word}
 use Rattle.rib_tables.specs.declared.word.Word.TheVariants.{Sequence}
 use Rattle.rib_tables.specs.declared.row.Peer.{Peer}
 use Rattle.rib_tables.specs.Words.{path_in}
-use Rattle.rib_tables.specs.Choices.{IsChoice, IsFirst, IsFirstOrNone, Speaks}
+use Rattle.rib_tables.specs.Choices.{IsChoice, IsFirstOrNone, Speaks}
 use Rattle.ranked_policy.specs.declared.policy.Chosen.{Chosen}
 use Rattle.ranked_policy.specs.Choosing.{chosen_permits, chosen_prefers}
 use Rattle.rib_tables.specs.Rows.{RowHears, path_by}

@@ -1,14 +1,14 @@
 -- What the clauses see of rows: what is heard, kept and originated, what is the best, what a peer waits for, which is the least.
-use Rattle.std.proofs.Common.{◌≡◌, ◌≢◌, ℕ, zero, suc, ◌<◌, ◌≤◌, Bool, true, false, cond, List, [], ◌∷◌, ◌++◌, length, get_or, map, refl, sym, ap, subst, ◌∙◌, arith, inl, inr, ◌⊎◌, Some}
+use Rattle.std.proofs.Common.{◌≡◌, ◌≢◌, ℕ, zero, suc, ◌<◌, true, false, List, [], ◌∷◌, length, get_or, refl, sym, ap, subst, ◌∙◌, arith, inl, inr, ◌⊎◌, Some}
 use Rattle.std.specs.Prelude.{◌↔◌}
-use Rattle.std.specs.List.{slice_get, AllPairs, Contains}
+use Rattle.std.specs.List.{slice_get, Contains}
 use Rattle.std.proofs.lemmas.Bool.{cases_Bool, cases_order, both_ways, cond-true, cond-false, false_from_ne_true}
 use Rattle.std.proofs.lemmas.List.Elements.{Contains-get_or, Contains-append_right, Contains-append_cases}
 use Rattle.std.proofs.lemmas.Option.{slice_get_within, get_or_from_slice_get, slice_get-get_or}
 use Rattle.prefix_lanes.specs.Bits.{PrefixView}
 use Rattle.ranked_policy.specs.declared.network.Origin.{Origin}
-use Rattle.ranked_policy.specs.Plans.{Plan, IsNamed, IsBefore}
-use Rattle.ranked_policy.specs.Policies.{Table, Originates}
+use Rattle.ranked_policy.specs.Plans.{Plan, IsBefore}
+use Rattle.ranked_policy.specs.Policies.{Table}
 use Rattle.rib_tables.specs.declared.word.Word.{Word}
 use Rattle.rib_tables.specs.declared.word.Word.TheVariants as word
 use Rattle.rib_tables.specs.declared.word.Word.TheVariants.{Sequence}
@@ -17,11 +17,11 @@ use Rattle.rib_tables.specs.declared.row.Peer.{Peer}
 use Rattle.rib_tables.specs.declared.row.Row.{Row}
 use Rattle.rib_tables.specs.Places.{has}
 use Rattle.rib_tables.specs.Words.{nothing, path_in, is_prefix}
-use Rattle.rib_tables.specs.Tables.{Words, word_of, path_of}
+use Rattle.rib_tables.specs.Tables.{word_of, path_of}
 use Rattle.rib_tables.specs.Least.{HoldsOfAll, IsLeastWithout}
-use Rattle.rib_tables.specs.Choices.{Hears, IsOwn, IsBestOf, IsBest}
+use Rattle.rib_tables.specs.Choices.{Hears, IsBestOf, IsBest}
 use Rattle.rib_tables.specs.Owners.{RibView, sources_of, IsSettled, IsServed}
-use Rattle.rib_tables.specs.Rows.{RowHears, IsRow, AreRows, IsRowBest, IsWaiting, said_in, established_in, originated_in, kept_in, view_of}
+use Rattle.rib_tables.specs.Rows.{RowHears, AreRows, IsRowBest, IsWaiting, said_in, established_in, originated_in, kept_in, view_of}
 use Rattle.rib_tables.proofs.WordLemmas.{is_prefix-true, is_prefix-from}
 use Rattle.rib_tables.proofs.KeptLemmas.{path_of-nil, path_of-first, path_of-next}
 use Rattle.rib_tables.proofs.ChoiceLemmas.{same_or_not}

@@ -1,18 +1,17 @@
 -- The owner's invariant as sessions come up and are left, and as a path is kept.
-use Rattle.std.proofs.Common.{◌≡◌, ◌≢◌, ℕ, zero, suc, ◌<◌, ◌≤◌, ◌+◌, Bool, true, false, ◌||◌, cond, List, [], ◌∷◌, ◌++◌, length, get_or, set, map, refl, sym, ap, subst, ◌∙◌, arith, inl, inr, ◌⊎◌, Some, Option}
+use Rattle.std.proofs.Common.{◌≡◌, ◌≢◌, ℕ, zero, suc, ◌<◌, Bool, true, false, List, [], ◌∷◌, ◌++◌, length, get_or, set, map, refl, sym, ap, subst, ◌∙◌, arith, inl, inr, ◌⊎◌, Some, Option}
 use Rattle.std.specs.Prelude.{◌↔◌}
-use Rattle.std.specs.List.{slice_get, AllPairs, Contains}
+use Rattle.std.specs.List.{slice_get, Contains}
 use Rattle.std.proofs.lemmas.List.Elements.{Contains-get_or, Contains-append_right, Contains-append_cases}
 use Rattle.std.proofs.Math.Seq.{map-set_same}
 use Rattle.std.proofs.Common.{drop}
 use Rattle.rib_tables.specs.Tables.{Words, word_of, Forgets}
-use Rattle.rib_tables.specs.Owners.{RibView, ComesUp, ForgetsPeer}
+use Rattle.rib_tables.specs.Owners.{ComesUp, ForgetsPeer}
 use Rattle.std.proofs.lemmas.Bool.{cases_Bool, cases_order, both_ways, cond-true, cond-false, false≢true}
-use Rattle.std.proofs.lemmas.List.{length-set, get_or-set_other}
+use Rattle.std.proofs.lemmas.List.{length-set}
 use Rattle.std.proofs.lemmas.Option.{slice_get_within, get_or_from_slice_get, slice_get-get_or}
 use Rattle.prefix_lanes.specs.Bits.{PrefixView}
 use Rattle.ranked_policy.specs.Plans.{Plan, Linked}
-use Rattle.ranked_policy.specs.Policies.{Table}
 use Rattle.rib_tables.specs.declared.word.Word.{Word}
 use Rattle.rib_tables.specs.declared.word.Word.TheVariants.{Sequence}
 use Rattle.rib_tables.specs.declared.place_set.PlaceSet.{PlaceSet}
@@ -20,8 +19,8 @@ use Rattle.rib_tables.specs.declared.row.Peer.{Peer}
 use Rattle.rib_tables.specs.declared.row.Row.{Row}
 use Rattle.rib_tables.specs.Places.{has}
 use Rattle.rib_tables.specs.Words.{nothing, is_prefix}
-use Rattle.rib_tables.specs.Choices.{IsBestOf, IsFirstOrNone}
-use Rattle.rib_tables.specs.Rows.{RowHears, IsRow, AreRows, AreDecided, AreWaiting, IsWaiting, IsRowBest, IsRib, Marks, MarksSpeaking, Speaking, forgetting, keeping, on, says_in, said_in, established_in, originated_in, kept_in, view_of}
+use Rattle.rib_tables.specs.Choices.{IsBestOf}
+use Rattle.rib_tables.specs.Rows.{RowHears, IsRow, AreRows, AreDecided, IsRowBest, IsRib, Marks, MarksSpeaking, Speaking, forgetting, keeping, on, says_in, said_in, established_in, originated_in, kept_in, view_of}
 use Rattle.rib_tables.proofs.RowChoices.{some_of, first_as}
 use Rattle.rib_tables.proofs.ChangeLemmas.{from_map, map_after}
 use Rattle.rib_tables.proofs.RibLemmas.{set_here, set_there, rows_map, decided_map, row_or_not, new_word, same_word, originated_map, kept_map, peer_once}

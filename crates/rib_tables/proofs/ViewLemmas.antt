@@ -1,8 +1,8 @@
 -- What look-ups see of rows.
-use Rattle.std.proofs.Common.{◌≡◌, ◌≢◌, ℕ, zero, suc, ◌<◌, ◌≤◌, ◌+◌, Bool, true, false, cond, List, [], ◌∷◌, ◌++◌, length, get_or, set, map, refl, sym, ap, subst, ◌∙◌, arith, inl, inr, ◌⊎◌, Some}
-use Rattle.std.specs.Prelude.{◌==◌, ◌↔◌}
-use Rattle.std.specs.List.{slice_get, AllPairs, Contains}
-use Rattle.std.proofs.lemmas.Bool.{cases_Bool, cases_order, both_ways, false_from_ne_true, cond-true, cond-false, and_from, and_parts, eq-eqb, eqb-true, ne_eqb}
+use Rattle.std.proofs.Common.{◌≡◌, ℕ, zero, suc, true, false, List, [], ◌∷◌, ◌++◌, refl, sym, ap, ◌∙◌, arith, inl, inr, ◌⊎◌, Some}
+use Rattle.std.specs.Prelude.{◌==◌}
+use Rattle.std.specs.List.{slice_get}
+use Rattle.std.proofs.lemmas.Bool.{cases_Bool, both_ways, false_from_ne_true, and_from, eq-eqb, eqb-true}
 use Rattle.std.proofs.lemmas.Option.{slice_get_within}
 use Rattle.prefix_lanes.specs.Bits.{PrefixView}
 use Rattle.rib_tables.specs.declared.word.Word.{Word}
@@ -12,7 +12,7 @@ use Rattle.rib_tables.specs.declared.row.Row.{Row}
 use Rattle.rib_tables.specs.Words.{nothing, is_prefix}
 use Rattle.rib_tables.specs.Tables.{Words, word_of, is_of}
 use Rattle.rib_tables.specs.Rows.{says_in, said_in}
-use Rattle.rib_tables.proofs.WordLemmas.{is_prefix-true, is_prefix-from, is_of-true, word_of-first, word_of-next}
+use Rattle.rib_tables.proofs.WordLemmas.{is_prefix-from, is_of-true, word_of-first, word_of-next}
 use Rattle.rib_tables.proofs.RowChoices.{some_of}
 
 nothing_of : (v : ℕ) (q : PrefixView) → word_of [] v q ≡ nothing

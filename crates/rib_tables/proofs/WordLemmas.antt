@@ -1,15 +1,13 @@
 -- Prefixes by a test, and words by their look-up.
-use Rattle.std.proofs.Common.{◌≡◌, ℕ, zero, suc, ◌<◌, Bool, true, false, cond, List, [], ◌∷◌, ◌++◌, length, get_or, refl, sym, ap, subst, ◌∙◌, arith, inl, inr}
+use Rattle.std.proofs.Common.{◌≡◌, ℕ, Bool, true, false, cond, List, [], ◌∷◌, ◌++◌, refl, sym, ap, subst, ◌∙◌, inl, inr}
 use Rattle.std.specs.Prelude.{◌==◌}
 use Rattle.std.specs.Bool.{Decides}
 use Rattle.std.specs.List.{AllByRecursion, Contains, filter}
-use Rattle.std.proofs.lemmas.Bool.{cases_Bool, both_ways, and_parts, and_from, or_cases, or_left, or_right, eq-eqb, eqb-true, cond-true, cond-false, false_from_ne_true}
+use Rattle.std.proofs.lemmas.Bool.{cases_Bool, both_ways, and_parts, and_from, eq-eqb, eqb-true, cond-true, cond-false, false_from_ne_true}
 use Rattle.std.proofs.lemmas.Bool.Decides.{Decides-by_or, Decides-or}
 use Rattle.std.proofs.lemmas.List.Elements.{Decides-contains}
 use Rattle.prefix_lanes.specs.Bits.{PrefixView}
 use Rattle.bgp_codec.specs.declared.update.Update.{Update}
-use Rattle.ranked_policy.specs.declared.network.Origin.{Origin}
-use Rattle.ranked_policy.specs.Plans.{IsNamed}
 use Rattle.rib_tables.specs.declared.word.Word.{Word}
 use Rattle.rib_tables.specs.Tables.{Said}
 use Rattle.rib_tables.specs.Words.{nothing, Mentions, is_prefix, lists, mentions}

@@ -1,12 +1,11 @@
 -- All that a router's choices depend on, and what each call does to it, by look-ups alone.
-use Rattle.std.specs.Prelude.{ℕ, ◌≡◌, ◌≢◌, ◌↔◌, List, []}
+use Rattle.std.specs.Prelude.{ℕ, ◌≡◌, ◌≢◌, ◌↔◌, List}
 use Rattle.std.specs.List.{Contains}
 use mathlib.Core.Logic.{◌⊎◌}
 use Rattle.prefix_lanes.specs.Bits.{PrefixView}
 use Rattle.bgp_codec.specs.declared.update.Update.{Update}
 use Rattle.ranked_policy.specs.Plans.{Plan, IsNamed}
-use Rattle.rib_tables.specs.declared.word.Word.TheVariants.{Sequence}
-use Rattle.rib_tables.specs.Tables.{Words, Paths, word_of, path_of, IsSilent, KeepsNothing, IsTold, Applies, Forgets, Keeps}
+use Rattle.rib_tables.specs.Tables.{Words, Paths, word_of, IsSilent, KeepsNothing, IsTold, Applies, Forgets, Keeps}
 use Rattle.rib_tables.specs.Least.{HoldsOfAll}
 use Rattle.rib_tables.specs.Choices.{SourcesView, IsBest, IsDecided}
 

@@ -13,7 +13,7 @@ use Rattle.rib_tables.specs.declared.row.Row.{Row}
 use Rattle.rib_tables.specs.Places.{has}
 use Rattle.rib_tables.specs.Words.{nothing, announced_word, is_prefix, lists}
 use Rattle.bgp_codec.specs.declared.update.Update.{Update}
-use Rattle.rib_tables.specs.Tables.{Said, Kept, Words, Paths}
+use Rattle.rib_tables.specs.Tables.{Words, Paths}
 use Rattle.rib_tables.specs.Choices.{IsBestOf, Speaks}
 use Rattle.rib_tables.specs.Owners.{RibView}
 

@@ -37,3 +37,6 @@ pub use refusal::RibError;
 pub use rib::Rib;
 pub use row::{Peer, Row};
 pub use word::Word;
+
+#[cfg(test)]
+mod tests;

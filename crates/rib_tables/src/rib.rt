@@ -247,11 +247,7 @@ impl<'a> Rib<'a> {
     {
         let alloc = *self.peers.allocator();
         clear_all(alloc, &mut self.rows, &mut self.dirty);
-        await_all(
-            self.peers.as_slice(),
-            self.rows.as_slice(),
-            &mut self.waits,
-        );
+        await_all(self.peers.as_slice(), self.rows.as_slice(), &mut self.waits);
     }
 
     /// The best of the router's choices for a prefix of the network (RFC 4271 section 9.1.2): the
@@ -288,12 +284,23 @@ impl<'a> Rib<'a> {
         Some(self.rows[place].prefix)
     }
 
+    // The kept path of a prefix is known to be the best, so it is not looked at again until something
+    // changes.
+    fn settle(&mut self, prefix: &Prefix)
+        requires named { IsNamed self.old.net.origins prefix.now }
+        requires settled { IsSettled self.old prefix.now }
+        ensures { self.new ≡ self.old }
+    {
+        let place = place_of(&self.keys, prefix).unwrap();
+        self.dirty.take_out(place);
+    }
+
     /// Decides once (RFC 4271 section 9.1): the least prefix of the network, by address and then by
     /// length, whose kept path is not the best gets its best, and is answered. `None` exactly where
     /// each kept path is the best, and then nothing changes. Refused [`RibError::Memory`] where a
     /// growth was, and then all is as it was.
     pub fn decide(&mut self, alloc: Global) -> Result<Option<Prefix>, RibError>
-        ensures none { IfOk result (λ found. MatchOption found (HoldsOfAll self.old.net.origins (IsSettled self.old)) (IsLeastWithout self.old.net.origins (IsSettled self.old))) }
+        ensures least { IfOk result (λ found. MatchOption found (HoldsOfAll self.old.net.origins (IsSettled self.old)) (IsLeastWithout self.old.net.origins (IsSettled self.old))) }
         ensures decides { IfOk result (λ found. MatchOption found (self.new ≡ self.old) (Decides self.old self.new)) }
         ensures err { OnErr result (self.new ≡ self.old) }
     {
@@ -302,6 +309,7 @@ impl<'a> Rib<'a> {
         };
         let best = self.best(alloc, &prefix)?;
         self.set(&prefix, best);
+        self.settle(&prefix);
         Ok(Some(prefix))
     }
 

@@ -1,9 +1,8 @@
-use Rattle.std.proofs.Common.{◌≡◌, ℕ, ◌+◌, ◌++◌, ◌∷◌, [], List, Some, length, ap, subst, sym, ◌∙◌, arith}
+use Rattle.std.proofs.Common.{ℕ, ◌+◌, ◌∷◌, [], List, length, ap, sym, ◌∙◌, arith}
 use Rattle.std.specs.List.{slice_get}
 use Rattle.std.proofs.lemmas.List.{length-append}
 use Rattle.ranked_policy.specs.declared.network.Origin.{Origin}
 use Rattle.rib_tables.specs.declared.row.Row.{Row}
-use Rattle.rib_tables.specs.Rows.{IsFresh}
 use Rattle.rib_tables.proofs.OpeningLemmas.{fresh_push}
 use Rattle.rib_tables.proofs.opening.rows_of.Goals as goal
 

@@ -1,11 +1,10 @@
-use Rattle.std.proofs.Common.{◌≡◌, ℕ, List, [], ◌∷◌, length, sym, ap, subst, ◌∙◌}
+use Rattle.std.proofs.Common.{◌≡◌, ℕ, List, [], ◌∷◌, length, sym, subst, ◌∙◌}
 use Rattle.std.proofs.lemmas.Bool.{eqb-true}
 use Rattle.std.proofs.lemmas.List.{nil_from_length}
-use Rattle.ranked_policy.specs.Plans.{Plan, IsNetwork, IsRouter}
-use Rattle.ranked_policy.specs.Policies.{Table, IsTableOf}
+use Rattle.ranked_policy.specs.Policies.{Table}
 use Rattle.rib_tables.specs.declared.word.Word.{Word}
 use Rattle.rib_tables.specs.Choices.{IsFirstOrNone}
-use Rattle.rib_tables.specs.Rows.{RowHears, IsRow, IsRowBest, path_by}
+use Rattle.rib_tables.specs.Rows.{RowHears, path_by}
 use Rattle.rib_tables.proofs.ChoiceLemmas.{not_empty}
 use Rattle.rib_tables.proofs.RouterLemmas.{table_stands}
 use Rattle.rib_tables.proofs.RowChoices.{path_by_some, path_by_none}

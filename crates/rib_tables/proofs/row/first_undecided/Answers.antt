@@ -1,6 +1,5 @@
-use Rattle.std.proofs.Common.{◌≡◌, ◌<◌, ◌≤◌, ℕ, length, arith, ◌∙◌, sym}
+use Rattle.std.proofs.Common.{arith, ◌∙◌, sym}
 use Rattle.rib_tables.proofs.ChoiceLemmas.{never}
-use Rattle.std.proofs.lemmas.Option.{slice_get_within}
 use Rattle.rib_tables.proofs.DecidingLemmas.{read_at, clear_more, decided_more, all_decided, first_fails}
 use Rattle.rib_tables.proofs.row.first_undecided.Goals as goal
 

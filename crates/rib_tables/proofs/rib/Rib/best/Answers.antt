@@ -1,8 +1,7 @@
-use Rattle.std.proofs.Common.{◌≡◌, ◌<◌, ℕ, List, [], ◌∷◌, Some, length, get_or, subst, sym, ap, ◌∙◌, arith, rules}
-use Rattle.std.specs.List.{slice_get}
+use Rattle.std.proofs.Common.{◌≡◌, ℕ, List, [], ◌∷◌, length, subst, sym, ap, ◌∙◌, arith, rules}
 use Rattle.std.proofs.lemmas.Option.{slice_get_within, get_or_from_slice_get}
 use Rattle.prefix_lanes.specs.Bits.{PrefixView}
-use Rattle.ranked_policy.specs.Plans.{Plan, IsNetwork, IsRouter, IsNamed}
+use Rattle.ranked_policy.specs.Plans.{IsNetwork, IsRouter, IsNamed}
 use Rattle.rib_tables.specs.declared.row.Peer.{Peer}
 use Rattle.rib_tables.specs.declared.row.Row.{Row}
 use Rattle.rib_tables.specs.Choices.{IsBest}

@@ -1,12 +1,10 @@
-use Rattle.std.proofs.Common.{◌≡◌, ◌<◌, ℕ, false, List, [], Some, length, get_or, subst, sym, ap, ◌∙◌, arith, inl, inr, refl, rules}
+use Rattle.std.proofs.Common.{◌≡◌, ℕ, List, [], Some, length, get_or, subst, sym, ap, ◌∙◌, arith, inl, inr, rules}
 use Rattle.std.specs.List.{slice_get}
 use Rattle.std.proofs.lemmas.Bool.{cases_order}
 use Rattle.std.proofs.lemmas.Option.{slice_get_within, slice_get-get_or}
 use Rattle.rib_tables.specs.declared.place_set.PlaceSet.{PlaceSet}
-use Rattle.rib_tables.specs.declared.row.Peer.{Peer}
-use Rattle.rib_tables.specs.declared.row.Row.{Row}
 use Rattle.rib_tables.specs.Places.{has}
-use Rattle.rib_tables.specs.Owners.{RibView, IsAwaited, AllServed}
+use Rattle.rib_tables.specs.Owners.{IsAwaited, AllServed}
 use Rattle.rib_tables.proofs.RowChoices.{some_of}
 use Rattle.rib_tables.proofs.ChangeLemmas.{within}
 use Rattle.rib_tables.proofs.AskingLemmas.{is_awaited_there, all_served}

@@ -1,4 +1,4 @@
-use Rattle.std.proofs.Common.{◌≡◌, ℕ, true, List, get_or, subst, sym, ap, ◌∙◌}
+use Rattle.std.proofs.Common.{◌≡◌, ℕ, List, subst, sym, ap, ◌∙◌}
 use Rattle.std.specs.Prelude.{◌↔◌, IsTrue}
 use Rattle.std.specs.List.{Contains, slice_get}
 use Rattle.std.proofs.lemmas.Option.{get_or_from_slice_get}
@@ -22,7 +22,9 @@ returns-in-Some c =
 
 pub returns-in-None : goal.returns-in-None
 returns-in-None c =
-    let s = c.self.inside in
-    (λ t. absurd cc, λ up.
-    let x = listed_up s.peers.items c.args.peer (subst (λ (v : RibView). Contains v.established c.args.peer) (sym c.self.view_is) up) in
-    absurd (c.in-None.ensures x.0 x.1 (ap (λ (ps : List Peer). slice_get ps x.0) c.as_slice.ensures.value ∙ x.2) x.4))
+    let s = c.self.inside in (
+      λ t. absurd cc,
+      λ up.
+          let x = listed_up s.peers.items c.args.peer (subst (λ (v : RibView). Contains v.established c.args.peer) (sym c.self.view_is) up) in
+          absurd (c.in-None.ensures x.0 x.1 (ap (λ (ps : List Peer). slice_get ps x.0) c.as_slice.ensures.value ∙ x.2) x.4),
+    )

@@ -1,4 +1,4 @@
-use Rattle.std.proofs.Common.{◌≡◌, ℕ, true, List, get_or, subst, sym, ap, ◌∙◌}
+use Rattle.std.proofs.Common.{◌≡◌, subst, sym, ◌∙◌}
 use Rattle.std.specs.Prelude.{◌↔◌, IsTrue}
 use Rattle.std.specs.List.{Contains}
 use Rattle.std.proofs.lemmas.Option.{get_or_from_slice_get}
@@ -25,7 +25,9 @@ returns-in-Some c =
 pub returns-in-None : goal.returns-in-None
 returns-in-None c =
     let s = c.self.inside in
-    let q = c.args.prefix.now in
-    (λ t. absurd cc, λ o.
-    let x = listed_originated s.rows.items q (subst (λ (v : RibView). Contains v.originated q) (sym c.self.view_is) o) in
-    absurd (key_none s.network.now s.router s.peers.items s.keys.keys s.rows.items c.self.invariant.whole q c.in-None.ensures x.0 x.1 x.2 x.4))
+    let q = c.args.prefix.now in (
+      λ t. absurd cc,
+      λ o.
+          let x = listed_originated s.rows.items q (subst (λ (v : RibView). Contains v.originated q) (sym c.self.view_is) o) in
+          absurd (key_none s.network.now s.router s.peers.items s.keys.keys s.rows.items c.self.invariant.whole q c.in-None.ensures x.0 x.1 x.2 x.4),
+    )

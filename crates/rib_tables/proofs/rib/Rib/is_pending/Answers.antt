@@ -1,4 +1,4 @@
-use Rattle.std.proofs.Common.{◌≡◌, sym, ◌∙◌, inl}
+use Rattle.std.proofs.Common.{sym, ◌∙◌, inl}
 use Rattle.rib_tables.specs.Least.{HoldsOfAll}
 use Rattle.rib_tables.specs.Owners.{IsSettled}
 use Rattle.rib_tables.proofs.AskingLemmas.{found_least}

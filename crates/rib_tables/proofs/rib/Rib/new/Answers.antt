@@ -1,4 +1,4 @@
-use Rattle.std.proofs.Common.{◌≡◌, ℕ, false, List, length, map, ap, sym, subst, ◌∙◌}
+use Rattle.std.proofs.Common.{ℕ, false, List, map, ap, sym, subst, ◌∙◌}
 use Rattle.prefix_lanes.specs.Bits.{PrefixView}
 use Rattle.ranked_policy.specs.declared.network.Origin.{Origin}
 use Rattle.rib_tables.specs.declared.row.Peer.{Peer}

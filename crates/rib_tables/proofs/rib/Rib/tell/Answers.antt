@@ -1,8 +1,7 @@
-use Rattle.std.proofs.Common.{◌≡◌, ◌<◌, ℕ, List, Some, length, get_or, set, subst, sym, ap, ◌∙◌, arith, rules}
+use Rattle.std.proofs.Common.{◌≡◌, ℕ, List, length, set, subst, sym, ap, ◌∙◌, arith, rules}
 use Rattle.std.specs.List.{slice_get}
-use Rattle.std.proofs.lemmas.Option.{slice_get_within, get_or_from_slice_get, slice_get-get_or}
+use Rattle.std.proofs.lemmas.Option.{slice_get_within, get_or_from_slice_get}
 use Rattle.ranked_policy.specs.Plans.{Linked, IsNamed}
-use Rattle.rib_tables.specs.declared.word.Word.{Word}
 use Rattle.rib_tables.specs.declared.word.Word.TheVariants.{Sequence}
 use Rattle.rib_tables.specs.declared.row.Peer.{Peer}
 use Rattle.rib_tables.specs.declared.row.Row.{Row}

@@ -1,5 +1,5 @@
-use Rattle.std.proofs.Common.{◌<◌, ℕ, false, List, length, refl, subst, sym, ap, ◌∙◌, arith}
-use Rattle.ranked_policy.specs.Plans.{IsOrigin, IsNamed}
+use Rattle.std.proofs.Common.{false, length, refl, subst, sym}
+use Rattle.ranked_policy.specs.Plans.{IsOrigin}
 use Rattle.rib_tables.specs.Owners.{RibView, Withdrawing}
 use Rattle.rib_tables.specs.Rows.{view_of}
 use Rattle.rib_tables.proofs.ChangeLemmas.{place_fits}

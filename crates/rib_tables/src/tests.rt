@@ -1,0 +1,547 @@
+use super::*;
+use crate::laws::{
+    the_best_is_among_the_paths, the_best_is_one, the_best_is_over_the_words,
+    the_last_word_goes_on, the_last_word_is_one, the_last_word_stays, the_word_follows,
+    the_words_follow, what_follows_is_the_last_mention,
+};
+use bgp_codec::{Attrs, Items, Segment, SegmentKind, Update};
+use prefix_lanes::Prefix;
+use ranked_policy::{Asn, NetBuilder, Network, Path, Settings};
+use std::alloc::{AllocError, Global};
+use std::test::Fail;
+
+mod against_lists;
+mod lists;
+
+const SETTINGS: Settings = Settings {
+    hold: 90,
+    restart: 0,
+    cut: 4096,
+    pipe: 64,
+};
+
+// The prefixes of the tests: the network names all but the last.
+#[derive(Clone, Copy)]
+struct Prefixes {
+    // 10.1.0.0/16, the least; its origin is 1.
+    short: Prefix,
+    // 10.1.0.0/24: the same address, and longer; its origin is 1.
+    long: Prefix,
+    // 10.2.0.0/16, the greatest; its origin is 4.
+    far: Prefix,
+    // 10.3.0.0/16, which nobody originates.
+    stray: Prefix,
+}
+
+fn prefix(addr: u32, len: u8) -> Result<Prefix, &'static str> {
+    Prefix::new(addr, len).ok_or("no prefix is that long")
+}
+
+fn named_prefixes() -> Result<Prefixes, &'static str> {
+    Ok(Prefixes {
+        short: prefix(0x0a01_0000, 16)?,
+        long: prefix(0x0a01_0000, 24)?,
+        far: prefix(0x0a02_0000, 16)?,
+        stray: prefix(0x0a03_0000, 16)?,
+    })
+}
+
+// Links of a ring of four routers, 1 - 2 - 4 - 3 - 1.
+fn ring(alloc: Global) -> Result<NetBuilder, Fail> {
+    let mut net = NetBuilder::new(alloc, SETTINGS)?;
+    for i in 0..4u32 {
+        net.push_router(i + 1, 0x0a00_0001 + i)?;
+    }
+    net.push_link(1, 2)?;
+    net.push_link(2, 4)?;
+    net.push_link(4, 3)?;
+    net.push_link(3, 1)?;
+    Ok(net)
+}
+
+fn network(alloc: Global) -> Result<Network, Fail> {
+    let named = named_prefixes()?;
+    let mut net = ring(alloc)?;
+    net.push_origin(4, named.far)?;
+    net.push_origin(1, named.long)?;
+    net.push_origin(1, named.short)?;
+    match net.finish() {
+        Ok(net) => Ok(net),
+        Err((_, error)) => Err(error.into()),
+    }
+}
+
+fn numbers(alloc: Global, numbers: &[Asn]) -> Result<Items<Asn>, AllocError> {
+    Ok(Items::from_vec(numbers.to_vec(alloc)?))
+}
+
+// A path of one segment.
+fn one_segment(
+    alloc: Global,
+    kind: SegmentKind,
+    path: &[Asn],
+) -> Result<Items<Segment>, AllocError> {
+    let mut segments = Vec::new(alloc);
+    let numbers = numbers(alloc, path)?;
+    segments.push(Segment { kind, numbers })?;
+    Ok(Items::from_vec(segments))
+}
+
+// A path of two segments.
+fn two_segments(
+    alloc: Global,
+    first: &[Asn],
+    second: &[Asn],
+) -> Result<Items<Segment>, AllocError> {
+    let mut segments = Vec::new(alloc);
+    let kind = SegmentKind::AsSequence;
+    let numbers_of_first = numbers(alloc, first)?;
+    segments.push(Segment {
+        kind,
+        numbers: numbers_of_first,
+    })?;
+    let numbers_of_second = numbers(alloc, second)?;
+    segments.push(Segment {
+        kind,
+        numbers: numbers_of_second,
+    })?;
+    Ok(Items::from_vec(segments))
+}
+
+// An UPDATE of these prefixes, with this AS_PATH.
+fn update(
+    alloc: Global,
+    withdrawn: &[Prefix],
+    path: Option<Items<Segment>>,
+    nlri: &[Prefix],
+) -> Result<Update, AllocError> {
+    let attrs = Attrs {
+        origin: Some(0),
+        path,
+        next_hop: Some(0x0a00_0001),
+        med: None,
+        local_pref: None,
+        atomic: false,
+        aggregator: None,
+        other: Items::new(alloc),
+    };
+    Ok(Update {
+        withdrawn: Items::from_vec(withdrawn.to_vec(alloc)?),
+        attrs,
+        nlri: Items::from_vec(nlri.to_vec(alloc)?),
+    })
+}
+
+// An UPDATE that announces these prefixes along one AS_SEQUENCE, and withdraws those.
+fn announces(
+    alloc: Global,
+    path: &[Asn],
+    nlri: &[Prefix],
+    withdrawn: &[Prefix],
+) -> Result<Update, AllocError> {
+    let segments = one_segment(alloc, SegmentKind::AsSequence, path)?;
+    update(alloc, withdrawn, Some(segments), nlri)
+}
+
+// The tables of a router, as it starts.
+fn tables(alloc: Global, net: &Network, router: Asn) -> Result<Rib<'_>, Fail> {
+    if !net.has_router(router) {
+        return Err("it is a router".into());
+    }
+    Ok(Rib::new(alloc, net, router)?)
+}
+
+// The tables of a router whose sessions with these peers are Established.
+fn joined<'a>(
+    alloc: Global,
+    net: &'a Network,
+    router: Asn,
+    peers: &[Asn],
+) -> Result<Rib<'a>, Fail> {
+    let mut rib = tables(alloc, net, router)?;
+    for peer in peers {
+        comes_up(&mut rib, *peer)?;
+    }
+    Ok(rib)
+}
+
+fn hear(rib: &mut Rib, peer: Asn, update: &Update) -> Result<(), Fail> {
+    if !rib.network().linked(rib.router(), peer) {
+        return Err("no link leads to it".into());
+    }
+    Ok(rib.hear(peer, update)?)
+}
+
+// A peer announces these prefixes along this path.
+fn hears(
+    alloc: Global,
+    rib: &mut Rib,
+    peer: Asn,
+    path: &[Asn],
+    nlri: &[Prefix],
+) -> Result<(), Fail> {
+    hear(rib, peer, &announces(alloc, path, nlri, &[])?)
+}
+
+fn comes_up(rib: &mut Rib, peer: Asn) -> Result<(), Fail> {
+    if !rib.network().linked(rib.router(), peer) {
+        return Err("no link leads to it".into());
+    }
+    rib.come_up(peer);
+    Ok(())
+}
+
+fn forgets(rib: &mut Rib, peer: Asn) -> Result<(), Fail> {
+    if !rib.network().linked(rib.router(), peer) {
+        return Err("no link leads to it".into());
+    }
+    rib.forget(peer);
+    Ok(())
+}
+
+fn originates(rib: &mut Rib, prefix: &Prefix) -> Result<(), Fail> {
+    if !rib.network().is_origin(rib.router(), prefix) {
+        return Err("it is not its origin".into());
+    }
+    rib.originate(prefix);
+    Ok(())
+}
+
+fn withdraws(rib: &mut Rib, prefix: &Prefix) -> Result<(), Fail> {
+    if !rib.network().is_origin(rib.router(), prefix) {
+        return Err("it is not its origin".into());
+    }
+    rib.withdraw(prefix);
+    Ok(())
+}
+
+fn keeps(alloc: Global, rib: &mut Rib, prefix: &Prefix, path: &[Asn]) -> Result<(), Fail> {
+    if !rib.network().names(prefix) {
+        return Err("it is not named".into());
+    }
+    rib.set(prefix, Path::from_slice(alloc, path)?);
+    Ok(())
+}
+
+fn tells(rib: &mut Rib, peer: Asn, prefix: &Prefix) -> Result<(), Fail> {
+    if !rib.network().linked(rib.router(), peer) || !rib.network().names(prefix) {
+        return Err("no link leads to it, or it is not named".into());
+    }
+    Ok(rib.tell(peer, prefix)?)
+}
+
+fn waiting(rib: &Rib, peer: Asn) -> Result<Option<Prefix>, Fail> {
+    if !rib.network().linked(rib.router(), peer) {
+        return Err("no link leads to it".into());
+    }
+    Ok(rib.waiting(peer))
+}
+
+fn best(alloc: Global, rib: &Rib, prefix: &Prefix) -> Result<Path, Fail> {
+    if !rib.network().names(prefix) {
+        return Err("it is not named".into());
+    }
+    Ok(rib.best(alloc, prefix)?)
+}
+
+// The path of a word: the empty path where there is none.
+fn path_of(word: Option<&Word>) -> &[Asn] {
+    match word {
+        Some(word) => word.path(),
+        None => &[],
+    }
+}
+
+// Whether the word is one that gives no path.
+fn is_other(word: Option<&Word>) -> bool {
+    match word {
+        Some(Word::Other) => true,
+        Some(Word::Sequence(_)) | None => false,
+    }
+}
+
+// The words of a peer follow its UPDATEs: the last of three mentions stays.
+#[test]
+fn the_last_of_three(rt: HostRuntime) -> Result<(), Fail> {
+    let alloc = rt.alloc();
+    let named = named_prefixes()?;
+    let net = network(alloc)?;
+    let mut rib = tables(alloc, &net, 4)?;
+    hears(alloc, &mut rib, 2, &[2, 1], &[named.short, named.long])?;
+    hear(&mut rib, 2, &update(alloc, &[named.short], None, &[])?)?;
+    assert!(rt; rib.word_heard(2, &named.short).is_none());
+    assert_eq!(rt;
+        path_of(rib.word_heard(2, &named.long)),
+        [2u32, 1].as_slice()
+    );
+    hears(alloc, &mut rib, 2, &[2, 4, 3, 1], &[named.short])?;
+    assert_eq!(rt;
+        path_of(rib.word_heard(2, &named.short)),
+        [2u32, 4, 3, 1].as_slice()
+    );
+    assert_eq!(rt;
+        path_of(rib.word_heard(2, &named.long)),
+        [2u32, 1].as_slice()
+    );
+    assert!(rt; rib.word_heard(3, &named.short).is_none());
+    assert!(rt; rib.word_sent(2, &named.short).is_none());
+    Ok(())
+}
+
+// A path of more than eight numbers takes memory of its own.
+#[test]
+fn a_long_path(rt: HostRuntime) -> Result<(), Fail> {
+    let alloc = rt.alloc();
+    let named = named_prefixes()?;
+    let net = network(alloc)?;
+    let mut rib = tables(alloc, &net, 4)?;
+    let path = [2u32, 4, 3, 5, 6, 7, 8, 9, 10, 1];
+    hears(alloc, &mut rib, 2, &path, &[named.far, named.short])?;
+    assert_eq!(rt; path_of(rib.word_heard(2, &named.far)), path.as_slice());
+    assert_eq!(rt; path_of(rib.word_heard(2, &named.short)), path.as_slice());
+    assert!(rt; rib.word_heard(2, &named.long).is_none());
+    keeps(alloc, &mut rib, &named.far, &path)?;
+    tells(&mut rib, 3, &named.far)?;
+    assert_eq!(rt; path_of(rib.word_sent(3, &named.far)), path.as_slice());
+    Ok(())
+}
+
+// Within one UPDATE the announcement wins.
+#[test]
+fn announced_and_withdrawn(rt: HostRuntime) -> Result<(), Fail> {
+    let alloc = rt.alloc();
+    let named = named_prefixes()?;
+    let net = network(alloc)?;
+    let mut rib = tables(alloc, &net, 4)?;
+    hears(
+        alloc,
+        &mut rib,
+        3,
+        &[3, 4, 2, 1],
+        &[named.short, named.long],
+    )?;
+    let both = announces(alloc, &[3, 1], &[named.short], &[named.short, named.long])?;
+    hear(&mut rib, 3, &both)?;
+    assert_eq!(rt;
+        path_of(rib.word_heard(3, &named.short)),
+        [3u32, 1].as_slice()
+    );
+    assert!(rt; rib.word_heard(3, &named.long).is_none());
+    Ok(())
+}
+
+// A set is a word that gives no path, and no choice.
+#[test]
+fn a_set(rt: HostRuntime) -> Result<(), Fail> {
+    let alloc = rt.alloc();
+    let named = named_prefixes()?;
+    let net = network(alloc)?;
+    let mut rib = joined(alloc, &net, 4, &[2, 3])?;
+    let set = one_segment(alloc, SegmentKind::AsSet, &[2, 1])?;
+    hear(&mut rib, 2, &update(alloc, &[], Some(set), &[named.short])?)?;
+    assert!(rt; is_other(rib.word_heard(2, &named.short)));
+    assert!(rt; best(alloc, &rib, &named.short)?.is_empty());
+    assert_eq!(rt; rib.dirty(), None);
+    Ok(())
+}
+
+// So are several segments, and no AS_PATH.
+#[test]
+fn several_segments_and_none(rt: HostRuntime) -> Result<(), Fail> {
+    let alloc = rt.alloc();
+    let named = named_prefixes()?;
+    let net = network(alloc)?;
+    let mut rib = tables(alloc, &net, 4)?;
+    let two = two_segments(alloc, &[2], &[1])?;
+    hear(&mut rib, 2, &update(alloc, &[], Some(two), &[named.long])?)?;
+    hear(&mut rib, 3, &update(alloc, &[], None, &[named.long])?)?;
+    assert!(rt; is_other(rib.word_heard(2, &named.long)));
+    assert!(rt; is_other(rib.word_heard(3, &named.long)));
+    Ok(())
+}
+
+// A prefix that nobody originates changes nothing.
+#[test]
+fn a_prefix_of_nobody(rt: HostRuntime) -> Result<(), Fail> {
+    let alloc = rt.alloc();
+    let named = named_prefixes()?;
+    let net = network(alloc)?;
+    let mut rib = tables(alloc, &net, 4)?;
+    hears(alloc, &mut rib, 2, &[2, 1], &[named.stray, named.short])?;
+    assert!(rt; rib.word_heard(2, &named.stray).is_none());
+    assert!(rt; rib.path(&named.stray).is_empty());
+    assert!(rt; !rib.is_originated(&named.stray));
+    assert_eq!(rt;
+        path_of(rib.word_heard(2, &named.short)),
+        [2u32, 1].as_slice()
+    );
+    Ok(())
+}
+
+// One of two peers is forgotten: what it said, what it was told, and that it was Established.
+#[test]
+fn forgets_one_of_two(rt: HostRuntime) -> Result<(), Fail> {
+    let alloc = rt.alloc();
+    let named = named_prefixes()?;
+    let net = network(alloc)?;
+    let mut rib = joined(alloc, &net, 4, &[2, 3])?;
+    hears(alloc, &mut rib, 2, &[2, 1], &[named.short, named.long])?;
+    hears(alloc, &mut rib, 3, &[3, 1], &[named.short, named.long])?;
+    keeps(alloc, &mut rib, &named.short, &[4, 2, 1])?;
+    tells(&mut rib, 2, &named.short)?;
+    tells(&mut rib, 3, &named.short)?;
+    forgets(&mut rib, 2)?;
+    assert!(rt; rib.word_heard(2, &named.short).is_none());
+    assert!(rt; rib.word_heard(2, &named.long).is_none());
+    assert!(rt; rib.word_sent(2, &named.short).is_none());
+    assert_eq!(rt;
+        path_of(rib.word_heard(3, &named.long)),
+        [3u32, 1].as_slice()
+    );
+    assert_eq!(rt;
+        path_of(rib.word_sent(3, &named.short)),
+        [4u32, 2, 1].as_slice()
+    );
+    assert!(rt; !rib.is_established(2) && rib.is_established(3));
+    assert_eq!(rt; rib.decide(alloc)?, Some(named.short));
+    assert_eq!(rt; rib.path(&named.short), [4u32, 3, 1].as_slice());
+    Ok(())
+}
+
+// The best is over Established peers alone: the shorter path first, then the lesser number.
+#[test]
+fn the_best_of_two_peers(rt: HostRuntime) -> Result<(), Fail> {
+    let alloc = rt.alloc();
+    let named = named_prefixes()?;
+    let net = network(alloc)?;
+    let mut rib = tables(alloc, &net, 4)?;
+    hears(alloc, &mut rib, 2, &[2, 1], &[named.short])?;
+    hears(alloc, &mut rib, 3, &[3, 1], &[named.short])?;
+    hears(alloc, &mut rib, 2, &[2, 4, 3, 1], &[named.long])?;
+    assert!(rt; best(alloc, &rib, &named.short)?.is_empty());
+    comes_up(&mut rib, 3)?;
+    let one = best(alloc, &rib, &named.short)?;
+    assert_eq!(rt; one.as_slice(), [4u32, 3, 1].as_slice());
+    comes_up(&mut rib, 2)?;
+    let both = best(alloc, &rib, &named.short)?;
+    assert_eq!(rt; both.as_slice(), [4u32, 2, 1].as_slice());
+    assert!(rt; best(alloc, &rib, &named.long)?.is_empty());
+    Ok(())
+}
+
+// An origin has itself alone while it originates the prefix, whatever is heard.
+#[test]
+fn an_origin(rt: HostRuntime) -> Result<(), Fail> {
+    let alloc = rt.alloc();
+    let named = named_prefixes()?;
+    let net = network(alloc)?;
+    let mut rib = joined(alloc, &net, 1, &[2, 3])?;
+    hears(alloc, &mut rib, 2, &[2, 1], &[named.short, named.long])?;
+    originates(&mut rib, &named.long)?;
+    let own = best(alloc, &rib, &named.long)?;
+    assert_eq!(rt; own.as_slice(), [1u32].as_slice());
+    assert!(rt; best(alloc, &rib, &named.short)?.is_empty());
+    assert!(rt; rib.is_originated(&named.long) && !rib.is_originated(&named.short));
+    withdraws(&mut rib, &named.long)?;
+    assert!(rt; best(alloc, &rib, &named.long)?.is_empty());
+    Ok(())
+}
+
+// The least prefix is decided first, by address and then by length.
+#[test]
+fn decided_in_order(rt: HostRuntime) -> Result<(), Fail> {
+    let alloc = rt.alloc();
+    let named = named_prefixes()?;
+    let net = network(alloc)?;
+    let mut rib = joined(alloc, &net, 4, &[2])?;
+    assert_eq!(rt; rib.decide(alloc)?, None);
+    hears(
+        alloc,
+        &mut rib,
+        2,
+        &[2, 1],
+        &[named.far, named.long, named.short],
+    )?;
+    originates(&mut rib, &named.far)?;
+    assert_eq!(rt; rib.dirty(), Some(named.short));
+    assert!(rt; rib.path(&named.short).is_empty());
+    assert_eq!(rt; rib.decide(alloc)?, Some(named.short));
+    assert_eq!(rt; rib.decide(alloc)?, Some(named.long));
+    assert_eq!(rt; rib.decide(alloc)?, Some(named.far));
+    assert_eq!(rt; rib.decide(alloc)?, None);
+    assert_eq!(rt; rib.path(&named.short), [4u32, 2, 1].as_slice());
+    assert_eq!(rt; rib.path(&named.far), [4u32].as_slice());
+    rib.clear();
+    assert!(rt; rib.path(&named.far).is_empty() && !rib.is_originated(&named.far));
+    assert_eq!(rt; rib.dirty(), Some(named.short));
+    Ok(())
+}
+
+// A path that is kept in place of the best.
+#[test]
+fn another_path_is_kept(rt: HostRuntime) -> Result<(), Fail> {
+    let alloc = rt.alloc();
+    let named = named_prefixes()?;
+    let net = network(alloc)?;
+    let mut rib = joined(alloc, &net, 4, &[2])?;
+    hears(alloc, &mut rib, 2, &[2, 1], &[named.short])?;
+    keeps(alloc, &mut rib, &named.short, &[4, 3, 1])?;
+    assert_eq!(rt; rib.decide(alloc)?, Some(named.short));
+    assert_eq!(rt; rib.path(&named.short), [4u32, 2, 1].as_slice());
+    Ok(())
+}
+
+// A peer waits for the least prefix whose last word is not the kept path, while it is Established.
+#[test]
+fn waiting_in_order(rt: HostRuntime) -> Result<(), Fail> {
+    let alloc = rt.alloc();
+    let named = named_prefixes()?;
+    let net = network(alloc)?;
+    let mut rib = joined(alloc, &net, 4, &[2])?;
+    assert_eq!(rt; waiting(&rib, 2)?, None);
+    assert!(rt; !rib.is_awaited() && !rib.is_pending());
+    keeps(alloc, &mut rib, &named.long, &[4, 3, 1])?;
+    keeps(alloc, &mut rib, &named.short, &[4, 3, 1])?;
+    assert_eq!(rt; waiting(&rib, 2)?, Some(named.short));
+    assert!(rt; rib.is_awaited() && rib.is_pending());
+    tells(&mut rib, 2, &named.short)?;
+    assert_eq!(rt; waiting(&rib, 2)?, Some(named.long));
+    assert_eq!(rt; waiting(&rib, 3)?, None);
+    comes_up(&mut rib, 3)?;
+    assert_eq!(rt; waiting(&rib, 3)?, Some(named.short));
+    Ok(())
+}
+
+// A peer waits where it was told another path, or a path where none is kept now.
+#[test]
+fn waiting_for_a_withdrawal(rt: HostRuntime) -> Result<(), Fail> {
+    let alloc = rt.alloc();
+    let named = named_prefixes()?;
+    let net = network(alloc)?;
+    let mut rib = joined(alloc, &net, 4, &[2])?;
+    keeps(alloc, &mut rib, &named.far, &[4, 2, 1])?;
+    tells(&mut rib, 2, &named.far)?;
+    assert_eq!(rt; waiting(&rib, 2)?, None);
+    keeps(alloc, &mut rib, &named.far, &[4])?;
+    assert_eq!(rt; waiting(&rib, 2)?, Some(named.far));
+    keeps(alloc, &mut rib, &named.far, &[])?;
+    assert_eq!(rt; waiting(&rib, 2)?, Some(named.far));
+    tells(&mut rib, 2, &named.far)?;
+    assert_eq!(rt; waiting(&rib, 2)?, None);
+    assert!(rt; !rib.is_pending());
+    Ok(())
+}
+
+// Calls each law once.
+#[test]
+fn laws_are_called(_rt: HostRuntime) {
+    the_last_word_stays();
+    the_last_word_goes_on();
+    the_last_word_is_one();
+    the_word_follows();
+    the_words_follow();
+    what_follows_is_the_last_mention();
+    the_best_is_one();
+    the_best_is_among_the_paths();
+    the_best_is_over_the_words();
+}

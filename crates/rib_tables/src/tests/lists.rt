@@ -1,0 +1,214 @@
+//! The tables as plain lists, which each call goes over from one end to the other.
+
+use crate::word::{Word, announced};
+use bgp_codec::Update;
+use prefix_lanes::Prefix;
+use ranked_policy::{Asn, Network, Path, Policy};
+use std::alloc::Global;
+use std::test::Fail;
+
+// What a peer says of a prefix, or is told of it.
+#[derive(Drop)]
+struct Said {
+    peer: Asn,
+    prefix: Prefix,
+    word: Word,
+}
+
+#[derive(Drop)]
+struct Kept {
+    prefix: Prefix,
+    path: Path,
+}
+
+// All mentions, the last one last, and the paths that were kept, the last one last.
+#[derive(Drop)]
+pub(super) struct Lists<'a> {
+    alloc: Global,
+    network: &'a Network,
+    router: Asn,
+    heard: Vec<Said>,
+    sent: Vec<Said>,
+    established: Vec<Asn>,
+    originated: Vec<Prefix>,
+    kept: Vec<Kept>,
+}
+
+fn last_of<'s>(said: &'s [Said], peer: Asn, prefix: &Prefix) -> &'s [Asn] {
+    for one in said.iter().rev() {
+        if one.peer == peer && one.prefix == *prefix {
+            return one.word.path();
+        }
+    }
+    &[]
+}
+
+fn is_other(said: &[Said], peer: Asn, prefix: &Prefix) -> bool {
+    for one in said.iter().rev() {
+        if one.peer == peer && one.prefix == *prefix {
+            return matches!(&one.word, Word::Other);
+        }
+    }
+    false
+}
+
+impl<'a> Lists<'a> {
+    pub(super) fn new(alloc: Global, network: &'a Network, router: Asn) -> Lists<'a> {
+        Lists {
+            alloc,
+            network,
+            router,
+            heard: Vec::new(alloc),
+            sent: Vec::new(alloc),
+            established: Vec::new(alloc),
+            originated: Vec::new(alloc),
+            kept: Vec::new(alloc),
+        }
+    }
+
+    pub(super) fn hear(&mut self, peer: Asn, update: &Update) -> Result<(), Fail> {
+        for prefix in update.withdrawn.as_slice() {
+            let word = Word::Sequence(Path::new(self.alloc));
+            self.heard.push(Said {
+                peer,
+                prefix: *prefix,
+                word,
+            })?;
+        }
+        for prefix in update.nlri.as_slice() {
+            let word = announced(self.alloc, &update.attrs)?;
+            self.heard.push(Said {
+                peer,
+                prefix: *prefix,
+                word,
+            })?;
+        }
+        Ok(())
+    }
+
+    pub(super) fn heard(&self, peer: Asn, prefix: &Prefix) -> &[Asn] {
+        last_of(self.heard.as_slice(), peer, prefix)
+    }
+
+    pub(super) fn heard_other(&self, peer: Asn, prefix: &Prefix) -> bool {
+        is_other(self.heard.as_slice(), peer, prefix)
+    }
+
+    pub(super) fn sent(&self, peer: Asn, prefix: &Prefix) -> &[Asn] {
+        last_of(self.sent.as_slice(), peer, prefix)
+    }
+
+    pub(super) fn tell(&mut self, peer: Asn, prefix: &Prefix) -> Result<(), Fail> {
+        let path = Path::from_slice(self.alloc, self.path(prefix))?;
+        self.sent.push(Said {
+            peer,
+            prefix: *prefix,
+            word: Word::Sequence(path),
+        })?;
+        Ok(())
+    }
+
+    pub(super) fn come_up(&mut self, peer: Asn) -> Result<(), Fail> {
+        if !self.established.contains(&peer) {
+            self.established.push(peer)?;
+        }
+        Ok(())
+    }
+
+    pub(super) fn is_established(&self, peer: Asn) -> bool {
+        self.established.contains(&peer)
+    }
+
+    pub(super) fn forget(&mut self, peer: Asn) {
+        self.heard.retain(|one| one.peer != peer);
+        self.sent.retain(|one| one.peer != peer);
+        self.established.retain(|one| *one != peer);
+    }
+
+    pub(super) fn originate(&mut self, prefix: &Prefix) -> Result<(), Fail> {
+        self.originated.push(*prefix)?;
+        Ok(())
+    }
+
+    pub(super) fn withdraw(&mut self, prefix: &Prefix) {
+        self.originated.retain(|one| *one != *prefix);
+    }
+
+    pub(super) fn is_originated(&self, prefix: &Prefix) -> bool {
+        self.originated.contains(prefix)
+    }
+
+    pub(super) fn set(&mut self, prefix: &Prefix, path: Path) -> Result<(), Fail> {
+        self.kept.push(Kept {
+            prefix: *prefix,
+            path,
+        })?;
+        Ok(())
+    }
+
+    pub(super) fn path(&self, prefix: &Prefix) -> &[Asn] {
+        for one in self.kept.iter().rev() {
+            if one.prefix == *prefix {
+                return one.path.as_slice();
+            }
+        }
+        &[]
+    }
+
+    pub(super) fn clear(&mut self) {
+        self.kept.clear();
+        self.originated.clear();
+    }
+
+    // The best, by paths that are made.
+    pub(super) fn best(&self, prefix: &Prefix) -> Result<Path, Fail> {
+        if self.network.is_origin(self.router, prefix) {
+            return self.own(prefix);
+        }
+        let Some(table) = self.network.policies(self.router) else {
+            return Err("it is a router".into());
+        };
+        let policy = table.for_prefix(prefix);
+        let mut best = Path::new(self.alloc);
+        for peer in self.established.as_slice() {
+            let rest = self.heard(*peer, prefix);
+            let choice = Path::from_router(self.alloc, self.router, rest)?;
+            if !rest.is_empty()
+                && policy.permits(&choice)
+                && (best.is_empty() || policy.prefers(&choice, &best))
+            {
+                best = choice;
+            }
+        }
+        Ok(best)
+    }
+
+    fn own(&self, prefix: &Prefix) -> Result<Path, Fail> {
+        if self.is_originated(prefix) {
+            Ok(Path::from_slice(self.alloc, &[self.router])?)
+        } else {
+            Ok(Path::new(self.alloc))
+        }
+    }
+
+    pub(super) fn dirty(&self) -> Result<Option<Prefix>, Fail> {
+        for origin in self.network.origins() {
+            if self.best(&origin.prefix)?.as_slice() != self.path(&origin.prefix) {
+                return Ok(Some(origin.prefix));
+            }
+        }
+        Ok(None)
+    }
+
+    pub(super) fn waiting(&self, peer: Asn) -> Option<Prefix> {
+        if !self.is_established(peer) {
+            return None;
+        }
+        for origin in self.network.origins() {
+            if self.sent(peer, &origin.prefix) != self.path(&origin.prefix) {
+                return Some(origin.prefix);
+            }
+        }
+        None
+    }
+}
