@@ -8,3 +8,4 @@ pub mod TableLemmas
 pub mod Reached
 pub mod PeerLemmas
 mod TestLemmas
+pub mod PlaceLemmas
