@@ -16,6 +16,7 @@
 #![tactic(auto)]
 
 mod attributes;
+mod copying;
 mod fault;
 mod head;
 mod items;

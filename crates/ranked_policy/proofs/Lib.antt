@@ -7,5 +7,6 @@ pub mod PlanLemmas
 pub mod TableLemmas
 pub mod Reached
 pub mod PeerLemmas
+pub mod WaysOn
 mod TestLemmas
 pub mod PlaceLemmas

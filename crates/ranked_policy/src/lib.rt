@@ -20,6 +20,7 @@ mod items;
 mod judging;
 pub mod laws;
 mod network;
+mod onward;
 mod path;
 mod peers;
 mod places;

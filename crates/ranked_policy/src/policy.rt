@@ -161,7 +161,7 @@ pub(crate) fn begins_with(router: Asn, path: &[Asn]) -> bool
 }
 
 // Whether the path ends at the origin, if there is one.
-fn ends_at(origin: Option<Asn>, path: &[Asn]) -> bool
+pub(crate) fn ends_at(origin: Option<Asn>, path: &[Asn]) -> bool
     ensures { IsTrue result ↔ ((v : ℕ) × (origin ≡ Some v) × EndsWith path.now v) }
 {
     match (path, origin) {
@@ -184,7 +184,7 @@ pub(crate) fn is_simple(path: &[Asn]) -> bool
 }
 
 // Whether the first path is shorter, or as long and earlier in the dictionary.
-fn is_shorter(a: &[Asn], b: &[Asn]) -> bool
+pub(crate) fn is_shorter(a: &[Asn], b: &[Asn]) -> bool
     ensures { IsTrue result ↔ IsShorter a.now b.now }
 {
     a.len() < b.len() || a.len() == b.len() && comes_earlier(a, b)

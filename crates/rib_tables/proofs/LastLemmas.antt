@@ -1,7 +1,7 @@
 -- The last word of a list of UPDATEs, one UPDATE more at a time.
-use Rattle.std.proofs.Common.{◌≡◌, ◌≢◌, ℕ, List, [], ◌∷◌, ◌++◌, length, refl, sym, ap, subst, ◌∙◌, arith, inl, inr, ◌⊎◌}
+use Rattle.std.proofs.Common.{◌≡◌, ◌≢◌, ℕ, cond, List, [], ◌∷◌, ◌++◌, length, refl, sym, ap, subst, ◌∙◌, arith, inl, inr, ◌⊎◌}
 use Rattle.std.specs.List.{All}
-use Rattle.std.proofs.lemmas.Bool.{cases_Bool}
+use Rattle.std.proofs.lemmas.Bool.{cases_Bool, cond-true, cond-false}
 use Rattle.std.proofs.lemmas.Bool.Decides.{not_from_Decides}
 use Rattle.std.proofs.lemmas.List.{length-append, append_assoc}
 use Rattle.std.proofs.lemmas.List.Elements.{All-nil, All-cons, All-head, All-tail, All-push}
@@ -10,9 +10,9 @@ use Rattle.bgp_codec.specs.declared.update.Update.{Update}
 use Rattle.ranked_policy.specs.declared.network.Origin.{Origin}
 use Rattle.ranked_policy.specs.Plans.{IsNamed}
 use Rattle.rib_tables.specs.declared.word.Word.{Word}
-use Rattle.rib_tables.specs.Words.{nothing, announced_word, Announces, Mentions, Says, lists, mentions}
+use Rattle.rib_tables.specs.Words.{nothing, announced_word, Announces, Withdraws, Mentions, Says, lists, mentions, word_after, last_word}
 use Rattle.rib_tables.specs.Tables.{Words, word_of, Applies}
-use Rattle.rib_tables.specs.Promises.{AppliesAll, IsLastMention, LastWordStays, LastWordGoesOn, OneLastWord}
+use Rattle.rib_tables.specs.Promises.{AppliesAll, IsLastMention, LastWordStays, LastWordGoesOn, OneLastWord, WordFollows, WordsFollow, LastIsLastMention}
 use Rattle.rib_tables.proofs.WordLemmas.{decides_lists, decides_mentions}
 
 -- no UPDATE of the list mentions the prefix
@@ -140,3 +140,46 @@ one_last_word us q a b (inl x) (inl y) = one_mention us q a b x y
 one_last_word us q a b (inl x) (inr y) = absurd (not_silent us q a x y.0)
 one_last_word us q a b (inr x) (inl y) = absurd (not_silent us q b y x.0)
 one_last_word us q a b (inr x) (inr y) = x.1 ∙ sym y.1
+
+-- ---- as functions
+
+word_says : (w : Word) (u : Update) (q : PrefixView) → (Mentions u q × Says u q (word_after w u q)) ⊎ ((Mentions u q → ⊥) × (word_after w u q ≡ w))
+word_says w u q = elim (cases_Bool (lists u.nlri q)) [
+  | inl t ↦
+      let a : Announces u q = (decides_lists u.nlri q).0 t in
+      inl (inl a, inl (a, cond-true (lists u.nlri q) (announced_word u.attrs) (cond (lists u.withdrawn q) nothing w) t))
+  | inr f ↦
+      let none : Announces u q → ⊥ = not_from_Decides (lists u.nlri q) (decides_lists u.nlri q) f in
+      let rest = cond-false (lists u.nlri q) (announced_word u.attrs) (cond (lists u.withdrawn q) nothing w) f in
+      elim (cases_Bool (lists u.withdrawn q)) [
+        | inl t ↦ let b : Withdraws u q = (decides_lists u.withdrawn q).0 t in inl (inr b, inr (none, b, rest ∙ cond-true (lists u.withdrawn q) nothing w t))
+        | inr g ↦
+            let silent : Withdraws u q → ⊥ = not_from_Decides (lists u.withdrawn q) (decides_lists u.withdrawn q) g in
+            inr ((λ m. elim m [ inl a ↦ none a | inr b ↦ silent b ]), rest ∙ cond-false (lists u.withdrawn q) nothing w g)
+      ]
+]
+
+pub word_follows : WordFollows
+word_follows origins old new peer u applies q name = elim (word_says (word_of old peer q) u q) [
+  | inl says ↦ applies.said q (word_after (word_of old peer q) u q) name says.1
+  | inr silent ↦ applies.unsaid q silent.0 ∙ sym silent.1
+]
+
+pub words_follow : WordsFollow
+words_follow origins old new peer [] all q name = all peer q
+words_follow origins old new peer (u ∷ us) all q name =
+    words_follow origins all.0 new peer us all.2 q name ∙ ap (λ (w : Word). last_word w us q) (word_follows origins old all.0 peer u all.1 q name)
+
+-- the word after a list is that of its last mention, or the one before where none mentions the prefix
+last_or_before : (w : Word) (us : List Update) (q : PrefixView) → IsLastMention us q (last_word w us q) ⊎ (Silent q us × (last_word w us q ≡ w))
+last_or_before w [] q = inr (All-nil (λ (u : Update). Mentions u q → ⊥), refl)
+last_or_before w (u ∷ us) q = elim (last_or_before (word_after w u q) us q) [
+  | inl m ↦ inl (record { before = u ∷ m.before; update = m.update; behind = m.behind; whole = ap (λ (vs : List Update). u ∷ vs) m.whole; says = m.says; last = m.last })
+  | inr n ↦ elim (word_says w u q) [
+    | inl here ↦ inl (record { before = []; update = u; behind = us; whole = refl; says = subst (Says u q) (sym n.1) here.1; last = n.0 })
+    | inr none ↦ inr (All-cons (λ (v : Update). Mentions v q → ⊥) u us none.0 n.0, n.1 ∙ none.1)
+  ]
+]
+
+pub last_is_last_mention : LastIsLastMention
+last_is_last_mention us q = last_or_before nothing us q

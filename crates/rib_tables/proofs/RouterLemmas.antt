@@ -14,7 +14,11 @@ use Rattle.ranked_policy.specs.Promises.{EachPolicyIsAnOrder}
 use Rattle.rib_tables.specs.declared.word.Word.TheVariants.{Sequence}
 use Rattle.rib_tables.specs.Words.{path_in}
 use Rattle.rib_tables.specs.Choices.{SourcesView, Hears, IsChoice, IsFirstOrNone, IsOwn, IsBestOf, IsBest}
-use Rattle.rib_tables.specs.Promises.{OneBest, HasPathOf, BestAmongPaths}
+use Rattle.rib_tables.specs.Promises.{OneBest, HasPathOf, BestAmongPaths, BestOverWords}
+use Rattle.rib_tables.specs.declared.word.Word.{Word}
+use Rattle.rib_tables.specs.declared.word.Word.TheVariants as word
+use Rattle.rib_tables.specs.Tables.{word_of}
+use Rattle.std.proofs.Common.{◌≢◌}
 use Rattle.rib_tables.proofs.ChoiceLemmas.{first_once}
 
 -- ---- one table
@@ -85,7 +89,7 @@ own_once Originated u a b (inl x) (inr y) = absurd (y.0 x.0)
 own_once Originated u a b (inr x) (inl y) = absurd (x.0 y.0)
 own_once Originated u a b (inr x) (inr y) = x.1 ∙ sym y.1
 
-best_once : EachPolicyIsAnOrder → (Originated : Type 0) (Heard : ℕ → List ℕ → Type 0) (t : Table) (q : PrefixView) (a b : List ℕ) → IsTable t
+pub best_once : EachPolicyIsAnOrder → (Originated : Type 0) (Heard : ℕ → List ℕ → Type 0) (t : Table) (q : PrefixView) (a b : List ℕ) → IsTable t
     → IsBestOf Originated Heard t q a → IsBestOf Originated Heard t q b → a ≡ b
 best_once law Originated Heard t q a b table (inl x) (inl y) = own_once Originated t.router a b x.1 y.1
 best_once law Originated Heard t q a b table (inl x) (inr y) = absurd (y.0 x.0)
@@ -99,27 +103,12 @@ one_best law s is q a b x y =
     best_once law (Contains s.originated q) (Hears s.heard s.established q) x.0 q a b table x.2
     (subst (λ (t : Table). IsBestOf (Contains s.originated q) (Hears s.heard s.established q) t q b) same y.2)
 
--- ---- the best, as it is found
-
-pub own_is_best : (s : SourcesView) (q : PrefixView) (t : Table) → IsTableOf s.net s.router t → IsOrigin s.net.origins s.router q → (path : List ℕ) → IsOwn (Contains s.originated q) s.router path → IsBest s q path
-own_is_best s q t of origin path own =
-    (t, of, inl ((origin_by s.net s.router t q of).0 origin, subst (λ (n : ℕ). IsOwn (Contains s.originated q) n path) (sym of.0) own))
-
-pub heard_is_best : (s : SourcesView) (q : PrefixView) (t : Table) → IsTableOf s.net s.router t → (IsOrigin s.net.origins s.router q → ⊥) → (path : List ℕ)
-    → IsFirstOrNone (Hears s.heard s.established q) t q path → IsBest s q path
-heard_is_best s q t of other path first = (t, of, inr ((λ o. other ((origin_by s.net s.router t q of).1 o)), first))
-
--- what holds of what a call answers
-pub if_ok : {A E : Type 0} (r : Result A E) (P Q : A → Type 0) → ((x : A) → P x → Q x) → IfOk r P → IfOk r Q
-if_ok (Ok x) P Q onto h = onto x h
-if_ok (Err e) P Q onto h = h
-
 -- ---- the same choices from words that are the same
 
 choice_as : (One Other : ℕ → List ℕ → Type 0) (t : Table) (q : PrefixView) (path : List ℕ) → ((v : ℕ) (p : List ℕ) → One v p → Other v p) → IsChoice One t q path → IsChoice Other t q path
 choice_as One Other t q path onto c = record { peer = c.peer; rest = c.rest; heard = onto c.peer c.rest c.heard; some = c.some; goes_on = c.goes_on; permitted = c.permitted }
 
-best_as : (Originated : Type 0) (One Other : ℕ → List ℕ → Type 0) (t : Table) (q : PrefixView) (path : List ℕ) → ((v : ℕ) (p : List ℕ) → One v p → Other v p) → ((v : ℕ) (p : List ℕ) → Other v p → One v p)
+pub best_as : (Originated : Type 0) (One Other : ℕ → List ℕ → Type 0) (t : Table) (q : PrefixView) (path : List ℕ) → ((v : ℕ) (p : List ℕ) → One v p → Other v p) → ((v : ℕ) (p : List ℕ) → Other v p → One v p)
     → IsBestOf Originated One t q path → IsBestOf Originated Other t q path
 best_as Originated One Other t q path onto back (inl own) = inl own
 best_as Originated One Other t q path onto back (inr x) = inr (
@@ -142,3 +131,37 @@ best_among s q paths hears path =
     (linked, ap path_in (sym m.1 ∙ hears.words v linked)) in
     let back : (v : ℕ) (p : List ℕ) → Theirs v p → Mine v p = λ v p t. ((hears.linked v).1 t.0, hears.words v t.0 ∙ ap Sequence (sym t.1)) in
     (λ b. (b.0, b.1, best_as (Contains s.originated q) Mine Theirs b.0 q path onto back b.2), λ b. (b.0, b.1, best_as (Contains s.originated q) Theirs Mine b.0 q path back onto b.2))
+
+-- ---- the same choices, where only paths that are there count
+
+some_as : (One Other : ℕ → List ℕ → Type 0) (t : Table) (q : PrefixView) (path : List ℕ) → ((v : ℕ) (p : List ℕ) → p ≢ [] → One v p → Other v p) → IsChoice One t q path → IsChoice Other t q path
+some_as One Other t q path onto c = record { peer = c.peer; rest = c.rest; heard = onto c.peer c.rest c.some c.heard; some = c.some; goes_on = c.goes_on; permitted = c.permitted }
+
+best_some : (Originated : Type 0) (One Other : ℕ → List ℕ → Type 0) (t : Table) (q : PrefixView) (path : List ℕ) → ((v : ℕ) (p : List ℕ) → p ≢ [] → One v p → Other v p) → ((v : ℕ) (p : List ℕ) → p ≢ [] → Other v p → One v p)
+    → IsBestOf Originated One t q path → IsBestOf Originated Other t q path
+best_some Originated One Other t q path onto back (inl own) = inl own
+best_some Originated One Other t q path onto back (inr x) = inr (
+  x.0,
+  elim x.1 [
+    | inl first ↦ inl (record {
+      choice = some_as One Other t q path onto first.choice;
+      before = λ other c apart. first.before other (some_as Other One t q other back c) apart;
+    })
+    | inr none ↦ inr (none.0, λ other c. none.1 other (some_as Other One t q other back c))
+  ],
+)
+
+sequence_from : (w : Word) (p : List ℕ) → p ≢ [] → p ≡ path_in w → w ≡ Sequence p
+sequence_from (Sequence path) p some e = ap Sequence (sym e)
+sequence_from word.Other p some e = absurd (some e)
+
+pub best_over_words : BestOverWords
+best_over_words s q words hears path =
+    let Mine : ℕ → List ℕ → Type 0 = Hears s.heard s.established q in
+    let Theirs : ℕ → List ℕ → Type 0 = HasPathOf s.net words s.router in
+    let onto : (v : ℕ) (p : List ℕ) → p ≢ [] → Mine v p → Theirs v p = λ v p some m.
+    let linked = hears.linked v m.0 in
+    (linked, elim (hears.said v linked) [ inl up ↦ ap path_in (sym m.1) ∙ sym up.1 | inr down ↦ absurd (down.0 m.0) ]) in
+    let back : (v : ℕ) (p : List ℕ) → p ≢ [] → Theirs v p → Mine v p = λ v p some t.
+    elim (hears.said v t.0) [ inl up ↦ (up.0, sequence_from (word_of s.heard v q) p some (t.1 ∙ up.1)) | inr down ↦ absurd (some (t.1 ∙ down.1)) ] in
+    (λ b. (b.0, b.1, best_some (Contains s.originated q) Mine Theirs b.0 q path onto back b.2), λ b. (b.0, b.1, best_some (Contains s.originated q) Theirs Mine b.0 q path back onto b.2))

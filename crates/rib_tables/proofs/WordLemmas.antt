@@ -11,9 +11,9 @@ use Rattle.bgp_codec.specs.declared.update.Update.{Update}
 use Rattle.ranked_policy.specs.declared.network.Origin.{Origin}
 use Rattle.ranked_policy.specs.Plans.{IsNamed}
 use Rattle.rib_tables.specs.declared.word.Word.{Word}
-use Rattle.rib_tables.specs.declared.table.Said.{Said}
+use Rattle.rib_tables.specs.Tables.{Said}
 use Rattle.rib_tables.specs.Words.{nothing, Mentions, is_prefix, lists, mentions}
-use Rattle.rib_tables.specs.Tables.{Words, is_of, word_of, named}
+use Rattle.rib_tables.specs.Tables.{Words, is_of, word_of}
 
 -- ---- prefixes
 
@@ -33,21 +33,6 @@ decides_lists ps q =
 
 pub decides_mentions : (u : Update) (q : PrefixView) → Decides (mentions u q) (Mentions u q)
 decides_mentions u q = Decides-or (lists u.nlri q) (lists u.withdrawn q) (decides_lists u.nlri q) (decides_lists u.withdrawn q)
-
-pub named-true : (os : List Origin) (q : PrefixView) → named os q ≡ true → IsNamed os q
-named-true [] q t = absurd cc
-named-true (o ∷ os) q t = elim (or_cases (is_prefix o.prefix q) (named os q) t) [
-  | inl here ↦ (0, o, omega arith, refl, is_prefix-true o.prefix q here)
-  | inr there ↦ let r = named-true os q there in (suc r.0, r.1, omega (arith, r.2), r.3, r.4)
-]
-
-named_at : (os : List Origin) (q : PrefixView) (k : ℕ) (d : Origin) → k < length os → get_or os k d ≡ d → d.prefix ≡ q → named os q ≡ true
-named_at [] q k d lt e p = absurd (omega (arith, lt))
-named_at (o ∷ os) q zero d lt e p = or_left (is_prefix o.prefix q) (named os q) (is_prefix-from o.prefix q (ap (λ (x : Origin). x.prefix) e ∙ p))
-named_at (o ∷ os) q (suc k) d lt e p = or_right (is_prefix o.prefix q) (named os q) (named_at os q k d (omega (arith, lt)) e p)
-
-pub named-from : (os : List Origin) (q : PrefixView) → IsNamed os q → named os q ≡ true
-named-from os q a = named_at os q a.0 a.1 a.2 a.3 a.4
 
 pub by_test : (b : Bool) (P : Type 0) → Decides b P → (P → ⊥) → b ≡ false
 by_test b P d fails = false_from_ne_true b (λ t. fails (d.0 t))

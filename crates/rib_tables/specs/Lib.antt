@@ -3,3 +3,6 @@ pub mod Tables
 pub mod Least
 pub mod Choices
 pub mod Promises
+pub mod Places
+pub mod Owners
+pub mod Rows

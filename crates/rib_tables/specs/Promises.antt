@@ -9,7 +9,7 @@ use Rattle.ranked_policy.specs.Plans.{Plan, IsNamed, Linked}
 use Rattle.ranked_policy.specs.Policies.{Table, IsTableOf}
 use Rattle.rib_tables.specs.declared.word.Word.{Word}
 use Rattle.rib_tables.specs.declared.word.Word.TheVariants.{Sequence}
-use Rattle.rib_tables.specs.Words.{nothing, Mentions, Says}
+use Rattle.rib_tables.specs.Words.{nothing, path_in, Mentions, Says, word_after, last_word}
 use Rattle.rib_tables.specs.Tables.{Words, word_of, Applies}
 use Rattle.rib_tables.specs.Choices.{SourcesView, IsSources, IsBest, IsBestOf}
 
@@ -53,6 +53,22 @@ LastWordGoesOn =
 abbrev pub OneLastWord : Type 0
 OneLastWord = (us : List Update) (q : PrefixView) (a b : Word) → IsLastWord us q a → IsLastWord us q b → a ≡ b
 
+-- the same as a function: after an UPDATE each prefix of the network has the word that follows from the one before
+abbrev pub WordFollows : Type 0
+WordFollows =
+    (origins : List Origin) (old new : Words) (peer : ℕ) (u : Update) → Applies origins old new peer u
+    → (q : PrefixView) → IsNamed origins q → word_of new peer q ≡ word_after (word_of old peer q) u q
+
+-- and after the UPDATEs of a list the one that follows from all of them
+abbrev pub WordsFollow : Type 0
+WordsFollow =
+    (origins : List Origin) (old new : Words) (peer : ℕ) (us : List Update) → AppliesAll origins old new peer us
+    → (q : PrefixView) → IsNamed origins q → word_of new peer q ≡ last_word (word_of old peer q) us q
+
+-- what follows from nothing is the word of the last mention
+abbrev pub LastIsLastMention : Type 0
+LastIsLastMention = (us : List Update) (q : PrefixView) → IsLastWord us q (last_word nothing us q)
+
 -- a router has at most one best path
 abbrev pub OneBest : Type 0
 OneBest = (s : SourcesView) → IsSources s → (q : PrefixView) (a b : List ℕ) → IsBest s q a → IsBest s q b → a ≡ b
@@ -70,3 +86,16 @@ abbrev pub BestAmongPaths : Type 0
 BestAmongPaths =
     (s : SourcesView) (q : PrefixView) (paths : ℕ → List ℕ) → HearsPaths s q paths → (path : List ℕ)
     → (IsBest s q path ↔ ((table : Table) × IsTableOf s.net s.router table × IsBestOf (Contains s.originated q) (HasPathOf s.net paths s.router) table q path))
+
+-- words of all routers, as a state of a network has them: what an Established peer said, read as a path, and the empty path from
+-- every other linked router
+pub record HearsWords (s : SourcesView) (q : PrefixView) (words : ℕ → List ℕ) : Type 0 where
+  pub linked : (v : ℕ) → Contains s.established v → Linked s.net.links s.router v
+  pub said : (v : ℕ) → Linked s.net.links s.router v
+      → (Contains s.established v × (words v ≡ path_in (word_of s.heard v q))) ⊎ ((Contains s.established v → ⊥) × (words v ≡ []))
+
+-- the best is that over these words, whichever sessions are Established
+abbrev pub BestOverWords : Type 0
+BestOverWords =
+    (s : SourcesView) (q : PrefixView) (words : ℕ → List ℕ) → HearsWords s q words → (path : List ℕ)
+    → (IsBest s q path ↔ ((table : Table) × IsTableOf s.net s.router table × IsBestOf (Contains s.originated q) (HasPathOf s.net words s.router) table q path))

@@ -1,15 +1,24 @@
 -- The words of peers and the kept paths of one router (RFC 4271 section 3.2), and what each call does to them.
 -- What a table holds is told by a look-up alone: `word_of` at a peer and a prefix, `path_of` at a prefix.
-use Rattle.std.specs.Prelude.{ℕ, ◌≡◌, ◌≢◌, ◌==◌, ◌&&◌, ◌||◌, Bool, false, not, List, [], ◌∷◌, if◌then◌else◌}
+use Rattle.std.specs.Prelude.{ℕ, ◌≡◌, ◌≢◌, ◌==◌, ◌&&◌, Bool, List, [], ◌∷◌, if◌then◌else◌}
 use Rattle.prefix_lanes.specs.Bits.{PrefixView}
 use Rattle.bgp_codec.specs.declared.update.Update.{Update}
 use Rattle.ranked_policy.specs.declared.network.Origin.{Origin}
 use Rattle.ranked_policy.specs.Plans.{IsNamed}
 use Rattle.rib_tables.specs.declared.word.Word.{Word}
 use Rattle.rib_tables.specs.declared.word.Word.TheVariants.{Sequence}
-use Rattle.rib_tables.specs.declared.table.Said.{Said}
-use Rattle.rib_tables.specs.declared.loc_rib.Kept.{Kept}
-use Rattle.rib_tables.specs.Words.{nothing, announced_word, Mentions, Says, is_prefix, lists, mentions}
+use Rattle.rib_tables.specs.Words.{nothing, Mentions, Says, is_prefix}
+
+-- what a peer says of a prefix
+pub record Said : Type 0 where
+  pub peer : ℕ
+  pub prefix : PrefixView
+  pub word : Word
+
+-- a prefix and the path that is kept for it
+pub record Kept : Type 0 where
+  pub prefix : PrefixView
+  pub path : List ℕ
 
 -- the words of all peers, and the kept paths
 abbrev pub Words : Type 0
@@ -61,20 +70,3 @@ pub record Forgets (old new : Words) (peer : ℕ) : Type 0 where
 pub record Keeps (old new : Paths) (q : PrefixView) (path : List ℕ) : Type 0 where
   pub kept : path_of new q ≡ path
   pub others : (p : PrefixView) → p ≢ q → path_of new p ≡ path_of old p
-
--- ---- how the lists change
-
-abbrev pub named : List Origin → PrefixView → Bool
-named [] q = false
-named (o ∷ os) q = is_prefix o.prefix q || named os q
-
--- the words that an UPDATE announces, by the origins that name their prefixes
-abbrev pub said_of : List Origin → ℕ → Update → Words
-said_of [] peer u = []
-said_of (o ∷ os) peer u =
-    if lists u.nlri o.prefix then (record { peer = peer; prefix = o.prefix; word = announced_word u.attrs }) ∷ said_of os peer u
-    else said_of os peer u
-
--- the UPDATE says nothing else in place of this word
-abbrev pub stays : List Origin → ℕ → Update → Said → Bool
-stays origins peer u s = not ((s.peer == peer) && (mentions u s.prefix && named origins s.prefix))

@@ -1,5 +1,5 @@
 -- What an UPDATE says of a prefix (RFC 4271 sections 3.2 and 4.3).
-use Rattle.std.specs.Prelude.{ℕ, ◌≡◌, ◌==◌, ◌&&◌, ◌||◌, Bool, false, List, [], ◌∷◌, Option, Some, None}
+use Rattle.std.specs.Prelude.{ℕ, ◌≡◌, ◌==◌, ◌&&◌, ◌||◌, Bool, false, List, [], ◌∷◌, Option, Some, None, if◌then◌else◌}
 use Rattle.std.specs.List.{Contains}
 use mathlib.Core.Logic.{◌⊎◌}
 use Rattle.prefix_lanes.specs.Bits.{PrefixView}
@@ -65,3 +65,14 @@ lists (p ∷ ps) q = is_prefix p q || lists ps q
 
 abbrev pub mentions : Update → PrefixView → Bool
 mentions u q = lists u.nlri q || lists u.withdrawn q
+
+-- ---- and as functions
+
+-- the word on a prefix after an UPDATE, in which an announcement wins over a withdrawal
+abbrev pub word_after : Word → Update → PrefixView → Word
+word_after word u q = if lists u.nlri q then announced_word u.attrs else if lists u.withdrawn q then nothing else word
+
+-- the word on a prefix after these UPDATEs, one after the other
+abbrev pub last_word : Word → List Update → PrefixView → Word
+last_word word [] q = word
+last_word word (u ∷ us) q = last_word (word_after word u q) us q

@@ -1,7 +1,7 @@
 //! What the definitions of words and choices say together. Each is the contract of a function
 //! without work of its own.
 
-ghost use Rattle.rib_tables.specs.Promises.{LastWordStays, LastWordGoesOn, OneLastWord, OneBest, BestAmongPaths};
+ghost use Rattle.rib_tables.specs.Promises.{LastWordStays, LastWordGoesOn, OneLastWord, WordFollows, WordsFollow, LastIsLastMention, OneBest, BestAmongPaths, BestOverWords};
 
 use ranked_policy::laws::each_policy_is_an_order;
 
@@ -23,6 +23,23 @@ pub fn the_last_word_is_one()
     ensures { OneLastWord }
 {}
 
+/// After an UPDATE of a peer the word of each prefix of the network is what follows from the one
+/// before: what the UPDATE announces, else nothing where it withdraws the prefix, else the same.
+pub fn the_word_follows()
+    ensures { WordFollows }
+{}
+
+/// After the UPDATEs of a list the word of each prefix of the network is what follows from the one
+/// before by all of them, one after the other.
+pub fn the_words_follow()
+    ensures { WordsFollow }
+{}
+
+/// What follows from nothing by the UPDATEs of a list is the word of the last mention.
+pub fn what_follows_is_the_last_mention()
+    ensures { LastIsLastMention }
+{}
+
 /// A router has at most one best path.
 pub fn the_best_is_one()
     ensures { OneBest }
@@ -35,4 +52,10 @@ pub fn the_best_is_one()
 /// path of a linked router".
 pub fn the_best_is_among_the_paths()
     ensures { BestAmongPaths }
+{}
+
+/// Whichever sessions are Established, the best is that over the words of the linked routers: what
+/// an Established peer said, read as a path, and the empty path from every other one.
+pub fn the_best_is_over_the_words()
+    ensures { BestOverWords }
 {}

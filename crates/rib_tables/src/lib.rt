@@ -20,24 +20,20 @@
 //! that the network does not name.
 #![tactic(auto)]
 
-mod adj_in;
-mod adj_out;
+mod changes;
 pub mod laws;
-mod loc_rib;
+mod line;
+mod opening;
 mod paths;
-mod prefixes;
+mod place_set;
 mod refusal;
-mod sources;
-mod table;
+mod rib;
+mod row;
 mod word;
 
-pub use adj_in::AdjIn;
-pub use adj_out::AdjOut;
-pub use loc_rib::{Dirty, Kept, LocRib};
+pub use line::Line;
+pub use place_set::PlaceSet;
 pub use refusal::RibError;
-pub use sources::Sources;
-pub use table::Said;
+pub use rib::Rib;
+pub use row::{Peer, Row};
 pub use word::Word;
-
-#[cfg(test)]
-mod tests;

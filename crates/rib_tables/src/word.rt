@@ -1,13 +1,11 @@
 //! What a peer says of a prefix.
 
 ghost use Rattle.std.specs.Prelude.{◌≡◌, ◌↔◌, [], IsTrue, IfOk, MatchOption};
-ghost use Rattle.rib_tables.specs.Words.{announced_word, segments_word, nothing, path_in, lists, mentions};
+ghost use Rattle.rib_tables.specs.Words.{announced_word, segments_word, nothing, path_in};
 
 use crate::paths::is_path;
-use crate::prefixes::lists;
 use crate::refusal::RibError;
-use bgp_codec::{Attrs, Segment, SegmentKind, Update};
-use prefix_lanes::Prefix;
+use bgp_codec::{Attrs, Segment, SegmentKind};
 use ranked_policy::{Asn, Path};
 use std::alloc::Global;
 
@@ -76,18 +74,4 @@ pub(crate) fn announced(alloc: Global, attrs: &Attrs) -> Result<Word, RibError>
         Some(numbers) => Ok(Word::Sequence(Path::from_slice(alloc, numbers)?)),
         None => Ok(Word::Other),
     }
-}
-
-// Whether the UPDATE announces the prefix.
-pub(crate) fn announces(update: &Update, prefix: &Prefix) -> bool
-    ensures { result ≡ lists update.now.nlri prefix.now }
-{
-    lists(update.nlri.as_slice(), prefix)
-}
-
-// Whether the UPDATE announces or withdraws the prefix.
-pub(crate) fn mentions(update: &Update, prefix: &Prefix) -> bool
-    ensures { result ≡ mentions update.now prefix.now }
-{
-    announces(update, prefix) || lists(update.withdrawn.as_slice(), prefix)
 }

@@ -4,3 +4,8 @@ pub mod Appending
 pub mod Answering
 pub mod Idling
 pub mod Quiet
+pub mod AnyItem
+pub mod Commuting
+pub mod Leaving
+pub mod Recording
+pub mod Losing

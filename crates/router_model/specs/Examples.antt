@@ -1,7 +1,8 @@
 -- Small cases that show what the definitions say: two routers of one link, and a router whose peer is hostile.
-use Rattle.std.specs.Prelude.{ℕ, ◌+◌, ◌≡◌, ◌==◌, cond, List, [], ◌∷◌, ◌++◌, Option, Some, replicate}
+use Rattle.std.specs.Prelude.{ℕ, ◌+◌, ◌≡◌, ◌==◌, false, cond, List, [], ◌∷◌, ◌++◌, length, Option, Some, replicate}
 use Rattle.marker_lanes.specs.Marker.{marker}
 use Rattle.prefix_lanes.specs.Bits.{PrefixView}
+use Rattle.link_epoch.specs.declared.link_end.Phase.TheVariants.{Joined}
 use Rattle.session_fsm.specs.declared.state.State.TheVariants.{Idle, Active, OpenSent, OpenConfirm, Established}
 use Rattle.ranked_policy.specs.Plans.{Plan}
 use Rattle.run_model.specs.Network.{alone, takes}
@@ -10,9 +11,12 @@ use Rattle.router_model.specs.declared.command.Command.TheVariants as command
 use Rattle.outbox.specs.declared.item.What.{What}
 use Rattle.outbox.specs.declared.item.What.TheVariants as item
 use Rattle.router_model.specs.declared.refusal.RouterError.TheVariants as error
+use Rattle.rib_tables.specs.declared.word.Word.TheVariants.{Sequence}
+use Rattle.run_model.specs.Octets.{octets_of}
 use Rattle.router_model.specs.Settings.{Setting}
-use Rattle.router_model.specs.State.{new_router}
-use Rattle.router_model.specs.Step.{Obeys, Ticks, Handles, Decides}
+use Rattle.router_model.specs.Sides.{Side}
+use Rattle.router_model.specs.State.{new_side, new_router, heard}
+use Rattle.router_model.specs.Step.{Obeys, Ticks, Handles, Decides, Advertises}
 use Rattle.router_model.specs.Calls.{Stamped, Call, Obey, Tick, Put, Take, Handle, Decide, Advertise, Answer, Steps, Refuses, answer, stamped_after}
 use Rattle.router_model.specs.Calls as calls
 
@@ -181,3 +185,83 @@ StrangePathCloses =
     ((established.router.sides 2).session.state ≡ Established)
     × (two_puts after_strange ≡ (Some (item.Piece 1 (marker ++ 0 ∷ 21 ∷ 3 ∷ 3 ∷ 11 ∷ [])), Some (item.Shut 1)))
     × ((after_strange.router.sides 2).session.state ≡ Idle) × ((after_strange.router.sides 2).acted 1 ≡ [])
+
+-- ---- the order of judging at the last stamp: what bars a call and what is nothing stand before it
+
+abbrev pub at_last_stamp : Stamped → Stamped
+at_last_stamp x = record x { stamp = 4611686018427387904 }
+
+-- router 1 originates the prefix, and keeps its path
+abbrev pub decided : Stamped
+decided = after_calls 1 (fresh 1) (Obey (command.Originate p) ∷ Decide ∷ [])
+
+-- an item waits to be put, and a faulty header to be handled
+abbrev pub waiting_fault : Stamped
+waiting_fault = hears (from_2 (item.Dial 1) ∷ from_2 (item.Piece 1 faulty) ∷ [])
+
+abbrev pub NothingBesideTheLastStamp : Type 0
+NothingBesideTheLastStamp =
+    (answer setting 1 (at_last_stamp (fresh 1)) (Obey (command.Originate p)) ≡ Refuses error.StampEnd)
+    × (answer setting 1 (at_last_stamp decided) (Obey (command.Originate p)) ≡ calls.Idle)
+    × (answer setting 1 (at_last_stamp decided) Decide ≡ calls.Idle)
+    × (answer setting 1 (at_last_stamp decided) Advertise ≡ calls.Idle)
+    × (answer setting 1 (at_last_stamp decided) (Put 2) ≡ calls.Idle)
+    × (answer setting 1 (at_last_stamp decided) (Handle 2) ≡ calls.Idle)
+    × (answer setting 1 (at_last_stamp decided) (Handle 3) ≡ Refuses error.NoSuchPeer)
+    × (answer setting 1 (at_last_stamp started) (Put 2) ≡ Refuses error.StampEnd)
+    × (answer setting 1 (at_last_stamp waiting_fault) (from_2 (item.Dial 2)) ≡ Refuses (error.Held 2))
+    × (answer setting 1 (at_last_stamp waiting_fault) (Handle 2) ≡ Refuses error.StampEnd)
+
+-- ---- what an Established session does with UPDATEs
+
+-- an UPDATE told sets the KeepaliveTimer again, which runs out 30 seconds after it was set
+abbrev pub told_late : Stamped
+told_late = after_calls 1 established (Tick ∷ Obey (command.Originate p) ∷ Decide ∷ Advertise ∷ [])
+
+abbrev pub keepalive_of : Stamped → ℕ
+keepalive_of x = (x.router.sides 2).session.keepalive_timer
+
+abbrev pub TellingSetsTheTimer : Type 0
+TellingSetsTheTimer =
+    (keepalive_of (after_calls 1 established (Tick ∷ [])) ≡ 29) × (keepalive_of told_late ≡ 30)
+    × ((told_late.router.sides 2).session.hold_timer ≡ 89)
+
+-- an UPDATE that announces 10.2.0.0/16 and withdraws it: the announcement wins; one that withdraws it alone takes it back
+abbrev pub p2 : PrefixView
+p2 = record { addr = 167903232; len = 16 }
+
+abbrev pub both_ways : List ℕ
+both_ways =
+    marker ++ 0 ∷ 47 ∷ 2 ∷ 0 ∷ 3 ∷ 16 ∷ 10 ∷ 2 ∷ 0 ∷ 18 ∷ 64 ∷ 1 ∷ 1 ∷ 0 ∷ 64 ∷ 2 ∷ 4 ∷ 2 ∷ 1 ∷ 0 ∷ 2 ∷ 64 ∷ 3 ∷ 4 ∷ 10 ∷ 0 ∷ 0 ∷ 2 ∷ 16 ∷ 10 ∷ 2 ∷ []
+
+abbrev pub one_way : List ℕ
+one_way = marker ++ 0 ∷ 26 ∷ 2 ∷ 0 ∷ 3 ∷ 16 ∷ 10 ∷ 2 ∷ 0 ∷ 0 ∷ []
+
+abbrev pub heard_both : Stamped
+heard_both = after_calls 1 established (from_2 (item.Piece 1 both_ways) ∷ Handle 2 ∷ [])
+
+abbrev pub heard_withdrawn : Stamped
+heard_withdrawn = after_calls 1 heard_both (from_2 (item.Piece 1 one_way) ∷ Handle 2 ∷ [])
+
+abbrev pub AnnouncementWins : Type 0
+AnnouncementWins =
+    (heard (heard_both.router.sides 2) p2 ≡ Sequence (2 ∷ []))
+    × (heard (heard_withdrawn.router.sides 2) p2 ≡ Sequence [])
+    × (length ((heard_withdrawn.router.sides 2).acted 1) ≡ 2)
+
+-- ---- the limit of an outbox: router 1 waits to tell router 2, and so many octets wait to be put
+
+abbrev pub up_side : ℕ → Side
+up_side n = record (new_side setting) {
+  session = record (new_side setting).session { state = Established };
+  link = record { epoch = 1; heard = 1; heard_is_shut = false; phase = Joined };
+  outbox = octets_of 1 (replicate n 0);
+}
+
+abbrev pub waiting_behind : ℕ → Stamped
+waiting_behind n = record { router = record (new_router setting) { sides = λ v. up_side n; kept = λ q. 1 ∷ [] }; stamp = 9 }
+
+abbrev pub TellsBelowTheLimit : Type 0
+TellsBelowTheLimit =
+    (answer setting 1 (waiting_behind 65535) Advertise ≡ Steps (alone (Advertises 2)))
+    × (answer setting 1 (waiting_behind 65536) Advertise ≡ Refuses (error.Blocked 2))

@@ -1,19 +1,23 @@
 -- What the definitions say together.
-use Rattle.std.specs.Prelude.{ℕ, ◌≡◌, ◌≢◌, nat_eq, true, ◌++◌, List, [], ◌∷◌}
+use Rattle.std.specs.Prelude.{ℕ, ◌≡◌, ◌≢◌, ◌<◌, max, nat_eq, true, false, ◌++◌, List, [], ◌∷◌}
 use Rattle.std.specs.List.{list_any}
 use Rattle.bgp_codec.specs.declared.message.Message.{Message}
 use Rattle.bgp_codec.specs.Spelling.{written}
 use Rattle.run_model.specs.Links.{said}
 use Rattle.run_model.specs.Octets.{Passing, passing}
-use Rattle.run_model.specs.Network.{put_towards}
+use Rattle.run_model.specs.Network.{alone, puts, takes, put_towards}
+use Rattle.run_model.specs.Exchange.{PutsCommute}
+use Rattle.bgp_framing.specs.Held.{is_waiting}
 use Rattle.ranked_policy.specs.Plans.{Plan, IsNetwork, IsRouter}
 use Rattle.outbox.specs.declared.item.What.{What}
+use Rattle.outbox.specs.declared.item.What.TheVariants as item
 use Rattle.router_model.specs.Settings.{Setting, linked, peers}
 use Rattle.router_model.specs.State.{Router}
 use Rattle.router_model.specs.Messages.{updates_in}
 use Rattle.outbox.specs.Items.{passes}
-use Rattle.router_model.specs.Step.{RouterEvent, May, Step, after, says}
-use Rattle.router_model.specs.Calls.{Stamped, Call, Steps, Idle, answer, IsEventOf}
+use Rattle.router_model.specs.Sides.{fits}
+use Rattle.router_model.specs.Step.{RouterEvent, Handles, May, Step, after, says}
+use Rattle.router_model.specs.Calls.{Stamped, Call, Take, Handle, Steps, Idle, answer, greatest_stamp, IsEventOf}
 
 -- the octets and entries of items
 abbrev pub all_passes : List What → List (Passing Message)
@@ -55,3 +59,32 @@ abbrev pub SentIsWhatIsSaid : Type 0
 SentIsWhatIsSaid =
     (g : Setting) (u v n : ℕ) (x y : Router) (e : RouterEvent) → Step g u x e y
     → (y.sides v).sent n ≡ (x.sides v).sent n ++ updates_in (said n (says g u x e v))
+
+-- the numbers of an item have 32 bits, as its type in the code says
+abbrev pub HasNumbers : What → Type 0
+HasNumbers (item.Dial e) = fits e ≡ true
+HasNumbers (item.Piece e octets) = Unit {0}
+HasNumbers (item.Mark e s) = Unit {0}
+HasNumbers (item.Shut e) = Unit {0}
+
+-- whatever a peer hands in is taken where no message of it waits to be handled and a stamp is left
+abbrev pub AnyItemIsTaken : Type 0
+AnyItemIsTaken =
+    (g : Setting) (u v stamp : ℕ) (x : Stamped) (i : What) → linked g.net u v ≡ true → HasNumbers i
+    → is_waiting (x.router.sides v).held ≡ false → max x.stamp stamp < greatest_stamp
+    → answer g u x (Take v stamp i) ≡ Steps (takes v i)
+
+-- and what waits is handled, be it a message or a fault
+abbrev pub WhatWaitsIsHandled : Type 0
+WhatWaitsIsHandled =
+    (g : Setting) (u v : ℕ) (x : Stamped) → linked g.net u v ≡ true → is_waiting (x.router.sides v).held ≡ true → x.stamp < greatest_stamp
+    → answer g u x (Handle v) ≡ Steps (alone (Handles v))
+
+-- a put may change places with each event that puts nothing in its direction: so runs pass through their cuts
+abbrev pub RouterPutsCommute : Type 0
+RouterPutsCommute = (g : Setting) → PutsCommute (Step g)
+
+-- and what an event says is the same before a put and behind it
+abbrev pub PutsLeaveWhatIsSaid : Type 0
+PutsLeaveWhatIsSaid =
+    (g : Setting) (u v : ℕ) (i : What) (x y : Router) → Step g u x (puts v i) y → (e : RouterEvent) (w : ℕ) → says g u y e w ≡ says g u x e w

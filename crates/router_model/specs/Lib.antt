@@ -5,4 +5,5 @@ pub mod State
 pub mod Step
 pub mod Calls
 pub mod Laws
+pub mod Recording
 pub mod Examples

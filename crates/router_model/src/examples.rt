@@ -1,7 +1,7 @@
 //! Small cases that show what the definitions say, each computed: two routers of one link, and a router whose peer is
 //! hostile.
 
-ghost use Rattle.router_model.specs.Examples.{OriginatesOnce, StartsAndSaysOpen, FaultyHeaderCloses, StrayItemsAreDropped, NoIncarnationIsLeft, OldOctetsAreGone, NoStampIsLeft, WrongNumberCloses, StrangePathCloses};
+ghost use Rattle.router_model.specs.Examples.{OriginatesOnce, StartsAndSaysOpen, FaultyHeaderCloses, StrayItemsAreDropped, NoIncarnationIsLeft, OldOctetsAreGone, NoStampIsLeft, WrongNumberCloses, StrangePathCloses, NothingBesideTheLastStamp, TellingSetsTheTimer, AnnouncementWins, TellsBelowTheLimit};
 
 /// A prefix is originated once and decided once; there is nobody to tell; a router that is no peer, and a router that is
 /// no origin, are refused.
@@ -44,4 +44,24 @@ pub fn old_octets_are_gone()
 pub fn faults_close()
     ensures number { WrongNumberCloses }
     ensures path { StrangePathCloses }
+{}
+
+/// At the last stamp what bars a call, and that there is nothing to do, are answered before the stamp's end.
+pub fn nothing_beside_the_last_stamp()
+    ensures { NothingBesideTheLastStamp }
+{}
+
+/// An UPDATE told sets the KeepaliveTimer again, and leaves the HoldTimer.
+pub fn telling_sets_the_timer()
+    ensures { TellingSetsTheTimer }
+{}
+
+/// Within one UPDATE an announcement wins over a withdrawal of the same prefix, wherever they stand.
+pub fn announcement_wins()
+    ensures { AnnouncementWins }
+{}
+
+/// With 65,535 octets waiting a peer is told; with 65,536 it is not.
+pub fn tells_below_the_limit()
+    ensures { TellsBelowTheLimit }
 {}

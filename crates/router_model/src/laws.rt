@@ -1,6 +1,15 @@
 //! What the definitions of one router say together. Each is the contract of a function without work of its own.
 
-ghost use Rattle.router_model.specs.Laws.{StepsAppendWhatTheySay, AnswersAreSteps, IdleWhereNothingMayCome, LinkedRoutersArePeers, SentIsWhatIsSaid};
+ghost use Rattle.router_model.specs.Laws.{StepsAppendWhatTheySay, AnswersAreSteps, IdleWhereNothingMayCome, LinkedRoutersArePeers, SentIsWhatIsSaid, AnyItemIsTaken, WhatWaitsIsHandled, RouterPutsCommute, PutsLeaveWhatIsSaid};
+ghost use Rattle.router_model.specs.Recording.{LeavingLosesTheRecording, RecordingsGoOn};
+
+/// Where the session with a peer leaves Established while a snapshot is recorded, its loss is queued by the least such
+/// peer, in the incarnation that was left, and the recording ends (`loses`). Otherwise numbers rise, what is recorded goes
+/// on or is new, and a part is queued as its recording ends (`goes_on`).
+pub fn leaving_loses_the_recording()
+    ensures loses { LeavingLosesTheRecording }
+    ensures goes_on { RecordingsGoOn }
+{}
 
 /// A link joins two routers of the network, whichever it names first, and each is among the peers of the other.
 pub fn linked_routers_are_peers()
@@ -26,4 +35,18 @@ pub fn idle_where_nothing_may_come()
 /// The history of UPDATEs sent in an incarnation is that of the UPDATEs said in it.
 pub fn sent_is_what_is_said()
     ensures { SentIsWhatIsSaid }
+{}
+
+/// Whatever a peer hands in is taken, unless a message of the peer waits to be handled or no stamp is left; and a message
+/// or fault that waits is handled. So nothing that a peer hands in stops a router.
+pub fn any_item_is_answered()
+    ensures taken { AnyItemIsTaken }
+    ensures handled { WhatWaitsIsHandled }
+{}
+
+/// A put may change places with each event of the router that puts nothing in its direction, and what the event says is
+/// the same on either side of the put. So a run may be reordered to pass through a consistent cut.
+pub fn puts_commute()
+    ensures commute { RouterPutsCommute }
+    ensures said { PutsLeaveWhatIsSaid }
 {}

@@ -15,3 +15,4 @@ pub mod Goodness
 pub mod Saying
 pub mod Keeping
 pub mod Leaving
+pub mod Losing

@@ -5,3 +5,4 @@ pub mod Moving
 pub mod Doing
 pub mod Kept
 pub mod Said
+pub mod Snapshots

@@ -2,8 +2,10 @@
 
 ghost use Rattle.router_runs.specs.Promises.{NothingIsActedOnAfterTheClose, UpdatesPassInOrder};
 ghost use Rattle.router_runs.specs.Said.{RunsKeep, SaidIsGood};
+ghost use Rattle.router_runs.specs.Snapshots.{CloseLosesTheRecording};
 
 use prefix_lanes::{a_prefix_is_its_bits, masking_clears_bits};
+use router_model::laws::leaving_loses_the_recording;
 
 /// Every message that a router may say is written as a frame, and each of its peers reads it back.
 pub fn what_is_said_is_good()
@@ -42,4 +44,15 @@ pub fn nothing_is_acted_on_after_the_close()
 {
     a_prefix_is_its_bits();
     masking_clears_bits();
+}
+
+/// A close loses the recording. Where a session leaves Established while its router records a snapshot, the router queues
+/// the loss of that snapshot, by the least such peer of the event and in the incarnation that was left; and it never makes
+/// a part of it.
+///
+/// It does not say that the loss is ever offered.
+pub fn close_loses_the_recording()
+    ensures { CloseLosesTheRecording }
+{
+    leaving_loses_the_recording();
 }

@@ -1,5 +1,5 @@
 -- What a router records of a snapshot, and what it offers of it (Chandy and Lamport 1985).
-use Rattle.std.specs.Prelude.{ℕ, ◌==◌, Bool, false, ◌&&◌, not, cond, List, [], ◌∷◌, ◌++◌, Option, None, Some}
+use Rattle.std.specs.Prelude.{ℕ, ◌==◌, Bool, false, ◌&&◌, not, cond, List, [], ◌∷◌, ◌++◌, drop, Option, None, Some}
 use Rattle.std.specs.List.{find, list_any}
 use Rattle.prefix_lanes.specs.Bits.{PrefixView}
 use Rattle.bgp_codec.specs.declared.message.Message.{Message}
@@ -92,7 +92,19 @@ abbrev pub begins_or_is_lost : List ℕ → Option ℕ → Recording → Snapsho
 begins_or_is_lost peers None r x = goes_on peers r x
 begins_or_is_lost peers (Some v) r x = queueing (record x { unfinished = None }) (Lost r.number v (r.part.incarnation v) NotUp ∷ [])
 
+-- a number is recorded: the unfinished recording is superseded, and where the peer `down`, the least one, is not Established
+-- the new one is lost at once
+abbrev pub superseding : Recording → List ℕ → Snapshots → Snapshots
+superseding r peers x = queueing (record x { last = r.number; unfinished = None }) (superseded peers r.part.incarnation x.unfinished)
+
+abbrev pub begun_at : List ℕ → (down : Option ℕ) → Recording → Snapshots → Snapshots
+begun_at peers down r x = begins_or_is_lost peers down r (superseding r peers x)
+
 abbrev pub begun : List ℕ → (ℕ → Bool) → Recording → Snapshots → Snapshots
-begun peers is_up r x =
-    begins_or_is_lost peers (find (λ v. not (is_up v)) peers) r
-    (queueing (record x { last = r.number; unfinished = None }) (superseded peers r.part.incarnation x.unfinished))
+begun peers is_up r x = begun_at peers (find (λ v. not (is_up v)) peers) r x
+
+-- ---- an offer that is made
+
+-- the first offer is made
+abbrev pub without_first : Snapshots → Snapshots
+without_first x = record x { queue = drop 1 x.queue }

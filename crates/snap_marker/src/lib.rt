@@ -5,3 +5,16 @@
 //!
 //! Left out: which markers a router heeds, when it sends its own, and what a collector makes of the offers.
 #![tactic(auto)]
+
+mod copying;
+mod links;
+mod mark_state;
+mod part;
+mod refusal;
+
+pub use mark_state::MarkState;
+pub use part::{Cause, Channel, KeptPath, Lost, Offer, Part};
+pub use refusal::MarkError;
+
+#[cfg(test)]
+mod tests;

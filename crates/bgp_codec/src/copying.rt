@@ -1,0 +1,85 @@
+//! Copies of an UPDATE, for whoever keeps it in two places.
+
+ghost use Rattle.std.specs.Prelude.{◌≡◌, IfOk};
+
+use crate::attributes::{Attrs, Raw};
+use crate::items::Items;
+use crate::octets::Octets;
+use crate::path::{Numbers, Segment};
+use crate::update::Update;
+use std::alloc::{AllocError, Global};
+
+impl<T: Copy> Items<T> {
+    // A copy of the list.
+    fn copied(&self, alloc: Global) -> Result<Items<T>, AllocError>
+        ensures { IfOk result (λ copy. copy ≡ self.now) }
+    {
+        let mut items = Vec::new(alloc);
+        items.extend_from_slice(self.as_slice())?;
+        Ok(Items::from_vec(items))
+    }
+}
+
+fn copied_path(alloc: Global, path: &Items<Segment>) -> Result<Items<Segment>, AllocError>
+    ensures { IfOk result (λ copy. copy ≡ path.now) }
+{
+    let mut copy = Vec::new(alloc);
+    copy.reserve(path.as_slice().len())?;
+    for segment in path.as_slice() {
+        copy.push(Segment {
+            kind: segment.kind,
+            numbers: Numbers::from_slice(alloc, segment.numbers.as_slice())?,
+        })?;
+    }
+    Ok(Items::from_vec(copy))
+}
+
+fn copied_others(alloc: Global, others: &Items<Raw>) -> Result<Items<Raw>, AllocError>
+    ensures { IfOk result (λ copy. copy ≡ others.now) }
+{
+    let mut copy = Vec::new(alloc);
+    copy.reserve(others.as_slice().len())?;
+    for raw in others.as_slice() {
+        copy.push(Raw {
+            flags: raw.flags,
+            code: raw.code,
+            value: Octets::from_slice(alloc, raw.value.as_slice())?,
+        })?;
+    }
+    Ok(Items::from_vec(copy))
+}
+
+impl Attrs {
+    // A copy of the attributes.
+    fn copied(&self, alloc: Global) -> Result<Attrs, AllocError>
+        ensures { IfOk result (λ copy. copy ≡ self.now) }
+    {
+        let path = match &self.path {
+            None => None,
+            Some(path) => Some(copied_path(alloc, path)?),
+        };
+        Ok(Attrs {
+            origin: self.origin,
+            path,
+            next_hop: self.next_hop,
+            med: self.med,
+            local_pref: self.local_pref,
+            atomic: self.atomic,
+            aggregator: self.aggregator,
+            other: copied_others(alloc, &self.other)?,
+        })
+    }
+}
+
+impl Update {
+    /// A copy of the UPDATE: the same in every part. It is refused only where memory was.
+    pub fn copied(&self, alloc: Global) -> Result<Update, AllocError>
+        ensures { IfOk result (λ copy. copy ≡ self.now) }
+    {
+        Ok(Update {
+            withdrawn: self.withdrawn.copied(alloc)?,
+            attrs: self.attrs.copied(alloc)?,
+            nlri: self.nlri.copied(alloc)?,
+        })
+    }
+}

@@ -1,0 +1,417 @@
+-- The owner's invariant as sessions come up and are left, and as a path is kept.
+use Rattle.std.proofs.Common.{◌≡◌, ◌≢◌, ℕ, zero, suc, ◌<◌, ◌≤◌, ◌+◌, Bool, true, false, ◌||◌, cond, List, [], ◌∷◌, ◌++◌, length, get_or, set, map, refl, sym, ap, subst, ◌∙◌, arith, inl, inr, ◌⊎◌, Some, Option}
+use Rattle.std.specs.Prelude.{◌↔◌}
+use Rattle.std.specs.List.{slice_get, AllPairs, Contains}
+use Rattle.std.proofs.lemmas.List.Elements.{Contains-get_or, Contains-append_right, Contains-append_cases}
+use Rattle.std.proofs.Math.Seq.{map-set_same}
+use Rattle.std.proofs.Common.{drop}
+use Rattle.rib_tables.specs.Tables.{Words, word_of, Forgets}
+use Rattle.rib_tables.specs.Owners.{RibView, ComesUp, ForgetsPeer}
+use Rattle.std.proofs.lemmas.Bool.{cases_Bool, cases_order, both_ways, cond-true, cond-false, false≢true}
+use Rattle.std.proofs.lemmas.List.{length-set, get_or-set_other}
+use Rattle.std.proofs.lemmas.Option.{slice_get_within, get_or_from_slice_get, slice_get-get_or}
+use Rattle.prefix_lanes.specs.Bits.{PrefixView}
+use Rattle.ranked_policy.specs.Plans.{Plan, Linked}
+use Rattle.ranked_policy.specs.Policies.{Table}
+use Rattle.rib_tables.specs.declared.word.Word.{Word}
+use Rattle.rib_tables.specs.declared.word.Word.TheVariants.{Sequence}
+use Rattle.rib_tables.specs.declared.place_set.PlaceSet.{PlaceSet}
+use Rattle.rib_tables.specs.declared.row.Peer.{Peer}
+use Rattle.rib_tables.specs.declared.row.Row.{Row}
+use Rattle.rib_tables.specs.Places.{has}
+use Rattle.rib_tables.specs.Words.{nothing, is_prefix}
+use Rattle.rib_tables.specs.Choices.{IsBestOf, IsFirstOrNone}
+use Rattle.rib_tables.specs.Rows.{RowHears, IsRow, AreRows, AreDecided, AreWaiting, IsWaiting, IsRowBest, IsRib, Marks, MarksSpeaking, Speaking, forgetting, keeping, on, says_in, said_in, established_in, originated_in, kept_in, view_of}
+use Rattle.rib_tables.proofs.RowChoices.{some_of, first_as}
+use Rattle.rib_tables.proofs.ChangeLemmas.{from_map, map_after}
+use Rattle.rib_tables.proofs.RibLemmas.{set_here, set_there, rows_map, decided_map, row_or_not, new_word, same_word, originated_map, kept_map, peer_once}
+use Rattle.rib_tables.proofs.ViewLemmas.{no_row}
+
+-- the best of a row, where the same paths are heard
+pub row_best_as : (net : Plan) (router : ℕ) (before after : List Peer) (r s : Row) (path : List ℕ) → s.prefix ≡ r.prefix → s.originated ≡ r.originated
+    → ((v : ℕ) (p : List ℕ) → p ≢ [] → RowHears before r.heard (length before) v p → RowHears after s.heard (length after) v p)
+    → ((v : ℕ) (p : List ℕ) → p ≢ [] → RowHears after s.heard (length after) v p → RowHears before r.heard (length before) v p)
+    → IsRowBest net router before r path → IsRowBest net router after s path
+row_best_as net router before after r s path prefix originated onto back best =
+    let Goal : Bool → PrefixView → Type 0 = λ b q. IsBestOf (b ≡ true) (RowHears after s.heard (length after)) best.0 q path in
+    (best.0, best.1, subst (λ (b : Bool). Goal b s.prefix) (sym originated) (subst (λ (q : PrefixView). Goal r.originated q) (sym prefix) (changed best.2)))
+  where
+    changed : IsBestOf (r.originated ≡ true) (RowHears before r.heard (length before)) best.0 r.prefix path → IsBestOf (r.originated ≡ true) (RowHears after s.heard (length after)) best.0 r.prefix path
+    changed (inl own) = inl own
+    changed (inr x) = inr (x.0, first_as best.0 r.prefix (RowHears before r.heard (length before)) (RowHears after s.heard (length after)) path onto back x.1)
+
+some_path : (p : List ℕ) → p ≢ [] → (v : ℕ) × (rest : List ℕ) × (p ≡ v ∷ rest)
+some_path [] some = absurd (some refl)
+some_path (v ∷ rest) some = (v, rest, refl)
+
+speaks_there : (k : ℕ) (r : Row) (p : List ℕ) → p ≢ [] → slice_get r.heard k ≡ Some (Sequence p) → Speaking k r
+speaks_there k r p some at = let s = some_path p some in (s.0, s.1, at ∙ ap (λ (q : List ℕ). Some (Sequence q)) s.2)
+
+module _ (net : Plan) (router : ℕ) (peers : List Peer) (keys : List PrefixView) (rows : List Row) (dirty : PlaceSet) (waits : List PlaceSet) (rib : IsRib net router peers keys rows dirty waits)
+    (k : ℕ) (x : Peer) (at : slice_get peers k ≡ Some x) where
+  abbrev turned : Bool → List Peer
+  turned up = set peers k (record { asn = x.asn; up = up })
+
+  inside : k < length peers
+  inside = slice_get_within peers k x at
+
+  size : (up : Bool) → length (turned up) ≡ length peers
+  size up = length-set peers k (record { asn = x.asn; up = up })
+
+  -- a peer of the changed list: that one, or another as it was
+  peer_of : (up : Bool) (j : ℕ) (p : Peer) → slice_get (turned up) j ≡ Some p → ((j ≡ k) × (p ≡ record { asn = x.asn; up = up })) ⊎ ((j ≢ k) × (slice_get peers j ≡ Some p))
+  peer_of up j p there = elim (cases_order j k) [
+    | inl same ↦ inl (same, some_of p (record { asn = x.asn; up = up }) (sym there ∙ ap (λ (n : ℕ). slice_get (turned up) n) same ∙ set_here peers k (record { asn = x.asn; up = up }) inside))
+    | inr differ ↦
+        let apart : j ≢ k = λ e. elim differ [ inl l ↦ omega (arith, l, e) | inr m ↦ omega (arith, m, e) ] in
+        inr (apart, sym (set_there peers k j (record { asn = x.asn; up = up }) apart) ∙ there)
+  ]
+
+  number_of : (up : Bool) (j : ℕ) (d : Peer) → j < length peers → (get_or (turned up) j d).asn ≡ (get_or peers j d).asn
+  number_of up j d lt =
+      elim (peer_of up j (get_or (turned up) j d) (slice_get-get_or (turned up) j d (let s = size up in omega (arith, lt, s)))) [
+        | inl here ↦ ap (λ (p : Peer). p.asn) here.1 ∙ sym (ap (λ (p : Peer). p.asn) (ap (λ (n : ℕ). get_or peers n d) here.0 ∙ get_or_from_slice_get peers k x d at))
+        | inr other ↦ sym (ap (λ (p : Peer). p.asn) (get_or_from_slice_get peers j (get_or (turned up) j d) d other.1))
+      ]
+
+  turned_rows : (up : Bool) (f : Row → Row) → ((r : Row) → (f r).prefix ≡ r.prefix) → ((r : Row) → IsRow net router peers r → IsRow net router (turned up) (f r)) → AreRows net router (turned up) keys (map f rows)
+  turned_rows up f prefix keeps = record {
+    network = rib.whole.network;
+    routers = rib.whole.routers;
+    apart = λ i j d lt below e.
+        let s = size up in
+        rib.whole.apart i j d lt (omega (arith, below, s)) (sym (number_of up i d (omega (arith, lt, below, s))) ∙ e ∙ number_of up j d (omega (arith, below, s)));
+    linked = λ v link. let there = rib.whole.linked v link in elim (cases_order there.0 k) [
+      | inl same ↦ (
+        k,
+        record { asn = x.asn; up = up },
+        set_here peers k (record { asn = x.asn; up = up }) inside,
+        ap (λ (p : Peer). p.asn) (some_of x there.1 (sym at ∙ ap (λ (n : ℕ). slice_get peers n) (sym same) ∙ there.2)) ∙ there.3,
+      )
+      | inr differ ↦
+          let apart : there.0 ≢ k = λ e. elim differ [ inl l ↦ omega (arith, l, e) | inr m ↦ omega (arith, m, e) ] in
+          (there.0, there.1, set_there peers k there.0 (record { asn = x.asn; up = up }) apart ∙ there.2, there.3)
+    ];
+    known = λ j p there. elim (peer_of up j p there) [
+      | inl here ↦ subst (Linked net.links router) (sym (ap (λ (y : Peer). y.asn) here.1)) (rib.whole.known k x at)
+      | inr other ↦ rib.whole.known j p other.1
+    ];
+    listed = rib.whole.listed ∙ sym (map_after f (λ (r : Row). r.prefix) (λ (r : Row). r.prefix) prefix rows);
+    named = rib.whole.named;
+    each = λ i r there. let y = from_map f rows i r there in subst (IsRow net router (turned up)) (sym y.2) (keeps y.0 (rib.whole.each i y.0 y.1));
+  }
+
+  -- ---- a session is left
+
+  forgotten_row : (r : Row) → IsRow net router peers r → IsRow net router (turned false) (forgetting k r)
+  forgotten_row r is = record { heard = length-set r.heard k nothing ∙ is.heard ∙ sym (size false); sent = length-set r.sent k nothing ∙ is.sent ∙ sym (size false); speaks = is.speaks; own = is.own }
+
+  forgotten_best : (r : Row) (path : List ℕ) → (Speaking k r → ⊥) → IsRowBest net router peers r path → IsRowBest net router (turned false) (forgetting k r) path
+  forgotten_best r path silent best = row_best_as net router peers (turned false) r (forgetting k r) path refl refl
+      (λ v p some h. elim (cases_order h.place k) [
+        | inl same ↦ absurd (silent (speaks_there k r p some (ap (λ (n : ℕ). slice_get r.heard n) (sym same) ∙ h.word)))
+        | inr differ ↦
+            let apart : h.place ≢ k = λ e. elim differ [ inl l ↦ omega (arith, l, e) | inr m ↦ omega (arith, m, e) ] in
+            record {
+              place = h.place;
+              below = (let b = h.below in let s = size false in omega (arith, b, s));
+              peer = h.peer;
+              at = set_there peers k h.place (record { asn = x.asn; up = false }) apart ∙ h.at;
+              up = h.up;
+              number = h.number;
+              word = set_there r.heard k h.place nothing apart ∙ h.word;
+            }
+      ])
+      (λ v p some h. elim (peer_of false h.place h.peer h.at) [
+        | inl here ↦ absurd (false≢true (sym (ap (λ (y : Peer). y.up) here.1) ∙ h.up))
+        | inr other ↦ record {
+          place = h.place;
+          below = (let b = h.below in let s = size false in omega (arith, b, s));
+          peer = h.peer;
+          at = other.1;
+          up = h.up;
+          number = h.number;
+          word = sym (set_there r.heard k h.place nothing other.0) ∙ h.word;
+        }
+      ])
+      best
+
+  pub forget_keeps_rib : (new : List Row) (marked none : PlaceSet) → new ≡ map (forgetting k) rows → MarksSpeaking k rows dirty marked → ((i : ℕ) → has none i ≡ false)
+      → IsRib net router (turned false) keys new marked (set waits k none)
+  forget_keeps_rib new marked none is marks empty =
+      subst (λ (rs : List Row). IsRib net router (turned false) keys rs marked (set waits k none)) (sym is) (record {
+        whole = turned_rows false (forgetting k) (λ r. refl) forgotten_row;
+        decided = λ i r there out.
+            let y = from_map (forgetting k) rows i r there in
+            let m = marks i out in
+            subst (λ (s : Row). IsRowBest net router (turned false) s s.kept) (sym y.2) (forgotten_best y.0 y.0.kept (m.1 y.0 y.1) (rib.decided i y.0 y.1 m.0));
+        told = record {
+          long = length-set waits k none ∙ rib.told.long ∙ sym (size false);
+          each = λ j p waiting there here i r row.
+              let y = from_map (forgetting k) rows i r row in
+              elim (peer_of false j p there) [
+                | inl own ↦
+                    let w : waiting ≡ none = some_of waiting none (sym here ∙ ap (λ (n : ℕ). slice_get (set waits k none) n) own.0 ∙ set_here waits k none (let l = rib.told.long in let b = inside in omega (arith, l, b))) in
+                    (λ t. absurd (both_ways (has waiting i) (ap (λ (s : PlaceSet). has s i) w ∙ empty i) t), λ u. absurd (false≢true (sym (ap (λ (z : Peer). z.up) own.1) ∙ u.0)))
+                | inr other ↦
+                    subst (λ (s : Row). has waiting i ≡ true ↔ ((p.up ≡ true) × (slice_get s.sent j ≢ Some (Sequence s.kept)))) (sym y.2)
+                    (subst (λ (o : Option Word). has waiting i ≡ true ↔ ((p.up ≡ true) × (o ≢ Some (Sequence y.0.kept)))) (sym (set_there y.0.sent k j nothing other.0))
+                    (rib.told.each j p waiting other.1 (sym (set_there waits k j none other.0) ∙ here) i y.0 y.1))
+              ];
+        };
+      })
+
+  -- ---- a session comes up
+
+  risen_row : (r : Row) → IsRow net router peers r → IsRow net router (turned true) r
+  risen_row r is = record { heard = is.heard ∙ sym (size true); sent = is.sent ∙ sym (size true); speaks = is.speaks; own = is.own }
+
+  risen_best : (r : Row) (path : List ℕ) → (Speaking k r → ⊥) → IsRowBest net router peers r path → IsRowBest net router (turned true) r path
+  risen_best r path silent best = row_best_as net router peers (turned true) r r path refl refl
+      (λ v p some h. elim (cases_order h.place k) [
+        | inl same ↦ absurd (silent (speaks_there k r p some (ap (λ (n : ℕ). slice_get r.heard n) (sym same) ∙ h.word)))
+        | inr differ ↦
+            let apart : h.place ≢ k = λ e. elim differ [ inl l ↦ omega (arith, l, e) | inr m ↦ omega (arith, m, e) ] in
+            record {
+              place = h.place;
+              below = (let b = h.below in let s = size true in omega (arith, b, s));
+              peer = h.peer;
+              at = set_there peers k h.place (record { asn = x.asn; up = true }) apart ∙ h.at;
+              up = h.up;
+              number = h.number;
+              word = h.word;
+            }
+      ])
+      (λ v p some h. elim (peer_of true h.place h.peer h.at) [
+        | inl here ↦ absurd (silent (speaks_there k r p some (ap (λ (n : ℕ). slice_get r.heard n) (sym here.0) ∙ h.word)))
+        | inr other ↦ record { place = h.place; below = (let b = h.below in let s = size true in omega (arith, b, s)); peer = h.peer; at = other.1; up = h.up; number = h.number; word = h.word }
+      ])
+      best
+
+  pub rise_keeps_rib : (marked untold : PlaceSet) → MarksSpeaking k rows dirty marked
+      → ((i : ℕ) (r : Row) → slice_get rows i ≡ Some r → (has untold i ≡ true ↔ (slice_get r.sent k ≢ Some (Sequence r.kept))))
+      → IsRib net router (turned true) keys rows marked (set waits k untold)
+  rise_keeps_rib marked untold marks tells = record {
+    whole = subst (λ (rs : List Row). AreRows net router (turned true) keys rs) (map_id rows) (turned_rows true (λ r. r) (λ r. refl) risen_row);
+    decided = λ i r there out. let m = marks i out in risen_best r r.kept (m.1 r there) (rib.decided i r there m.0);
+    told = record {
+      long = length-set waits k untold ∙ rib.told.long ∙ sym (size true);
+      each = λ j p waiting there here i r row.
+          elim (peer_of true j p there) [
+            | inl own ↦
+                let w : waiting ≡ untold = some_of waiting untold (sym here ∙ ap (λ (n : ℕ). slice_get (set waits k untold) n) own.0 ∙ set_here waits k untold (let l = rib.told.long in let b = inside in omega (arith, l, b))) in
+                let up : p.up ≡ true = ap (λ (z : Peer). z.up) own.1 in
+                let t = tells i r row in (
+                  λ in_it. (up, λ e. t.0 (ap (λ (s : PlaceSet). has s i) (sym w) ∙ in_it) (ap (λ (n : ℕ). slice_get r.sent n) (sym own.0) ∙ e)),
+                  λ u. ap (λ (s : PlaceSet). has s i) w ∙ t.1 (λ e. u.1 (ap (λ (n : ℕ). slice_get r.sent n) own.0 ∙ e)),
+                )
+            | inr other ↦ rib.told.each j p waiting other.1 (sym (set_there waits k j untold other.0) ∙ here) i r row
+          ];
+    };
+  }
+    where
+      map_id : (rs : List Row) → map (λ r. r) rs ≡ rs
+      map_id [] = refl
+      map_id (r ∷ rs) = ap (λ (ss : List Row). r ∷ ss) (map_id rs)
+
+-- ---- a path is kept
+
+pub keep_keeps_rib : (net : Plan) (router : ℕ) (peers : List Peer) (keys : List PrefixView) (rows new : List Row) (dirty marked : PlaceSet) (waits told : List PlaceSet) (q : PrefixView) (place : ℕ) (path : List ℕ)
+    → IsRib net router peers keys rows dirty waits → new ≡ map (on q (keeping path)) rows → Marks (λ r. is_prefix q r.prefix) rows dirty marked
+    → ((i : ℕ) (r : Row) → slice_get rows i ≡ Some r → i ≢ place → is_prefix q r.prefix ≡ false)
+    → length told ≡ length waits
+    → ((k : ℕ) (p : Peer) (w : PlaceSet) (r : Row) → slice_get new place ≡ Some r → slice_get peers k ≡ Some p → slice_get told k ≡ Some w → (has w place ≡ true ↔ ((p.up ≡ true) × (slice_get r.sent k ≢ Some (Sequence r.kept)))))
+    → ((k : ℕ) (w : PlaceSet) → slice_get told k ≡ Some w → (v : PlaceSet) × (slice_get waits k ≡ Some v) × ((i : ℕ) → i ≢ place → has w i ≡ has v i))
+    → IsRib net router peers keys new marked told
+keep_keeps_rib net router peers keys rows new dirty marked waits told q place path rib is marks elsewhere long here others =
+    record {
+      whole = subst (λ (rs : List Row). AreRows net router peers keys rs) (sym is) (rows_map net router peers keys rows (on q (keeping path)) kept_prefix kept_row rib.whole);
+      decided = subst (λ (rs : List Row). AreDecided net router peers rs marked) (sym is) (decided_map net router peers keys rows (on q (keeping path)) kept_prefix marked (λ i r at out.
+          let m = marks i out in
+          subst (λ (s : Row). IsRowBest net router peers s s.kept) (sym (cond-false (is_prefix q r.prefix) (keeping path r) r (m.1 r at))) (rib.decided i r at m.0)));
+      told = record {
+        long = long ∙ rib.told.long;
+        each = λ k p w there told_at i r at.
+            elim (cases_order i place) [
+              | inl same ↦ subst (λ (n : ℕ). has w n ≡ true ↔ ((p.up ≡ true) × (slice_get r.sent k ≢ Some (Sequence r.kept)))) (sym same)
+                  (here k p w r (ap (λ (n : ℕ). slice_get new n) (sym same) ∙ at) there told_at)
+              | inr differ ↦
+                  let apart : i ≢ place = λ e. elim differ [ inl l ↦ omega (arith, l, e) | inr m ↦ omega (arith, m, e) ] in
+                  let y = from_map (on q (keeping path)) rows i r (ap (λ (rs : List Row). slice_get rs i) (sym is) ∙ at) in
+                  let old : r ≡ y.0 = y.2 ∙ cond-false (is_prefix q y.0.prefix) (keeping path y.0) y.0 (elsewhere i y.0 y.1 apart) in
+                  let before = others k w told_at in
+                  subst (λ (b : Bool). b ≡ true ↔ ((p.up ≡ true) × (slice_get r.sent k ≢ Some (Sequence r.kept)))) (sym (before.2 i apart))
+                  (subst (λ (s : Row). has before.0 i ≡ true ↔ ((p.up ≡ true) × (slice_get s.sent k ≢ Some (Sequence s.kept)))) (sym old) (rib.told.each k p before.0 there before.1 i y.0 y.1))
+            ];
+      };
+    }
+  where
+    kept_prefix : (r : Row) → (on q (keeping path) r).prefix ≡ r.prefix
+    kept_prefix r = elim (cases_Bool (is_prefix q r.prefix)) [
+      | inl t ↦ ap (λ (s : Row). s.prefix) (cond-true (is_prefix q r.prefix) (keeping path r) r t)
+      | inr f ↦ ap (λ (s : Row). s.prefix) (cond-false (is_prefix q r.prefix) (keeping path r) r f)
+    ]
+
+    kept_row : (r : Row) → IsRow net router peers r → IsRow net router peers (on q (keeping path) r)
+    kept_row r h = elim (cases_Bool (is_prefix q r.prefix)) [
+      | inl t ↦ subst (IsRow net router peers) (sym (cond-true (is_prefix q r.prefix) (keeping path r) r t)) (record { heard = h.heard; sent = h.sent; speaks = h.speaks; own = h.own })
+      | inr f ↦ subst (IsRow net router peers) (sym (cond-false (is_prefix q r.prefix) (keeping path r) r f)) h
+    ]
+
+-- ---- what look-ups see of a session that comes up or is left
+
+pub up_listed : (peers : List Peer) (k : ℕ) (p : Peer) → slice_get peers k ≡ Some p → p.up ≡ true → Contains (established_in peers) p.asn
+up_listed [] k p at up = absurd (let lt = slice_get_within [] k p at in omega (arith, lt))
+up_listed (x ∷ xs) zero p at up =
+    let same : x ≡ p = some_of x p at in
+    subst (λ (l : List ℕ). Contains l p.asn) (sym (cond-true x.up (x.asn ∷ established_in xs) (established_in xs) (ap (λ (y : Peer). y.up) same ∙ up)))
+    (subst (λ (n : ℕ). Contains (x.asn ∷ established_in xs) n) (ap (λ (y : Peer). y.asn) same) (Contains-get_or (x.asn ∷ established_in xs) 0 0 (omega arith)))
+up_listed (x ∷ xs) (suc k) p at up =
+    let rest = up_listed xs k p at up in
+    elim (cases_Bool x.up) [
+      | inl t ↦ subst (λ (l : List ℕ). Contains l p.asn) (sym (cond-true x.up (x.asn ∷ established_in xs) (established_in xs) t)) (Contains-append_right (x.asn ∷ []) (established_in xs) p.asn rest)
+      | inr f ↦ subst (λ (l : List ℕ). Contains l p.asn) (sym (cond-false x.up (x.asn ∷ established_in xs) (established_in xs) f)) rest
+    ]
+
+pub listed_up : (peers : List Peer) (v : ℕ) → Contains (established_in peers) v → (k : ℕ) × (p : Peer) × (slice_get peers k ≡ Some p) × (p.up ≡ true) × (p.asn ≡ v)
+listed_up [] v c = absurd (let lt = c.1 in omega (arith, lt))
+listed_up (x ∷ xs) v c = elim (cases_Bool x.up) [
+  | inl t ↦ elim (Contains-append_cases (x.asn ∷ []) (established_in xs) v (subst (λ (l : List ℕ). Contains l v) (cond-true x.up (x.asn ∷ established_in xs) (established_in xs) t) c)) [
+    | inl here ↦ (0, x, refl, t, only here.0 here.1 here.2)
+    | inr there ↦ let r = listed_up xs v there in (suc r.0, r.1, r.2, r.3, r.4)
+  ]
+  | inr f ↦ let r = listed_up xs v (subst (λ (l : List ℕ). Contains l v) (cond-false x.up (x.asn ∷ established_in xs) (established_in xs) f) c) in (suc r.0, r.1, r.2, r.3, r.4)
+]
+  where
+    only : (k : ℕ) → k < 1 → get_or (x.asn ∷ []) k v ≡ v → get_or (x.asn ∷ []) 0 0 ≡ v
+    only zero lt e = e
+    only (suc k) lt e = absurd (omega (arith, lt))
+
+-- the words say the same of peers with the same numbers
+pub says_numbers : (before after : List Peer) (q : PrefixView) (ws : List Word) → map (λ p. p.asn) before ≡ map (λ p. p.asn) after → says_in before q ws ≡ says_in after q ws
+says_numbers [] [] q ws e = refl
+says_numbers [] (y ∷ ys) q ws e = absurd cc
+says_numbers (x ∷ xs) [] q ws e = absurd cc
+says_numbers (x ∷ xs) (y ∷ ys) q [] e = refl
+says_numbers (x ∷ xs) (y ∷ ys) q (w ∷ ws) e =
+    ap (λ (n : ℕ). (record { peer = n; prefix = q; word = w }) ∷ says_in xs q ws) (ap (λ (ns : List ℕ). get_or ns 0 0) e)
+    ∙ ap (λ (ss : Words). (record { peer = y.asn; prefix = q; word = w }) ∷ ss) (says_numbers xs ys q ws (ap (λ (ns : List ℕ). drop 1 ns) e))
+
+pub said_numbers : (line : Row → List Word) (before after : List Peer) → map (λ p. p.asn) before ≡ map (λ p. p.asn) after → (rows : List Row) → said_in line before rows ≡ said_in line after rows
+said_numbers line before after e [] = refl
+said_numbers line before after e (r ∷ rs) =
+    ap (λ (ss : Words). ss ++ said_in line before rs) (says_numbers before after r.prefix (line r) e) ∙ ap (λ (ss : Words). says_in after r.prefix (line r) ++ ss) (said_numbers line before after e rs)
+
+pub rises_view : (net : Plan) (router : ℕ) (peers after : List Peer) (rows : List Row) (k : ℕ) (x : Peer) → slice_get peers k ≡ Some x → after ≡ set peers k (record { asn = x.asn; up = true })
+    → ComesUp (view_of net router peers rows) (view_of net router after rows) x.asn
+rises_view net router peers after rows k x at is = subst (λ (ps : List Peer). ComesUp (view_of net router peers rows) (view_of net router ps rows) x.asn) (sym is) (record {
+  established = λ v. (
+    λ c. new_to_old v (listed_up turned_up v c),
+    λ h. elim h [
+      | inl same ↦ subst (Contains (established_in turned_up)) (sym same) (up_listed turned_up k risen (set_here peers k risen lt) refl)
+      | inr old ↦ old_to_new v (listed_up peers v old)
+    ],
+  );
+  rest =
+      let e : map (λ (p : Peer). p.asn) turned_up ≡ map (λ (p : Peer). p.asn) peers = map-set_same (λ (p : Peer). p.asn) peers k risen x (sym (ap (λ (p : Peer). p.asn) (get_or_from_slice_get peers k x x at))) in
+      let heard = said_numbers (λ r. r.heard) turned_up peers e rows in
+      let sent = said_numbers (λ r. r.sent) turned_up peers e rows in
+      λ i. record { net = net; router = router; heard = heard i; sent = sent i; established = established_in turned_up; originated = originated_in rows; kept = kept_in rows };
+})
+  where
+    risen : Peer
+    risen = record { asn = x.asn; up = true }
+
+    turned_up : List Peer
+    turned_up = set peers k risen
+
+    lt : k < length peers
+    lt = slice_get_within peers k x at
+
+    new_to_old : (v : ℕ) → ((j : ℕ) × (p : Peer) × (slice_get turned_up j ≡ Some p) × (p.up ≡ true) × (p.asn ≡ v)) → (v ≡ x.asn) ⊎ Contains (established_in peers) v
+    new_to_old v h = elim (cases_order h.0 k) [
+      | inl same ↦ inl (sym h.4 ∙ ap (λ (p : Peer). p.asn) (some_of h.1 risen (sym h.2 ∙ ap (λ (n : ℕ). slice_get turned_up n) same ∙ set_here peers k risen lt)))
+      | inr differ ↦
+          let apart : h.0 ≢ k = λ e. elim differ [ inl l ↦ omega (arith, l, e) | inr m ↦ omega (arith, m, e) ] in
+          inr (subst (Contains (established_in peers)) h.4 (up_listed peers h.0 h.1 (sym (set_there peers k h.0 risen apart) ∙ h.2) h.3))
+    ]
+
+    old_to_new : (v : ℕ) → ((j : ℕ) × (p : Peer) × (slice_get peers j ≡ Some p) × (p.up ≡ true) × (p.asn ≡ v)) → Contains (established_in turned_up) v
+    old_to_new v h = elim (cases_order h.0 k) [
+      | inl same ↦ subst (Contains (established_in turned_up)) (sym (ap (λ (p : Peer). p.asn) (some_of h.1 x (sym h.2 ∙ ap (λ (n : ℕ). slice_get peers n) same ∙ at))) ∙ h.4) (up_listed turned_up k risen (set_here peers k risen lt) refl)
+      | inr differ ↦
+          let apart : h.0 ≢ k = λ e. elim differ [ inl l ↦ omega (arith, l, e) | inr m ↦ omega (arith, m, e) ] in
+          subst (Contains (established_in turned_up)) h.4 (up_listed turned_up h.0 h.1 (set_there peers k h.0 risen apart ∙ h.2) h.3)
+    ]
+
+module _ (net : Plan) (router : ℕ) (peers : List Peer) (keys : List PrefixView) (rows : List Row) (whole : AreRows net router peers keys rows) (k : ℕ) (x : Peer) (at : slice_get peers k ≡ Some x)
+    (line : Row → List Word) (long : (r : Row) → IsRow net router peers r → length (line r) ≡ length peers) (emptied : (r : Row) → line (forgetting k r) ≡ set (line r) k nothing) where
+  forgets_words : Forgets (said_in line peers rows) (said_in line peers (map (forgetting k) rows)) x.asn
+  forgets_words = record {
+    gone = λ q. elim (row_or_not rows q) [
+      | inr none ↦ no_row x.asn q line peers (map (forgetting k) rows) (λ i r there e. let y = from_map (forgetting k) rows i r there in none i y.0 y.1 (sym (ap (λ (s : Row). s.prefix) y.2) ∙ e))
+      | inl row ↦
+          let r = row.1 in
+          let size = long r (whole.each row.0 r row.2) in
+          let lt = slice_get_within peers k x at in
+          ap (λ (p : PrefixView). word_of (said_in line peers (map (forgetting k) rows)) x.asn p) (sym row.3)
+          ∙ new_word net router peers keys rows whole (forgetting k) (λ s. refl) line row.0 k r x nothing row.2 at
+          (ap (λ (ws : List Word). slice_get ws k) (emptied r) ∙ set_here (line r) k nothing (omega (arith, lt, size)))
+    ];
+    others = λ v q apart. same_word net router peers keys rows whole (forgetting k) (λ s. refl) line long v q (λ i j r p there is here e.
+        ap (λ (ws : List Word). slice_get ws j) (emptied r)
+        ∙ set_there (line r) k j nothing (λ same. apart (sym e ∙ ap (λ (y : Peer). y.asn) (some_of p x (sym here ∙ ap (λ (n : ℕ). slice_get peers n) same ∙ at)))));
+  }
+
+pub forgets_view : (net : Plan) (router : ℕ) (peers after : List Peer) (keys : List PrefixView) (rows new : List Row) → AreRows net router peers keys rows → (k : ℕ) (x : Peer) → slice_get peers k ≡ Some x
+    → after ≡ set peers k (record { asn = x.asn; up = false }) → new ≡ map (forgetting k) rows → ForgetsPeer (view_of net router peers rows) (view_of net router after new) x.asn
+forgets_view net router peers after keys rows new whole k x at is are =
+    subst (λ (ps : List Peer). ForgetsPeer (view_of net router peers rows) (view_of net router ps new) x.asn) (sym is)
+    (subst (λ (rs : List Row). ForgetsPeer (view_of net router peers rows) (view_of net router turned_down rs) x.asn) (sym are) (record {
+      heard = subst (λ (ws : Words). Forgets (said_in (λ r. r.heard) peers rows) ws x.asn) (sym (said_numbers (λ r. r.heard) turned_down peers same_numbers (map (forgetting k) rows)))
+          (forgets_words net router peers keys rows whole k x at (λ r. r.heard) (λ r h. h.heard) (λ r. refl));
+      sent = subst (λ (ws : Words). Forgets (said_in (λ r. r.sent) peers rows) ws x.asn) (sym (said_numbers (λ r. r.sent) turned_down peers same_numbers (map (forgetting k) rows)))
+          (forgets_words net router peers keys rows whole k x at (λ r. r.sent) (λ r h. h.sent) (λ r. refl));
+      established = λ v. (λ c. new_to_old v (listed_up turned_down v c), λ h. old_to_new v h.0 (listed_up peers v h.1));
+      rest =
+          let originated = originated_map (forgetting k) (λ r. refl) (λ r. refl) rows in
+          let kept = kept_map (forgetting k) (λ r. refl) (λ r. refl) rows in
+          λ i. record {
+            net = net;
+            router = router;
+            heard = said_in (λ r. r.heard) turned_down (map (forgetting k) rows);
+            sent = said_in (λ r. r.sent) turned_down (map (forgetting k) rows);
+            established = established_in turned_down;
+            originated = originated i;
+            kept = kept i;
+          };
+    }))
+  where
+    fallen : Peer
+    fallen = record { asn = x.asn; up = false }
+
+    turned_down : List Peer
+    turned_down = set peers k fallen
+
+    lt : k < length peers
+    lt = slice_get_within peers k x at
+
+    same_numbers : map (λ (p : Peer). p.asn) turned_down ≡ map (λ (p : Peer). p.asn) peers
+    same_numbers = map-set_same (λ (p : Peer). p.asn) peers k fallen x (sym (ap (λ (p : Peer). p.asn) (get_or_from_slice_get peers k x x at)))
+
+    new_to_old : (v : ℕ) → ((j : ℕ) × (p : Peer) × (slice_get turned_down j ≡ Some p) × (p.up ≡ true) × (p.asn ≡ v)) → (v ≢ x.asn) × Contains (established_in peers) v
+    new_to_old v h = elim (cases_order h.0 k) [
+      | inl same ↦ absurd (false≢true (sym (ap (λ (p : Peer). p.up) (some_of h.1 fallen (sym h.2 ∙ ap (λ (n : ℕ). slice_get turned_down n) same ∙ set_here peers k fallen lt))) ∙ h.3))
+      | inr differ ↦
+          let apart : h.0 ≢ k = λ e. elim differ [ inl l ↦ omega (arith, l, e) | inr m ↦ omega (arith, m, e) ] in
+          let there = sym (set_there peers k h.0 fallen apart) ∙ h.2 in
+          (λ e. apart (peer_once peers whole.apart h.0 k h.1 x there at (h.4 ∙ e)), subst (Contains (established_in peers)) h.4 (up_listed peers h.0 h.1 there h.3))
+    ]
+
+    old_to_new : (v : ℕ) → (v ≢ x.asn) → ((j : ℕ) × (p : Peer) × (slice_get peers j ≡ Some p) × (p.up ≡ true) × (p.asn ≡ v)) → Contains (established_in turned_down) v
+    old_to_new v other h = elim (cases_order h.0 k) [
+      | inl same ↦ absurd (other (sym h.4 ∙ ap (λ (p : Peer). p.asn) (some_of h.1 x (sym h.2 ∙ ap (λ (n : ℕ). slice_get peers n) same ∙ at))))
+      | inr differ ↦
+          let apart : h.0 ≢ k = λ e. elim differ [ inl l ↦ omega (arith, l, e) | inr m ↦ omega (arith, m, e) ] in
+          subst (Contains (established_in turned_down)) h.4 (up_listed turned_down h.0 h.1 (set_there peers k h.0 fallen apart ∙ h.2) h.3)
+    ]

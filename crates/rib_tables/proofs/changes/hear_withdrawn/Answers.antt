@@ -1,0 +1,41 @@
+use Rattle.std.proofs.Common.{◌++◌, ◌∷◌, [], ℕ, List, take, map, sym, ap, subst, ◌∙◌}
+use Rattle.std.proofs.lemmas.List.{take_all, take_more}
+use Rattle.prefix_lanes.specs.Bits.{PrefixView}
+use Rattle.rib_tables.specs.declared.word.Word.TheVariants.{Sequence}
+use Rattle.rib_tables.specs.Words.{nothing, lists}
+use Rattle.rib_tables.specs.Rows.{Marks, on, hearing, hearing_all}
+use Rattle.rib_tables.proofs.ChangeLemmas.{fits_hearing, hears_one_more, hears_none, marks_more, marks_start}
+use Rattle.rib_tables.proofs.changes.hear_withdrawn.Goals as goal
+
+pub loop-prefix-init : goal.loop-prefix-init
+loop-prefix-init c = record { rows = hears_none c.args.peer nothing c.args.rows.now; dirty = marks_start c.args.rows.now c.args.dirty.now }
+
+pub hear_one-requires : goal.hear_one-requires
+hear_one-requires c =
+    (c.requires.0, fits_hearing c.args.keys.now.keys c.requires.0 c.args.rows.now c.loop-prefix.rows (take c.loop-prefix.prefix-index c.args.prefixes.now) c.args.peer nothing c.requires.1 c.loop-prefix.invariant.rows, c.requires.2)
+
+pub loop-prefix-preserved : goal.loop-prefix-preserved
+loop-prefix-preserved c =
+    let i = c.loop-prefix.prefix-index in
+    let ps = c.args.prefixes.now in
+    let q = c.prefix-item.result in
+    let more = take_more ps i q c.loop-prefix-test.true ∙ ap (λ (p : PrefixView). take i ps ++ p ∷ []) (sym c.prefix-item.is) in
+    record {
+      rows =
+          c.hear_one.ensures.rows
+          ∙ ap (λ (p : List ℕ). map (on q (hearing c.args.peer (Sequence p))) c.loop-prefix.rows) c.new.ensures
+          ∙ ap (map (on q (hearing c.args.peer nothing))) c.loop-prefix.invariant.rows
+          ∙ hears_one_more c.args.peer nothing c.args.rows.now (take i ps) q
+          ∙ ap (λ (qs : List PrefixView). map (hearing_all qs c.args.peer nothing) c.args.rows.now) (sym more);
+      dirty = subst (λ (qs : List PrefixView). Marks (λ r. lists qs r.prefix) c.args.rows.now c.args.dirty.now c.hear_one.new.dirty) (sym more)
+          (marks_more c.args.rows.now c.loop-prefix.rows (take i ps) q c.args.peer nothing c.args.dirty.now c.loop-prefix.dirty c.hear_one.new.dirty c.loop-prefix.invariant.rows c.loop-prefix.invariant.dirty c.hear_one.ensures.dirty);
+    }
+
+pub returns-clause-rows : goal.returns-clause-rows
+returns-clause-rows c =
+    c.loop-prefix.invariant.rows ∙ ap (λ (qs : List PrefixView). map (hearing_all qs c.args.peer nothing) c.args.rows.now) (take_all c.loop-prefix.prefix-index c.args.prefixes.now c.loop-prefix-test.false)
+
+pub returns-clause-dirty : goal.returns-clause-dirty
+returns-clause-dirty c =
+    subst (λ (qs : List PrefixView). Marks (λ r. lists qs r.prefix) c.args.rows.now c.args.dirty.now c.loop-prefix.dirty) (take_all c.loop-prefix.prefix-index c.args.prefixes.now c.loop-prefix-test.false)
+    c.loop-prefix.invariant.dirty

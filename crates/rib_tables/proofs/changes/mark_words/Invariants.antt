@@ -1,0 +1,10 @@
+-- the places passed where the peer said a path are in the set
+use Rattle.std.proofs.Common.{◌≡◌, ◌<◌, ℕ, false, Some}
+use Rattle.std.specs.List.{slice_get}
+use Rattle.rib_tables.specs.declared.row.Row.{Row}
+use Rattle.rib_tables.specs.Places.{has}
+use Rattle.rib_tables.specs.Rows.{Speaking}
+use Rattle.rib_tables.proofs.changes.mark_words.Given as goal
+
+abbrev pub invariant-loop-place : goal.invariant-loop-place
+invariant-loop-place l = (i : ℕ) → has l.dirty i ≡ false → (has l.fn.dirty i ≡ false) × ((r : Row) → i < l.place → slice_get l.rows i ≡ Some r → Speaking l.peer r → ⊥)

@@ -1,0 +1,69 @@
+use Rattle.std.proofs.Common.{◌≡◌, ◌<◌, ℕ, List, [], ◌∷◌, Some, length, get_or, subst, sym, ap, ◌∙◌, arith, rules}
+use Rattle.std.specs.List.{slice_get}
+use Rattle.std.proofs.lemmas.Option.{slice_get_within, get_or_from_slice_get}
+use Rattle.prefix_lanes.specs.Bits.{PrefixView}
+use Rattle.ranked_policy.specs.Plans.{Plan, IsNetwork, IsRouter, IsNamed}
+use Rattle.rib_tables.specs.declared.row.Peer.{Peer}
+use Rattle.rib_tables.specs.declared.row.Row.{Row}
+use Rattle.rib_tables.specs.Choices.{IsBest}
+use Rattle.rib_tables.specs.Owners.{RibView, sources_of}
+use Rattle.rib_tables.specs.Rows.{IsRow, IsRowBest, view_of}
+use Rattle.rib_tables.proofs.SeenLemmas.{best_seen}
+use Rattle.rib_tables.proofs.OneRowLemmas.{key_some, key_row}
+use Rattle.rib_tables.proofs.rib.Rib.best.Goals as goal
+
+pub unwrap-place-requires : goal.unwrap-place-requires
+unwrap-place-requires c =
+    let s = c.self.inside in
+    let q = c.args.prefix.now in
+    key_some s.network.now s.router s.peers.items s.keys.keys s.rows.items c.self.invariant.whole q c.place_of.result c.place_of.ensures
+    (subst (λ (v : RibView). IsNamed v.net.origins q) (sym c.self.view_is) c.requires)
+
+pub index-requires : goal.index-requires
+index-requires c =
+    let s = c.self.inside in
+    let x = key_row s.network.now s.router s.peers.items s.keys.keys s.rows.items c.self.invariant.whole c.args.prefix.now c.place_of.result c.unwrap-place.result c.place_of.ensures c.unwrap-place.ensures in
+    let lt = slice_get_within s.rows.items c.unwrap-place.result x.0 x.1 in
+    let len : length s.rows.items ≡ s.rows.len = search rules in
+    omega (arith, lt, len)
+
+pub best_way-way-requires : goal.best_way-way-requires
+best_way-way-requires c =
+    let s = c.self.inside in
+    let place = c.unwrap-place.result in
+    let x = key_row s.network.now s.router s.peers.items s.keys.keys s.rows.items c.self.invariant.whole c.args.prefix.now c.place_of.result place c.place_of.ensures c.unwrap-place.ensures in
+    let row : c.index.result.now ≡ x.0 = c.index.ensures ∙ get_or_from_slice_get s.rows.items place x.0 c.index.result.now x.1 in
+    ap (λ (r : Row). length r.heard) row ∙ (c.self.invariant.whole.each place x.0 x.1).heard ∙ ap (λ (ps : List Peer). length ps) (sym c.as_slice.ensures.value)
+
+pub returns-in_ok-from_router-in-Some : goal.returns-in_ok-from_router-in-Some
+returns-in_ok-from_router-in-Some c =
+    let s = c.self.inside in
+    let q = c.args.prefix.now in
+    let net = s.network.now in
+    let whole = c.self.invariant.whole in
+    let place = c.unwrap-place.result in
+    let x = key_row net s.router s.peers.items s.keys.keys s.rows.items whole q c.place_of.result place c.place_of.ensures c.unwrap-place.ensures in
+    let row : c.index.result.now ≡ x.0 = c.index.ensures ∙ get_or_from_slice_get s.rows.items place x.0 c.index.result.now x.1 in
+    let path : List ℕ = s.router ∷ c.in-Some.rest.now in
+    let Best : List Peer → Row → Type 0 = λ ps r. IsNetwork net → IsRouter net.routers s.router → IsRow net s.router ps r → IsRowBest net s.router ps r path in
+    let best = subst (λ (ps : List Peer). Best ps x.0) c.as_slice.ensures.value (subst (Best c.as_slice.result.now) row (c.in-Some.ensures net)) in
+    let seen = (best_seen net s.router s.peers.items s.keys.keys s.rows.items whole place x.0 x.1 path).0 (best whole.network whole.routers (whole.each place x.0 x.1)) in
+    subst (λ (v : RibView). IsBest (sources_of v) q c.in_ok-from_router-in-Some.field-0) c.self.view_is
+    (subst (λ (p : List ℕ). IsBest (sources_of (view_of net s.router s.peers.items s.rows.items)) q p) (sym c.in_ok-from_router-in-Some.ensures)
+    (subst (λ (p : PrefixView). IsBest (sources_of (view_of net s.router s.peers.items s.rows.items)) p path) x.2 seen))
+
+pub returns-in-None : goal.returns-in-None
+returns-in-None c =
+    let s = c.self.inside in
+    let q = c.args.prefix.now in
+    let net = s.network.now in
+    let whole = c.self.invariant.whole in
+    let place = c.unwrap-place.result in
+    let x = key_row net s.router s.peers.items s.keys.keys s.rows.items whole q c.place_of.result place c.place_of.ensures c.unwrap-place.ensures in
+    let row : c.index.result.now ≡ x.0 = c.index.ensures ∙ get_or_from_slice_get s.rows.items place x.0 c.index.result.now x.1 in
+    let Best : List Peer → Row → Type 0 = λ ps r. IsNetwork net → IsRouter net.routers s.router → IsRow net s.router ps r → IsRowBest net s.router ps r [] in
+    let best = subst (λ (ps : List Peer). Best ps x.0) c.as_slice.ensures.value (subst (Best c.as_slice.result.now) row (c.in-None.ensures net)) in
+    let seen = (best_seen net s.router s.peers.items s.keys.keys s.rows.items whole place x.0 x.1 []).0 (best whole.network whole.routers (whole.each place x.0 x.1)) in
+    subst (λ (v : RibView). IsBest (sources_of v) q c.new.result) c.self.view_is
+    (subst (λ (p : List ℕ). IsBest (sources_of (view_of net s.router s.peers.items s.rows.items)) q p) (sym c.new.ensures)
+    (subst (λ (p : PrefixView). IsBest (sources_of (view_of net s.router s.peers.items s.rows.items)) p []) x.2 seen))

@@ -1,0 +1,10 @@
+-- the best over the peers passed
+use Rattle.std.proofs.Common.{◌≡◌}
+use Rattle.prefix_lanes.specs.Bits.{PrefixView}
+use Rattle.ranked_policy.specs.Policies.{Table, IsTable}
+use Rattle.rib_tables.specs.Choices.{IsFirstOrNone, Speaks}
+use Rattle.rib_tables.specs.Rows.{RowHears, path_by}
+use Rattle.rib_tables.proofs.row.best_onward.Given as goal
+
+abbrev pub invariant-loop-place : goal.invariant-loop-place
+invariant-loop-place l = (table : Table) (q : PrefixView) → IsTable table → table.router ≡ l.router → Speaks l.policy table q → IsFirstOrNone (RowHears l.peers l.heard l.place) table q (path_by l.router l.best)

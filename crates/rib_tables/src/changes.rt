@@ -1,0 +1,319 @@
+//! Changes of rows, each for every row at once.
+
+ghost use Rattle.std.specs.Prelude.{◌≡◌, ◌≢◌, ◌<◌, ◌≤◌, ◌↔◌, ℕ, true, false, length, map, slice_get, slice_index_or, slice_set, Some, IsTrue, IfOk, MatchOption};
+ghost use Rattle.std.specs.List.{All};
+ghost use Rattle.prefix_lanes.specs.Bits.{PrefixView};
+ghost use Rattle.rib_tables.specs.declared.row.Peer.{Peer};
+ghost use Rattle.rib_tables.specs.declared.row.Row.{Row};
+ghost use Rattle.rib_tables.specs.declared.word.Word.TheVariants.{Sequence};
+ghost use Rattle.rib_tables.specs.declared.place_set.PlaceSet.{PlaceSet};
+ghost use Rattle.rib_tables.specs.Words.{announced_word, nothing, is_prefix, lists, mentions};
+ghost use Rattle.rib_tables.specs.Places.{has};
+ghost use Rattle.rib_tables.specs.Rows.{AreFit, AreWaiting, IsWaiting, Marks, MarksSpeaking, on, hearing, hearing_all, hearing_update, telling, keeping, originating, forgetting, clearing};
+
+use crate::place_set::PlaceSet;
+use crate::refusal::RibError;
+use crate::row::{Peer, Row};
+use crate::word::{Word, announced};
+use bgp_codec::Update;
+use indexmap::IndexSet;
+use prefix_lanes::Prefix;
+use ranked_policy::{Asn, Path};
+use std::alloc::Global;
+
+// The place of a prefix.
+pub(crate) fn place_of(keys: &IndexSet<Prefix>, prefix: &Prefix) -> Option<usize>
+    ensures { MatchOption result
+        ((i : ℕ) (q : PrefixView) → slice_get keys.now.keys i ≡ Some q → is_prefix prefix.now q ≡ false)
+        (λ i. slice_get keys.now.keys i ≡ Some prefix.now) }
+{
+    keys.get_index_of(prefix)
+}
+
+// The place of a peer.
+pub(crate) fn place_of_peer(peers: &[Peer], asn: Asn) -> Option<usize>
+    ensures { MatchOption result
+        ((k : ℕ) (p : Peer) → slice_get peers.now k ≡ Some p → p.asn ≡ asn → ⊥)
+        (λ k. (p : Peer) × (slice_get peers.now k ≡ Some p) × (p.asn ≡ asn)) }
+{
+    for (place, peer) in peers.iter().enumerate() {
+        if peer.asn == asn {
+            return Some(place);
+        }
+    }
+    None
+}
+
+// The words that an UPDATE announces, one for each prefix. All growths are here.
+pub(crate) fn announced_words(alloc: Global, update: &Update) -> Result<Vec<Word>, RibError>
+    ensures len { IfOk result (λ words. length words.items ≡ length update.now.nlri) }
+    ensures same { IfOk result (λ words. All (λ word. word ≡ announced_word update.now.attrs) words.items) }
+{
+    let count = update.nlri.as_slice().len();
+    let mut words = Vec::with_capacity(alloc, count)?;
+    for _ in 0..count {
+        words.push(announced(alloc, &update.attrs)?)?;
+    }
+    Ok(words)
+}
+
+// Puts the word of a peer for the prefix at a place.
+fn hear_at(rows: &mut [Row], place: usize, peer: usize, word: Word)
+    requires within { place < length rows.old }
+    requires words { (r : Row) → slice_get rows.old place ≡ Some r → peer < length r.heard }
+    ensures { (r : Row) → slice_get rows.old place ≡ Some r → rows.new ≡ slice_set rows.old place (hearing peer word r) }
+{
+    let row = &mut rows[place];
+    row.heard.set(peer, word);
+}
+
+// A word of a peer for a prefix, where the prefix is named.
+pub(crate) fn hear_one(
+    keys: &IndexSet<Prefix>,
+    rows: &mut [Row],
+    dirty: &mut PlaceSet,
+    peer: usize,
+    prefix: &Prefix,
+    word: Word,
+)
+    requires { (peers : ℕ) × AreFit keys.now.keys peers rows.old × (peer < peers) }
+    ensures rows { rows.new ≡ map (on prefix.now (hearing peer word)) rows.old }
+    ensures dirty { Marks (λ r. is_prefix prefix.now r.prefix) rows.old dirty.old dirty.new }
+{
+    if let Some(place) = place_of(keys, prefix) {
+        hear_at(rows, place, peer, word);
+        dirty.put(place);
+    }
+}
+
+// The same word of a peer, the empty path, for each of these prefixes that is named.
+pub(crate) fn hear_withdrawn(
+    alloc: Global,
+    keys: &IndexSet<Prefix>,
+    rows: &mut [Row],
+    dirty: &mut PlaceSet,
+    peer: usize,
+    prefixes: &[Prefix],
+)
+    requires { (peers : ℕ) × AreFit keys.now.keys peers rows.old × (peer < peers) }
+    ensures rows { rows.new ≡ map (hearing_all prefixes.now peer nothing) rows.old }
+    ensures dirty { Marks (λ r. lists prefixes.now r.prefix) rows.old dirty.old dirty.new }
+{
+    for prefix in prefixes {
+        let word = Word::Sequence(Path::new(alloc));
+        hear_one(keys, rows, dirty, peer, prefix, word);
+    }
+}
+
+// The words of a peer that it announces, for the prefixes that are named.
+pub(crate) fn hear_announced(
+    keys: &IndexSet<Prefix>,
+    rows: &mut [Row],
+    dirty: &mut PlaceSet,
+    peer: usize,
+    update: &Update,
+    words: Vec<Word>,
+)
+    requires fit { (peers : ℕ) × AreFit keys.now.keys peers rows.old × (peer < peers) }
+    requires len { length words.items ≡ length update.now.nlri }
+    requires same { All (λ one. one ≡ announced_word update.now.attrs) words.items }
+    ensures rows { rows.new ≡ map (hearing_all update.now.nlri peer (announced_word update.now.attrs)) rows.old }
+    ensures dirty { Marks (λ r. lists update.now.nlri r.prefix) rows.old dirty.old dirty.new }
+{
+    let mut words = words;
+    for prefix in update.nlri.as_slice() {
+        let word = words.pop().unwrap();
+        hear_one(keys, rows, dirty, peer, prefix, word);
+    }
+}
+
+// All that an UPDATE of a peer says, with the words that it announces. It takes no memory.
+pub(crate) fn hear_update(
+    alloc: Global,
+    keys: &IndexSet<Prefix>,
+    rows: &mut Vec<Row>,
+    dirty: &mut PlaceSet,
+    peer: usize,
+    update: &Update,
+    words: Vec<Word>,
+)
+    requires fit { (peers : ℕ) × AreFit keys.now.keys peers rows.old.items × (peer < peers) }
+    requires len { length words.items ≡ length update.now.nlri }
+    requires same { All (λ one. one ≡ announced_word update.now.attrs) words.items }
+    ensures rows { rows.new.items ≡ map (hearing_update peer update.now) rows.old.items }
+    ensures dirty { Marks (λ r. mentions update.now r.prefix) rows.old.items dirty.old dirty.new }
+{
+    let rows = rows.as_mut_slice();
+    hear_withdrawn(alloc, keys, rows, dirty, peer, update.withdrawn.as_slice());
+    hear_announced(keys, rows, dirty, peer, update, words);
+}
+
+// Takes all words of a peer away. It takes no memory.
+pub(crate) fn forget_words(alloc: Global, rows: &mut [Row], dirty: &mut PlaceSet, peer: usize)
+    requires few { length rows.old ≤ 256 }
+    requires words { (i : ℕ) (r : Row) → slice_get rows.old i ≡ Some r → (peer < length r.heard) × (peer < length r.sent) }
+    ensures rows { rows.new ≡ map (forgetting peer) rows.old }
+    ensures dirty { MarksSpeaking peer rows.old dirty.old dirty.new }
+{
+    for place in 0..rows.len() {
+        let row = &mut rows[place];
+        if !row.heard.as_slice()[peer].path().is_empty() {
+            dirty.put(place);
+        }
+        row.heard.set(peer, Word::Sequence(Path::new(alloc)));
+        row.sent.set(peer, Word::Sequence(Path::new(alloc)));
+    }
+}
+
+// Puts in each place where a peer said a path. It takes no memory.
+pub(crate) fn mark_words(rows: &[Row], dirty: &mut PlaceSet, peer: usize)
+    requires few { length rows.now ≤ 256 }
+    requires words { (i : ℕ) (r : Row) → slice_get rows.now i ≡ Some r → peer < length r.heard }
+    ensures { MarksSpeaking peer rows.now dirty.old dirty.new }
+{
+    for (place, row) in rows.iter().enumerate() {
+        if !row.heard.as_slice()[peer].path().is_empty() {
+            dirty.put(place);
+        }
+    }
+}
+
+// The places of which a peer was not told.
+pub(crate) fn untold(rows: &[Row], peer: usize) -> PlaceSet
+    requires few { length rows.now ≤ 256 }
+    requires words { (i : ℕ) (r : Row) → slice_get rows.now i ≡ Some r → peer < length r.sent }
+    ensures { (i : ℕ) (r : Row) → slice_get rows.now i ≡ Some r → (has result i ≡ true ↔ (slice_get r.sent peer ≢ Some (Sequence r.kept))) }
+{
+    let mut waiting = PlaceSet::new();
+    for (place, row) in rows.iter().enumerate() {
+        if !row.sent.as_slice()[peer].tells(row.kept.as_slice()) {
+            waiting.put(place);
+        }
+    }
+    waiting
+}
+
+// What the peers wait for at one place, after a change of its row.
+fn wait_anew(peers: &[Peer], row: &Row, place: usize, waits: &mut [PlaceSet])
+    requires place { place < 256 }
+    requires len { length waits.old ≡ length peers.now }
+    requires sent { length row.now.sent ≡ length peers.now }
+    ensures len { length waits.new ≡ length waits.old }
+    ensures here { (k : ℕ) (p : Peer) (w : PlaceSet) → slice_get peers.now k ≡ Some p → slice_get waits.new k ≡ Some w → (has w place ≡ true ↔ ((p.up ≡ true) × (slice_get row.now.sent k ≢ Some (Sequence row.now.kept)))) }
+    ensures others { (k : ℕ) (w : PlaceSet) → slice_get waits.new k ≡ Some w → (v : PlaceSet) × (slice_get waits.old k ≡ Some v) × ((i : ℕ) → i ≢ place → has w i ≡ has v i) }
+{
+    for (k, peer) in peers.iter().enumerate() {
+        let waiting = &mut waits[k];
+        if peer.up && !row.sent.as_slice()[k].tells(row.kept.as_slice()) {
+            waiting.put(place);
+        } else {
+            waiting.take_out(place);
+        }
+    }
+}
+
+// The same, of a `Vec`.
+pub(crate) fn wait_all(peers: &[Peer], row: &Row, place: usize, waits: &mut Vec<PlaceSet>)
+    requires place { place < 256 }
+    requires len { length waits.old.items ≡ length peers.now }
+    requires sent { length row.now.sent ≡ length peers.now }
+    ensures len { length waits.new.items ≡ length waits.old.items }
+    ensures here { (k : ℕ) (p : Peer) (w : PlaceSet) → slice_get peers.now k ≡ Some p → slice_get waits.new.items k ≡ Some w → (has w place ≡ true ↔ ((p.up ≡ true) × (slice_get row.now.sent k ≢ Some (Sequence row.now.kept)))) }
+    ensures others { (k : ℕ) (w : PlaceSet) → slice_get waits.new.items k ≡ Some w → (v : PlaceSet) × (slice_get waits.old.items k ≡ Some v) × ((i : ℕ) → i ≢ place → has w i ≡ has v i) }
+{
+    wait_anew(peers, row, place, waits.as_mut_slice());
+}
+
+// The same, of a `Vec`.
+pub(crate) fn forget_all(alloc: Global, rows: &mut Vec<Row>, dirty: &mut PlaceSet, peer: usize)
+    requires few { length rows.old.items ≤ 256 }
+    requires words { (i : ℕ) (r : Row) → slice_get rows.old.items i ≡ Some r → (peer < length r.heard) × (peer < length r.sent) }
+    ensures rows { rows.new.items ≡ map (forgetting peer) rows.old.items }
+    ensures dirty { MarksSpeaking peer rows.old.items dirty.old dirty.new }
+{
+    forget_words(alloc, rows.as_mut_slice(), dirty, peer);
+}
+
+// Whether the session with the peer at a place is Established.
+pub(crate) fn set_up(peers: &mut Vec<Peer>, place: usize, up: bool)
+    requires { place < length peers.old.items }
+    ensures { (p : Peer) → slice_get peers.old.items place ≡ Some p → peers.new.items ≡ slice_set peers.old.items place (record { asn = p.asn; up = up }) }
+{
+    peers[place].up = up;
+}
+
+// Keeps a path for the prefix at a place.
+pub(crate) fn keep_at(rows: &mut Vec<Row>, place: usize, path: Path)
+    requires { place < length rows.old.items }
+    ensures { (r : Row) → slice_get rows.old.items place ≡ Some r → rows.new.items ≡ slice_set rows.old.items place (keeping path r) }
+{
+    let row = &mut rows[place];
+    row.kept = path;
+}
+
+// Puts the word sent to a peer for the prefix at a place.
+pub(crate) fn tell_at(rows: &mut Vec<Row>, place: usize, peer: usize, word: Word)
+    requires within { place < length rows.old.items }
+    requires words { (r : Row) → slice_get rows.old.items place ≡ Some r → peer < length r.sent }
+    ensures { (r : Row) → slice_get rows.old.items place ≡ Some r → rows.new.items ≡ slice_set rows.old.items place (telling peer word r) }
+{
+    let row = &mut rows[place];
+    row.sent.set(peer, word);
+}
+
+// Originates the prefix at a place, or no longer.
+pub(crate) fn originate_at(rows: &mut Vec<Row>, place: usize, now: bool)
+    requires { place < length rows.old.items }
+    ensures { (r : Row) → slice_get rows.old.items place ≡ Some r → rows.new.items ≡ slice_set rows.old.items place (originating now r) }
+{
+    let row = &mut rows[place];
+    row.originated = now;
+}
+
+// Keeps no path for any prefix, and originates none. It takes no memory.
+fn clear_rows(alloc: Global, rows: &mut [Row], dirty: &mut PlaceSet)
+    requires { length rows.old ≤ 256 }
+    ensures rows { rows.new ≡ map clearing rows.old }
+    ensures dirty { (i : ℕ) → i < length rows.old → has dirty.new i ≡ true }
+{
+    for place in 0..rows.len() {
+        let row = &mut rows[place];
+        row.kept = Path::new(alloc);
+        row.originated = false;
+        dirty.put(place);
+    }
+}
+
+// The same, of a `Vec`.
+pub(crate) fn clear_all(alloc: Global, rows: &mut Vec<Row>, dirty: &mut PlaceSet)
+    requires { length rows.old.items ≤ 256 }
+    ensures rows { rows.new.items ≡ map clearing rows.old.items }
+    ensures dirty { (i : ℕ) → i < length rows.old.items → has dirty.new i ≡ true }
+{
+    clear_rows(alloc, rows.as_mut_slice(), dirty);
+}
+
+// What a peer waits for. It takes no memory.
+fn awaited(peer: &Peer, rows: &[Row], place: usize) -> PlaceSet
+    requires few { length rows.now ≤ 256 }
+    requires words { (i : ℕ) (r : Row) → slice_get rows.now i ≡ Some r → place < length r.sent }
+    ensures { IsWaiting place peer.now rows.now result }
+{
+    if peer.up {
+        untold(rows, place)
+    } else {
+        PlaceSet::new()
+    }
+}
+
+// What each peer waits for, after a change of all rows. It takes no memory.
+pub(crate) fn await_all(peers: &[Peer], rows: &[Row], waits: &mut Vec<PlaceSet>)
+    requires few { length rows.now ≤ 256 }
+    requires words { (i : ℕ) (r : Row) → slice_get rows.now i ≡ Some r → length r.sent ≡ length peers.now }
+    requires len { length waits.old.items ≡ length peers.now }
+    ensures { AreWaiting peers.now rows.now waits.new.items }
+{
+    for (place, peer) in peers.iter().enumerate() {
+        waits[place] = awaited(peer, rows, place);
+    }
+}

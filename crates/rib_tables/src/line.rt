@@ -1,0 +1,67 @@
+//! One word of each peer.
+
+ghost use Rattle.std.specs.Prelude.{◌≡◌, ◌≢◌, ◌<◌, length, slice_get, slice_set, Some, IfOk, MatchOption};
+ghost use Rattle.std.specs.List.{All};
+ghost use Rattle.rib_tables.specs.Words.{nothing};
+
+use crate::refusal::RibError;
+use crate::word::Word;
+use ranked_policy::Path;
+use std::alloc::Global;
+use std::marker::Model;
+
+/// One word of each peer, by the places of peers.
+#[derive(Debug, Drop)]
+pub struct Line {
+    words: Vec<Word>,
+}
+
+impl Model for Line {
+    ghost use Rattle.std.specs.Prelude.{List};
+    ghost use Rattle.rib_tables.specs.declared.word.Word.{Word};
+
+    ghost Value = { List Word };
+
+    ghost view = { λ line. line.words.items };
+}
+
+impl Line {
+    // No peer has said anything.
+    pub(crate) fn new(alloc: Global, peers: usize) -> Result<Line, RibError>
+        ensures len { IfOk result (λ line. length line ≡ peers) }
+        ensures silent { IfOk result (λ line. All (λ word. word ≡ nothing) line) }
+    {
+        let mut words = Vec::with_capacity(alloc, peers)?;
+        for _ in 0..peers {
+            words.push(Word::Sequence(Path::new(alloc)))?;
+        }
+        Ok(Line { words })
+    }
+
+    // The words.
+    pub(crate) fn as_slice(&self) -> &[Word]
+        ensures { result.now ≡ self.now }
+    {
+        self.words.as_slice()
+    }
+
+    // The word at a place, where it is not the empty path.
+    pub(crate) fn something(&self, place: usize) -> Option<&Word>
+        requires { place < length self.now }
+        ensures { MatchOption result (slice_get self.now place ≡ Some nothing) (λ word. (slice_get self.now place ≡ Some word.now) × (word.now ≢ nothing)) }
+    {
+        let word = &self.words[place];
+        if word.is_nothing() {
+            return None;
+        }
+        Some(word)
+    }
+
+    // Puts a word in place of the one that stands there.
+    pub(crate) fn set(&mut self, place: usize, word: Word)
+        requires { place < length self.old }
+        ensures { self.new ≡ slice_set self.old place word }
+    {
+        self.words[place] = word;
+    }
+}

@@ -1,0 +1,73 @@
+//! Sets of places, for at most 256 prefixes.
+
+ghost use Rattle.std.specs.Prelude.{◌≡◌, ◌≢◌, ◌<◌, ℕ, true, false, MatchOption};
+ghost use Rattle.rib_tables.specs.Places.{has};
+
+/// How many places there are at most: a network names at most 256 prefixes.
+pub(crate) const MOST_PLACES: usize = 256;
+
+/// A set of places below 256, a bit for each.
+#[derive(Clone, Copy, Debug, PartialEq, Eq)]
+pub struct PlaceSet {
+    words: [u64; 4],
+}
+
+impl PlaceSet {
+    // The empty set.
+    pub(crate) fn new() -> PlaceSet
+        ensures { (place : ℕ) → has result place ≡ false }
+    {
+        PlaceSet { words: [0; 4] }
+    }
+
+    // Whether the place is in the set.
+    pub(crate) fn has(&self, place: usize) -> bool
+        requires { place < 256 }
+        ensures { result ≡ has self.now place }
+    {
+        (self.words[place / 64] >> (place % 64)) & 1 == 1
+    }
+
+    // Puts the place in.
+    pub(crate) fn put(&mut self, place: usize)
+        requires { place < 256 }
+        ensures here { has self.new place ≡ true }
+        ensures others { (other : ℕ) → other ≢ place → has self.new other ≡ has self.old other }
+    {
+        self.words[place / 64] |= 1 << (place % 64);
+    }
+
+    // Takes the place out.
+    pub(crate) fn take_out(&mut self, place: usize)
+        requires { place < 256 }
+        ensures here { has self.new place ≡ false }
+        ensures others { (other : ℕ) → other ≢ place → has self.new other ≡ has self.old other }
+    {
+        self.words[place / 64] &= !(1 << (place % 64));
+    }
+
+    // The least place of the set.
+    pub(crate) fn first(&self) -> Option<usize>
+        ensures { MatchOption result
+            ((place : ℕ) → has self.now place ≡ false)
+            (λ first. (first < 256) × (has self.now first ≡ true) × ((place : ℕ) → place < first → has self.now place ≡ false)) }
+    {
+        for (index, word) in self.words.iter().enumerate() {
+            if *word != 0 {
+                return Some(64 * index + word.trailing_zeros() as usize);
+            }
+        }
+        None
+    }
+
+    // Whether the set has one of the first so many places.
+    pub(crate) fn has_below(&self, places: usize) -> bool
+        ensures some { result ≡ true → (place : ℕ) × (place < places) × (has self.now place ≡ true) }
+        ensures none { result ≡ false → (place : ℕ) → place < places → has self.now place ≡ false }
+    {
+        match self.first() {
+            Some(place) => place < places,
+            None => false,
+        }
+    }
+}

@@ -1,0 +1,345 @@
+//! All that the choices of a router depend on, and what is told of them.
+
+ghost use Rattle.std.specs.Prelude.{◌≡◌, ◌≢◌, ◌↔◌, ℕ, true, false, IsTrue, IfOk, OnErr, OnOk, MatchOption};
+ghost use Rattle.std.specs.List.{Contains};
+ghost use Rattle.ranked_policy.specs.Plans.{IsRouter, IsNamed, IsOrigin, Linked};
+ghost use Rattle.rib_tables.specs.Words.{nothing};
+ghost use Rattle.rib_tables.specs.Tables.{word_of, path_of};
+ghost use Rattle.rib_tables.specs.Least.{HoldsOfAll, IsLeastWithout};
+ghost use Rattle.rib_tables.specs.Choices.{IsBest, IsSources};
+ghost use Rattle.rib_tables.specs.Owners.{sources_of, IsSettled, IsServed, IsAwaited, AllServed, IsPending, IsNew, HearsUpdate, TellsKept, ComesUp, ForgetsPeer, Originating, Withdrawing, KeepsPath, Decides, Clears};
+
+use crate::changes::{
+    announced_words, await_all, clear_all, forget_all, hear_update, keep_at, mark_words,
+    originate_at, place_of, place_of_peer, set_up, tell_at, untold, wait_all,
+};
+use crate::opening::{keys_of, no_waits, peers_down, rows_of};
+use crate::place_set::PlaceSet;
+use crate::refusal::RibError;
+use crate::row::{Peer, Row, best_way, first_undecided};
+use crate::word::Word;
+use bgp_codec::Update;
+use indexmap::IndexSet;
+use prefix_lanes::Prefix;
+use ranked_policy::laws::each_policy_is_an_order;
+use ranked_policy::{Asn, Network, Path};
+use std::alloc::Global;
+use std::marker::Model;
+
+/// The routing tables of one router: its Adj-RIBs-In, its Loc-RIB and its Adj-RIBs-Out (RFC 4271
+/// section 3.2), with the sessions that are Established and the prefixes that it originates.
+#[derive(Debug, Drop)]
+pub struct Rib<'a> {
+    network: &'a Network,
+    router: Asn,
+    // The prefixes of the network, in its order.
+    keys: IndexSet<Prefix>,
+    // The linked routers, by rising number.
+    peers: Vec<Peer>,
+    // One row for each prefix, in the same order.
+    rows: Vec<Row<'a>>,
+    // Outside this set each kept path is the best.
+    dirty: PlaceSet,
+    // The prefixes that each peer waits for.
+    waits: Vec<PlaceSet>,
+}
+
+impl<'a> Model for Rib<'a> {
+    ghost use Rattle.rib_tables.specs.Owners.{RibView};
+    ghost use Rattle.rib_tables.specs.Rows.{view_of, IsRib};
+
+    ghost Value = { RibView };
+
+    ghost view = { λ r. view_of r.network.now r.router r.peers.items r.rows.items };
+
+    ghost invariant = { λ r. IsRib r.network.now r.router r.peers.items r.keys.keys r.rows.items r.dirty r.waits.items };
+}
+
+impl<'a> Rib<'a> {
+    /// The tables of a router of the network, as it starts: nothing is heard, sent, originated or
+    /// kept, and no session is Established. Refused [`RibError::Memory`] where a growth was.
+    pub fn new(alloc: Global, network: &'a Network, router: Asn) -> Result<Rib<'a>, RibError>
+        requires { IsRouter network.now.routers router }
+        ensures { IfOk result (IsNew network.now router) }
+    {
+        let table = network.policies(router).unwrap();
+        let numbers = network.peers(alloc, router)?;
+        let origins = network.origins();
+        let keys = keys_of(alloc, origins)?;
+        let peers = peers_down(alloc, numbers.as_slice())?;
+        let waits = no_waits(alloc, numbers.len())?;
+        let rows = rows_of(alloc, network, &table, numbers.len())?;
+        Ok(Rib {
+            network,
+            router,
+            keys,
+            peers,
+            rows,
+            dirty: PlaceSet::new(),
+            waits,
+        })
+    }
+
+    /// The network, whose prefixes stand in [`Network::origins`] by address, then by length.
+    pub fn network(&self) -> &'a Network
+        ensures value { result.now ≡ self.now.net }
+        ensures sources { IsSources (sources_of self.now) }
+        ensures linked { (v : ℕ) → Contains self.now.established v → Linked self.now.net.links self.now.router v }
+    {
+        self.network
+    }
+
+    /// The router.
+    pub fn router(&self) -> Asn
+        ensures { result ≡ self.now.router }
+    {
+        self.router
+    }
+
+    /// The word heard last from a peer for a prefix. `None` exactly where it is the empty path.
+    pub fn word_heard(&self, peer: Asn, prefix: &Prefix) -> Option<&Word>
+        ensures { MatchOption result (word_of self.now.heard peer prefix.now ≡ nothing) (λ word. (word.now ≡ word_of self.now.heard peer prefix.now) × (word.now ≢ nothing)) }
+    {
+        let from = place_of_peer(self.peers.as_slice(), peer)?;
+        let place = place_of(&self.keys, prefix)?;
+        self.rows[place].heard.something(from)
+    }
+
+    /// The word sent last to a peer for a prefix. `None` exactly where it is the empty path.
+    pub fn word_sent(&self, peer: Asn, prefix: &Prefix) -> Option<&Word>
+        ensures { MatchOption result (word_of self.now.sent peer prefix.now ≡ nothing) (λ word. (word.now ≡ word_of self.now.sent peer prefix.now) × (word.now ≢ nothing)) }
+    {
+        let to = place_of_peer(self.peers.as_slice(), peer)?;
+        let place = place_of(&self.keys, prefix)?;
+        self.rows[place].sent.something(to)
+    }
+
+    /// The path that is kept for a prefix: the empty path where none is.
+    pub fn path(&self, prefix: &Prefix) -> &[Asn]
+        ensures { result.now ≡ path_of self.now.kept prefix.now }
+    {
+        match place_of(&self.keys, prefix) {
+            Some(place) => self.rows[place].kept.as_slice(),
+            None => &[],
+        }
+    }
+
+    /// Whether the router originates a prefix now.
+    pub fn is_originated(&self, prefix: &Prefix) -> bool
+        ensures { IsTrue result ↔ Contains self.now.originated prefix.now }
+    {
+        match place_of(&self.keys, prefix) {
+            Some(place) => self.rows[place].originated,
+            None => false,
+        }
+    }
+
+    /// Whether the session with a peer is Established.
+    pub fn is_established(&self, peer: Asn) -> bool
+        ensures { IsTrue result ↔ Contains self.now.established peer }
+    {
+        match place_of_peer(self.peers.as_slice(), peer) {
+            Some(place) => self.peers[place].up,
+            None => false,
+        }
+    }
+
+    /// Takes an UPDATE of a peer (RFC 4271 sections 3.1 and 4.3): each prefix of the network that it
+    /// mentions has what it says of it, an announcement winning over a withdrawal; nothing else
+    /// changes. Refused [`RibError::Memory`] where a growth was, and then all is as it was.
+    pub fn hear(&mut self, peer: Asn, update: &Update) -> Result<(), RibError>
+        requires { Linked self.old.net.links self.old.router peer }
+        ensures ok { OnOk result (HearsUpdate self.old self.new peer update.now) }
+        ensures err { OnErr result (self.new ≡ self.old) }
+    {
+        let alloc = *self.peers.allocator();
+        let place = place_of_peer(self.peers.as_slice(), peer).unwrap();
+        let words = announced_words(alloc, update)?;
+        hear_update(
+            alloc,
+            &self.keys,
+            &mut self.rows,
+            &mut self.dirty,
+            place,
+            update,
+            words,
+        );
+        Ok(())
+    }
+
+    /// The kept path of a prefix was told to a peer. Refused [`RibError::Memory`] where a growth
+    /// was, and then all is as it was.
+    pub fn tell(&mut self, peer: Asn, prefix: &Prefix) -> Result<(), RibError>
+        requires linked { Linked self.old.net.links self.old.router peer }
+        requires named { IsNamed self.old.net.origins prefix.now }
+        ensures ok { OnOk result (TellsKept self.old self.new peer prefix.now) }
+        ensures err { OnErr result (self.new ≡ self.old) }
+    {
+        let alloc = *self.peers.allocator();
+        let to = place_of_peer(self.peers.as_slice(), peer).unwrap();
+        let place = place_of(&self.keys, prefix).unwrap();
+        let path = Path::from_slice(alloc, self.rows[place].kept.as_slice())?;
+        tell_at(&mut self.rows, place, to, Word::Sequence(path));
+        let waiting = &mut self.waits[to];
+        waiting.take_out(place);
+        Ok(())
+    }
+
+    /// The session with a peer is Established from now on. It takes no memory.
+    pub fn come_up(&mut self, peer: Asn)
+        requires { Linked self.old.net.links self.old.router peer }
+        ensures { ComesUp self.old self.new peer }
+    {
+        let place = place_of_peer(self.peers.as_slice(), peer).unwrap();
+        mark_words(self.rows.as_slice(), &mut self.dirty, place);
+        set_up(&mut self.peers, place, true);
+        self.waits[place] = untold(self.rows.as_slice(), place);
+    }
+
+    /// The session with a peer is left: all words heard from it and sent to it are forgotten. It
+    /// takes no memory.
+    pub fn forget(&mut self, peer: Asn)
+        requires { Linked self.old.net.links self.old.router peer }
+        ensures { ForgetsPeer self.old self.new peer }
+    {
+        let alloc = *self.peers.allocator();
+        let place = place_of_peer(self.peers.as_slice(), peer).unwrap();
+        forget_all(alloc, &mut self.rows, &mut self.dirty, place);
+        set_up(&mut self.peers, place, false);
+        self.waits[place] = PlaceSet::new();
+    }
+
+    /// Originates a prefix from now on. It takes no memory.
+    pub fn originate(&mut self, prefix: &Prefix)
+        requires { IsOrigin self.old.net.origins self.old.router prefix.now }
+        ensures { Originating self.old self.new prefix.now }
+    {
+        let place = place_of(&self.keys, prefix).unwrap();
+        originate_at(&mut self.rows, place, true);
+        self.dirty.put(place);
+    }
+
+    /// Originates a prefix no longer. It takes no memory.
+    pub fn withdraw(&mut self, prefix: &Prefix)
+        requires { IsOrigin self.old.net.origins self.old.router prefix.now }
+        ensures { Withdrawing self.old self.new prefix.now }
+    {
+        let place = place_of(&self.keys, prefix).unwrap();
+        originate_at(&mut self.rows, place, false);
+        self.dirty.put(place);
+    }
+
+    /// Keeps a path for a prefix of the network in place of what was kept. It takes no memory.
+    pub fn set(&mut self, prefix: &Prefix, path: Path)
+        requires { IsNamed self.old.net.origins prefix.now }
+        ensures { KeepsPath self.old self.new prefix.now path }
+    {
+        let place = place_of(&self.keys, prefix).unwrap();
+        keep_at(&mut self.rows, place, path);
+        self.dirty.put(place);
+        let peers = self.peers.as_slice();
+        wait_all(peers, &self.rows[place], place, &mut self.waits);
+    }
+
+    /// A restart: no path is kept, and nothing is originated. It takes no memory.
+    pub fn clear(&mut self)
+        ensures { Clears self.old self.new }
+    {
+        let alloc = *self.peers.allocator();
+        clear_all(alloc, &mut self.rows, &mut self.dirty);
+        await_all(
+            self.peers.as_slice(),
+            self.rows.as_slice(),
+            &mut self.waits,
+        );
+    }
+
+    /// The best of the router's choices for a prefix of the network (RFC 4271 section 9.1.2): the
+    /// first permitted of the paths "the router, then what an Established peer said" in the order of
+    /// the router's policy, else the empty path. At the prefix's origin it is the router alone while
+    /// it originates the prefix, else the empty path. Refused [`RibError::Memory`] where a growth
+    /// was.
+    pub fn best(&self, alloc: Global, prefix: &Prefix) -> Result<Path, RibError>
+        requires { IsNamed self.now.net.origins prefix.now }
+        ensures { IfOk result (IsBest (sources_of self.now) prefix.now) }
+    {
+        let place = place_of(&self.keys, prefix).unwrap();
+        let way = best_way(self.router, self.peers.as_slice(), &self.rows[place]);
+        match way {
+            Some(rest) => Ok(Path::from_router(alloc, self.router, rest)?),
+            None => Ok(Path::new(alloc)),
+        }
+    }
+
+    /// The prefix that is to be decided: the least of the network, by address and then by length,
+    /// whose kept path is not the best (RFC 4271 section 9.1). `None` exactly where each kept path
+    /// is. Nothing that a clause sees changes: what was found to be the best is not looked at
+    /// again until something changes. It takes no memory.
+    pub fn dirty(&mut self) -> Option<Prefix>
+        ensures least { MatchOption result (HoldsOfAll self.old.net.origins (IsSettled self.old)) (IsLeastWithout self.old.net.origins (IsSettled self.old)) }
+        ensures same { self.new ≡ self.old }
+    {
+        let place = first_undecided(
+            self.router,
+            self.peers.as_slice(),
+            self.rows.as_slice(),
+            &mut self.dirty,
+        )?;
+        Some(self.rows[place].prefix)
+    }
+
+    /// Decides once (RFC 4271 section 9.1): the least prefix of the network, by address and then by
+    /// length, whose kept path is not the best gets its best, and is answered. `None` exactly where
+    /// each kept path is the best, and then nothing changes. Refused [`RibError::Memory`] where a
+    /// growth was, and then all is as it was.
+    pub fn decide(&mut self, alloc: Global) -> Result<Option<Prefix>, RibError>
+        ensures none { IfOk result (λ found. MatchOption found (HoldsOfAll self.old.net.origins (IsSettled self.old)) (IsLeastWithout self.old.net.origins (IsSettled self.old))) }
+        ensures decides { IfOk result (λ found. MatchOption found (self.new ≡ self.old) (Decides self.old self.new)) }
+        ensures err { OnErr result (self.new ≡ self.old) }
+    {
+        let Some(prefix) = self.dirty() else {
+            return Ok(None);
+        };
+        let best = self.best(alloc, &prefix)?;
+        self.set(&prefix, best);
+        Ok(Some(prefix))
+    }
+
+    /// The prefix that a peer waits for: the least of the network, by address and then by length,
+    /// whose last word sent to it is not the kept path. `None` exactly where it was told all, or its
+    /// session is not Established. It takes no memory.
+    pub fn waiting(&self, peer: Asn) -> Option<Prefix>
+        requires { Linked self.now.net.links self.now.router peer }
+        ensures { MatchOption result (HoldsOfAll self.now.net.origins (IsServed self.now peer)) (IsLeastWithout self.now.net.origins (IsServed self.now peer)) }
+    {
+        let to = place_of_peer(self.peers.as_slice(), peer).unwrap();
+        let place = self.waits[to].first()?;
+        if place >= self.rows.len() {
+            return None;
+        }
+        Some(self.rows[place].prefix)
+    }
+
+    /// Whether some Established peer was not told some kept path. It takes no memory.
+    pub fn is_awaited(&self) -> bool
+        ensures some { result ≡ true → IsAwaited self.now }
+        ensures none { result ≡ false → AllServed self.now }
+    {
+        for waiting in self.waits.as_slice() {
+            if waiting.has_below(self.rows.len()) {
+                return true;
+            }
+        }
+        false
+    }
+
+    /// Whether anything is still to be done: some kept path is not the best, or some Established
+    /// peer was not told some kept path. Nothing that a clause sees changes. It takes no memory.
+    pub fn is_pending(&mut self) -> bool
+        ensures some { result ≡ true → IsPending self.old }
+        ensures none { result ≡ false → HoldsOfAll self.old.net.origins (IsSettled self.old) × AllServed self.old }
+        ensures same { self.new ≡ self.old }
+    {
+        self.dirty().is_some() || self.is_awaited()
+    }
+}

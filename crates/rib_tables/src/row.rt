@@ -1,0 +1,142 @@
+//! What stands of one prefix, and of one peer.
+
+ghost use Rattle.std.specs.Prelude.{◌≡◌, ◌≤◌, ◌↔◌, ◌⊎◌, ◌∷◌, ℕ, [], length, slice_get, Some, IsTrue, MatchOption};
+ghost use Rattle.prefix_lanes.specs.Bits.{PrefixView};
+ghost use Rattle.ranked_policy.specs.Choosing.{chosen_permits, chosen_prefers};
+ghost use Rattle.ranked_policy.specs.Plans.{Plan, IsNetwork, IsRouter};
+ghost use Rattle.ranked_policy.specs.Policies.{Table, IsTable};
+ghost use Rattle.rib_tables.specs.declared.row.Row.{Row};
+ghost use Rattle.rib_tables.specs.Choices.{IsFirstOrNone, Speaks};
+ghost use Rattle.rib_tables.specs.Rows.{RowHears, IsRow, IsRowBest, AreDecided, AreJudged, AllBest, IsFirstUndecided, path_by};
+
+use crate::line::Line;
+use crate::paths::is_path;
+use crate::place_set::{MOST_PLACES, PlaceSet};
+use crate::word::Word;
+use prefix_lanes::Prefix;
+use ranked_policy::laws::each_policy_is_an_order;
+use ranked_policy::{Asn, Chosen, Path};
+
+/// A peer of the router.
+#[derive(Clone, Copy, Debug, PartialEq, Eq)]
+pub struct Peer {
+    /// Its number.
+    pub asn: Asn,
+    /// Whether the session with it is Established.
+    pub up: bool,
+}
+
+/// What stands of one prefix, its words by the places of peers.
+#[derive(Debug, Drop)]
+pub struct Row<'a> {
+    /// The prefix.
+    pub prefix: Prefix,
+    /// Whether the router is its origin.
+    pub own: bool,
+    /// The router's policy for it.
+    pub policy: Chosen<'a>,
+    /// Whether the router originates it now.
+    pub originated: bool,
+    /// The path that is kept for it.
+    pub kept: Path,
+    /// The words heard.
+    pub heard: Line,
+    /// The words sent.
+    pub sent: Line,
+}
+
+// Whether the way on is permitted, and there is none yet or it is preferred to the one there is.
+fn is_taken(policy: &Chosen, router: Asn, rest: &[Asn], best: &[Asn]) -> bool
+    ensures { IsTrue result ↔ (chosen_permits policy.now (router ∷ rest.now) × ((best.now ≡ []) ⊎ chosen_prefers policy.now (router ∷ rest.now) (router ∷ best.now))) }
+{
+    (best.is_empty() || policy.prefers_onward(router, rest, best))
+        && policy.permits_onward(router, rest)
+}
+
+// The way on of the best choice over the words of the peers whose session is Established: the
+// empty path where there is none.
+pub(crate) fn best_onward<'a>(
+    policy: &Chosen,
+    router: Asn,
+    peers: &[Peer],
+    heard: &'a [Word],
+) -> &'a [Asn]
+    requires { length heard.now ≡ length peers.now }
+    ensures { (table : Table) (q : PrefixView) → IsTable table → table.router ≡ router → Speaks policy.now table q → IsFirstOrNone (RowHears peers.now heard.now (length peers.now)) table q (path_by router result.now) }
+{
+    each_policy_is_an_order();
+    let mut best: &[Asn] = &[];
+    for (place, peer) in peers.iter().enumerate() {
+        if peer.up {
+            let rest = heard[place].path();
+            if !rest.is_empty() && is_taken(policy, router, rest, best) {
+                best = rest;
+            }
+        }
+    }
+    best
+}
+
+// The way on of the best of the router's choices for the prefix of a row: none where that is the
+// empty path. It takes no memory.
+pub(crate) fn best_way<'r>(router: Asn, peers: &[Peer], row: &'r Row) -> Option<&'r [Asn]>
+    requires { length row.now.heard ≡ length peers.now }
+    ensures { (net : Plan) → IsNetwork net → IsRouter net.routers router → IsRow net router peers.now row.now → MatchOption result (IsRowBest net router peers.now row.now []) (λ rest. IsRowBest net router peers.now row.now (router ∷ rest.now)) }
+{
+    if row.own {
+        return if row.originated { Some(&[]) } else { None };
+    }
+    let rest = best_onward(&row.policy, router, peers, row.heard.as_slice());
+    if rest.is_empty() {
+        return None;
+    }
+    Some(rest)
+}
+
+// Whether a kept path is the router and then this way on: the empty path where there is none.
+fn goes_on(kept: &[Asn], router: Asn, way: Option<&[Asn]>) -> bool
+    ensures { IsTrue result ↔ MatchOption way.entry (kept.now ≡ []) (λ rest. kept.now ≡ router ∷ rest.now) }
+{
+    match way {
+        Some(rest) => match kept {
+            [first, others @ ..] => *first == router && is_path(others, rest),
+            [] => false,
+        },
+        None => kept.is_empty(),
+    }
+}
+
+// Whether the kept path of a row is the best of the router's choices. It takes no memory.
+fn is_settled(router: Asn, peers: &[Peer], row: &Row) -> bool
+    requires { length row.now.heard ≡ length peers.now }
+    ensures { (net : Plan) → IsNetwork net → IsRouter net.routers router → IsRow net router peers.now row.now → (IsTrue result ↔ IsRowBest net router peers.now row.now row.now.kept) }
+{
+    each_policy_is_an_order();
+    goes_on(row.kept.as_slice(), router, best_way(router, peers, row))
+}
+
+// The least place whose kept path is not the best, where each place outside the set is known to
+// have its best. What is found to have it is taken out. It takes no memory.
+pub(crate) fn first_undecided(
+    router: Asn,
+    peers: &[Peer],
+    rows: &[Row],
+    dirty: &mut PlaceSet,
+) -> Option<usize>
+    requires few { length rows.now ≤ 256 }
+    requires words { (i : ℕ) (r : Row) → slice_get rows.now i ≡ Some r → length r.heard ≡ length peers.now }
+    ensures decided { (net : Plan) → AreJudged net router peers.now rows.now → AreDecided net router peers.now rows.now dirty.old → AreDecided net router peers.now rows.now dirty.new }
+    ensures least { (net : Plan) → AreJudged net router peers.now rows.now → AreDecided net router peers.now rows.now dirty.old → MatchOption result (AllBest net router peers.now rows.now) (IsFirstUndecided net router peers.now rows.now) }
+{
+    for _ in 0..MOST_PLACES {
+        let place = dirty.first()?;
+        if place >= rows.len() {
+            return None;
+        }
+        if !is_settled(router, peers, &rows[place]) {
+            return Some(place);
+        }
+        dirty.take_out(place);
+    }
+    None
+}

@@ -1,0 +1,5 @@
+pub mod Beginnings
+pub mod PeerLemmas
+pub mod Carrying
+pub mod Serving
+pub mod Taking

@@ -1,0 +1,80 @@
+-- An item that is taken, as a step of the router.
+use Rattle.std.proofs.Common.{◌≡◌, ℕ, ◌+◌, Bool, true, false, not, List, None, Some, refl, ap, sym, ◌∙◌, subst, get_or}
+use Rattle.std.specs.Prelude.{nat_lt, max, Result, Ok, Err}
+use Rattle.bgp_framing.specs.Held.{is_waiting}
+use Rattle.link_epoch.specs.declared.link_end.Sign.TheVariants as sign
+use Rattle.run_model.specs.Network.{takes}
+use Rattle.outbox.specs.declared.item.What.{What}
+use Rattle.outbox.specs.declared.item.What.TheVariants as item
+use Rattle.router_core.specs.declared.peers.Peer.{Peer}
+use Rattle.router_model.specs.declared.refusal.RouterError.{RouterError}
+use Rattle.router_model.specs.declared.refusal.RouterError.TheVariants as error
+use Rattle.router_model.specs.declared.refusal.Stepped.{Stepped}
+use Rattle.router_model.specs.declared.refusal.Stepped.TheVariants as stepped
+use Rattle.router_model.specs.Sides.{Side, Draft, NoMessage, signed, fed}
+use Rattle.router_side.specs.SideOf.{side}
+use Rattle.router_model.specs.State.{open_of}
+use Rattle.router_model.specs.Step.{moved}
+use Rattle.router_model.specs.Calls.{Stamped, Take, Gives, answer, judged, unless, first_of, greatest_stamp, overflows_at}
+use Rattle.router_side.specs.SideOf.{side_opening}
+use Rattle.router_model.specs.Settings.{Setting}
+use Rattle.router_core.specs.Views.{RouterView, sides_of, listed, IsAt, config_of, plain_of, Ends}
+use Rattle.router_core.proofs.PeerLemmas.{side_here}
+use Rattle.router_core.proofs.Carrying.{Changes, IsOf, with_peer, becomes, one_step, drafted, is_linked}
+
+module _ (g : Setting) (r : RouterView) (v i : ℕ) (p : Peer) (of : IsOf g r) (at : IsAt r.peers v i) (here : p ≡ get_or r.peers i p) (l : listed v r.peers ≡ true)
+    (stamp : ℕ) where
+  stands : sides_of r v ≡ side p.end
+  stands = side_here (side_opening (config_of r.net)) r.peers v i p at ∙ ap (λ (w : Peer). side w.end) (sym here)
+
+  abbrev pub next : ℕ
+  next = max r.stamp stamp + 1
+
+  abbrev Takes : What → Result Stepped RouterError → Stamped → Bool → Bool → Type 0
+  Takes what res y t b =
+      Gives g r.number res
+      (judged (first_of (unless t error.NoSuchPeer) (unless (not b) (error.Held v))) (Some (takes v what)) (nat_lt greatest_stamp next) (overflows_at g r.number (plain_of r).router (Some (takes v what))))
+      (plain_of r) (Take v stamp what) y
+
+  take_is : (what : What) (res : Result Stepped RouterError) (y : Stamped) (b : Bool) → is_waiting (side p.end).held ≡ b → Takes what res y true b
+      → Gives g r.number res (answer g r.number (plain_of r) (Take v stamp what)) (plain_of r) (Take v stamp what) y
+  take_is what res y b is h =
+      subst (λ (t : Bool). Takes what res y t (is_waiting (sides_of r v).held)) (sym (is_linked g r v true of l))
+      (subst (λ (w : Bool). Takes what res y true w) (sym (ap (λ (s : Side). is_waiting s.held) stands ∙ is)) h)
+
+  pub takes_held : (what : What) → is_waiting (side p.end).held ≡ true → Gives g r.number (Err (error.Held v)) (answer g r.number (plain_of r) (Take v stamp what)) (plain_of r) (Take v stamp what) (plain_of r)
+  takes_held what h = take_is what (Err (error.Held v)) (plain_of r) true h (refl, refl)
+
+  module _ (y : Stamped) (a : Draft) (res : Result Stepped RouterError) (e : ℕ) (free : is_waiting (side p.end).held ≡ false) where
+    pub takes_dial : a ≡ signed r.own_open (side p.end) (sign.Dial e)
+        → Ends (nat_lt greatest_stamp next) a.overflows res (plain_of r) (record { router = moved (plain_of r).router v NoMessage a; stamp = next }) y
+        → Gives g r.number res (answer g r.number (plain_of r) (Take v stamp (item.Dial e))) (plain_of r) (Take v stamp (item.Dial e)) y
+    takes_dial made ends =
+        take_is (item.Dial e) res y false free
+        (one_step g r y v NoMessage a (signed (open_of g.net r.number) (sides_of r v) (sign.Dial e)) next (Take v stamp (item.Dial e)) (takes v (item.Dial e)) res (λ w. w.overflows)
+        (drafted g r v i p (λ o s. signed o s (sign.Dial e)) a of at here made) refl ends)
+
+    pub takes_shut : a ≡ signed r.own_open (side p.end) (sign.Shut e)
+        → Ends (nat_lt greatest_stamp next) false res (plain_of r) (record { router = moved (plain_of r).router v NoMessage a; stamp = next }) y
+        → Gives g r.number res (answer g r.number (plain_of r) (Take v stamp (item.Shut e))) (plain_of r) (Take v stamp (item.Shut e)) y
+    takes_shut made ends =
+        take_is (item.Shut e) res y false free
+        (one_step g r y v NoMessage a (signed (open_of g.net r.number) (sides_of r v) (sign.Shut e)) next (Take v stamp (item.Shut e)) (takes v (item.Shut e)) res (λ w. false)
+        (drafted g r v i p (λ o s. signed o s (sign.Shut e)) a of at here made) refl ends)
+
+  late_is : (what : What) (res : Result Stepped RouterError) (y : Stamped) (late : Bool) → is_waiting (side p.end).held ≡ false → nat_lt greatest_stamp next ≡ late
+      → Gives g r.number res (judged None (Some (takes v what)) late (overflows_at g r.number (plain_of r).router (Some (takes v what)))) (plain_of r) (Take v stamp what) y
+      → Gives g r.number res (answer g r.number (plain_of r) (Take v stamp what)) (plain_of r) (Take v stamp what) y
+  late_is what res y late free is h =
+      take_is what res y false free
+      (subst (λ (b : Bool). Gives g r.number res (judged None (Some (takes v what)) b (overflows_at g r.number (plain_of r).router (Some (takes v what)))) (plain_of r) (Take v stamp what) y) (sym is) h)
+
+  pub takes_late : (what : What) → is_waiting (side p.end).held ≡ false → nat_lt greatest_stamp next ≡ true
+      → Gives g r.number (Err error.StampEnd) (answer g r.number (plain_of r) (Take v stamp what)) (plain_of r) (Take v stamp what) (plain_of r)
+  takes_late what free late = late_is what (Err error.StampEnd) (plain_of r) true free late (refl, refl)
+
+  pub takes_piece : (e : ℕ) (octets : List ℕ) (q : Peer) → Changes r v i p q → side q.end ≡ fed (side p.end) e octets → is_waiting (side p.end).held ≡ false
+      → nat_lt greatest_stamp next ≡ false
+      → Gives g r.number (Ok stepped.Did) (answer g r.number (plain_of r) (Take v stamp (item.Piece e octets))) (plain_of r) (Take v stamp (item.Piece e octets)) (plain_of (with_peer r i q next))
+  takes_piece e octets q c is free late =
+      late_is (item.Piece e octets) (Ok stepped.Did) (plain_of (with_peer r i q next)) false free late (refl, becomes r v i p q c next (λ s. fed s e octets) is)

@@ -1,0 +1,126 @@
+-- A router of the code as a router of the definitions: its list of peers as a function of numbers.
+use Rattle.std.specs.Prelude.{ℕ, zero, suc, ◌≡◌, ◌≢◌, ◌≤◌, ◌<◌, ◌==◌, nat_lt, Bool, true, false, cond, List, [], ◌∷◌, length, map, Option, None, Some, Result, Ok, Err, MatchResult, ◌+◌}
+use Rattle.bgp_codec.specs.declared.message.Message.{Message}
+use Rattle.session_fsm.specs.declared.config.SessionConfig.{SessionConfig}
+use Rattle.ranked_policy.specs.Plans.{Plan, IsNetwork, IsRouter}
+use Rattle.router_side.specs.Sayings.{IsSayable}
+use Rattle.router_side.specs.SideOf.{side, side_opening}
+use Rattle.router_model.specs.declared.refusal.RouterError.{RouterError}
+use Rattle.router_model.specs.declared.refusal.RouterError.TheVariants as error
+use Rattle.router_model.specs.declared.refusal.Stepped.{Stepped}
+use Rattle.router_model.specs.declared.refusal.Stepped.TheVariants as stepped
+use Rattle.snap_marker.specs.Recordings.{no_snapshots}
+use Rattle.router_model.specs.Settings.{Setting, ChoosesByRank, linked, peers}
+use Rattle.bgp_codec.specs.declared.rule.Rule.{Rule}
+use Rattle.outbox.specs.declared.item.Item.{Item}
+use Rattle.outbox.specs.declared.item.What.{What}
+use Rattle.outbox.specs.declared.item.What.TheVariants as item
+use Rattle.run_model.specs.Network.{alone, puts, takes, offers}
+use Rattle.router_model.specs.Sides.{Side, AtHand, Draft, carried, at_hand, front, without_front, handled}
+use Rattle.router_model.specs.State.{open_of, new_router}
+use Rattle.router_model.specs.Step.{moved}
+use Rattle.router_model.specs.Calls.{Stamped, Call, Put, Answer, Steps, Idle, Refuses, greatest_stamp, answer, Gives}
+use Rattle.router_core.specs.declared.peers.Peer.{Peer}
+
+-- a router: its network and number, what it says of itself, its peers by rising number, and the stamp of its last event
+pub record RouterView : Type 0 where
+  pub net : Plan
+  pub number : ℕ
+  pub own_open : Message
+  pub peers : List Peer
+  pub stamp : ℕ
+
+abbrev pub is_number : ℕ → Peer → Bool
+is_number v p = p.number == v
+
+-- the side towards a number, that of the first peer that bears it
+abbrev pub side_at : Side → List Peer → ℕ → Side
+side_at none [] v = none
+side_at none (p ∷ ps) v = cond (is_number v p) (side p.end) (side_at none ps v)
+
+abbrev pub listed : ℕ → List Peer → Bool
+listed v [] = false
+listed v (p ∷ ps) = cond (is_number v p) true (listed v ps)
+
+-- the first peer with that number stands at that place
+abbrev pub IsAt : List Peer → ℕ → ℕ → Type 0
+IsAt [] v i = ⊥
+IsAt (p ∷ ps) v zero = p.number ≡ v
+IsAt (p ∷ ps) v (suc i) = (p.number ≢ v) × IsAt ps v i
+
+-- it stands there, and is below the length
+abbrev pub IsFound : List Peer → ℕ → ℕ → Type 0
+IsFound ps v i = (i < length ps) × (listed v ps ≡ true) × IsAt ps v i
+
+-- what the sessions of a network are told
+abbrev pub config_of : Plan → SessionConfig
+config_of net = record { hold = net.settings.hold; restart = net.settings.restart }
+
+-- the sides of a router, by peer; towards what is no peer nothing was ever said
+abbrev pub sides_of : RouterView → ℕ → Side
+sides_of x = side_at (side_opening (config_of x.net)) x.peers
+
+-- the router as the definitions have it, with the stamp of its last event
+abbrev pub plain_of : RouterView → Stamped
+plain_of x = record { router = record { sides = sides_of x; kept = λ q. []; originated = λ q. false; snapshots = no_snapshots }; stamp = x.stamp }
+
+-- what every router of the code is
+pub record IsSound (x : RouterView) : Type 0 where
+  pub network : IsNetwork x.net
+  pub router : IsRouter x.net.routers x.number
+  pub numbers : map (λ p. p.number) x.peers ≡ peers x.net x.number
+  pub links : (v : ℕ) → listed v x.peers ≡ linked x.net x.number v
+  pub own_open : x.own_open ≡ open_of x.net x.number
+  pub sayable : IsSayable x.own_open
+  pub stamp : x.stamp ≤ greatest_stamp
+
+-- a call answers and leaves what it is to, in every setting of its network that chooses by rank
+abbrev pub Answers : Result Stepped RouterError → RouterView → Call → RouterView → Type 0
+Answers r x call y =
+    (g : Setting) → g.net ≡ x.net → ChoosesByRank g → Gives g x.number r (answer g x.number (plain_of x) call) (plain_of x) call (plain_of y)
+
+-- it is the same router of the same network
+pub record IsSame (x y : RouterView) : Type 0 where
+  pub net : y.net ≡ x.net
+  pub number : y.number ≡ x.number
+
+-- a router as it is made, in every setting of its network
+abbrev pub Opens : Plan → ℕ → RouterView → Type 0
+Opens net number x = (x.net ≡ net) × (x.number ≡ number) × ((g : Setting) → g.net ≡ net → plain_of x ≡ record { router = new_router g; stamp = 0 })
+
+-- a side whose front, read under this rule, is handled
+abbrev pub handled_front : Message → Rule → Side → Side
+handled_front own_open rule s = carried (at_hand (front rule s.held)) (without_front s) (handled own_open (front rule s.held) s)
+
+-- what `next_item` is to answer, by what the call Put is to answer
+abbrev pub Shows : ℕ → Result (Option Item) RouterError → Answer → Type 0
+Shows stamp r (Steps (puts v i)) = MatchResult r (λ next. next ≡ Some (record { stamp = stamp; what = i })) (λ why. why ≡ error.Memory)
+Shows stamp r (Steps (alone e)) = ⊥
+Shows stamp r (Steps (takes v i)) = ⊥
+Shows stamp r (Steps (offers made)) = ⊥
+Shows stamp r Idle = r ≡ Ok None
+Shows stamp r (Refuses why) = r ≡ Err why
+
+abbrev pub ShowsNext : Result (Option Item) RouterError → RouterView → ℕ → Type 0
+ShowsNext r x v = (g : Setting) → g.net ≡ x.net → Shows (x.stamp + 1) r (answer g x.number (plain_of x) (Put v))
+
+-- an item is put next towards the peer
+abbrev pub HasNext : RouterView → ℕ → Type 0
+HasNext x v = (next : Item) × ShowsNext (Ok (Some next)) x v
+
+-- a step that is done, or refused for its stamp, its numbers or want of memory
+abbrev pub Ends : Bool → Bool → Result Stepped RouterError → Stamped → Stamped → Stamped → Type 0
+Ends true overflows r x z y = (r ≡ Err error.StampEnd) × (y ≡ x)
+Ends false true r x z y = (r ≡ Err error.EpochEnd) × (y ≡ x)
+Ends false false r x z y = MatchResult r (λ s. (s ≡ stepped.Did) × (y ≡ z)) (λ why. (why ≡ error.Memory) × (y ≡ x))
+
+-- a draft of one side is carried out, at this stamp
+abbrev pub Carries : Result Stepped RouterError → RouterView → ℕ → AtHand → Draft → Bool → ℕ → RouterView → Type 0
+Carries r x v h a overflows stamp y =
+    Ends (nat_lt greatest_stamp stamp) overflows r (plain_of x) (record { router = moved (plain_of x).router v h a; stamp = stamp }) (plain_of y)
+
+abbrev pub IsNoMark : What → Type 0
+IsNoMark (item.Dial e) = Unit {0}
+IsNoMark (item.Piece e octets) = Unit {0}
+IsNoMark (item.Mark e s) = ⊥
+IsNoMark (item.Shut e) = Unit {0}

@@ -1,0 +1,78 @@
+//! What a router has as it starts: its OPEN, and its peers.
+
+ghost use Rattle.std.specs.Prelude.{◌≡◌, [], map, IfOk};
+ghost use Rattle.std.specs.List.{AllByRecursion};
+ghost use Rattle.session_fsm.specs.Table.{IsHoldTime};
+ghost use Rattle.bgp_codec.specs.declared.message.Message.TheVariants.{OpenMsg};
+ghost use Rattle.ranked_policy.specs.Plans.{IsRouter, IsUnicast};
+ghost use Rattle.router_model.specs.Settings.{linked, peers};
+ghost use Rattle.router_model.specs.State.{open_of};
+ghost use Rattle.router_side.specs.Sayings.{IsSayable};
+ghost use Rattle.router_side.specs.SideOf.{side, side_opening};
+
+use crate::peers::Peer;
+use bgp_codec::laws::written_has_a_header;
+use bgp_codec::{Items, Message, Open};
+use ranked_policy::{Asn, Network};
+use router_side::SideEnd;
+use session_fsm::SessionConfig;
+use std::alloc::{AllocError, Global};
+
+// An OPEN without parameters.
+fn open_message(alloc: Global, asn: u16, hold: u16, id: u32) -> Message
+    requires hold { IsHoldTime hold }
+    requires id { IsUnicast id }
+    ensures open { result ≡ OpenMsg (record { asn = asn; hold = hold; id = id; params = [] }) }
+    ensures sayable { IsSayable result }
+{
+    written_has_a_header();
+    Message::OpenMsg(Open {
+        asn,
+        hold,
+        id,
+        params: Items::new(alloc),
+    })
+}
+
+/// What a router says of itself (RFC 4271 section 4.2). It takes no memory.
+pub(crate) fn own_open(alloc: Global, network: &Network, number: Asn) -> Message
+    requires { IsRouter network.now.routers number }
+    ensures open { result ≡ open_of network.now number }
+    ensures sayable { IsSayable result }
+{
+    let settings = network.settings();
+    let router = network.router(number).unwrap();
+    open_message(alloc, number as u16, settings.hold, router.id)
+}
+
+// Whether a link joins two routers.
+fn is_peer(network: &Network, number: Asn, other: Asn) -> bool
+    ensures { result ≡ linked network.now number other }
+{
+    network.linked(number, other)
+}
+
+/// The linked routers by rising number, towards each of which nothing was said yet.
+pub(crate) fn new_peers(
+    alloc: Global,
+    network: &Network,
+    number: Asn,
+    config: SessionConfig,
+) -> Result<Vec<Peer>, AllocError>
+    requires { IsHoldTime config.hold }
+    ensures numbers { IfOk result (λ made. map (λ p. p.number) made.items ≡ peers network.now number) }
+    ensures sides { IfOk result (λ made. AllByRecursion (λ p. side p.end ≡ side_opening config) made.items) }
+{
+    let mut made = Vec::new(alloc);
+    for router in network.routers() {
+        if !is_peer(network, number, router.asn) {
+            continue;
+        }
+        let end = SideEnd::new(alloc, config)?;
+        made.push(Peer {
+            number: router.asn,
+            end,
+        })?;
+    }
+    Ok(made)
+}

@@ -1,0 +1,79 @@
+//! A router: its peers, and the stamp of its last event.
+
+ghost use Rattle.std.specs.Prelude.{◌≡◌, true, false, IfOk, MatchOption};
+ghost use Rattle.ranked_policy.specs.Plans.{IsRouter};
+ghost use Rattle.router_model.specs.Settings.{linked};
+ghost use Rattle.router_core.specs.Views.{Opens, listed, IsFound};
+
+mod command;
+mod handle;
+mod put;
+mod take;
+
+use crate::opening::{new_peers, own_open};
+use crate::peers::{Peer, place_of};
+use bgp_codec::Message;
+use ranked_policy::{Asn, Network};
+use router_model::RouterError;
+use router_model::laws::linked_routers_are_peers;
+use session_fsm::SessionConfig;
+use std::alloc::Global;
+use std::marker::Model;
+
+/// The greatest stamp, 2^62.
+const GREATEST_STAMP: u64 = 0x4000_0000_0000_0000;
+
+/// One router of a network.
+#[derive(Drop)]
+pub struct Router<'a> {
+    network: &'a Network,
+    number: Asn,
+    own_open: Message,
+    // By rising number.
+    peers: Vec<Peer>,
+    stamp: u64,
+}
+
+impl<'a> Model for Router<'a> {
+    ghost use Rattle.router_core.specs.Views.{RouterView, IsSound};
+
+    ghost Value = { RouterView };
+
+    ghost view = { λ r. record { net = r.network.now; number = r.number; own_open = r.own_open; peers = r.peers.items; stamp = r.stamp } };
+
+    ghost invariant = { λ r. IsSound (record { net = r.network.now; number = r.number; own_open = r.own_open; peers = r.peers.items; stamp = r.stamp }) };
+}
+
+impl<'a> Router<'a> {
+    /// A router of the network, as it starts: every session is Idle, and nothing was said, kept or
+    /// originated. Refused [`RouterError::Memory`] where a growth was.
+    pub fn new(alloc: Global, network: &'a Network, number: Asn) -> Result<Router<'a>, RouterError>
+        requires { IsRouter network.now.routers number }
+        ensures { IfOk result (Opens network.now number) }
+    {
+        linked_routers_are_peers();
+        let settings = network.settings();
+        let config = SessionConfig {
+            hold: settings.hold,
+            restart: settings.restart,
+        };
+        let Ok(peers) = new_peers(alloc, network, number, config) else {
+            return Err(RouterError::Memory);
+        };
+        Ok(Router {
+            network,
+            number,
+            own_open: own_open(alloc, network, number),
+            peers,
+            stamp: 0,
+        })
+    }
+
+    // The place of a peer.
+    fn find(&self, peer: Asn) -> Option<usize>
+        ensures place { MatchOption result (listed peer self.now.peers ≡ false) (IsFound self.now.peers peer) }
+        ensures none { MatchOption result (linked self.now.net self.now.number peer ≡ false) (λ at. linked self.now.net self.now.number peer ≡ true) }
+    {
+        place_of(self.peers.as_slice(), peer)
+    }
+}

@@ -1,0 +1,54 @@
+//! Items that a router takes.
+
+ghost use Rattle.std.specs.Prelude.{◌≡◌};
+ghost use Rattle.router_model.specs.Calls.{Take};
+ghost use Rattle.router_core.specs.Views.{IsSame, Answers, IsNoMark};
+
+use super::{GREATEST_STAMP, Router};
+use link_epoch::Sign;
+use outbox::{Item, What};
+use ranked_policy::Asn;
+use router_model::{RouterError, Stepped};
+use router_side::Given;
+
+impl Router<'_> {
+    /// Takes the next item of a peer, whatever it is. What is not of the incarnation that the end
+    /// joined is dropped.
+    ///
+    /// Refused [`RouterError::NoSuchPeer`], [`RouterError::Held`] where a whole message or a fault of
+    /// that peer waits, [`RouterError::StampEnd`], [`RouterError::EpochEnd`], and
+    /// [`RouterError::Memory`] where a growth was; then all is as it was.
+    pub fn take_item(&mut self, peer: Asn, item: &Item) -> Result<Stepped, RouterError>
+        requires { IsNoMark item.now.what }
+        ensures answers { Answers result self.old (Take peer item.now.stamp item.now.what) self.new }
+        ensures same { IsSame self.old self.new }
+    {
+        let Some(at) = self.find(peer) else {
+            return Err(RouterError::NoSuchPeer);
+        };
+        if self.peers[at].end.is_waiting() {
+            return Err(RouterError::Held { peer });
+        }
+        let stamp = self.stamp.max(item.stamp).saturating_add(1);
+        if stamp > GREATEST_STAMP {
+            return Err(RouterError::StampEnd);
+        }
+        match &item.what {
+            What::Dial(number) => {
+                let made = self.peers[at].end.sign(&self.own_open, Sign::Dial(*number));
+                let overflows = made.overflows;
+                self.carry_out(peer, at, Given::Nothing, &made, overflows, stamp)
+            }
+            What::Shut(number) => {
+                let made = self.peers[at].end.sign(&self.own_open, Sign::Shut(*number));
+                self.carry_out(peer, at, Given::Nothing, &made, false, stamp)
+            }
+            What::Piece(epoch, octets) => {
+                self.peers[at].end.take_piece(*epoch, octets.as_slice());
+                self.stamp = stamp;
+                Ok(Stepped::Did)
+            }
+            What::Mark(_, _) => unreachable!(),
+        }
+    }
+}

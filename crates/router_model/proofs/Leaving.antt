@@ -1,0 +1,422 @@
+-- When a session leaves Established, and what that loses.
+use Rattle.std.proofs.Common.{◌≡◌, ◌≢◌, ℕ, ◌==◌, ◌<◌, nat_eq, Bool, true, false, ◌&&◌, ◌||◌, cond, List, [], ◌∷◌, ◌++◌, refl, ap, sym, ◌∙◌, arith, subst, Option, None, Some}
+use Rattle.std.specs.Prelude.{nat_lt}
+use Rattle.std.specs.List.{list_any, AllPairs}
+use Rattle.std.proofs.lemmas.Bool.Decides.{nat_tests}
+use Rattle.bgp_codec.specs.declared.message.Message.{Message}
+use Rattle.link_epoch.specs.Ends.{LinkView, next_number, number_shut, heard_by, meaning_of, phase_at_dial}
+use Rattle.link_epoch.specs.declared.link_end.Sign.{Sign}
+use Rattle.link_epoch.specs.declared.link_end.Sign.TheVariants as sign
+use Rattle.link_epoch.specs.declared.link_end.Heard.{Heard}
+use Rattle.link_epoch.specs.declared.link_end.Heard.TheVariants as heard
+use Rattle.session_fsm.specs.Table as sessions
+use Rattle.session_fsm.specs.Table.{SessionView, on_event, on_state, on_established}
+use Rattle.session_fsm.specs.Timers.{ticked, runs_out}
+use Rattle.session_fsm.specs.declared.state.State.{State}
+use Rattle.session_fsm.specs.declared.state.State.TheVariants.{Idle, Connect, Active, OpenSent, OpenConfirm, Established}
+use Rattle.session_fsm.specs.declared.event.FsmEvent.{FsmEvent}
+use Rattle.session_fsm.specs.declared.event.FsmEvent.TheVariants as event
+use Rattle.session_fsm.specs.declared.actions.Action.{Action}
+use Rattle.session_fsm.specs.declared.actions.Action.TheVariants as action
+use Rattle.router_model.specs.Sides as sides
+use Rattle.router_model.specs.Sides.{Side, Draft, draft_of, AtHand, NoMessage, HasFault, HasUpdate, does, does_all, meets, obeys, obeys_all, comes, dials, shuts, fits, joins, is_connecting, is_established, is_up, met, reset, second, expires, signed, handled}
+
+-- the incarnation that is left: by whether the session was up, and whether it is
+abbrev pub left_of : Bool → Bool → ℕ → Option ℕ
+left_of true true e = None
+left_of true false e = Some e
+left_of false now e = None
+
+-- ---- actions without Down leave nothing
+
+abbrev NoDown : List Action → Type 0
+NoDown [] = Unit {0}
+NoDown (action.Dial ∷ xs) = NoDown xs
+NoDown (action.SendOpen ∷ xs) = NoDown xs
+NoDown (action.SendAlive ∷ xs) = NoDown xs
+NoDown (action.SendNotice code ∷ xs) = NoDown xs
+NoDown (action.SendGiven ∷ xs) = NoDown xs
+NoDown (action.HangUp ∷ xs) = NoDown xs
+NoDown (action.Act ∷ xs) = NoDown xs
+NoDown (action.Up ∷ xs) = NoDown xs
+NoDown (action.Down ∷ xs) = ⊥
+
+dial_left : (b : Bool) (a c d : Draft) → c.left ≡ a.left → d.left ≡ a.left → (cond b c d).left ≡ a.left
+dial_left true a c d h k = h
+dial_left false a c d h k = k
+
+dials_left : (a : Draft) → (dials a).left ≡ a.left
+dials_left a = dial_left (fits (next_number a.link)) a _ _ refl refl
+
+given_left : (g : AtHand) (a : Draft) → (sides.tells_fault a g).left ≡ a.left
+given_left NoMessage a = refl
+given_left (HasFault fault) a = refl
+given_left (HasUpdate update) a = refl
+
+shut_left : (a : Draft) (o : Option ℕ) → (shuts a o).left ≡ a.left
+shut_left a None = refl
+shut_left a (Some number) = refl
+
+does_all_left : (o : Message) (g : AtHand) (a : Draft) (xs : List Action) → NoDown xs → (does_all o g a xs).left ≡ a.left
+does_all_left o g a [] h = refl
+does_all_left o g a (action.Dial ∷ xs) h = does_all_left o g (dials a) xs h ∙ dials_left a
+does_all_left o g a (action.SendOpen ∷ xs) h = does_all_left o g (does o g a action.SendOpen) xs h
+does_all_left o g a (action.SendAlive ∷ xs) h = does_all_left o g (does o g a action.SendAlive) xs h
+does_all_left o g a (action.SendNotice code ∷ xs) h = does_all_left o g (does o g a (action.SendNotice code)) xs h
+does_all_left o g a (action.SendGiven ∷ xs) h = does_all_left o g (does o g a action.SendGiven) xs h ∙ given_left g a
+does_all_left o g a (action.HangUp ∷ xs) h = does_all_left o g (does o g a action.HangUp) xs h ∙ shut_left a (number_shut a.link)
+does_all_left o g a (action.Act ∷ xs) h = does_all_left o g (does o g a action.Act) xs h
+does_all_left o g a (action.Up ∷ xs) h = does_all_left o g (does o g a action.Up) xs h
+does_all_left o g a (action.Down ∷ xs) h = absurd h
+
+acked : (st : State) (s : SessionView) → s.state ≡ st → NoDown (on_event s event.TcpCrAcked).actions
+acked Idle s h = rw h tt
+acked Connect s h = rw h tt
+acked Active s h = rw h tt
+acked OpenSent s h = rw h tt
+acked OpenConfirm s h = rw h tt
+acked Established s h = rw h tt
+
+confirmed : (st : State) (s : SessionView) → s.state ≡ st → NoDown (on_event s event.TcpConnectionConfirmed).actions
+confirmed Idle s h = rw h tt
+confirmed Connect s h = rw h tt
+confirmed Active s h = rw h tt
+confirmed OpenSent s h = rw h tt
+confirmed OpenConfirm s h = rw h tt
+confirmed Established s h = rw h tt
+
+obeyed_left : (o : Message) (g : AtHand) (a : Draft) (xs : List Action) → NoDown xs → (obeys_all o g a xs).left ≡ a.left
+unfolding obeys meets
+obeyed_left o g a [] h = refl
+obeyed_left o g a (action.Dial ∷ xs) h =
+    obeyed_left o g (obeys o g a action.Dial) xs h
+    ∙ dial_left (joins a action.Dial) a (meets o g (dials a) event.TcpCrAcked) (dials a)
+    (does_all_left o g (record (dials a) { session = (on_event (dials a).session event.TcpCrAcked).session }) (on_event (dials a).session event.TcpCrAcked).actions (acked (dials a).session.state (dials a).session refl) ∙ dials_left a)
+    (dials_left a)
+obeyed_left o g a (action.SendOpen ∷ xs) h = obeyed_left o g (does o g a action.SendOpen) xs h
+obeyed_left o g a (action.SendAlive ∷ xs) h = obeyed_left o g (does o g a action.SendAlive) xs h
+obeyed_left o g a (action.SendNotice code ∷ xs) h = obeyed_left o g (does o g a (action.SendNotice code)) xs h
+obeyed_left o g a (action.SendGiven ∷ xs) h = obeyed_left o g (does o g a action.SendGiven) xs h ∙ given_left g a
+obeyed_left o g a (action.HangUp ∷ xs) h = obeyed_left o g (does o g a action.HangUp) xs h ∙ shut_left a (number_shut a.link)
+obeyed_left o g a (action.Act ∷ xs) h = obeyed_left o g (does o g a action.Act) xs h
+obeyed_left o g a (action.Up ∷ xs) h = obeyed_left o g (does o g a action.Up) xs h
+obeyed_left o g a (action.Down ∷ xs) h = absurd h
+
+-- ---- actions without a dial: what is left, and the session
+
+abbrev NoDial : List Action → Type 0
+NoDial [] = Unit {0}
+NoDial (action.Dial ∷ xs) = ⊥
+NoDial (action.SendOpen ∷ xs) = NoDial xs
+NoDial (action.SendAlive ∷ xs) = NoDial xs
+NoDial (action.SendNotice code ∷ xs) = NoDial xs
+NoDial (action.SendGiven ∷ xs) = NoDial xs
+NoDial (action.HangUp ∷ xs) = NoDial xs
+NoDial (action.Act ∷ xs) = NoDial xs
+NoDial (action.Up ∷ xs) = NoDial xs
+NoDial (action.Down ∷ xs) = NoDial xs
+
+abbrev lefts : List Action → Option ℕ → ℕ → Option ℕ
+lefts [] l e = l
+lefts (action.Dial ∷ xs) l e = lefts xs l e
+lefts (action.SendOpen ∷ xs) l e = lefts xs l e
+lefts (action.SendAlive ∷ xs) l e = lefts xs l e
+lefts (action.SendNotice code ∷ xs) l e = lefts xs l e
+lefts (action.SendGiven ∷ xs) l e = lefts xs l e
+lefts (action.HangUp ∷ xs) l e = lefts xs l e
+lefts (action.Act ∷ xs) l e = lefts xs l e
+lefts (action.Up ∷ xs) l e = lefts xs l e
+lefts (action.Down ∷ xs) l e = lefts xs (Some e) e
+
+record Gone (d : Draft) (session : SessionView) (l : Option ℕ) : Type 0 where
+  left : d.left ≡ l
+  same : d.session ≡ session
+
+given_same : (g : AtHand) (a : Draft) → ((sides.tells_fault a g).session ≡ a.session) × ((sides.tells_fault a g).link ≡ a.link)
+given_same NoMessage a = (refl, refl)
+given_same (HasFault fault) a = (refl, refl)
+given_same (HasUpdate update) a = (refl, refl)
+
+shut_same : (a : Draft) (o : Option ℕ) → (shuts a o).session ≡ a.session
+shut_same a None = refl
+shut_same a (Some number) = refl
+
+gone_from : (d : Draft) (s t : SessionView) (xs : List Action) (k l : Option ℕ) (m e : ℕ) → Gone d s (lefts xs k m) → s ≡ t → k ≡ l → m ≡ e → Gone d t (lefts xs l e)
+gone_from d s t xs k l m e h p q r =
+    subst (λ w. Gone d w (lefts xs l e)) p (subst (λ w. Gone d s (lefts xs w e)) q (subst (λ w. Gone d s (lefts xs k w)) r h))
+
+gone : (o : Message) (g : AtHand) (a : Draft) (xs : List Action) → NoDial xs → Gone (obeys_all o g a xs) a.session (lefts xs a.left a.link.epoch)
+unfolding obeys
+gone o g a [] h = record { left = refl; same = refl }
+gone o g a (action.Dial ∷ xs) h = absurd h
+gone o g a (action.SendOpen ∷ xs) h = gone o g (does o g a action.SendOpen) xs h
+gone o g a (action.SendAlive ∷ xs) h = gone o g (does o g a action.SendAlive) xs h
+gone o g a (action.SendNotice code ∷ xs) h = gone o g (does o g a (action.SendNotice code)) xs h
+gone o g a (action.SendGiven ∷ xs) h =
+    let k = given_same g a in
+    gone_from _ _ a.session xs _ a.left _ a.link.epoch (gone o g (does o g a action.SendGiven) xs h) k.0 (given_left g a) (ap (λ w. w.epoch) k.1)
+gone o g a (action.HangUp ∷ xs) h =
+    gone_from _ _ a.session xs _ a.left _ a.link.epoch (gone o g (does o g a action.HangUp) xs h) (shut_same a (number_shut a.link)) (shut_left a (number_shut a.link)) refl
+gone o g a (action.Act ∷ xs) h = gone o g (does o g a action.Act) xs h
+gone o g a (action.Up ∷ xs) h = gone o g (does o g a action.Up) xs h
+gone o g a (action.Down ∷ xs) h = gone o g (does o g a action.Down) xs h
+
+-- ---- the table: Down stands in the rows that leave Established, and in no other
+
+record Leaves (a : SessionView) (e : FsmEvent) (l : Option ℕ) (n : ℕ) : Type 0 where
+  none : NoDial (on_established a e).actions
+  is : lefts (on_established a e).actions l n ≡ cond (is_established (on_established a e).session.state) l (Some n)
+
+leaves : (a : SessionView) (e : FsmEvent) (l : Option ℕ) (n : ℕ) → a.state ≡ Established → Leaves a e l n
+leaves a event.ManualStart l n h = record { none = tt; is = rw h refl }
+leaves a event.ManualStop l n h = record { none = tt; is = refl }
+leaves a event.AutomaticStart l n h = record { none = tt; is = rw h refl }
+leaves a event.ConnectRetryTimerExpires l n h = record { none = tt; is = refl }
+leaves a event.HoldTimerExpires l n h = record { none = tt; is = refl }
+leaves a event.KeepaliveTimerExpires l n h = record { none = tt; is = rw h refl }
+leaves a event.TcpCrAcked l n h = record { none = tt; is = rw h refl }
+leaves a event.TcpConnectionConfirmed l n h = record { none = tt; is = rw h refl }
+leaves a event.TcpConnectionFails l n h = record { none = tt; is = refl }
+leaves a (event.BgpOpen hold) l n h = record { none = tt; is = refl }
+leaves a event.BgpHeaderErr l n h = record { none = tt; is = refl }
+leaves a event.BgpOpenMsgErr l n h = record { none = tt; is = refl }
+leaves a event.NotifMsgVerErr l n h = record { none = tt; is = refl }
+leaves a event.NotifMsg l n h = record { none = tt; is = refl }
+leaves a event.KeepAliveMsg l n h = record { none = tt; is = rw h refl }
+leaves a event.UpdateMsg l n h = record { none = tt; is = rw h refl }
+leaves a event.UpdateMsgErr l n h = record { none = tt; is = refl }
+
+idle_row : (a : SessionView) (e : FsmEvent) → NoDown (sessions.on_idle a e).actions
+idle_row a event.ManualStart = tt
+idle_row a event.ManualStop = tt
+idle_row a event.AutomaticStart = tt
+idle_row a event.ConnectRetryTimerExpires = tt
+idle_row a event.HoldTimerExpires = tt
+idle_row a event.KeepaliveTimerExpires = tt
+idle_row a event.TcpCrAcked = tt
+idle_row a event.TcpConnectionConfirmed = tt
+idle_row a event.TcpConnectionFails = tt
+idle_row a (event.BgpOpen hold) = tt
+idle_row a event.BgpHeaderErr = tt
+idle_row a event.BgpOpenMsgErr = tt
+idle_row a event.NotifMsgVerErr = tt
+idle_row a event.NotifMsg = tt
+idle_row a event.KeepAliveMsg = tt
+idle_row a event.UpdateMsg = tt
+idle_row a event.UpdateMsgErr = tt
+
+connect_row : (a : SessionView) (e : FsmEvent) → NoDown (sessions.on_connect a e).actions
+connect_row a event.ManualStart = tt
+connect_row a event.ManualStop = tt
+connect_row a event.AutomaticStart = tt
+connect_row a event.ConnectRetryTimerExpires = tt
+connect_row a event.HoldTimerExpires = tt
+connect_row a event.KeepaliveTimerExpires = tt
+connect_row a event.TcpCrAcked = tt
+connect_row a event.TcpConnectionConfirmed = tt
+connect_row a event.TcpConnectionFails = tt
+connect_row a (event.BgpOpen hold) = tt
+connect_row a event.BgpHeaderErr = tt
+connect_row a event.BgpOpenMsgErr = tt
+connect_row a event.NotifMsgVerErr = tt
+connect_row a event.NotifMsg = tt
+connect_row a event.KeepAliveMsg = tt
+connect_row a event.UpdateMsg = tt
+connect_row a event.UpdateMsgErr = tt
+
+active_row : (a : SessionView) (e : FsmEvent) → NoDown (sessions.on_active a e).actions
+active_row a event.ManualStart = tt
+active_row a event.ManualStop = tt
+active_row a event.AutomaticStart = tt
+active_row a event.ConnectRetryTimerExpires = tt
+active_row a event.HoldTimerExpires = tt
+active_row a event.KeepaliveTimerExpires = tt
+active_row a event.TcpCrAcked = tt
+active_row a event.TcpConnectionConfirmed = tt
+active_row a event.TcpConnectionFails = tt
+active_row a (event.BgpOpen hold) = tt
+active_row a event.BgpHeaderErr = tt
+active_row a event.BgpOpenMsgErr = tt
+active_row a event.NotifMsgVerErr = tt
+active_row a event.NotifMsg = tt
+active_row a event.KeepAliveMsg = tt
+active_row a event.UpdateMsg = tt
+active_row a event.UpdateMsgErr = tt
+
+open_sent_row : (a : SessionView) (e : FsmEvent) → NoDown (sessions.on_open_sent a e).actions
+open_sent_row a event.ManualStart = tt
+open_sent_row a event.ManualStop = tt
+open_sent_row a event.AutomaticStart = tt
+open_sent_row a event.ConnectRetryTimerExpires = tt
+open_sent_row a event.HoldTimerExpires = tt
+open_sent_row a event.KeepaliveTimerExpires = tt
+open_sent_row a event.TcpCrAcked = tt
+open_sent_row a event.TcpConnectionConfirmed = tt
+open_sent_row a event.TcpConnectionFails = tt
+open_sent_row a (event.BgpOpen hold) = tt
+open_sent_row a event.BgpHeaderErr = tt
+open_sent_row a event.BgpOpenMsgErr = tt
+open_sent_row a event.NotifMsgVerErr = tt
+open_sent_row a event.NotifMsg = tt
+open_sent_row a event.KeepAliveMsg = tt
+open_sent_row a event.UpdateMsg = tt
+open_sent_row a event.UpdateMsgErr = tt
+
+open_confirm_row : (a : SessionView) (e : FsmEvent) → NoDown (sessions.on_open_confirm a e).actions
+open_confirm_row a event.ManualStart = tt
+open_confirm_row a event.ManualStop = tt
+open_confirm_row a event.AutomaticStart = tt
+open_confirm_row a event.ConnectRetryTimerExpires = tt
+open_confirm_row a event.HoldTimerExpires = tt
+open_confirm_row a event.KeepaliveTimerExpires = tt
+open_confirm_row a event.TcpCrAcked = tt
+open_confirm_row a event.TcpConnectionConfirmed = tt
+open_confirm_row a event.TcpConnectionFails = tt
+open_confirm_row a (event.BgpOpen hold) = tt
+open_confirm_row a event.BgpHeaderErr = tt
+open_confirm_row a event.BgpOpenMsgErr = tt
+open_confirm_row a event.NotifMsgVerErr = tt
+open_confirm_row a event.NotifMsg = tt
+open_confirm_row a event.KeepAliveMsg = tt
+open_confirm_row a event.UpdateMsg = tt
+open_confirm_row a event.UpdateMsgErr = tt
+
+-- ---- an event that comes
+
+up_is : (st : State) (s : SessionView) → s.state ≡ st → is_established s.state ≡ is_established st
+up_is st s h = ap is_established h
+
+comes_quiet : (o : Message) (g : AtHand) (a : Draft) (e : FsmEvent) → NoDown (on_event a.session e).actions → (comes o g a e).left ≡ a.left
+unfolding comes
+comes_quiet o g a e h = obeyed_left o g (record a { session = (on_event a.session e).session }) (on_event a.session e).actions h
+
+comes_up : (o : Message) (g : AtHand) (a : Draft) (e : FsmEvent) → a.session.state ≡ Established → (comes o g a e).left ≡ cond (is_established (comes o g a e).session.state) a.left (Some a.link.epoch)
+unfolding comes
+comes_up o g a e h =
+    let row : on_event a.session e ≡ on_established a.session e = ap (λ st. on_state st a.session e) h in
+    let l = leaves a.session e a.left a.link.epoch h in
+    let none : NoDial (on_event a.session e).actions = subst (λ w. NoDial w.actions) (sym row) l.none in
+    let k = gone o g (record a { session = (on_event a.session e).session }) (on_event a.session e).actions none in
+    k.left ∙ (ap (λ w. lefts w.actions a.left a.link.epoch) row ∙ (l.is
+    ∙ (ap (λ w. cond (is_established w.session.state) a.left (Some a.link.epoch)) (sym row) ∙ ap (λ w. cond (is_established w.state) a.left (Some a.link.epoch)) (sym k.same))))
+
+quiet_left : (b c : Bool) (e : ℕ) (l : Option ℕ) → b ≡ false → l ≡ None → l ≡ left_of b c e
+quiet_left true c e l h k = absurd cc
+quiet_left false c e l h k = k
+
+up_left : (b c : Bool) (e : ℕ) (l k : Option ℕ) → b ≡ true → k ≡ None → l ≡ cond c k (Some e) → l ≡ left_of b c e
+up_left true true e l k h n i = i ∙ n
+up_left true false e l k h n i = i
+up_left false c e l k h n i = absurd cc
+
+comes_left : (o : Message) (g : AtHand) (a : Draft) (e : FsmEvent) → a.left ≡ None → (comes o g a e).left ≡ left_of (is_established a.session.state) (is_established (comes o g a e).session.state) a.link.epoch
+comes_left o g a e none = at a.session.state refl
+  where
+    row : (st : State) → a.session.state ≡ st → NoDown (on_state st a.session e).actions → NoDown (on_event a.session e).actions
+    row st h d = subst (λ k. NoDown (on_state k a.session e).actions) (sym h) d
+
+    at : (st : State) → a.session.state ≡ st → (comes o g a e).left ≡ left_of (is_established a.session.state) (is_established (comes o g a e).session.state) a.link.epoch
+    at Idle h = quiet_left (is_established a.session.state) _ a.link.epoch _ (ap is_established h) (comes_quiet o g a e (row Idle h (idle_row a.session e)) ∙ none)
+    at Connect h = quiet_left (is_established a.session.state) _ a.link.epoch _ (ap is_established h) (comes_quiet o g a e (row Connect h (connect_row a.session e)) ∙ none)
+    at Active h = quiet_left (is_established a.session.state) _ a.link.epoch _ (ap is_established h) (comes_quiet o g a e (row Active h (active_row a.session e)) ∙ none)
+    at OpenSent h = quiet_left (is_established a.session.state) _ a.link.epoch _ (ap is_established h) (comes_quiet o g a e (row OpenSent h (open_sent_row a.session e)) ∙ none)
+    at OpenConfirm h = quiet_left (is_established a.session.state) _ a.link.epoch _ (ap is_established h) (comes_quiet o g a e (row OpenConfirm h (open_confirm_row a.session e)) ∙ none)
+    at Established h = up_left (is_established a.session.state) _ a.link.epoch _ a.left (ap is_established h) none (comes_up o g a e h)
+
+-- ---- the drafts
+
+nothing_left : (b : Bool) (e : ℕ) → None ≡ left_of b b e
+nothing_left true e = refl
+nothing_left false e = refl
+
+pub met_left : (o : Message) (s : Side) (e : FsmEvent) → (met o s e).left ≡ left_of (is_up s) (is_established (met o s e).session.state) s.link.epoch
+met_left o s e = comes_left o NoMessage (draft_of s.session s.link) e refl
+
+pub handled_left : (o : Message) (g : AtHand) (s : Side) (e : FsmEvent) → (comes o g (draft_of s.session s.link) e).left ≡ left_of (is_up s) (is_established (comes o g (draft_of s.session s.link) e).session.state) s.link.epoch
+handled_left o g s e = comes_left o g (draft_of s.session s.link) e refl
+
+pub second_left : (o : Message) (s : Side) → (second o s).left ≡ left_of (is_up s) (is_established (second o s).session.state) s.link.epoch
+second_left o s = at (runs_out s.session)
+  where
+    at : (e : Option FsmEvent) → (expires o (draft_of (ticked s.session) s.link) e).left ≡ left_of (is_up s) (is_established (expires o (draft_of (ticked s.session) s.link) e).session.state) s.link.epoch
+    at None = nothing_left (is_up s) s.link.epoch
+    at (Some e) = comes_left o NoMessage (draft_of (ticked s.session) s.link) e refl
+
+-- a sign of the peer
+heard_epoch : (link : LinkView) (x : Sign) → (heard_by link x).epoch ≡ link.epoch
+heard_epoch link (sign.Dial n) = at (nat_lt link.heard n)
+  where
+    at : (b : Bool) → (cond b (record { epoch = link.epoch; heard = n; heard_is_shut = false; phase = phase_at_dial link.phase (n == link.epoch) }) link).epoch ≡ link.epoch
+    at true = refl
+    at false = refl
+heard_epoch link (sign.Shut n) = at (n == link.heard)
+  where
+    at : (b : Bool) → (cond b (record link { heard_is_shut = true }) link).epoch ≡ link.epoch
+    at true = refl
+    at false = refl
+
+answer_off : (c : Bool) (d a : Draft) (b : Bool) (e : ℕ) → c ≡ false → a.left ≡ left_of b (is_established a.session.state) e → (cond c d a).left ≡ left_of b (is_established (cond c d a).session.state) e
+answer_off true d a b e h k = absurd cc
+answer_off false d a b e h k = k
+
+answers_left : (o : Message) (s : SessionView) (link : LinkView) (x : Heard) → (sides.answers o (draft_of s link) x).left ≡ left_of (is_established s.state) (is_established (sides.answers o (draft_of s link) x).session.state) link.epoch
+unfolding sides.answers
+answers_left o s link heard.Quiet = nothing_left (is_established s.state) link.epoch
+answers_left o s link heard.Joined = comes_left o NoMessage (draft_of s link) event.TcpCrAcked refl
+answers_left o s link heard.Closed = comes_left o NoMessage (draft_of s link) event.TcpConnectionFails refl
+answers_left o s link (heard.Offered number) = at s.state refl
+  where
+    none : (comes o NoMessage (dials (draft_of s link)) event.TcpConnectionConfirmed).left ≡ None
+    none = comes_quiet o NoMessage (dials (draft_of s link)) event.TcpConnectionConfirmed (confirmed (dials (draft_of s link)).session.state (dials (draft_of s link)).session refl) ∙ dials_left (draft_of s link)
+
+    down : (st : State) → s.state ≡ st → is_established st ≡ false
+        → (cond (is_connecting s.state) (comes o NoMessage (dials (draft_of s link)) event.TcpConnectionConfirmed) (draft_of s link)).left
+        ≡ left_of (is_established s.state) (is_established (cond (is_connecting s.state) (comes o NoMessage (dials (draft_of s link)) event.TcpConnectionConfirmed) (draft_of s link)).session.state) link.epoch
+    down st h off = quiet_left (is_established s.state) _ link.epoch _ (ap is_established h ∙ off) (dial_left (is_connecting s.state) (draft_of s link) (comes o NoMessage (dials (draft_of s link)) event.TcpConnectionConfirmed) (draft_of s link) none refl)
+
+    at : (st : State) → s.state ≡ st
+        → (cond (is_connecting s.state) (comes o NoMessage (dials (draft_of s link)) event.TcpConnectionConfirmed) (draft_of s link)).left
+        ≡ left_of (is_established s.state) (is_established (cond (is_connecting s.state) (comes o NoMessage (dials (draft_of s link)) event.TcpConnectionConfirmed) (draft_of s link)).session.state) link.epoch
+    at Idle h = down Idle h refl
+    at Connect h = down Connect h refl
+    at Active h = down Active h refl
+    at OpenSent h = down OpenSent h refl
+    at OpenConfirm h = down OpenConfirm h refl
+    at Established h = answer_off (is_connecting s.state) (comes o NoMessage (dials (draft_of s link)) event.TcpConnectionConfirmed) (draft_of s link) (is_established s.state) link.epoch (ap is_connecting h) (nothing_left (is_established s.state) link.epoch)
+
+pub signed_left : (o : Message) (s : Side) (x : Sign) → (signed o s x).left ≡ left_of (is_up s) (is_established (signed o s x).session.state) s.link.epoch
+signed_left o s x =
+    answers_left o s.session (heard_by s.link x) (meaning_of s.link x)
+    ∙ ap (left_of (is_up s) (is_established (signed o s x).session.state)) (heard_epoch s.link x)
+
+-- a reset: the stop leaves, and the start leaves nothing more
+started : (st : State) (s : SessionView) → s.state ≡ st → NoDown (on_event s event.ManualStart).actions
+started Idle s h = rw h tt
+started Connect s h = rw h tt
+started Active s h = rw h tt
+started OpenSent s h = rw h tt
+started OpenConfirm s h = rw h tt
+started Established s h = rw h tt
+
+stopped_is : (o : Message) (s : Side) → is_up s ≡ true → s.session.state ≡ Established → is_established (met o s event.ManualStop).session.state ≡ false
+unfolding comes
+stopped_is o s up h =
+    let row : on_event s.session event.ManualStop ≡ on_established s.session event.ManualStop = ap (λ st. on_state st s.session event.ManualStop) h in
+    let none : NoDial (on_event s.session event.ManualStop).actions = subst (λ w. NoDial w.actions) (sym row) tt in
+    let k = gone o NoMessage (record (draft_of s.session s.link) { session = (on_event s.session event.ManualStop).session }) (on_event s.session event.ManualStop).actions none in
+    ap (λ w. is_established w.state) k.same ∙ ap (λ w. is_established w.session.state) row
+
+established_is : (st : State) → is_established st ≡ true → st ≡ Established
+established_is Idle h = absurd cc
+established_is Connect h = absurd cc
+established_is Active h = absurd cc
+established_is OpenSent h = absurd cc
+established_is OpenConfirm h = absurd cc
+established_is Established h = refl
+
+pub reset_left : (o : Message) (s : Side) → is_up s ≡ true → (reset o s).left ≡ Some s.link.epoch
+reset_left o s up =
+    let m : Draft = met o s event.ManualStop in
+    let off = stopped_is o s up (established_is s.session.state up) in
+    comes_quiet o NoMessage (met o s event.ManualStop) event.ManualStart (started (met o s event.ManualStop).session.state (met o s event.ManualStop).session refl)
+    ∙ (met_left o s event.ManualStop ∙ (ap (λ b. left_of b (is_established (met o s event.ManualStop).session.state) s.link.epoch) up ∙ ap (λ b. left_of true b s.link.epoch) off))

@@ -1,0 +1,43 @@
+-- What the steps of one router do to its recordings of snapshots.
+use Rattle.std.specs.Prelude.{ℕ, ◌≡◌, ◌<◌, ◌≤◌, true, false, ◌++◌, List, [], ◌∷◌, Option, None, Some}
+use mathlib.Core.Logic.{◌⊎◌}
+use Rattle.ranked_policy.specs.Plans.{IsNetwork}
+use Rattle.run_model.specs.Offers.{Finished, Lost, Closed, IsIn}
+use Rattle.snap_marker.specs.Recordings.{RouterPart, Recording, Snapshots}
+use Rattle.router_model.specs.Settings.{Setting, linked}
+use Rattle.router_model.specs.Sides.{is_up}
+use Rattle.router_model.specs.State.{Router}
+use Rattle.router_model.specs.Step.{RouterEvent, Step}
+
+-- s is the number of the unfinished recording
+abbrev pub IsRecording : Snapshots → ℕ → Type 0
+IsRecording x s = (r : Recording) × (x.unfinished ≡ Some r) × (r.number ≡ s)
+
+-- the session with v leaves Established in a step from x to y, and v is the least linked peer whose session does
+pub record LeavesFirst (g : Setting) (u v : ℕ) (x y : Router) : Type 0 where
+  pub linked_peer : linked g.net u v ≡ true
+  pub was : is_up (x.sides v) ≡ true
+  pub is : is_up (y.sides v) ≡ false
+  pub least : (w : ℕ) → w < v → linked g.net u w ≡ true → is_up (x.sides w) ≡ true → is_up (y.sides w) ≡ true
+
+-- where a session leaves Established while s is recorded, the loss of s is queued, by that peer and in that incarnation, and
+-- nothing is recorded any more
+abbrev pub LeavingLosesTheRecording : Type 0
+LeavingLosesTheRecording =
+    (g : Setting) → IsNetwork g.net → (u v s : ℕ) (x y : Router) (e : RouterEvent) → Step g u x e y → IsRecording x.snapshots s → LeavesFirst g u v x y
+    → (y.snapshots.queue ≡ x.snapshots.queue ++ Lost s v (x.sides v).link.epoch Closed ∷ []) × (y.snapshots.unfinished ≡ None)
+
+-- what is recorded behind a step: what was before it, or a number above the last one
+abbrev pub IsNext : Snapshots → Snapshots → ℕ → Type 0
+IsNext x y k = IsRecording x k ⊎ (x.last < k) × (k ≤ y.last)
+
+-- numbers rise; what is recorded goes on, or is new; and a part that is queued is of what was recorded or is new, and is recorded no
+-- more
+pub record GoesOn (x y : Snapshots) : Type 0 where
+  pub rises : x.last ≤ y.last
+  pub records : (k : ℕ) → IsRecording y k → IsNext x y k
+  pub finishes : (k : ℕ) (part : RouterPart) → IsIn (Finished k part) y.queue
+      → IsIn (Finished k part) x.queue ⊎ (IsNext x y k × (y.unfinished ≡ None))
+
+abbrev pub RecordingsGoOn : Type 0
+RecordingsGoOn = (g : Setting) (u : ℕ) (x y : Router) (e : RouterEvent) → Step g u x e y → GoesOn x.snapshots y.snapshots

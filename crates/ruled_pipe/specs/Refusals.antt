@@ -1,0 +1,8 @@
+-- Why a pipe of some capacity is refused.
+use Rattle.std.specs.Prelude.{ℕ, ltb, ◌||◌, if◌then◌else◌}
+use Rattle.ruled_pipe.specs.declared.refusal.PipeError.{PipeError}
+use Rattle.ruled_pipe.specs.declared.refusal.PipeError.TheVariants.{Memory, BadCapacity}
+
+-- a capacity outside 1 to 1024 items as such, and any other for want of memory alone
+abbrev pub refusal_of : ℕ → PipeError
+refusal_of capacity = if ltb capacity 1 || ltb 1024 capacity then BadCapacity else Memory
