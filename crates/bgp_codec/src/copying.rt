@@ -5,7 +5,7 @@ ghost use Rattle.std.specs.Prelude.{◌≡◌, IfOk};
 use crate::attributes::{Attrs, Raw};
 use crate::items::Items;
 use crate::octets::Octets;
-use crate::path::Segment;
+use crate::path::{Numbers, Segment};
 use crate::update::Update;
 use std::alloc::{AllocError, Global};
 
@@ -28,7 +28,7 @@ fn copied_path(alloc: Global, path: &Items<Segment>) -> Result<Items<Segment>, A
     for segment in path.as_slice() {
         copy.push(Segment {
             kind: segment.kind,
-            numbers: segment.numbers.copied(alloc)?,
+            numbers: Numbers::from_slice(alloc, segment.numbers.as_slice())?,
         })?;
     }
     Ok(Items::from_vec(copy))

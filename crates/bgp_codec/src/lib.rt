@@ -44,7 +44,7 @@ pub use message::{Message, is_writable};
 pub use notice::{Notice, notice_of};
 pub use octets::Octets;
 pub use open::{Cap, Open};
-pub use path::{Segment, SegmentKind};
+pub use path::{Numbers, Segment, SegmentKind};
 pub use reading::decode;
 pub use rule::{Asn, NOBODY, Rule, Width};
 pub use update::Update;

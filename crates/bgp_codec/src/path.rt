@@ -1,6 +1,6 @@
 //! AS_PATH (RFC 4271 sections 4.3 and 5.1.2): its segments, their reader and their writer.
 
-ghost use Rattle.std.specs.Prelude.{◌≡◌, ◌+◌, ◌*◌, ◌-◌, ◌^◌, ◌≤◌, ◌<◌, ◌++◌, ◌↔◌, IsTrue, IfOk, IfErr, length, min, vec_len, vec_capacity};
+ghost use Rattle.std.specs.Prelude.{◌≡◌, ◌+◌, ◌*◌, ◌-◌, ◌^◌, ◌≤◌, ◌<◌, ◌++◌, ◌↔◌, IsTrue, IsOk, IfOk, IfErr, length, min, vec_len, vec_capacity};
 ghost use Rattle.std.specs.List.{flat_map, AllByRecursion};
 ghost use Rattle.std.specs.Int.{w16, to_be_bytes};
 ghost use Rattle.bgp_codec.specs.Reading.{Gives, IsNoWant};
@@ -10,7 +10,9 @@ use crate::fault::{CodecError, update_fault};
 use crate::items::Items;
 use crate::numbers::count_values;
 use crate::rule::Asn;
+use smallvec::SmallVec;
 use std::alloc::{AllocError, Global};
+use std::marker::Model;
 
 /// How the numbers of a segment stand to each other.
 #[derive(Clone, Copy, Debug, PartialEq, Eq)]
@@ -21,27 +23,69 @@ pub enum SegmentKind {
     AsSequence,
 }
 
+/// The numbers of a segment. Up to eight stand in the value itself and take no memory.
+#[derive(Debug, Drop)]
+pub struct Numbers {
+    numbers: SmallVec<Asn, 8>,
+}
+
+impl Model for Numbers {
+    ghost use Rattle.std.specs.Prelude.{List, ℕ};
+
+    ghost Value = { List ℕ };
+
+    ghost view = { λ list. list.numbers.items };
+}
+
+impl Numbers {
+    /// A copy of the numbers. It is refused only where memory was, and never for eight or fewer.
+    pub fn from_slice(alloc: Global, numbers: &[Asn]) -> Result<Numbers, AllocError>
+        ensures ok { IfOk result (λ list. list ≡ numbers.now) }
+        ensures short { length numbers.now ≤ 8 → IsOk result }
+    {
+        Ok(Numbers {
+            numbers: SmallVec::from_slice(alloc, numbers)?,
+        })
+    }
+
+    /// The numbers of a `Vec`, which it keeps. It takes no memory.
+    pub fn from_vec(numbers: Vec<Asn>) -> Numbers
+        ensures { result ≡ numbers.items }
+    {
+        Numbers {
+            numbers: SmallVec::from_vec(numbers),
+        }
+    }
+
+    /// The numbers.
+    pub fn as_slice(&self) -> &[Asn]
+        ensures { result.now ≡ self.now }
+    {
+        self.numbers.as_slice()
+    }
+}
+
 /// A part of a path.
 #[derive(Debug, Drop)]
 pub struct Segment {
     /// Whether the numbers are a set or a sequence.
     pub kind: SegmentKind,
     /// The numbers, 1 to 255 of them in a message.
-    pub numbers: Items<Asn>,
+    pub numbers: Numbers,
 }
 
 // The numbers of two octets each.
-fn read_numbers(alloc: Global, octets: &[u8]) -> Result<Items<Asn>, AllocError>
+fn read_numbers(alloc: Global, octets: &[u8]) -> Result<Numbers, AllocError>
     ensures { IfOk result (λ numbers. numbers ≡ numbers_of octets.now) }
 {
-    let mut numbers = Vec::new(alloc);
+    let mut numbers = SmallVec::new(alloc);
     numbers.reserve(octets.len() / 2)?;
     let mut left = octets;
     'numbers: while let [high, low, rest @ ..] = left {
         numbers.push(Asn::from(u16::from_be_bytes([*high, *low])))?;
         left = rest;
     }
-    Ok(Items::from_vec(numbers))
+    Ok(Numbers { numbers })
 }
 
 // The kind of the segment in front, the octets of its numbers, and what follows it. It takes no

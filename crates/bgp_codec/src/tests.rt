@@ -221,11 +221,9 @@ fn items_give_their_vec_back(rt: HostRuntime) -> Result<(), Fail> {
 }
 
 fn segment(alloc: Global, kind: SegmentKind, numbers: &[Asn]) -> Result<Segment, AllocError> {
-    let mut list = Vec::new(alloc);
-    list.extend_from_slice(numbers)?;
     Ok(Segment {
         kind,
-        numbers: Items::from_vec(list),
+        numbers: Numbers::from_slice(alloc, numbers)?,
     })
 }
 

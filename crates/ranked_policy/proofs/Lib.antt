@@ -9,3 +9,4 @@ pub mod Reached
 pub mod PeerLemmas
 pub mod WaysOn
 mod TestLemmas
+pub mod PlaceLemmas

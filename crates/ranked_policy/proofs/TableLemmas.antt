@@ -33,7 +33,7 @@ one_of f xs k l x y pairs in_k in_l at_k at_l same = elim (cases_order k l) [
   ]
 ]
 
-prefixes_differ : (origins : List Origin) → AllPairs (λ o p. IsBefore o.prefix p.prefix) origins → AllPairs (λ o p. o.prefix ≢ p.prefix) origins
+pub prefixes_differ : (origins : List Origin) → AllPairs (λ o p. IsBefore o.prefix p.prefix) origins → AllPairs (λ o p. o.prefix ≢ p.prefix) origins
 prefixes_differ origins rising i j d l m same =
     before_self (get_or origins j d).prefix (subst (λ p. IsBefore p (get_or origins j d).prefix) same (rising i j d l m))
 

@@ -2,6 +2,9 @@
 use Rattle.std.specs.Prelude.{ℕ, ◌≡◌, ◌≢◌, ◌<◌, List, ◌∷◌, ◌++◌, length}
 use Rattle.std.specs.List.{Contains}
 use mathlib.Core.Logic.{◌⊎◌}
+use Rattle.std.specs.declared.cmp.Ordering.{Ordering}
+use Rattle.std.specs.Ordering.{nat_cmp, ordering_then}
+use Rattle.prefix_lanes.specs.Bits.{PrefixView}
 
 -- on the permitted paths: no path is better than itself, better than a better one is better, and of two paths one is better
 pub record IsStrictTotalOrder (Permits : List ℕ → Type 0) (Prefers : List ℕ → List ℕ → Type 0) : Type 0 where
@@ -31,3 +34,7 @@ pub record ComesEarlier (a b : List ℕ) : Type 0 where
 -- the shorter first, then as in a dictionary
 abbrev pub IsShorter : List ℕ → List ℕ → Type 0
 IsShorter a b = (length a < length b) ⊎ ((length a ≡ length b) × ComesEarlier a b)
+
+-- how two prefixes stand to each other: by address, then by length
+abbrev pub compared : PrefixView → PrefixView → Ordering
+compared p q = ordering_then (nat_cmp p.addr q.addr) (nat_cmp p.len q.len)

@@ -7,13 +7,12 @@ ghost use Rattle.ranked_policy.specs.Adding.{IsRefused, MeetsAll, SettingsMeet, 
 
 use crate::connected::is_connected;
 use crate::items::Items;
-use crate::judging::{
-    is_linked, is_named, is_origin, is_router, is_settings, judge_link, judge_origin, judge_router,
-    judge_rule,
-};
+use crate::judging::{is_linked, is_settings, judge_link, judge_origin, judge_router, judge_rule};
 use crate::network::{Link, Network, Origin, Router, Rule, Settings};
 use crate::path::{Asn, Path};
-use crate::places::{place_of_prefix, place_of_router};
+use crate::places::{
+    find_prefix, find_router, is_origin, place_of_prefix, place_of_router, router_of,
+};
 use crate::refusal::NetError;
 use prefix_lanes::Prefix;
 use std::alloc::Global;
@@ -194,7 +193,7 @@ impl NetBuilder {
     pub fn has_router(&self, asn: Asn) -> bool
         ensures { IsTrue result ↔ IsRouter self.now.routers asn }
     {
-        is_router(self.routers.as_slice(), asn)
+        find_router(self.routers.as_slice(), asn).is_some()
     }
 
     /// Whether a link joins the two.
@@ -215,7 +214,7 @@ impl NetBuilder {
     pub fn names(&self, prefix: &Prefix) -> bool
         ensures { IsTrue result ↔ IsNamed self.now.origins prefix.now }
     {
-        is_named(self.origins.as_slice(), prefix)
+        find_prefix(self.origins.as_slice(), prefix).is_some()
     }
 
     /// The router with this number.
@@ -223,19 +222,6 @@ impl NetBuilder {
         ensures some { IsSome result ↔ IsRouter self.now.routers asn }
         ensures value { IfSome result (λ router. (router.now.asn ≡ asn) × Contains self.now.routers router.now) }
     {
-        find_router(self.routers.as_slice(), asn)
+        router_of(self.routers.as_slice(), asn)
     }
-}
-
-// The router with this number.
-fn find_router(routers: &[Router], asn: Asn) -> Option<&Router>
-    ensures some { IsSome result ↔ IsRouter routers.now asn }
-    ensures value { IfSome result (λ router. (router.now.asn ≡ asn) × Contains routers.now router.now) }
-{
-    for router in routers {
-        if router.asn == asn {
-            return Some(router);
-        }
-    }
-    None
 }

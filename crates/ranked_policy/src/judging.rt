@@ -132,18 +132,6 @@ pub(crate) fn is_named(origins: &[Origin], prefix: &Prefix) -> bool
     false
 }
 
-// Whether the router is named as origin of the prefix.
-pub(crate) fn is_origin(origins: &[Origin], asn: Asn, prefix: &Prefix) -> bool
-    ensures { IsTrue result ↔ IsOrigin origins.now asn prefix.now }
-{
-    for origin in origins {
-        if origin.prefix == *prefix && origin.router == asn {
-            return true;
-        }
-    }
-    false
-}
-
 pub(crate) fn judge_origin(
     routers: &[Router],
     origins: &[Origin],

@@ -4,6 +4,7 @@ use crate::builder::NetBuilder;
 use crate::items::Items;
 use crate::path::{Asn, Path};
 use crate::peers::peers_of;
+use crate::places::{find_prefix, find_router};
 use crate::table::PolicyTable;
 use prefix_lanes::Prefix;
 use std::alloc::{AllocError, Global};
@@ -78,8 +79,8 @@ impl Model for Network {
 }
 
 impl Network {
-    ghost use Rattle.std.specs.Prelude.{◌≡◌, ◌<◌, ◌↔◌, ℕ, IsTrue, IsSome, IfSome, IfOk};
-    ghost use Rattle.std.specs.List.{AllPairs, Contains};
+    ghost use Rattle.std.specs.Prelude.{◌≡◌, ◌<◌, ◌↔◌, ℕ, IsTrue, IsSome, IfSome, IfOk, length};
+    ghost use Rattle.std.specs.List.{AllPairs, Contains, HoldsAt};
     ghost use Rattle.ranked_policy.specs.Plans.{IsNetwork, IsRouter, IsOrigin, IsNamed, Linked};
     ghost use Rattle.ranked_policy.specs.Policies.{IsTable, IsTableOf};
 
@@ -136,6 +137,22 @@ impl Network {
         ensures { IsTrue result ↔ IsRouter self.now.routers asn }
     {
         self.built.has_router(asn)
+    }
+
+    /// The place of the router with this number among [`Network::routers`].
+    pub fn place(&self, asn: Asn) -> Option<usize>
+        ensures some { IsSome result ↔ IsRouter self.now.routers asn }
+        ensures value { IfSome result (λ i. (i < length self.now.routers) × HoldsAt (λ r. r.asn ≡ asn) self.now.routers i) }
+    {
+        find_router(self.routers(), asn)
+    }
+
+    /// The place of the prefix among [`Network::origins`].
+    pub fn prefix_place(&self, prefix: &Prefix) -> Option<usize>
+        ensures some { IsSome result ↔ IsNamed self.now.origins prefix.now }
+        ensures value { IfSome result (λ i. (i < length self.now.origins) × HoldsAt (λ origin. origin.prefix ≡ prefix.now) self.now.origins i) }
+    {
+        find_prefix(self.origins(), prefix)
     }
 
     /// Whether a link joins the two.

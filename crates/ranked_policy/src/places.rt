@@ -1,8 +1,9 @@
 //! Where a number or a prefix stands in a list that rises.
 
-ghost use Rattle.std.specs.Prelude.{◌≡◌, ◌≤◌, ◌<◌, ◌↔◌, ℕ, IsTrue, length, take, drop, slice_index, IfOk, IfErr};
-ghost use Rattle.std.specs.List.{All, AllPairs, HoldsAt};
-ghost use Rattle.ranked_policy.specs.Plans.{numbers, IsBefore, IsRouter};
+ghost use Rattle.std.specs.Prelude.{◌≡◌, ◌≤◌, ◌<◌, ◌↔◌, ℕ, IsTrue, length, take, drop, slice_index, IsSome, IfSome, IfOk, IfErr};
+ghost use Rattle.std.specs.List.{All, AllPairs, Contains, HoldsAt};
+ghost use Rattle.ranked_policy.specs.Plans.{numbers, IsBefore, IsNamed, IsOrigin, IsRouter};
+ghost use Rattle.ranked_policy.specs.Policies.{IsOriginOf};
 
 use crate::network::{Origin, Router};
 use crate::path::Asn;
@@ -16,15 +17,7 @@ pub(crate) fn place_of_router(routers: &[Router], asn: Asn) -> Result<usize, usi
     ensures before { IfErr result (λ i. All (λ r. r.asn < asn) (take i routers.now)) }
     ensures behind { IfErr result (λ i. All (λ r. asn < r.asn) (drop i routers.now)) }
 {
-    for (i, router) in routers.iter().enumerate() {
-        if router.asn == asn {
-            return Ok(i);
-        }
-        if asn < router.asn {
-            return Err(i);
-        }
-    }
-    Err(routers.len())
+    routers.binary_search_by_key(&asn, |router| router.asn)
 }
 
 // The place of the prefix, or the place where it belongs.
@@ -35,20 +28,70 @@ pub(crate) fn place_of_prefix(origins: &[Origin], prefix: &Prefix) -> Result<usi
     ensures before { IfErr result (λ i. All (λ origin. IsBefore origin.prefix prefix.now) (take i origins.now)) }
     ensures behind { IfErr result (λ i. All (λ origin. IsBefore prefix.now origin.prefix) (drop i origins.now)) }
 {
-    for (i, origin) in origins.iter().enumerate() {
-        if origin.prefix == *prefix {
-            return Ok(i);
-        }
-        if is_before(prefix, &origin.prefix) {
-            return Err(i);
-        }
-    }
-    Err(origins.len())
+    origins.binary_search_by_key(&order_of(prefix), |origin| order_of(&origin.prefix))
 }
 
-// Whether the first prefix comes before the second: by address, then by length.
-fn is_before(p: &Prefix, q: &Prefix) -> bool
-    ensures { IsTrue result ↔ IsBefore p.now q.now }
+// What prefixes stand in order by: the address, then the length.
+fn order_of(prefix: &Prefix) -> (u32, u8)
+    ensures { result ≡ (prefix.now.addr, prefix.now.len) }
 {
-    p.addr() < q.addr() || p.addr() == q.addr() && p.len() < q.len()
+    (prefix.addr(), prefix.len())
+}
+
+// The place of the router with this number.
+pub(crate) fn find_router(routers: &[Router], asn: Asn) -> Option<usize>
+    requires { AllPairs (λ u v. u < v) (numbers routers.now) }
+    ensures some { IsSome result ↔ IsRouter routers.now asn }
+    ensures value { IfSome result (λ i. (i < length routers.now) × HoldsAt (λ r. r.asn ≡ asn) routers.now i) }
+{
+    match place_of_router(routers, asn) {
+        Ok(place) => Some(place),
+        Err(_) => None,
+    }
+}
+
+// The place of the prefix.
+pub(crate) fn find_prefix(origins: &[Origin], prefix: &Prefix) -> Option<usize>
+    requires { AllPairs (λ origin later. IsBefore origin.prefix later.prefix) origins.now }
+    ensures some { IsSome result ↔ IsNamed origins.now prefix.now }
+    ensures value { IfSome result (λ i. (i < length origins.now) × HoldsAt (λ origin. origin.prefix ≡ prefix.now) origins.now i) }
+{
+    match place_of_prefix(origins, prefix) {
+        Ok(place) => Some(place),
+        Err(_) => None,
+    }
+}
+
+// The router with this number.
+pub(crate) fn router_of(routers: &[Router], asn: Asn) -> Option<&Router>
+    requires { AllPairs (λ u v. u < v) (numbers routers.now) }
+    ensures some { IsSome result ↔ IsRouter routers.now asn }
+    ensures value { IfSome result (λ router. (router.now.asn ≡ asn) × Contains routers.now router.now) }
+{
+    match find_router(routers, asn) {
+        Some(place) => Some(&routers[place]),
+        None => None,
+    }
+}
+
+// The origin of the prefix: none where it is not named.
+pub(crate) fn origin_of(origins: &[Origin], prefix: &Prefix) -> Option<Asn>
+    requires { AllPairs (λ origin later. IsBefore origin.prefix later.prefix) origins.now }
+    ensures { IsOriginOf origins.now prefix.now result }
+{
+    match find_prefix(origins, prefix) {
+        Some(place) => Some(origins[place].router),
+        None => None,
+    }
+}
+
+// Whether the router is the origin of the prefix.
+pub(crate) fn is_origin(origins: &[Origin], asn: Asn, prefix: &Prefix) -> bool
+    requires { AllPairs (λ origin later. IsBefore origin.prefix later.prefix) origins.now }
+    ensures { IsTrue result ↔ IsOrigin origins.now asn prefix.now }
+{
+    match origin_of(origins, prefix) {
+        Some(router) => router == asn,
+        None => false,
+    }
 }

@@ -8,6 +8,7 @@ ghost use Rattle.ranked_policy.specs.Choosing.{chosen_permits, chosen_prefers};
 
 use crate::network::{Origin, Rule};
 use crate::path::Asn;
+use crate::places::origin_of;
 use crate::policy::{Chosen, Only, Ranked, Shortest};
 use prefix_lanes::{Prefix, a_prefix_is_its_bits};
 use std::marker::Model;
@@ -76,18 +77,6 @@ impl<'a> PolicyTable<'a> {
             }),
         }
     }
-}
-
-// The origin of the prefix: none where it is not named.
-fn origin_of(origins: &[Origin], prefix: &Prefix) -> Option<Asn>
-    ensures { IsOriginOf origins.now prefix.now result }
-{
-    for origin in origins {
-        if origin.prefix == *prefix {
-            return Some(origin.router);
-        }
-    }
-    None
 }
 
 // Whether the router is the origin.

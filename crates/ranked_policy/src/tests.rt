@@ -257,6 +257,39 @@ fn router_refusals(rt: HostRuntime) -> Result<(), Fail> {
     Ok(())
 }
 
+/// Routers stand by rising number, prefixes by address and then by length.
+#[test]
+fn places(rt: HostRuntime) -> Result<(), Fail> {
+    let mut built = disagree(rt.alloc())?;
+    built.push_origin(4, prefix(TEN, 8)?)?;
+    let net = finished(built)?;
+    for (asn, place) in [
+        (1, Some(0)),
+        (3, Some(2)),
+        (4, Some(3)),
+        (0, None),
+        (5, None),
+    ] {
+        assert_eq!(rt; net.place(asn), place, "{asn}");
+    }
+    for (addr, len, place) in [
+        (TEN, 8, Some(0)),
+        (0x0a01_0000, 16, Some(1)),
+        (0x0b00_0000, 8, Some(2)),
+        (TEN, 9, None),
+        (0x0c00_0000, 8, None),
+    ] {
+        assert_eq!(rt;
+            net.prefix_place(&prefix(addr, len)?),
+            place,
+            "{addr:x}/{len}"
+        );
+    }
+    assert!(rt; net.is_origin(4, &prefix(TEN, 8)?));
+    assert!(rt; !net.is_origin(1, &prefix(TEN, 8)?));
+    Ok(())
+}
+
 /// 64 routers are a network where 65 are none.
 #[test]
 fn router_limit(rt: HostRuntime) -> Result<(), Fail> {

@@ -1,4 +1,4 @@
 use Rattle.ranked_policy.proofs.builder.NetBuilder.has_router.Goals as goal
 
 pub returns : goal.returns
-returns c = rw (← c.self.view_is) (rw c.as_slice.ensures.value at c.is_router.ensures)
+returns c = rw (← c.self.view_is, c.is_some.ensures) (rw c.as_slice.ensures.value at c.find_router.ensures.some)
