@@ -1,13 +1,11 @@
 -- What stands in front, from the first nineteen octets.
-use Rattle.std.proofs.Common.{◌≡◌, ℕ, ◌+◌, ◌<◌, ◌≤◌, Bool, true, false, List, ◌++◌, length, take, Option, Some, None, refl, sym, ap, ◌∙◌, arith, inl, inr, ◌⊎◌}
+use Rattle.std.proofs.Common.{◌≡◌, ℕ, ◌<◌, ◌≤◌, Bool, true, false, List, ◌++◌, length, take, Option, Some, None, refl, sym, ap, ◌∙◌, arith, inl, inr, ◌⊎◌}
 use Rattle.std.specs.Prelude.{nat_le, ◌&&◌, ◌||◌, is_some}
 use Rattle.std.proofs.lemmas.Bool.{leb-false}
 use Rattle.std.proofs.lemmas.List.{length-take-le}
 use Rattle.bgp_codec.specs.declared.fault.Fault.{Fault}
-use Rattle.bgp_codec.specs.Header.{header_fault, length_field, IsFrame, HeaderIsItsFront}
-use Rattle.bgp_framing.specs.declared.framer.Next.{Next}
+use Rattle.bgp_codec.specs.Header.{header_fault, length_field, HeaderIsItsFront}
 use Rattle.bgp_framing.specs.declared.framer.Next.TheVariants.{Whole, More, Bad}
-use Rattle.bgp_framing.specs.Frames.{IsPartial}
 use Rattle.bgp_framing.specs.Held.{Held, IsNext, is_waiting, with_octets}
 
 -- the checks of a header look at its first nineteen octets alone

@@ -1,5 +1,5 @@
 -- A stream splits in one way.
-use Rattle.std.proofs.Common.{◌≡◌, ℕ, zero, suc, ◌+◌, ◌-◌, ◌<◌, ◌≤◌, Bool, true, false, List, [], ◌∷◌, ◌++◌, length, take, drop, Option, Some, None, refl, sym, ap, subst, ◌∙◌, append_assoc, arith, inl, inr, ◌⊎◌}
+use Rattle.std.proofs.Common.{◌≡◌, ℕ, zero, suc, ◌+◌, ◌-◌, ◌≤◌, Bool, true, false, List, [], ◌∷◌, ◌++◌, length, take, drop, Option, Some, None, refl, sym, ap, ◌∙◌, append_assoc, arith, inl, inr, ◌⊎◌}
 use Rattle.std.specs.Prelude.{nat_le}
 use Rattle.std.specs.List.{concat, AllByRecursion}
 use Rattle.std.proofs.lemmas.Bool.{leb-true, leb-false, le-leb}
@@ -7,10 +7,9 @@ use Rattle.std.proofs.lemmas.List.{take_at, drop_at, take-append-le, length-appe
 use Rattle.std.proofs.lemmas.List.Folds.{concat-append}
 use Rattle.bgp_codec.specs.declared.fault.Fault.{Fault}
 use Rattle.bgp_codec.specs.Header.{header_fault, length_field, IsFrame, HeaderIsItsFront}
-use Rattle.bgp_framing.specs.Frames.{Splits, SplitsOnce, SplitsInPieces, SplitsBehindAFrame, SplitsIntoNothing, IsPartial, IsFaulty, RestIs}
+use Rattle.bgp_framing.specs.Frames.{Splits, SplitsOnce, SplitsInPieces, SplitsBehindAFrame, SplitsIntoNothing, IsPartial, RestIs}
 use Rattle.std.specs.Prelude.{slice_range}
-use Rattle.bgp_framing.specs.Held.{HasFrame, IsNext, NextIsFirst}
-use Rattle.bgp_framing.specs.declared.framer.Next.{Next}
+use Rattle.bgp_framing.specs.Held.{HasFrame, NextIsFirst}
 use Rattle.bgp_framing.specs.declared.framer.Next.TheVariants.{Whole, More, Bad}
 use Rattle.bgp_framing.proofs.FrontLemmas.{is_whole}
 

@@ -1,10 +1,11 @@
 -- What a framer holds, and what stands in front of it.
-use Rattle.std.specs.Prelude.{◌≡◌, ℕ, ◌≤◌, nat_le, ◌&&◌, ◌||◌, Bool, List, [], ◌∷◌, length, take, slice_range, Some, is_some, ◌⊎◌}
-use Rattle.bgp_codec.specs.declared.fault.Fault.{Fault}
+use Rattle.std.specs.Prelude.{◌≡◌, ℕ, ◌≤◌, nat_le, ◌&&◌, ◌||◌, Bool, true, List, [], ◌∷◌, length, take, slice_range, Some, is_some}
 use Rattle.bgp_codec.specs.Header.{header_fault, length_field, IsFrame}
 use Rattle.bgp_framing.specs.Frames.{Splits, IsPartial}
 use Rattle.bgp_framing.specs.declared.framer.Next.{Next}
 use Rattle.bgp_framing.specs.declared.framer.Next.TheVariants.{Whole, More, Bad}
+use Rattle.bgp_framing.specs.declared.framer.Front.{Front}
+use Rattle.bgp_framing.specs.declared.framer.Front.TheVariants.{Message, TooFew, Faulty}
 
 -- the octets that were fed and not used, and for how many there is room
 pub record Held : Type 0 where
@@ -20,6 +21,12 @@ abbrev pub IsNext : List ℕ → Next → Type 0
 IsNext octets (Whole start end) = (start ≡ 0) × (end ≤ length octets) × IsFrame (take end octets)
 IsNext octets More = IsPartial octets
 IsNext octets (Bad fault) = (19 ≤ length octets) × (header_fault octets ≡ Some fault)
+
+-- the same without the fault, as a framer keeps it
+abbrev pub IsFront : List ℕ → Front → Type 0
+IsFront octets (Message len) = (len ≤ length octets) × IsFrame (take len octets)
+IsFront octets TooFew = IsPartial octets
+IsFront octets Faulty = (19 ≤ length octets) × (is_some (header_fault octets) ≡ true)
 
 -- a whole message or a fault stands in front
 abbrev pub is_waiting : List ℕ → Bool
@@ -38,3 +45,7 @@ IsFirst octets (Bad fault) = (frames : List (List ℕ)) (rest : List ℕ) → Sp
 -- what stands in front is the first frame, where there is one
 abbrev pub NextIsFirst : Type 0
 NextIsFirst = (octets : List ℕ) (next : Next) → IsNext octets next → IsFirst octets next
+
+-- there is one answer
+abbrev pub OneNext : Type 0
+OneNext = (octets : List ℕ) (a b : Next) → IsNext octets a → IsNext octets b → a ≡ b

@@ -2,7 +2,7 @@
 
 ghost use Rattle.std.specs.Prelude.{◌≡◌, ◌+◌, ◌≤◌, [], ◌++◌, length, drop, false, IfOk, vec_len, vec_capacity};
 ghost use Rattle.bgp_codec.specs.Header.{length_field};
-ghost use Rattle.bgp_framing.specs.Held.{Held, IsNext, is_waiting, HasFrame, with_octets};
+ghost use Rattle.bgp_framing.specs.Held.{Held, IsNext, IsFront, is_waiting, HasFrame, with_octets};
 
 use bgp_codec::laws::header_is_its_front;
 use bgp_codec::{Fault, header};
@@ -23,23 +23,36 @@ pub enum Next {
     Bad(Fault),
 }
 
+// What stands in front, as it was found when octets were last added or taken away.
+#[derive(Clone, Copy, Debug)]
+enum Front {
+    // A whole message of so many octets.
+    Message(usize),
+    // Neither a whole message nor a fault.
+    TooFew,
+    // A faulty header.
+    Faulty,
+}
+
 /// What was fed and not used yet, and the room that it has for it.
 #[derive(Debug, Drop)]
 pub struct Framer {
     octets: Vec<u8>,
     // How many of them were used.
     used: usize,
+    // What stands in front of the others.
+    front: Front,
 }
 
 impl Model for Framer {
     ghost use Rattle.std.specs.Prelude.{◌≤◌, drop, vec_capacity, vec_len};
-    ghost use Rattle.bgp_framing.specs.Held.{Held};
+    ghost use Rattle.bgp_framing.specs.Held.{Held, IsFront};
 
     ghost Value = { Held };
 
     ghost view = { λ framer. record { octets = drop framer.used framer.octets.items; room = vec_capacity framer.octets } };
 
-    ghost invariant = { λ framer. (8191 ≤ vec_capacity framer.octets) × (framer.used ≤ vec_len framer.octets) };
+    ghost invariant = { λ framer. (8191 ≤ vec_capacity framer.octets) × (framer.used ≤ vec_len framer.octets) × IsFront (drop framer.used framer.octets.items) framer.front };
 }
 
 // What stands in front of these octets.
@@ -61,6 +74,26 @@ fn next_of(alloc: Global, octets: &[u8]) -> Next
             }
         }
     }
+}
+
+// The same without the fault: what a framer keeps.
+fn front_of(alloc: Global, octets: &[u8]) -> Front
+    ensures { IsFront octets.now result }
+{
+    match next_of(alloc, octets) {
+        Next::Whole(_, end) => Front::Message(end),
+        Next::More => Front::TooFew,
+        Next::Bad(_) => Front::Faulty,
+    }
+}
+
+// The octets behind the first `used`.
+fn behind(octets: &Vec<u8>, used: usize) -> &[u8]
+    requires { used ≤ vec_len octets.now }
+    ensures { result.now ≡ drop used octets.now.items }
+{
+    let (_, held) = octets.split_at(used);
+    held
 }
 
 // Moves the octets behind the first `used` to the front, once for all that was used.
@@ -96,6 +129,7 @@ impl Framer {
         Ok(Framer {
             octets: Vec::with_capacity(alloc, MOST_HELD)?,
             used: 0,
+            front: Front::TooFew,
         })
     }
 
@@ -103,22 +137,25 @@ impl Framer {
     pub fn next(&self) -> Next
         ensures { IsNext self.now.octets result }
     {
-        next_of(*self.octets.allocator(), self.bytes())
+        match self.front {
+            Front::Message(len) => Next::Whole(0, len),
+            Front::TooFew => Next::More,
+            Front::Faulty => next_of(*self.octets.allocator(), self.bytes()),
+        }
     }
 
     /// Whether a whole message or a faulty header stands in front.
     pub fn is_waiting(&self) -> bool
         ensures { result ≡ is_waiting self.now.octets }
     {
-        !matches!(self.next(), Next::More)
+        !matches!(self.front, Front::TooFew)
     }
 
     /// The octets held. The places that [`Next::Whole`] names are places in them.
     pub fn bytes(&self) -> &[u8]
         ensures { result.now ≡ self.now.octets }
     {
-        let (_, held) = self.octets.split_at(self.used);
-        held
+        behind(&self.octets, self.used)
     }
 
     /// How many octets are held.
@@ -138,6 +175,7 @@ impl Framer {
         take_away(&mut self.octets, self.used);
         self.used = 0;
         put_behind(&mut self.octets, piece);
+        self.front = front_of(*self.octets.allocator(), self.octets.as_slice());
     }
 
     /// Takes away the message in front.
@@ -148,6 +186,7 @@ impl Framer {
         let at = self.used;
         let len = u16::from_be_bytes([self.octets[at + 16], self.octets[at + 17]]);
         self.used += len as usize;
+        self.front = front_of(*self.octets.allocator(), behind(&self.octets, self.used));
     }
 
     /// Takes away all that is held, a fault with it.
@@ -156,5 +195,6 @@ impl Framer {
     {
         self.octets.clear();
         self.used = 0;
+        self.front = Front::TooFew;
     }
 }

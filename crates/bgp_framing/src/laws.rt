@@ -2,7 +2,7 @@
 //! its proof rests on. A proof above this crate calls the function whose law it needs.
 
 ghost use Rattle.bgp_framing.specs.Frames.{SplitsOnce, SplitsInPieces, SplitsBehindAFrame, SplitsIntoNothing, RestIs};
-ghost use Rattle.bgp_framing.specs.Held.{NextIsFirst};
+ghost use Rattle.bgp_framing.specs.Held.{NextIsFirst, OneNext};
 
 use bgp_codec::laws::header_is_its_front;
 
@@ -45,6 +45,13 @@ pub fn rest_is()
 /// exactly where it answers no whole message.
 pub fn next_is_first()
     ensures { NextIsFirst }
+{
+    header_is_its_front();
+}
+
+/// What a framer may answer is one thing: so after a fault it answers the same one until `clear`.
+pub fn next_is_one()
+    ensures { OneNext }
 {
     header_is_its_front();
 }

@@ -85,4 +85,5 @@ fn laws_are_called(_rt: HostRuntime) {
     laws::splits_into_nothing();
     laws::rest_is();
     laws::next_is_first();
+    laws::next_is_one();
 }

@@ -7,3 +7,4 @@ pub mod PlanLemmas
 pub mod TableLemmas
 pub mod Reached
 pub mod PeerLemmas
+mod TestLemmas

@@ -7,3 +7,4 @@ pub mod Laws
 pub mod Promises
 pub mod Choosing
 pub mod Reaching
+pub mod Tests

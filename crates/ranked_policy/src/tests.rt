@@ -1,5 +1,7 @@
 use super::*;
-use crate::laws::{each_policy_is_an_order, the_longest_rule_is_one};
+use crate::laws::{
+    each_policy_is_an_order, policies_are_tests, the_best_is_the_first, the_longest_rule_is_one,
+};
 use prefix_lanes::Prefix;
 use std::alloc::{AllocError, Global};
 use std::test::Fail;
@@ -452,6 +454,8 @@ fn items(rt: HostRuntime) -> Result<(), Fail> {
 
 #[test]
 fn laws() {
+    policies_are_tests();
+    the_best_is_the_first();
     the_longest_rule_is_one();
     each_policy_is_an_order();
 }

@@ -38,12 +38,12 @@ framing = record {
 }
 
 -- messages that are good are written as frames
-pub are_frames : (u : ℕ) (entries : List (Entry Message)) → AllGood (IsGood u) entries → AllFrames IsFrame written entries
-are_frames u [] all = tt
-are_frames u (Dial e ∷ rest) all = are_frames u rest all
-are_frames u (Says e m ∷ rest) all = (all.0.0, are_frames u rest all.1)
-are_frames u (Mark e n ∷ rest) all = are_frames u rest all
-are_frames u (Shut e ∷ rest) all = are_frames u rest all
+pub all_frames : (u : ℕ) (entries : List (Entry Message)) → AllGood (IsGood u) entries → AllFrames IsFrame written entries
+all_frames u [] all = tt
+all_frames u (Dial e ∷ r) all = all_frames u r all
+all_frames u (Says e m ∷ r) all = (all.0.0, all_frames u r all.1)
+all_frames u (Mark e s ∷ r) all = all_frames u r all
+all_frames u (Shut e ∷ r) all = all_frames u r all
 
 pub waiting_frame : (f rest : List ℕ) → IsFrame f → is_waiting (f ++ rest) ≡ true
 waiting_frame f rest is =
@@ -222,7 +222,7 @@ holds_piece u s e octets items a b x own here all waits k is =
         let number : heard_number a ≡ n = own (here j) ∙ sym x.reads.epoch in
         let there : IsPrefix (passing written a.taken ++ (octets_of n s.held ++ octets_of e (o ∷ os))) (passing written b.appended) =
         subst (λ w. IsPrefix w (passing written b.appended)) (ap (λ w. w ++ octets_of e (o ∷ os)) (k.passed ∙ ap (λ w. passing written a.taken ++ w) same) ∙ append_assoc (passing written a.taken) (octets_of n s.held) (octets_of e (o ∷ os))) is in
-        let stale : e ≡ n = no_stale_octet IsFrame written framing a.taken b.appended n e o os s.held (are_frames u b.appended all) x.mine.front x.theirs.sound number whole there in
+        let stale : e ≡ n = no_stale_octet IsFrame written framing a.taken b.appended n e o os s.held (all_frames u b.appended all) x.mine.front x.theirs.sound number whole there in
         let hit : (e == n) ≡ true = grind (arith, nat_tests, stale) in
         let used : uses s.link e ≡ true = ap (λ p. is_joined p && (e == n)) j ∙ hit in
         ap (λ w. w ++ octets_of e (o ∷ os)) same ∙ (ap (λ i. octets_of n s.held ++ octets_of i (o ∷ os)) stale ∙ (sym (octets_more n s.held (o ∷ os)) ∙ ap (λ c. octets_of n (cond c (s.held ++ o ∷ os) s.held)) (sym used)))

@@ -34,7 +34,7 @@ use Rattle.router_runs.specs.Kept.{IsGood, Holds, Advances}
 use Rattle.router_runs.proofs.Doing.{no_event, then_does, reads_like}
 use Rattle.router_runs.proofs.Rows.{at, at_own, IsOwn, own_event, quiet_row}
 use Rattle.router_runs.proofs.Signing.{at_place, drops_all}
-use Rattle.router_runs.proofs.Octets.{are_frames, framing, waiting_frame, holds_quiet, holds_control}
+use Rattle.router_runs.proofs.Octets.{framing, all_frames, waiting_frame, holds_quiet, holds_control}
 
 -- what is known of a side as a step comes
 pub record Before (v : ℕ) (s : Side) (before : List (Passing Message)) (a b : End Message) : Type 0 where
@@ -153,7 +153,7 @@ ready v s before a b x k waits is = elim (decides s.link.phase) [
       let whole : (f rest : List ℕ) → IsFrame f → s.held ≢ f ++ rest = λ f rest fr h. (let yes : is_waiting s.held ≡ true = ap is_waiting h ∙ waiting_frame f rest fr in cc (waits, yes)) in
       let there : IsPrefix (passing written a.taken ++ (octets_of s.link.epoch s.held ++ Control x ∷ [])) (passing written b.appended) =
       subst (λ w. IsPrefix w (passing written b.appended)) (ap (λ w. w ++ Control x ∷ []) (k.holds.passed ∙ ap (λ w. passing written a.taken ++ w) (k.holds.joined j)) ∙ append_assoc (passing written a.taken) (octets_of s.link.epoch s.held) (Control x ∷ [])) is in
-      let n = next_item IsFrame written framing a.taken b.appended s.link.epoch x s.held (are_frames v b.appended k.good) k.stands.mine.front there whole in
+      let n = next_item IsFrame written framing a.taken b.appended s.link.epoch x s.held (all_frames v b.appended k.good) k.stands.mine.front there whole in
       record {
         messages = [];
         are = sym (k.holds.joined j ∙ ap (octets_of s.link.epoch) n.0);

@@ -230,7 +230,7 @@ permitted_on p paths routers er i r lt at u eu may inv =
 
 -- ---- no path without an origin
 
-linked_is : (net : Plan) → IsNetwork net → (u v : ℕ) → Linked net.links u v → IsRouter net.routers v
+pub linked_is : (net : Plan) → IsNetwork net → (u v : ℕ) → Linked net.links u v → IsRouter net.routers v
 linked_is net is u v l =
     let ends = subst (λ (k : Link). IsRouter net.routers k.one × IsRouter net.routers k.other) l.3 (is.plan.links.known l.0 l.1 l.2) in
     elim l.4 [

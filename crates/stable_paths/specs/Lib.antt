@@ -1,3 +1,5 @@
 pub mod Stable
 pub mod Judging
 pub mod Promises
+pub mod ByRank
+pub mod Examples

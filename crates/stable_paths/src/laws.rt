@@ -1,9 +1,11 @@
 //! What the definitions of stable assignments say together. Each is the contract of a function
 //! without work of its own.
 
+ghost use Rattle.stable_paths.specs.ByRank.{BestByRankIsBest, EachNetworkHasItsModel};
+ghost use Rattle.stable_paths.specs.Examples.{DisagreeChooses};
 ghost use Rattle.stable_paths.specs.Promises.{OneBest, NoOriginNoPath, StableIsTheModels};
 
-use ranked_policy::laws::each_policy_is_an_order;
+use ranked_policy::laws::{each_policy_is_an_order, policies_are_tests, the_best_is_the_first};
 
 /// A router has at most one best path.
 pub fn one_best()
@@ -24,3 +26,29 @@ pub fn stable_is_the_models<M>()
 {
     each_policy_is_an_order();
 }
+
+/// In every network the best of each router's choices is what one function computes, whatever its
+/// peers say.
+pub fn best_by_rank_is_best()
+    ensures { BestByRankIsBest }
+{
+    policies_are_tests();
+    the_best_is_the_first();
+}
+
+/// Every network has its network of the model of runs, in which routers choose by that function: so
+/// the premise of [`stable_is_the_models`] is met.
+///
+/// Premise: whether a router originates the prefix is what the problem says, at its origin. Which
+/// messages are UPDATEs, and what they tell, is a parameter.
+pub fn each_network_has_its_model<M>()
+    ensures { EachNetworkHasItsModel M }
+{
+    policies_are_tests();
+    the_best_is_the_first();
+}
+
+/// What the function computes in DISAGREE (Griffin, Shepherd and Wilfong 2002).
+pub fn disagree_chooses()
+    ensures { DisagreeChooses }
+{}

@@ -1,5 +1,8 @@
 use super::*;
-use crate::laws::{no_origin_no_path, one_best, stable_is_the_models};
+use crate::laws::{
+    best_by_rank_is_best, disagree_chooses, each_network_has_its_model, no_origin_no_path,
+    one_best, stable_is_the_models,
+};
 use prefix_lanes::Prefix;
 use ranked_policy::{Asn, NetBuilder, NetError, Network, Path, Settings};
 use std::alloc::{AllocError, Global};
@@ -162,6 +165,9 @@ fn paths_that_are_not_permitted(rt: HostRuntime) -> Result<(), Fail> {
 // Calls each law once.
 #[test]
 fn laws_are_called(_rt: HostRuntime) {
+    best_by_rank_is_best();
+    disagree_chooses();
+    each_network_has_its_model::<u8>();
     one_best();
     no_origin_no_path();
     stable_is_the_models::<u8>();

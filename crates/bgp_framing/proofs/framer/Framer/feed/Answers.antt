@@ -1,4 +1,4 @@
-use Rattle.std.proofs.Common.{◌≡◌, ◌<◌, ◌≤◌, ◌∙◌, arith, ap, length, vec_len, vec_capacity}
+use Rattle.std.proofs.Common.{◌≡◌, ◌<◌, ◌≤◌, ◌∙◌, arith, ap, length, vec_capacity}
 use Rattle.bgp_framing.specs.Held.{Held}
 use Rattle.bgp_framing.proofs.FrontLemmas.{few_held, fed_view}
 use Rattle.bgp_framing.proofs.framer.Framer.feed.Goals as goal
