@@ -1,5 +1,7 @@
 pub mod Peers
 pub mod Closes
+pub mod Entries
+pub mod Lower
 pub mod Moving
 pub mod Doing
 pub mod Rows
