@@ -4,6 +4,8 @@ use Rattle.std.specs.Prelude.{nat_lt, max, not}
 use mathlib.Core.List.{IsPrefix}
 use Rattle.std.proofs.lemmas.Bool.Decides.{nat_tests}
 use Rattle.bgp_codec.specs.declared.message.Message.{Message}
+use Rattle.bgp_codec.specs.declared.message.Message.TheVariants.{OpenMsg, UpdateMsg, NoticeMsg, AliveMsg}
+use Rattle.router_model.specs.Messages.{updates_in}
 use Rattle.run_model.specs.Links.{End, answers, greatest_dial, has_shut}
 use Rattle.run_model.specs.Octets.{Passing, Octet, octets_of}
 
@@ -34,3 +36,11 @@ answers_above a h =
 pub answers_true : (a : End Message) (b : Bool) → answers a ≡ b → greatest_dial a.appended < cond b (greatest_dial a.taken) (max (greatest_dial a.appended) (greatest_dial a.taken) + 1)
 answers_true a true e = answers_above a e
 answers_true a false e = omega arith
+
+-- the UPDATEs of two lists
+pub updates-append : (xs ys : List Message) → updates_in (xs ++ ys) ≡ updates_in xs ++ updates_in ys
+updates-append [] ys = refl
+updates-append (OpenMsg o ∷ xs) ys = updates-append xs ys
+updates-append (UpdateMsg u ∷ xs) ys = ap (λ us. u ∷ us) (updates-append xs ys)
+updates-append (NoticeMsg n ∷ xs) ys = updates-append xs ys
+updates-append (AliveMsg ∷ xs) ys = updates-append xs ys

@@ -2,7 +2,7 @@
 use Rattle.std.proofs.Common.{◌≡◌, ◌≢◌, ℕ, ◌+◌, ◌*◌, ◌<◌, ◌≤◌, ◌==◌, Bool, true, false, ◌||◌, cond, List, [], ◌∷◌, ◌++◌, length, refl, ap, sym, ◌∙◌, subst, arith, length-append, None, Some, inl, inr, ◌⊎◌}
 use Rattle.std.specs.Prelude.{nat_eq, nat_le, ◌^◌, ◌/◌, map}
 use Rattle.std.specs.List.{AllByRecursion, flat_map, list_any}
-use Rattle.std.specs.Int.{w32, to_be_bytes}
+use Rattle.std.specs.Int.{w16, w32, to_be_bytes}
 use Rattle.std.proofs.lemmas.Bool.Decides.{nat_tests}
 use Rattle.std.proofs.lemmas.Cmp.{nat_eq_equiv}
 use Rattle.std.proofs.lemmas.List.{append-nil, length-take}
@@ -17,12 +17,10 @@ use Rattle.bgp_codec.specs.declared.open.Open.{Open}
 use Rattle.bgp_codec.specs.declared.path.Segment.{Segment}
 use Rattle.bgp_codec.specs.declared.path.SegmentKind.TheVariants.{AsSequence}
 use Rattle.bgp_codec.specs.declared.update.Update.{Update}
-use Rattle.bgp_codec.specs.Opens.{SpellsOpen, open_octets, is_hold_time, is_unicast}
-use Rattle.bgp_codec.specs.Updates.{UpdateFits, SpellsUpdate, AttrsFit, attrs_octets, update_octets, prefix_octets, octet_count, long_string, segment_octets, is_from}
-use Rattle.bgp_codec.specs.Spelling.{SpellsBody, written, written_body}
-use Rattle.bgp_codec.proofs.UpdateLaws.{PrefixLaws, update_written}
-use Rattle.bgp_codec.proofs.UpdateLoops.{segment_size}
-use Rattle.bgp_codec.proofs.ReadingLemmas.{HasOctets, spelt_read}
+use Rattle.bgp_codec.specs.Opens.{OpenFits, is_hold_time, is_unicast}
+use Rattle.bgp_codec.specs.Updates.{UpdateFits, AttrsFit, attrs_octets, update_octets, prefix_octets, octet_count, long_string, segment_octets, is_from}
+use Rattle.bgp_codec.specs.Spelling.{IsWritable, written, written_body}
+use Rattle.bgp_codec.specs.Faults.{IsFrom}
 use Rattle.ranked_policy.specs.declared.network.Router as network
 use Rattle.ranked_policy.specs.declared.network.Origin.{Origin}
 use Rattle.ranked_policy.specs.Plans.{IsAsn, IsUnicast, IsRouter, IsNamed, numbers, identifiers}
@@ -75,45 +73,33 @@ module _ (laws : Laws) where
 
   -- ---- each kind of message
 
-  spelt_good : (u : ℕ) (m : Message) (s : SpellsBody (rule_of u) (written_body m) m) → HasOctets (rule_of u) (written_body m) m s → 19 + length (written_body m) ≤ 4096 → IsGood u m
-  spelt_good u m s are few = spelt_read laws.prefix (rule_of u) (written m) m (record { body = written_body m; spelt = s; fits = few; whole = refl }) are
+  read_good : (u : ℕ) (m : Message) → IsFrom (rule_of u) m → IsWritable (rule_of u) m → 19 + length (written_body m) ≤ 4096 → IsGood u m
+  read_good u m from may few = laws.reads (rule_of u) m from may (let l = laws.sizes m in omega (arith, l, few))
 
   open_good : (g : Setting) → IsSetting g → (u : ℕ) → IsRouter g.net.routers u → IsGood u (open_of g.net u)
   open_good g set u is =
       let id = id_of g set u is in
       let o : Open = record { asn = u; hold = g.net.settings.hold; id = identifier g.net.routers u; params = [] } in
-      let s : SpellsOpen (rule_of u) (open_octets o) o = record {
-        fits = record { asn = small_asn g set u is; hold = set.hold; hold_time = hold_good g.net.settings.hold set.network.plan.settings.hold; id = id_small (identifier g.net.routers u) id; unicast = id_unicast (identifier g.net.routers u) id; params = tt; all = omega arith };
-        peer = grind (arith, nat_tests);
-        whole = refl;
-      } in
-      spelt_good u (OpenMsg o) s tt (omega arith)
+      let fits : OpenFits o = record { asn = small_asn g set u is; hold = set.hold; hold_time = hold_good g.net.settings.hold set.network.plan.settings.hold; id = id_small (identifier g.net.routers u) id; unicast = id_unicast (identifier g.net.routers u) id; params = tt; all = omega arith } in
+      read_good u (OpenMsg o) (grind (arith, nat_tests)) fits (omega arith)
 
   notice_good : (u : ℕ) (n : Notice) → n.extra ≡ [] → IsGood u (NoticeMsg n)
-  notice_good u n none = spelt_good u (NoticeMsg n) refl tt (let z : length n.extra ≡ 0 = ap length none in omega (arith, z))
+  notice_good u n none = read_good u (NoticeMsg n) tt tt (let z : length n.extra ≡ 0 = ap length none in omega (arith, z))
 
   alive_good : (u : ℕ) → IsGood u AliveMsg
-  alive_good u = spelt_good u AliveMsg refl tt (omega arith)
+  alive_good u = read_good u AliveMsg tt tt (omega arith)
 
   -- ---- UPDATEs
 
   update_good : (u : ℕ) (x : Update) → UpdateFits x → (x.nlri ≢ [] → is_from (Some u) x.attrs ≡ true) → 19 + length (update_octets x) ≤ 4096 → IsGood u (UpdateMsg x)
-  update_good u x fits from few =
-      let k = update_written x None refl fits in
-      let s : SpellsUpdate (Some u) (update_octets x) x = record {
-        withdrawn = k.0.withdrawn;
-        attrs = k.0.attrs;
-        nlri = k.0.nlri;
-        withdrawn_are = k.0.withdrawn_are;
-        attrs_are = k.0.attrs_are;
-        attrs_fit = k.0.attrs_fit;
-        nlri_are = k.0.nlri_are;
-        announced = λ some. record { mandatory = fits.mandatory some; peer = from some };
-        withdrawn_size = k.0.withdrawn_size;
-        attrs_size = k.0.attrs_size;
-        whole = k.0.whole;
-      } in
-      spelt_good u (UpdateMsg x) s k.1 few
+  update_good u x fits from few = read_good u (UpdateMsg x) from fits few
+
+  length_numbers : (ns : List ℕ) → length (flat_map (to_be_bytes w16) ns) ≡ 2 * length ns
+  length_numbers [] = refl
+  length_numbers (n ∷ ns) = omega (arith, length_numbers ns, length-append (to_be_bytes w16 n) (flat_map (to_be_bytes w16) ns))
+
+  segment_size : (s : Segment) → length (segment_octets s) ≡ 2 + 2 * length s.numbers
+  segment_size s = omega (arith, length_numbers s.numbers)
 
   prefix_size : (q : PrefixView) → length (flat_map prefix_octets (q ∷ [])) ≤ 5
   prefix_size q = (let l = length-append (prefix_octets q) [] in let t = length-take (octet_count q.len) (to_be_bytes w32 q.addr) in omega (arith, l, t))

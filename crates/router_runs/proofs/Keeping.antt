@@ -9,7 +9,6 @@ use Rattle.std.proofs.lemmas.Map.Views.{Contains-from_any}
 use Rattle.prefix_lanes.specs.Bits.{PrefixView}
 use Rattle.bgp_codec.specs.declared.message.Message.{Message}
 use Rattle.bgp_codec.specs.Spelling.{written}
-use Rattle.bgp_codec.proofs.UpdateLaws.{PrefixLaws}
 use Rattle.ranked_policy.specs.declared.network.Link.{Link}
 use Rattle.ranked_policy.specs.Plans.{IsNetwork, IsRouter, IsNamed, numbers}
 use Rattle.rib_tables.specs.Words.{nothing, path_in}

@@ -4,7 +4,6 @@ use Rattle.std.specs.Prelude.{max}
 use mathlib.Core.List.{IsPrefix}
 use Rattle.bgp_codec.specs.declared.message.Message.{Message}
 use Rattle.bgp_codec.specs.Header.{IsFrame, HeaderIsItsFront}
-use Rattle.bgp_codec.proofs.UpdateLaws.{PrefixLaws}
 use Rattle.run_model.specs.Links.{Entry, End, greatest_dial, has_shut, said, opening, JoinedHeardItsOwn}
 use Rattle.run_model.specs.Sessions.{SessionRunsGoOn, SessionsMakeALinkRun}
 use Rattle.run_model.specs.Octets.{passing, NextControlIsNextEntry, HeldBeginsNextMessage, DroppedOctetsAreMessages}
@@ -13,55 +12,8 @@ use Rattle.run_model.specs.Facts.{EndFacts, EndFactsHold, MovesKeepFacts, NotDia
 use Rattle.router_model.specs.Laws.{StepsAppendWhatTheySay}
 use Rattle.router_runs.specs.LawsBelow.{LawsBelow}
 
-pub record Laws : Type 0 where
-  pub prefix : PrefixLaws
-  pub header : HeaderIsItsFront
-  -- ends of a link
-  pub facts : EndFactsHold Message
-  pub keeps : MovesKeepFacts Message
-  pub not_shut : NotDialledIsNotShut Message
-  pub stays_past : PastStaysPast Message
-  pub entries : EntriesAddUp Message
-  pub heard : JoinedHeardItsOwn Message
-  -- sessions
-  pub leads : SessionEventsLeadOn Message
-  pub on : SessionRunsGoOn Message
-  pub run : SessionsMakeALinkRun Message
-  -- octets
-  pub held : HeldBeginsNextMessage Message IsFrame
-  pub control : NextControlIsNextEntry Message IsFrame
-  pub dropped : DroppedOctetsAreMessages Message
-  pub no_stale : NoStaleOctetAtAnEnd Message IsFrame
-  pub none_dropped : NoneDroppedAtAnEnd Message
-  pub beginnings : BeginningsPass Message
-  pub begins : OctetsBeginWhatIsSaid Message
-  pub used : UsedOctetsWereTaken Message
-  -- routers
-  pub appends : StepsAppendWhatTheySay
-
-pub laws_of : PrefixLaws → LawsBelow → Laws
-laws_of prefix below = record {
-  prefix = prefix;
-  header = below.header;
-  facts = below.facts;
-  keeps = below.keeps;
-  not_shut = below.not_shut;
-  stays_past = below.stays_past;
-  entries = below.entries;
-  heard = below.heard;
-  leads = below.leads;
-  on = below.on;
-  run = below.run;
-  held = below.held;
-  control = below.control;
-  dropped = below.dropped;
-  no_stale = below.no_stale;
-  none_dropped = below.none_dropped;
-  beginnings = below.beginnings;
-  begins = below.begins;
-  used = below.used;
-  appends = below.appends;
-}
+abbrev pub Laws : Type 0
+Laws = LawsBelow
 
 or_cond : (p q : Bool) → (p || q) ≡ cond p true q
 or_cond true q = refl

@@ -17,10 +17,9 @@ use Rattle.run_model.specs.Facts.{Sound}
 use Rattle.router_model.specs.Sides.{Side}
 use Rattle.router_model.specs.Messages.{updates_in}
 use Rattle.router_runs.specs.Reading.{Reads, phase_of}
-use Rattle.router_model.proofs.MessageLists.{updates-append}
 use Rattle.router_runs.specs.Moving.{with_message, with_used, MovesAreRead}
 use Rattle.router_runs.proofs.Lower.{Laws, greatest_dial-append, said-append, shut-append}
-use Rattle.router_runs.proofs.Entries.{answers_true}
+use Rattle.router_runs.proofs.Entries.{updates-append, answers_true}
 
 module _ (laws : Laws) where
   -- an end that answers is a link end that is awaited

@@ -13,13 +13,12 @@ use Rattle.router_runs.specs.Runs.{RunState, octets_of_all, stream}
 use Rattle.router_model.specs.Messages.{updates_in}
 use Rattle.router_runs.specs.Promises.{PassesInOrder}
 use Rattle.router_runs.specs.Runs.{side_of, log_of}
-use Rattle.router_model.proofs.MessageLists.{updates-append}
 use Rattle.router_runs.specs.Kept.{Reached}
 use Rattle.router_runs.proofs.Running.{all_front}
 use Rattle.run_model.specs.Streams.{octets_in}
 use Rattle.router_runs.proofs.Streams.{stream_is}
 use Rattle.router_runs.proofs.Lower.{Laws, said_front, sessions_make_a_link_run}
-use Rattle.router_runs.proofs.Entries.{prefix_trans}
+use Rattle.router_runs.proofs.Entries.{updates-append, prefix_trans}
 
 module _ (laws : Laws) where
   updates_front : (xs ys : List Message) → IsPrefix xs ys → IsPrefix (updates_in xs) (updates_in ys)

@@ -7,9 +7,10 @@ ghost use Rattle.router_runs.specs.Said.{RunsKeep, SaidIsGood};
 ghost use Rattle.router_runs.specs.Snapshots.{CloseLosesTheRecording};
 
 use bgp_codec::Message;
-use bgp_codec::laws::header_is_its_front;
-use prefix_lanes::{a_prefix_is_its_bits, masking_clears_bits};
-use router_model::laws::{leaving_loses_the_recording, steps_append_what_they_say};
+use bgp_codec::laws::{a_peers_writing_is_read, header_is_its_front, written_has_a_header};
+use router_model::laws::{
+    leaving_loses_the_recording, linked_routers_are_peers, steps_append_what_they_say,
+};
 use run_model::{
     Framing, end_facts_hold, entries_add_up, joined_heard_its_own, moves_keep_end_facts,
     no_octet_is_stale, octets_are_entries, octets_of_an_incarnation, session_events_lead_on,
@@ -28,6 +29,8 @@ fn laws_below()
     ensures { LawsBelow }
 {
     header_is_its_front();
+    written_has_a_header();
+    a_peers_writing_is_read();
     end_facts_hold::<Message>();
     moves_keep_end_facts::<Message>();
     entries_add_up::<Message>();
@@ -37,6 +40,7 @@ fn laws_below()
     octets_are_entries::<Message, Frames>();
     no_octet_is_stale::<Message, Frames>();
     octets_of_an_incarnation::<Message>();
+    linked_routers_are_peers();
     steps_append_what_they_say();
 }
 
@@ -44,8 +48,6 @@ fn laws_below()
 pub fn what_is_said_is_good()
     ensures { SaidIsGood }
 {
-    a_prefix_is_its_bits();
-    masking_clears_bits();
     laws_below();
 }
 
@@ -54,8 +56,6 @@ pub fn what_is_said_is_good()
 pub fn runs_keep()
     ensures { RunsKeep }
 {
-    a_prefix_is_its_bits();
-    masking_clears_bits();
     laws_below();
 }
 
@@ -68,8 +68,6 @@ pub fn runs_keep()
 pub fn updates_pass_in_order()
     ensures { UpdatesPassInOrder }
 {
-    a_prefix_is_its_bits();
-    masking_clears_bits();
     laws_below();
 }
 
@@ -78,8 +76,6 @@ pub fn updates_pass_in_order()
 pub fn nothing_is_acted_on_after_the_close()
     ensures { NothingIsActedOnAfterTheClose }
 {
-    a_prefix_is_its_bits();
-    masking_clears_bits();
     laws_below();
 }
 

@@ -4,6 +4,8 @@ use Rattle.router_runs.proofs.laws.laws_below.Goals as goal
 pub returns : goal.returns
 returns c = record {
   header = c.header_is_its_front.ensures;
+  sizes = c.written_has_a_header.ensures;
+  reads = c.a_peers_writing_is_read.ensures;
   facts = c.end_facts_hold.ensures;
   keeps = c.moves_keep_end_facts.ensures.keeps;
   not_shut = c.moves_keep_end_facts.ensures.not_shut;
@@ -21,5 +23,6 @@ returns c = record {
   beginnings = c.octets_of_an_incarnation.ensures.beginnings;
   begins = c.octets_of_an_incarnation.ensures.begins;
   used = c.octets_of_an_incarnation.ensures.used;
+  links = c.linked_routers_are_peers.ensures;
   appends = c.steps_append_what_they_say.ensures;
 }
