@@ -37,8 +37,6 @@ use Rattle.router_model.specs.Step.{overflows_taking, RouterEvent, Obeys, Ticks,
 use Rattle.outbox.specs.Items.{passes}
 use Rattle.router_model.specs.Laws.{all_passes}
 use Rattle.router_runs.specs.Reading.{sides_after, model_side, phase_of, phase_in, state_of}
-use Rattle.router_runs.proofs.Peers.{is_peer}
-use Rattle.router_runs.proofs.Peers.{stays}
 use Rattle.router_runs.specs.Doing.{Stands, Does, Row}
 use Rattle.router_runs.specs.Kept.{Advances}
 use Rattle.router_runs.proofs.Doing.{no_event, then_does}
@@ -372,7 +370,7 @@ module _ (laws : Laws) where
     step_side (alone Ticks) may over is =
         where_row laws v (linked g.net u v) (x.sides v) (second_at g u x v) before a b k (alone_is is)
         (λ h. second_event laws (own_open g u) (x.sides v) a b k.stands
-        (none_any (λ i. (second_at g u x i).overflows) (peers g.net u) v over (stays (linked g.net u) v (numbers g.net.routers) linked_v (is_peer g net u v linked_v))))
+        (none_any (λ i. (second_at g u x i).overflows) (peers g.net u) v over (laws.links g.net net u v linked_v).peer))
     step_side (alone (Handles w)) may over is =
         where_handled v (v == w) (at_hand (front (rule_of w) (x.sides w).held)) (x.sides v) (handled_at g u x w) before a b k
         (λ h. at_peer

@@ -31,7 +31,6 @@ use Rattle.router_runs.specs.Runs.{Logged, LoggedStep, RunState, RunOrder, IsRun
 use Rattle.router_model.specs.Settings.{IsSetting}
 use Rattle.router_runs.specs.Runs.{side_of, log_of}
 use Rattle.router_runs.specs.Promises.{UpdatesPassInOrder}
-use Rattle.router_runs.proofs.Peers.{is_peer}
 use Rattle.router_runs.specs.Kept.{IsGood, SideKept, AllAreGood}
 use Rattle.router_runs.specs.Said.{IsSmall, MayKeep, IsToldBy, IsSaid, Kept}
 use Rattle.router_runs.proofs.Events.{front_reads, marked_side, keeps_sides}
@@ -44,34 +43,14 @@ use Rattle.router_runs.proofs.Lower.{Laws, first_facts}
 module _ (laws : Laws) where
   -- ---- links
 
-  or_turned : (p q : Bool) → (p || q) ≡ (q || p)
-  or_turned true true = refl
-  or_turned true false = refl
-  or_turned false true = refl
-  or_turned false false = refl
-
-  links_turned : (u v : ℕ) (ls : List Link) → list_any (joins u v) ls ≡ list_any (joins v u) ls
-  links_turned u v [] = refl
-  links_turned u v (l ∷ ls) =
-      ap (λ c. c || list_any (joins u v) ls) (or_turned ((l.one == u) && (l.other == v)) ((l.one == v) && (l.other == u))) ∙ ap (λ c. joins v u l || c) (links_turned u v ls)
-
-  pub linked_both : (g : Setting) (u v : ℕ) → linked g.net u v ≡ true → linked g.net v u ≡ true
-  linked_both g u v h = sym (links_turned u v g.net.links) ∙ h
-
-  own_link : (u : ℕ) (ls : List Link) → AllByRecursion (λ l. l.one ≢ l.other) ls → list_any (joins u u) ls ≡ true → ⊥
-  own_link u [] all h = cc h
-  own_link u (l ∷ ls) all h = at (l.one == u) (l.other == u) refl refl h (λ k. own_link u ls all.1 k)
-    where
-      at : (p q : Bool) → (l.one == u) ≡ p → (l.other == u) ≡ q → ((((l.one == u) && (l.other == u)) || ((l.one == u) && (l.other == u))) || list_any (joins u u) ls) ≡ true → (list_any (joins u u) ls ≡ true → ⊥) → ⊥
-      at true true hp hq h rest = all.0 (let a : l.one ≡ u = number_is laws l.one u hp in let b : l.other ≡ u = number_is laws l.other u hq in a ∙ sym b)
-      at true false hp hq h rest = rest (rw (hp, hq) at h)
-      at false q hp hq h rest = rest (rw hp at h)
+  pub linked_both : (g : Setting) → IsNetwork g.net → (u v : ℕ) → linked g.net u v ≡ true → linked g.net v u ≡ true
+  linked_both g net u v h = (laws.links g.net net u v h).back
 
   pub linked_apart : (g : Setting) → IsNetwork g.net → (u v : ℕ) → linked g.net u v ≡ true → u ≢ v
-  linked_apart g net u v h = λ same. own_link u g.net.links (recursion_from_All (λ (l : Link). l.one ≢ l.other) g.net.links net.plan.links.apart) (subst (λ i. linked g.net u i ≡ true) (sym same) h)
+  linked_apart g net u v h = (laws.links g.net net u v h).apart
 
   pub linked_router : (g : Setting) → IsNetwork g.net → (u v : ℕ) → linked g.net u v ≡ true → IsRouter g.net.routers u
-  linked_router g net u v h = Contains-from_any {eq = nat_eq} (λ m n e. grind (arith, nat_tests, e)) u (numbers g.net.routers) (is_peer g net v u (linked_both g u v h))
+  linked_router g net u v h = (laws.links g.net net u v h).one
 
   -- ---- where none link is, nothing changes
 
@@ -127,7 +106,7 @@ module _ (laws : Laws) where
     heard_small : (state : RunState) → Kept g state → (u v : ℕ) (q : PrefixView) → linked g.net u v ≡ true → IsSmall (path_in (heard (side_of state u v) q))
     heard_small state k u v q link =
         let e : ℕ = (side_of state u v).link.epoch in
-        let back = linked_both g u v link in
+        let back = linked_both g set.network u v link in
         let p = passes_in_order laws g state k.reached (linked_apart g set.network) v u e back in
         let all : AllByRecursion (IsToldBy g v) ((side_of state v u).sent e) = subst (AllByRecursion (IsToldBy g v)) p.0.sent (updates_told laws g v e (log_of state v u) (k.said v u back)) in
         words_small laws g v ((side_of state u v).acted e) nothing q (told_front laws g v ((side_of state u v).acted e) p.1.0 (subst (AllByRecursion (IsToldBy g v)) (sym p.1.1) all)) tt
@@ -182,13 +161,13 @@ module _ (laws : Laws) where
           let u : ℕ = d.router in
           let may : May g u (old.routers u).router (alone (Handles w)) = subst (May g u (old.routers u).router) is step.step.may in
           let link = k.reached.links u w may.0 in
-          let before = before_of laws u w (side_of old u w) (side_of old w u) (log_of old u w) (log_of old w u) (old.taken w u) (old.taken u w) (linked_apart g set.network u w may.0) link (all_good old k w u (linked_both g u w may.0)) in
+          let before = before_of laws u w (side_of old u w) (side_of old w u) (log_of old u w) (log_of old w u) (old.taken w u) (old.taken u w) (linked_apart g set.network u w may.0) link (all_good old k w u (linked_both g set.network u w may.0)) in
           front_reads laws w (side_of old u w) (all_passes (old.taken w u)) (model.sides_after first_sides link.steps u w).end (model.sides_after first_sides link.steps w u).end before
           (subst (λ l. IsPrefix (all_passes (old.taken w u)) (passing written l)) link.there.log (taken_said laws g old w u (k.reached.puts w u) (k.reached.begins w u))) may.1
 
       pub kept_next : ((u v : ℕ) → IsPrefix ((runs.after (logged_steps g) old d own).taken u v) ((runs.after (logged_steps g) old d own).put u v)) → Kept g (runs.after (logged_steps g) old d own)
       kept_next begins = record {
-        reached = reached_next laws g set.network (linked_apart g set.network) (linked_both g) old d own step k.reached (all_good old k) begins;
+        reached = reached_next laws g set.network (linked_apart g set.network) (linked_both g set.network) old d own step k.reached (all_good old k) begins;
         said = λ u v link. said_at u v (d.router == u) refl link;
         paths = λ u q. path_at u q (d.router == u) refl;
         apart = λ u v none. apart_at u v (d.router == u) refl none;

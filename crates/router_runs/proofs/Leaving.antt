@@ -162,7 +162,7 @@ module _ (laws : Laws) where
           let j = k.reached.links u v link in
           let a : End Message = (model.sides_after first_sides j.steps u v).end in
           let b : End Message = (model.sides_after first_sides j.steps v u).end in
-          let back = linked_both laws g u v link in
+          let back = linked_both laws g set.network u v link in
           let before = before_of laws u v (side_of old u v) (side_of old v u) (log_of old u v) (log_of old v u) (old.taken v u) (old.taken u v) (linked_apart laws g set.network u v link) j (all_good laws g set old k v u back) in
           let apart = linked_apart laws g set.network u v link in
           let hit : (d.router == d.router) ≡ true = grind (arith, nat_tests) in

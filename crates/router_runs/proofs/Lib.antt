@@ -1,4 +1,3 @@
-pub mod Peers
 pub mod Closes
 pub mod Entries
 pub mod Lower
