@@ -7,7 +7,7 @@ use Rattle.bgp_codec.specs.declared.message.Message.{Message}
 use Rattle.bgp_codec.specs.declared.message.Message.TheVariants.{OpenMsg, UpdateMsg, NoticeMsg, AliveMsg}
 use Rattle.router_model.specs.Messages.{updates_in}
 use Rattle.run_model.specs.Links.{End, answers, greatest_dial, has_shut}
-use Rattle.run_model.specs.Octets.{Passing, Octet, octets_of}
+use Rattle.run_model.specs.Octets.{Octet, octets_of}
 
 pub prefix_trans : {A : Type 0} (xs ys zs : List A) → IsPrefix xs ys → IsPrefix ys zs → IsPrefix xs zs
 prefix_trans xs ys zs p q = (p.0 ++ q.0, sym (append_assoc xs p.0 q.0) ∙ (ap (λ w. w ++ q.0) p.1 ∙ q.1))

@@ -21,7 +21,7 @@ use Rattle.session_fsm.specs.Table.{SessionView}
 use Rattle.session_fsm.specs.declared.state.State.{State}
 use Rattle.session_fsm.specs.declared.state.State.TheVariants as state
 use Rattle.session_fsm.specs.declared.event.FsmEvent.TheVariants.{ManualStart, ManualStop}
-use Rattle.ranked_policy.specs.Plans.{IsNetwork, numbers}
+use Rattle.ranked_policy.specs.Plans.{IsNetwork}
 use Rattle.run_model.specs.Links.{Entry, Dial, Says, Mark, Shut, End}
 use Rattle.run_model.specs.Octets.{Passing, Control, octets_of, passing}
 use Rattle.run_model.specs.Network.{alone, puts, takes, offers, taken_from}

@@ -1,5 +1,5 @@
 -- What routers say can be read by their peers.
-use Rattle.std.proofs.Common.{◌≡◌, ◌≢◌, ℕ, ◌+◌, ◌*◌, ◌<◌, ◌≤◌, ◌==◌, Bool, true, false, ◌||◌, cond, List, [], ◌∷◌, ◌++◌, length, refl, ap, sym, ◌∙◌, subst, arith, length-append, None, Some, inl, inr, ◌⊎◌}
+use Rattle.std.proofs.Common.{◌≡◌, ◌≢◌, ℕ, ◌+◌, ◌*◌, ◌<◌, ◌≤◌, ◌==◌, Bool, true, false, ◌||◌, cond, List, [], ◌∷◌, ◌++◌, length, refl, ap, sym, ◌∙◌, subst, arith, length-append, Some, inl, inr, ◌⊎◌}
 use Rattle.std.specs.Prelude.{nat_eq, nat_le, ◌^◌, ◌/◌, map}
 use Rattle.std.specs.List.{AllByRecursion, flat_map, list_any}
 use Rattle.std.specs.Int.{w16, w32, to_be_bytes}
@@ -19,7 +19,7 @@ use Rattle.bgp_codec.specs.declared.path.SegmentKind.TheVariants.{AsSequence}
 use Rattle.bgp_codec.specs.declared.update.Update.{Update}
 use Rattle.bgp_codec.specs.Opens.{OpenFits, is_hold_time, is_unicast}
 use Rattle.bgp_codec.specs.Updates.{UpdateFits, AttrsFit, attrs_octets, update_octets, prefix_octets, octet_count, long_string, segment_octets, is_from}
-use Rattle.bgp_codec.specs.Spelling.{IsWritable, written, written_body}
+use Rattle.bgp_codec.specs.Spelling.{IsWritable, written_body}
 use Rattle.bgp_codec.specs.Faults.{IsFrom}
 use Rattle.ranked_policy.specs.declared.network.Router as network
 use Rattle.ranked_policy.specs.declared.network.Origin.{Origin}

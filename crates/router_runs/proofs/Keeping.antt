@@ -1,16 +1,12 @@
 -- What is kept through a run of all routers, and that updates pass in order.
-use Rattle.std.proofs.Common.{◌≡◌, ◌≢◌, ℕ, ◌==◌, Bool, true, false, ◌&&◌, ◌||◌, cond, List, [], ◌∷◌, ◌++◌, refl, ap, sym, ◌∙◌, subst, arith, Option, None, Some, inl}
-use Rattle.std.specs.Prelude.{nat_eq, is_some, if◌then◌else◌, Ok}
-use Rattle.std.specs.List.{AllByRecursion, list_any, find}
+use Rattle.std.proofs.Common.{◌≡◌, ◌≢◌, ℕ, ◌==◌, Bool, true, false, ◌&&◌, cond, List, [], ◌∷◌, ◌++◌, refl, ap, sym, ◌∙◌, subst, Option, None, Some, inl}
+use Rattle.std.specs.Prelude.{is_some, if◌then◌else◌, Ok}
+use Rattle.std.specs.List.{AllByRecursion, find}
 use mathlib.Core.List.{IsPrefix}
-use Rattle.std.proofs.lemmas.Bool.Decides.{nat_tests}
-use Rattle.std.proofs.lemmas.List.Elements.{recursion_from_All}
-use Rattle.std.proofs.lemmas.Map.Views.{Contains-from_any}
 use Rattle.prefix_lanes.specs.Bits.{PrefixView}
 use Rattle.bgp_codec.specs.declared.message.Message.{Message}
 use Rattle.bgp_codec.specs.Spelling.{written}
-use Rattle.ranked_policy.specs.declared.network.Link.{Link}
-use Rattle.ranked_policy.specs.Plans.{IsNetwork, IsRouter, IsNamed, numbers}
+use Rattle.ranked_policy.specs.Plans.{IsNetwork, IsRouter, IsNamed}
 use Rattle.rib_tables.specs.Words.{nothing, path_in}
 use Rattle.run_model.specs.Links.{Entry}
 use Rattle.run_model.specs.Sessions as model
@@ -23,7 +19,7 @@ use Rattle.outbox.specs.declared.item.What.{What}
 use Rattle.outbox.specs.declared.item.What.TheVariants as item
 use Rattle.router_model.specs.Sides.{Side, is_up, front, marked}
 use Rattle.snap_marker.specs.Recordings.{MadeOffer}
-use Rattle.router_model.specs.Settings.{Setting, joins, linked, prefixes}
+use Rattle.router_model.specs.Settings.{Setting, linked, prefixes}
 use Rattle.router_model.specs.State.{Router, rule_of, heard, path_from, route, untold, undecided, is_untold}
 use Rattle.router_model.specs.Step.{Own, RouterEvent, Obeys, Ticks, Handles, Decides, Advertises, May, after, says, telling_to, telling_of, heeds, is_greater}
 use Rattle.router_model.specs.Laws.{all_passes}

@@ -3,12 +3,11 @@ use Rattle.std.proofs.Common.{◌≡◌, ◌≢◌, ℕ, Bool, true, false, ◌|
 use Rattle.std.specs.Prelude.{max}
 use mathlib.Core.List.{IsPrefix}
 use Rattle.bgp_codec.specs.declared.message.Message.{Message}
-use Rattle.bgp_codec.specs.Header.{IsFrame, HeaderIsItsFront}
-use Rattle.run_model.specs.Links.{Entry, End, greatest_dial, has_shut, said, opening, JoinedHeardItsOwn}
+use Rattle.bgp_codec.specs.Header.{IsFrame}
+use Rattle.run_model.specs.Links.{Entry, greatest_dial, has_shut, said, opening, JoinedHeardItsOwn}
 use Rattle.run_model.specs.Sessions.{SessionRunsGoOn, SessionsMakeALinkRun}
-use Rattle.run_model.specs.Octets.{passing, NextControlIsNextEntry, HeldBeginsNextMessage, DroppedOctetsAreMessages}
-use Rattle.run_model.specs.Streams.{BeginningsPass, OctetsBeginWhatIsSaid, UsedOctetsWereTaken, NoStaleOctetAtAnEnd, NoneDroppedAtAnEnd}
-use Rattle.run_model.specs.Facts.{EndFacts, EndFactsHold, MovesKeepFacts, NotDialledIsNotShut, PastStaysPast, SessionEventsLeadOn, EntriesAddUp}
+use Rattle.run_model.specs.Octets.{passing, NextControlIsNextEntry, DroppedOctetsAreMessages}
+use Rattle.run_model.specs.Facts.{EndFacts, PastStaysPast, SessionEventsLeadOn}
 use Rattle.router_model.specs.Laws.{StepsAppendWhatTheySay}
 use Rattle.router_runs.specs.LawsBelow.{LawsBelow}
 

@@ -1,5 +1,5 @@
 -- A move of a link end, as what it makes of a side.
-use Rattle.std.proofs.Common.{◌≡◌, ℕ, ◌<◌, ◌≤◌, ◌==◌, Bool, true, false, ◌&&◌, cond, List, [], ◌∷◌, ◌++◌, refl, ap, sym, ◌∙◌, arith, subst}
+use Rattle.std.proofs.Common.{◌≡◌, ℕ, ◌<◌, ◌≤◌, ◌==◌, Bool, true, false, ◌&&◌, cond, List, [], ◌∷◌, ◌++◌, refl, ap, sym, ◌∙◌, arith}
 use Rattle.std.specs.Prelude.{nat_lt}
 use Rattle.std.proofs.lemmas.List.{append-nil}
 use Rattle.std.proofs.lemmas.Bool.Decides.{nat_tests}
@@ -13,7 +13,6 @@ use Rattle.link_epoch.specs.declared.link_end.Phase.TheVariants as phase
 use Rattle.run_model.specs.Links as links
 use Rattle.run_model.specs.Links.{Entry, Dial, Says, Mark, Shut, End, Move, Dials, Tells, Marks, HangsUp, Takes, May, after, incarnation, heard_number, has_shut, said, greatest_dial, answers, next_incarnation, dialling, taking, phase_joining, used_with}
 use Rattle.run_model.specs.Facts.{EndFacts}
-use Rattle.run_model.specs.Facts.{Sound}
 use Rattle.router_model.specs.Sides.{Side}
 use Rattle.router_model.specs.Messages.{updates_in}
 use Rattle.router_runs.specs.Reading.{Reads, phase_of}

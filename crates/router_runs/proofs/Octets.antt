@@ -21,7 +21,7 @@ use Rattle.router_runs.specs.Reading.{sides_after, model_side}
 use Rattle.router_runs.specs.Doing.{Stands, Row, Hand}
 use Rattle.router_runs.specs.Kept.{IsGood, Holds}
 use Rattle.router_runs.proofs.Lower.{Laws, passing_more}
-use Rattle.router_runs.proofs.Entries.{answers_above, octets_more}
+use Rattle.router_runs.proofs.Entries.{octets_more}
 
 module _ (laws : Laws) where
   -- ---- frames

@@ -17,7 +17,7 @@ use Rattle.router_runs.specs.Kept.{Reached}
 use Rattle.router_runs.proofs.Running.{all_front}
 use Rattle.run_model.specs.Streams.{octets_in}
 use Rattle.router_runs.proofs.Streams.{stream_is}
-use Rattle.router_runs.proofs.Lower.{Laws, said_front, sessions_make_a_link_run}
+use Rattle.router_runs.proofs.Lower.{Laws, said_front}
 use Rattle.router_runs.proofs.Entries.{updates-append, prefix_trans}
 
 module _ (laws : Laws) where
