@@ -15,7 +15,7 @@ use Rattle.bgp_codec.proofs.WritingLemmas.{length-written}
 use Rattle.bgp_codec.specs.Reading.{Gives}
 use Rattle.bgp_codec.specs.Opens.{open_reading, is_peer}
 use Rattle.bgp_codec.specs.Updates.{long_string, update_reading}
-use Rattle.bgp_codec.specs.Faults.{read_as, reading, body_reading, notice_reading, fault, fault_in, or_else, OneMessageOrFault, FaultFitsAMessage, WrittenIsSpelt, WrittenIsRead}
+use Rattle.bgp_codec.specs.Faults.{read_as, reading, body_reading, notice_reading, fault, fault_in, or_else, OneMessageOrFault, FaultFitsAMessage, WrittenIsSpelt, WrittenIsRead, IsFrom, PeersWritingIsRead}
 use Rattle.bgp_codec.proofs.OpenLaws.{open_takes, open_again}
 use Rattle.bgp_codec.proofs.FaultData.{FaultsWithin}
 use Rattle.bgp_codec.proofs.OpenFaults.{open_faults}
@@ -200,23 +200,31 @@ pub is_spelt : (laws : PrefixLaws) (rule : Rule) (octets : List ℕ) (r : Result
 is_spelt laws rule octets (Ok m) are frame told = read_spelt laws rule octets m are frame told
 is_spelt laws rule octets (Err e) are frame told = tt
 
-nobody_checks : (rule : Rule) (asn : ℕ) → rule.peer ≡ None → is_peer rule.peer asn ≡ true
-nobody_checks rule asn e = rw e refl
+-- under a rule that names nobody every message passes for the peer's
+from_nobody : (rule : Rule) (m : Message) → rule.peer ≡ None → IsFrom rule m
+from_nobody rule (OpenMsg o) nobody = rw nobody refl
+from_nobody rule (UpdateMsg u) nobody = λ some. rw nobody refl
+from_nobody rule (NoticeMsg n) nobody = tt
+from_nobody rule AliveMsg nobody = tt
 
 -- what is written spells the message, its prefixes by octets
-body_spelt : (rule : Rule) (m : Message) → rule.peer ≡ None → IsWritable rule m → (s : SpellsBody rule (written_body m) m) × HasOctets rule (written_body m) m s
-body_spelt rule (OpenMsg o) nobody may = (record { fits = may; peer = nobody_checks rule o.asn nobody; whole = refl }, tt)
-body_spelt rule (UpdateMsg u) nobody may = update_written u rule.peer nobody may
-body_spelt rule (NoticeMsg n) nobody may = (refl, tt)
-body_spelt rule AliveMsg nobody may = (refl, tt)
+body_spelt : (rule : Rule) (m : Message) → IsFrom rule m → IsWritable rule m → (s : SpellsBody rule (written_body m) m) × HasOctets rule (written_body m) m s
+body_spelt rule (OpenMsg o) from may = (record { fits = may; peer = from; whole = refl }, tt)
+body_spelt rule (UpdateMsg u) from may = update_written u rule.peer from may
+body_spelt rule (NoticeMsg n) from may = (refl, tt)
+body_spelt rule AliveMsg from may = (refl, tt)
 
 pub written_spelt : WrittenIsSpelt
-written_spelt rule m nobody may fits = record { body = written_body m; spelt = (body_spelt rule m nobody may).0; fits = omega (arith, fits, length-written m); whole = refl }
+written_spelt rule m nobody may fits =
+    record { body = written_body m; spelt = (body_spelt rule m (from_nobody rule m nobody) may).0; fits = omega (arith, fits, length-written m); whole = refl }
+
+pub peers_writing_read : PrefixLaws → PeersWritingIsRead
+peers_writing_read laws rule m from may fits =
+    let both = body_spelt rule m from may in
+    spelt_read laws rule (written m) m (record { body = written_body m; spelt = both.0; fits = omega (arith, fits, length-written m); whole = refl }) both.1
 
 pub written_read : PrefixLaws → WrittenIsRead
-written_read laws rule m nobody may fits =
-    let both = body_spelt rule m nobody may in
-    spelt_read laws rule (written m) m (record { body = written_body m; spelt = both.0; fits = omega (arith, fits, length-written m); whole = refl }) both.1
+written_read laws rule m nobody may fits = peers_writing_read laws rule m (from_nobody rule m nobody) may fits
 
 -- ---- the data of a fault
 

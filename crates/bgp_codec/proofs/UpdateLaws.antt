@@ -268,8 +268,8 @@ update_faults peer body n long some =
     (wider 1 n (nlri_reading peer a (drop (4 + (withdrawn_len body + attrs_len body)) body)) (omega arith) (nlri_faults peer a (drop (4 + (withdrawn_len body + attrs_len body)) body))) (λ ps. tt))))
 
 -- what is written is spelt so, and its prefixes are octets
-pub update_written : (u : Update) (peer : Option ℕ) → peer ≡ None → UpdateFits u → (s : SpellsUpdate peer (update_octets u) u) × (IsOctets s.withdrawn × IsOctets s.nlri)
-update_written u peer nobody fits = (
+pub update_written : (u : Update) (peer : Option ℕ) → (u.nlri ≢ [] → is_from peer u.attrs ≡ true) → UpdateFits u → (s : SpellsUpdate peer (update_octets u) u) × (IsOctets s.withdrawn × IsOctets s.nlri)
+update_written u peer from fits = (
   record {
     withdrawn = flat_map prefix_octets u.withdrawn;
     attrs = attrs_octets u.attrs;
@@ -278,7 +278,7 @@ update_written u peer nobody fits = (
     attrs_are = attrs_written u.attrs fits.attrs fits.attrs_size;
     attrs_fit = fits.attrs;
     nlri_are = prefixes_written u.nlri fits.nlri;
-    announced = λ some. record { mandatory = fits.mandatory some; peer = ap (λ (p : Option ℕ). is_from p u.attrs) nobody };
+    announced = λ some. record { mandatory = fits.mandatory some; peer = from some };
     withdrawn_size = fits.withdrawn_size;
     attrs_size = fits.attrs_size;
     whole = refl;

@@ -1,13 +1,13 @@
 -- What a frame reads as: its message, or the first fault in the order of checking (RFC 4271 section 6).
-use Rattle.std.specs.Prelude.{◌≡◌, ℕ, ◌≤◌, ◌==◌, List, length, slice_index, drop, Option, Some, None, Result, Ok, Err, if◌then◌else◌}
+use Rattle.std.specs.Prelude.{◌≡◌, ◌≢◌, ℕ, true, [], ◌≤◌, ◌==◌, List, length, slice_index, drop, Option, Some, None, Result, Ok, Err, if◌then◌else◌}
 use Rattle.bgp_codec.specs.declared.fault.Fault.{Fault}
 use Rattle.bgp_codec.specs.declared.fault.CodecError.{CodecError}
 use Rattle.bgp_codec.specs.declared.fault.CodecError.TheVariants as errors
 use Rattle.bgp_codec.specs.declared.message.Message.{Message}
 use Rattle.bgp_codec.specs.declared.message.Message.TheVariants.{OpenMsg, UpdateMsg, NoticeMsg, AliveMsg}
 use Rattle.bgp_codec.specs.declared.rule.Rule.{Rule}
-use Rattle.bgp_codec.specs.Opens.{open_reading}
-use Rattle.bgp_codec.specs.Updates.{update_reading}
+use Rattle.bgp_codec.specs.Opens.{open_reading, is_peer}
+use Rattle.bgp_codec.specs.Updates.{update_reading, is_from}
 use Rattle.bgp_codec.specs.Header.{header_fault, kind_field, IsFrame}
 use Rattle.bgp_codec.specs.Spelling.{IsOctets, Spells, IsWritable, written}
 
@@ -68,6 +68,18 @@ WrittenIsSpelt = (rule : Rule) (message : Message) → rule.peer ≡ None → Is
 -- and reads as the message
 abbrev pub WrittenIsRead : Type 0
 WrittenIsRead = (rule : Rule) (message : Message) → rule.peer ≡ None → IsWritable rule message → length (written message) ≤ 4096
+    → IsFrame (written message) × (reading rule (written message) ≡ Ok message)
+
+-- the message is one of the peer that the rule names, where it names one: its OPEN has that number, and its paths begin with it
+abbrev pub IsFrom : Rule → Message → Type 0
+IsFrom rule (OpenMsg message) = is_peer rule.peer message.asn ≡ true
+IsFrom rule (UpdateMsg message) = message.nlri ≢ [] → is_from rule.peer message.attrs ≡ true
+IsFrom rule (NoticeMsg notice) = Unit {0}
+IsFrom rule AliveMsg = Unit {0}
+
+-- so does what a peer writes, under a rule that names it
+abbrev pub PeersWritingIsRead : Type 0
+PeersWritingIsRead = (rule : Rule) (message : Message) → IsFrom rule message → IsWritable rule message → length (written message) ≤ 4096
     → IsFrame (written message) × (reading rule (written message) ≡ Ok message)
 
 -- what is spelt is writable, and what is written is no longer

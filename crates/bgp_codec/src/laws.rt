@@ -3,7 +3,7 @@
 
 ghost use Rattle.bgp_codec.specs.Header.{HeaderIsItsFront, HeaderFaultIsShort};
 ghost use Rattle.bgp_codec.specs.Spelling.{WrittenHasAHeader, OpenHasAHoldTime};
-ghost use Rattle.bgp_codec.specs.Faults.{OneMessageOrFault, FaultFitsAMessage, WrittenIsSpelt, WrittenIsRead, SpeltIsWritable};
+ghost use Rattle.bgp_codec.specs.Faults.{OneMessageOrFault, FaultFitsAMessage, WrittenIsSpelt, WrittenIsRead, PeersWritingIsRead, SpeltIsWritable};
 
 use prefix_lanes::{a_prefix_is_its_bits, masking_clears_bits};
 
@@ -25,6 +25,15 @@ pub fn written_is_spelt()
 /// that message, under a rule that names nobody.
 pub fn written_is_read()
     ensures { WrittenIsRead }
+{
+    a_prefix_is_its_bits();
+    masking_clears_bits();
+}
+
+/// What is written for a message of a peer is a frame, and reads as that message under a rule that
+/// names the peer: where it is writable, fits 4096 octets, and its number or path is the peer's.
+pub fn a_peers_writing_is_read()
+    ensures { PeersWritingIsRead }
 {
     a_prefix_is_its_bits();
     masking_clears_bits();

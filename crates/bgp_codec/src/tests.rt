@@ -142,6 +142,7 @@ fn laws_are_called(_rt: HostRuntime) {
     laws::one_message_or_fault();
     laws::written_is_spelt();
     laws::written_is_read();
+    laws::a_peers_writing_is_read();
     laws::spelt_is_writable();
     laws::header_is_its_front();
     laws::header_fault_is_short();

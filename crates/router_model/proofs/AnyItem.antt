@@ -1,10 +1,9 @@
 -- Whatever a peer hands in is taken, and what waits is handled.
-use Rattle.std.proofs.Common.{◌≡◌, ℕ, ◌==◌, ◌<◌, ◌+◌, Bool, true, false, ◌&&◌, cond, List, [], ◌∷◌, refl, ap, sym, ◌∙◌, arith, subst, Option, None, Some}
-use Rattle.std.specs.Prelude.{nat_lt, max, not}
+use Rattle.std.proofs.Common.{◌≡◌, ℕ, ◌==◌, ◌<◌, ◌+◌, Bool, true, false, cond, List, [], ◌∷◌, refl, ◌∙◌, arith, Option, None, Some}
+use Rattle.std.specs.Prelude.{nat_lt, max}
 use Rattle.std.proofs.lemmas.Bool.Decides.{nat_tests}
 use Rattle.bgp_codec.specs.declared.message.Message.{Message}
-use Rattle.bgp_framing.specs.Held.{is_waiting}
-use Rattle.link_epoch.specs.Ends.{LinkView, next_number, number_shut, heard_by, meaning_of, meaning_of_dial, phase_at_dial}
+use Rattle.link_epoch.specs.Ends.{LinkView, next_number, number_shut, heard_by, meaning_of}
 use Rattle.link_epoch.specs.declared.link_end.Phase.{Phase}
 use Rattle.link_epoch.specs.declared.link_end.Phase.TheVariants as phase
 use Rattle.link_epoch.specs.declared.link_end.Sign.TheVariants as sign
@@ -17,15 +16,14 @@ use Rattle.session_fsm.specs.declared.event.FsmEvent.{FsmEvent}
 use Rattle.session_fsm.specs.declared.event.FsmEvent.TheVariants as event
 use Rattle.session_fsm.specs.declared.actions.Action.{Action}
 use Rattle.session_fsm.specs.declared.actions.Action.TheVariants as action
-use Rattle.run_model.specs.Network.{alone, takes}
 use Rattle.outbox.specs.declared.item.What.{What}
 use Rattle.outbox.specs.declared.item.What.TheVariants as item
-use Rattle.router_model.specs.Settings.{Setting, linked}
+use Rattle.router_model.specs.Settings.{Setting}
 use Rattle.router_model.specs.Sides as sides
 use Rattle.router_model.specs.Sides.{Side, Draft, draft_of, AtHand, NoMessage, HasFault, HasUpdate, does, obeys, obeys_all, comes, dials, shuts, fits, is_connecting, signed}
 use Rattle.router_model.specs.State.{open_of}
-use Rattle.router_model.specs.Step.{Handles, RouterEvent, overflows_taking, signed_at}
-use Rattle.router_model.specs.Calls.{Stamped, Take, Handle, Steps, answer, judged, unless, first_of, greatest_stamp}
+use Rattle.router_model.specs.Step.{overflows_taking}
+use Rattle.router_model.specs.Calls.{Stamped, greatest_stamp}
 use Rattle.router_model.specs.Laws.{HasNumbers, AnyItemIsTaken, WhatWaitsIsHandled}
 
 -- ---- actions without a dial pass no number

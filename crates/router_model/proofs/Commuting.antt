@@ -11,17 +11,16 @@ use Rattle.bgp_codec.specs.declared.message.Message.{Message}
 use Rattle.bgp_codec.specs.Spelling.{written}
 use Rattle.session_fsm.specs.declared.event.FsmEvent.TheVariants.{ManualStart, ManualStop}
 use Rattle.link_epoch.specs.declared.link_end.Sign.TheVariants as sign
-use Rattle.run_model.specs.Links.{Entry, Mark}
+use Rattle.run_model.specs.Links.{Mark}
 use Rattle.run_model.specs.Octets.{Passing, passing}
 use Rattle.run_model.specs.Network.{alone, puts, takes, offers, put_towards}
-use Rattle.run_model.specs.Exchange.{PutsCommute}
 use Rattle.outbox.specs.Items.{passes}
 use Rattle.outbox.specs.declared.item.What.{What}
 use Rattle.outbox.specs.declared.item.What.TheVariants as item
 use Rattle.snap_marker.specs.Recordings.{Snapshots, ends_channel}
 use Rattle.router_model.specs.declared.command.Command.TheVariants as command
 use Rattle.router_model.specs.Settings.{Setting, linked, peers}
-use Rattle.router_model.specs.Sides.{Side, Draft, AtHand, NoMessage, at_hand, front, carried, marked, told, fed, uses, is_up, without_front}
+use Rattle.router_model.specs.Sides.{Side, Draft, AtHand, NoMessage, at_hand, front, carried, marked, told, uses, is_up, without_front}
 use Rattle.router_model.specs.State.{Router, rule_of, untold, undecided, route}
 use Rattle.router_model.specs.Step.{RouterEvent, Obeys, Ticks, Handles, Decides, Advertises, May, Step, after, overflows, says, says_where, says_update, says_markers, moved, all_moved, with_side, telling_to, telling_of, heeds, is_greater, put_from, keeping, records, meets_at, resets_at, signed_at, second_at, handled_at}
 use Rattle.router_model.specs.Laws.{RouterPutsCommute, PutsLeaveWhatIsSaid}

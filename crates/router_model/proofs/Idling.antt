@@ -1,17 +1,13 @@
 -- A call is idle only where none of its events may come.
-use Rattle.std.proofs.Common.{◌≡◌, ℕ, ◌==◌, nat_eq, Bool, true, false, ◌&&◌, ◌||◌, cond, List, [], ◌∷◌, ◌++◌, refl, arith, subst, Option, None, Some}
+use Rattle.std.proofs.Common.{◌≡◌, ℕ, nat_eq, Bool, true, false, ◌&&◌, ◌||◌, cond, List, [], ◌∷◌, ◌++◌, refl, arith, subst, Option, None, Some}
 use Rattle.std.specs.Prelude.{not, is_some, filter}
-use Rattle.std.specs.List.{find, list_any, Contains, AllByRecursion}
+use Rattle.std.specs.List.{find, list_any}
 use Rattle.std.proofs.lemmas.Bool.Decides.{nat_tests}
-use Rattle.std.proofs.lemmas.List.Elements.{recursion_from_All}
-use Rattle.std.proofs.lemmas.Map.Views.{list_any-from_Contains}
-use Rattle.std.proofs.lemmas.Cmp.{nat_eq_equiv}
 use mathlib.Core.List.{IsPrefix}
 use Rattle.prefix_lanes.specs.Bits.{PrefixView}
 use Rattle.bgp_codec.specs.declared.message.Message.{Message}
 use Rattle.bgp_framing.specs.Held.{is_waiting}
 use Rattle.ranked_policy.specs.Plans.{IsNetwork, numbers}
-use Rattle.ranked_policy.specs.declared.network.Link.{Link}
 use Rattle.run_model.specs.Links.{Dial, Says, Mark, Shut}
 use Rattle.run_model.specs.Octets.{Passing, Octet, Control}
 use Rattle.run_model.specs.Network.{alone, puts}
@@ -22,7 +18,7 @@ use Rattle.outbox.specs.declared.item.What.{What}
 use Rattle.outbox.specs.declared.item.What.TheVariants as item
 use Rattle.router_model.specs.declared.refusal.RouterError.{RouterError}
 use Rattle.router_model.specs.Sides.{is_up}
-use Rattle.router_model.specs.Settings.{Setting, joins, linked, peers, prefixes}
+use Rattle.router_model.specs.Settings.{Setting, linked, peers, prefixes}
 use Rattle.router_model.specs.State.{Router, is_untold, undecided, is_waiting_peer}
 use Rattle.router_model.specs.Step.{Obeys, Handles, Decides, Advertises, RouterEvent, HasSize, MayObey, May}
 use Rattle.router_model.specs.Calls.{Call, Obey, Tick, Put, Take, Handle, Decide, Advertise, Idle, judged, if_so, put_event, advertise_event, blocked, has_room, bars, command_event, event_of, IsEventOf}

@@ -1,5 +1,5 @@
 -- A step in which a session leaves Established loses the recording.
-use Rattle.std.proofs.Common.{◌≡◌, ℕ, suc, ◌==◌, ◌<◌, nat_eq, Bool, true, false, ◌&&◌, ◌||◌, cond, List, [], ◌∷◌, ◌++◌, filter, length, refl, ap, sym, ◌∙◌, arith, subst, Option, None, Some}
+use Rattle.std.proofs.Common.{◌≡◌, ℕ, suc, ◌==◌, ◌<◌, nat_eq, Bool, true, false, ◌&&◌, ◌||◌, cond, List, [], ◌∷◌, ◌++◌, filter, refl, ap, sym, ◌∙◌, arith, subst, Option, None, Some}
 use Rattle.std.specs.List.{list_any, All, AllPairs, AllByRecursion}
 use Rattle.std.proofs.lemmas.Bool.Decides.{nat_tests}
 use Rattle.std.proofs.lemmas.List.Elements.{recursion_from_All}
@@ -16,10 +16,10 @@ use Rattle.outbox.specs.declared.item.What.TheVariants as item
 use Rattle.snap_marker.specs.Recordings.{Snapshots, closed, lost, joins_channel, ends_channel}
 use Rattle.router_model.specs.declared.command.Command.TheVariants as command
 use Rattle.router_model.specs.Settings.{Setting, linked, peers}
-use Rattle.router_model.specs.Sides.{Side, Draft, AtHand, NoMessage, HasFault, HasUpdate, carried, told, marked, fed, uses, front, at_hand, event_of, without_front, is_up, is_established}
+use Rattle.router_model.specs.Sides.{Side, Draft, AtHand, NoMessage, HasFault, HasUpdate, carried, told, marked, uses, front, at_hand, event_of, without_front, is_up, is_established}
 use Rattle.router_model.specs.State.{Router, open_of, rule_of, undecided, untold, route}
-use Rattle.router_model.specs.Step.{RouterEvent, Obeys, Ticks, Handles, Decides, Advertises, after, seen, close_at, or_first, first_close, all_moved, keeping, telling_to, telling_of, put_from, records, is_greater, heeds, meets_at, resets_at, second_at, signed_at, handled_at}
-use Rattle.router_model.specs.Recording.{IsRecording, LeavesFirst, LeavingLosesTheRecording}
+use Rattle.router_model.specs.Step.{RouterEvent, Obeys, Ticks, Handles, Decides, Advertises, after, seen, close_at, or_first, first_close, keeping, telling_to, telling_of, put_from, records, is_greater, heeds, meets_at, resets_at, second_at, signed_at, handled_at}
+use Rattle.router_model.specs.Recording.{IsRecording, LeavingLosesTheRecording}
 use Rattle.router_model.proofs.Leaving.{left_of, met_left, handled_left, second_left, signed_left, reset_left}
 use Rattle.router_model.proofs.Peers.{is_peer, stays}
 

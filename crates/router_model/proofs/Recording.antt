@@ -1,6 +1,6 @@
 -- What the steps of a router do to its recordings.
 use Rattle.std.proofs.Common.{◌≡◌, ℕ, ◌==◌, ◌<◌, ◌≤◌, Bool, true, false, ◌&&◌, cond, List, [], ◌∷◌, ◌++◌, refl, ap, sym, ◌∙◌, arith, subst, Option, None, Some, inl, inr}
-use Rattle.std.specs.Prelude.{drop, nat_lt, not}
+use Rattle.std.specs.Prelude.{drop, not}
 use Rattle.std.specs.List.{find, list_any}
 use mathlib.Core.Logic.{◌⊎◌}
 use Rattle.std.proofs.lemmas.Bool.Decides.{nat_tests}
@@ -12,11 +12,10 @@ use Rattle.session_fsm.specs.declared.event.FsmEvent.TheVariants.{ManualStart, M
 use Rattle.link_epoch.specs.declared.link_end.Sign.TheVariants as sign
 use Rattle.run_model.specs.Network.{alone, puts, takes, offers}
 use Rattle.run_model.specs.Offers.{Finished, Lost, Cause, NotUp, Closed, Superseded, IsIn}
-use Rattle.outbox.specs.declared.item.What.{What}
 use Rattle.outbox.specs.declared.item.What.TheVariants as item
 use Rattle.snap_marker.specs.Recordings.{RouterPart, RouterOffer, Recording, Snapshots, queueing, closed, lost, lost_at, joins_channel, with_message, goes_on, ends_channel, superseded, begins_or_is_lost, begun}
 use Rattle.router_model.specs.declared.command.Command.TheVariants as command
-use Rattle.router_model.specs.Settings.{Setting, linked, peers}
+use Rattle.router_model.specs.Settings.{Setting, peers}
 use Rattle.router_model.specs.Sides.{AtHand, NoMessage, HasFault, HasUpdate, at_hand, front, is_up}
 use Rattle.router_model.specs.State.{Router, rule_of, undecided, untold, route}
 use Rattle.router_model.specs.Step.{RouterEvent, Obeys, Ticks, Handles, Decides, Advertises, May, after, seen, close_at, first_close, keeping, telling_to, telling_of, records, recording_of, is_greater, heeds, meets_at, resets_at, second_at, signed_at, handled_at}

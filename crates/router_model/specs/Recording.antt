@@ -1,5 +1,5 @@
 -- What the steps of one router do to its recordings of snapshots.
-use Rattle.std.specs.Prelude.{ℕ, ◌≡◌, ◌<◌, ◌≤◌, true, false, ◌++◌, List, [], ◌∷◌, Option, None, Some}
+use Rattle.std.specs.Prelude.{ℕ, ◌≡◌, ◌<◌, ◌≤◌, true, false, ◌++◌, [], ◌∷◌, None, Some}
 use mathlib.Core.Logic.{◌⊎◌}
 use Rattle.ranked_policy.specs.Plans.{IsNetwork}
 use Rattle.run_model.specs.Offers.{Finished, Lost, Closed, IsIn}

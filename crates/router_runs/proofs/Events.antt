@@ -21,7 +21,7 @@ use Rattle.session_fsm.specs.Table.{SessionView}
 use Rattle.session_fsm.specs.declared.state.State.{State}
 use Rattle.session_fsm.specs.declared.state.State.TheVariants as state
 use Rattle.session_fsm.specs.declared.event.FsmEvent.TheVariants.{ManualStart, ManualStop}
-use Rattle.ranked_policy.specs.Plans.{IsNetwork, numbers}
+use Rattle.ranked_policy.specs.Plans.{IsNetwork}
 use Rattle.run_model.specs.Links.{Entry, Dial, Says, Mark, Shut, End}
 use Rattle.run_model.specs.Octets.{Passing, Control, octets_of, passing}
 use Rattle.run_model.specs.Network.{alone, puts, takes, offers, taken_from}
@@ -37,8 +37,6 @@ use Rattle.router_model.specs.Step.{overflows_taking, RouterEvent, Obeys, Ticks,
 use Rattle.outbox.specs.Items.{passes}
 use Rattle.router_model.specs.Laws.{all_passes}
 use Rattle.router_runs.specs.Reading.{sides_after, model_side, phase_of, phase_in, state_of}
-use Rattle.router_runs.proofs.Peers.{is_peer}
-use Rattle.router_runs.proofs.Peers.{stays}
 use Rattle.router_runs.specs.Doing.{Stands, Does, Row}
 use Rattle.router_runs.specs.Kept.{Advances}
 use Rattle.router_runs.proofs.Doing.{no_event, then_does}
@@ -48,341 +46,343 @@ use Rattle.router_runs.proofs.Handling.{handled_event}
 use Rattle.router_runs.proofs.Signing.{dial_event, shut_event, mark_taken, mark_event, told_event}
 use Rattle.router_runs.proofs.Stepping.{Before, own_end, same_number, swapped, plus_nothing, idles, where_row, by_does, stop_event, second_event, Ready, decides, ready, then_takes, where_taken}
 use Rattle.router_runs.proofs.Octets.{fed_same, found, front_ok, rest_ok, cleared, holds_handled, holds_piece}
+use Rattle.router_runs.proofs.Lower.{Laws}
 
--- ---- a reset
+module _ (laws : Laws) where
+  -- ---- a reset
 
-record Restarts (o : Open) (d e : Draft) : Type 0 where
-  session : e.session ≡ (comes (OpenMsg o) NoMessage (draft_of d.session d.link) ManualStart).session
-  link : e.link ≡ (comes (OpenMsg o) NoMessage (draft_of d.session d.link) ManualStart).link
-  dials : e.link ≡ dialled d.link
-  says : e.says ≡ d.says ++ (comes (OpenMsg o) NoMessage (draft_of d.session d.link) ManualStart).says
-  drops : e.drops ≡ d.drops
-  over : (comes (OpenMsg o) NoMessage (draft_of d.session d.link) ManualStart).overflows ≡ false
+  record Restarts (o : Open) (d e : Draft) : Type 0 where
+    session : e.session ≡ (comes (OpenMsg o) NoMessage (draft_of d.session d.link) ManualStart).session
+    link : e.link ≡ (comes (OpenMsg o) NoMessage (draft_of d.session d.link) ManualStart).link
+    dials : e.link ≡ dialled d.link
+    says : e.says ≡ d.says ++ (comes (OpenMsg o) NoMessage (draft_of d.session d.link) ManualStart).says
+    drops : e.drops ≡ d.drops
+    over : (comes (OpenMsg o) NoMessage (draft_of d.session d.link) ManualStart).overflows ≡ false
 
-from_idle : (c f : Bool) (o : Open) (d : Draft) (session : SessionView) → is_awaited d.link ≡ c → fits (next_number d.link) ≡ f
-    → (comes (OpenMsg o) NoMessage (record d { session = record session { state = state.Idle } }) ManualStart).overflows ≡ false
-    → Restarts o (record d { session = record session { state = state.Idle } }) (comes (OpenMsg o) NoMessage (record d { session = record session { state = state.Idle } }) ManualStart)
-unfolding comes meets obeys
-from_idle true true o d session aw fit over =
-    let low = rw aw at fit in
-    record { session = rw (aw, low) refl; link = rw (aw, low) refl; dials = rw (aw, low) refl; says = rw (aw, low) (append_assoc d.says (Dial d.link.heard ∷ []) (Says d.link.heard (OpenMsg o) ∷ [])); drops = rw (aw, low) refl; over = rw (aw, low) refl }
-from_idle false true o d session aw fit over =
-    let low = rw aw at fit in
-    record { session = rw (aw, low) refl; link = rw (aw, low) refl; dials = rw (aw, low) refl; says = rw (aw, low) refl; drops = rw (aw, low) refl; over = rw (aw, low) refl }
-from_idle true false o d session aw fit over = absurd (let low = rw aw at fit in let k = rw (aw, low) at over in cc k)
-from_idle false false o d session aw fit over = absurd (let low = rw aw at fit in let k = rw (aw, low) at over in cc k)
+  from_idle : (c f : Bool) (o : Open) (d : Draft) (session : SessionView) → is_awaited d.link ≡ c → fits (next_number d.link) ≡ f
+      → (comes (OpenMsg o) NoMessage (record d { session = record session { state = state.Idle } }) ManualStart).overflows ≡ false
+      → Restarts o (record d { session = record session { state = state.Idle } }) (comes (OpenMsg o) NoMessage (record d { session = record session { state = state.Idle } }) ManualStart)
+  unfolding comes meets obeys
+  from_idle true true o d session aw fit over =
+      let low = rw aw at fit in
+      record { session = rw (aw, low) refl; link = rw (aw, low) refl; dials = rw (aw, low) refl; says = rw (aw, low) (append_assoc d.says (Dial d.link.heard ∷ []) (Says d.link.heard (OpenMsg o) ∷ [])); drops = rw (aw, low) refl; over = rw (aw, low) refl }
+  from_idle false true o d session aw fit over =
+      let low = rw aw at fit in
+      record { session = rw (aw, low) refl; link = rw (aw, low) refl; dials = rw (aw, low) refl; says = rw (aw, low) refl; drops = rw (aw, low) refl; over = rw (aw, low) refl }
+  from_idle true false o d session aw fit over = absurd (let low = rw aw at fit in let k = rw (aw, low) at over in cc k)
+  from_idle false false o d session aw fit over = absurd (let low = rw aw at fit in let k = rw (aw, low) at over in cc k)
 
--- what a stop leaves
-record Stopped (st : State) (s : Side) (d : Draft) : Type 0 where
-  idle : record d { session = record d.session { state = state.Idle } } ≡ d
-  link : is_awaited d.link ≡ is_awaited s.link
-  drops : phase_in st ≡ phase.Joined → d.drops ≡ true
+  -- what a stop leaves
+  record Stopped (st : State) (s : Side) (d : Draft) : Type 0 where
+    idle : record d { session = record d.session { state = state.Idle } } ≡ d
+    link : is_awaited d.link ≡ is_awaited s.link
+    drops : phase_in st ≡ phase.Joined → d.drops ≡ true
 
-stopped_is : (st : State) (o : Open) (s : Side) → Stopped st s (met (OpenMsg o) (at st s) ManualStop)
-unfolding comes meets obeys
-stopped_is state.Idle o s = record { idle = refl; link = refl; drops = λ j. absurd (cc j) }
-stopped_is state.Connect o s = record { idle = refl; link = refl; drops = λ j. absurd (cc j) }
-stopped_is state.Active o s = record { idle = refl; link = refl; drops = λ j. absurd (cc j) }
-stopped_is state.OpenSent o s = record { idle = refl; link = refl; drops = λ j. refl }
-stopped_is state.OpenConfirm o s = record { idle = refl; link = refl; drops = λ j. refl }
-stopped_is state.Established o s = record { idle = refl; link = refl; drops = λ j. refl }
+  stopped_is : (st : State) (o : Open) (s : Side) → Stopped st s (met (OpenMsg o) (at st s) ManualStop)
+  unfolding comes meets obeys
+  stopped_is state.Idle o s = record { idle = refl; link = refl; drops = λ j. absurd (cc j) }
+  stopped_is state.Connect o s = record { idle = refl; link = refl; drops = λ j. absurd (cc j) }
+  stopped_is state.Active o s = record { idle = refl; link = refl; drops = λ j. absurd (cc j) }
+  stopped_is state.OpenSent o s = record { idle = refl; link = refl; drops = λ j. refl }
+  stopped_is state.OpenConfirm o s = record { idle = refl; link = refl; drops = λ j. refl }
+  stopped_is state.Established o s = record { idle = refl; link = refl; drops = λ j. refl }
 
-acted_none : (c : Bool) (e : ℕ) (history : ℕ → List Update) → acted_with c NoMessage e history ≡ history
-acted_none true e history = refl
-acted_none false e history = refl
+  acted_none : (c : Bool) (e : ℕ) (history : ℕ → List Update) → acted_with c NoMessage e history ≡ history
+  acted_none true e history = refl
+  acted_none false e history = refl
 
-joined_by : (c : Bool) → cond c phase.Joined phase.Offered ≡ phase.Joined → c ≡ true
-joined_by true h = refl
-joined_by false h = absurd (cc h)
+  joined_by : (c : Bool) → cond c phase.Joined phase.Offered ≡ phase.Joined → c ≡ true
+  joined_by true h = refl
+  joined_by false h = absurd (cc h)
 
-not_awaited : (l : LinkView) → l.heard ≡ l.epoch → is_awaited l ≡ true → ⊥
-not_awaited l same h = at (nat_lt l.epoch l.heard) refl h
-  where
-    at : (c : Bool) → nat_lt l.epoch l.heard ≡ c → (nat_lt l.epoch l.heard && not l.heard_is_shut) ≡ true → ⊥
-    at true is h = (let above : l.epoch < l.heard = grind (arith, nat_tests, is) in omega (arith, above, same))
-    at false is h = (let k = rw is at h in cc k)
-
-does_like : (s t r : Side) (new more : List (Entry Message)) (a b : End Message) → Does s t new [] a b → t.session.state ≡ r.session.state → t.link ≡ r.link → t.acted ≡ r.acted → t.sent ≡ r.sent → new ≡ more → Does s r more [] a b
-does_like s t r new more a b d state link acted sent same =
-    subst (λ w. Does s r w [] a b) (append-nil new ∙ same) (then_does s t r new [] [] [] a b d (λ c appends takes y. no_event t r c b y (ap state_of state) link acted sent))
-
-reset_row : (o : Open) (s : Side) (a b : End Message) → Stands s a b → (s.link.phase ≡ phase.Joined → s.link.heard ≡ s.link.epoch) → Stopped s.session.state s (met (OpenMsg o) s ManualStop) → (reset (OpenMsg o) s).overflows ≡ false
-    → Row s NoMessage (reset (OpenMsg o) s) a b
-reset_row o s a b x own stopped over =
-    let d : Draft = met (OpenMsg o) s ManualStop in
-    let k : Restarts o d (reset (OpenMsg o) s) =
-    subst (λ (i : Draft). (comes (OpenMsg o) NoMessage i ManualStart).overflows ≡ false → Restarts o i (comes (OpenMsg o) NoMessage i ManualStart)) stopped.idle
-    (λ over'. from_idle (is_awaited d.link) (fits (next_number d.link)) o d d.session refl refl over') over in
-    let mid : Side = carried NoMessage s d in
-    let first = stop_event o s a b x in
-    let next : Draft = met (OpenMsg o) mid ManualStart in
-    let awaited : (reset (OpenMsg o) s).link.phase ≡ phase.Joined → is_awaited s.link ≡ true = λ j. sym stopped.link ∙ joined_by (is_awaited d.link) (ap (λ l. l.phase) (sym k.dials) ∙ j) in
-    record {
-      does = does_like s (carried NoMessage mid next) (carried NoMessage s (reset (OpenMsg o) s)) (d.says ++ next.says) (reset (OpenMsg o) s).says a b
-          (then_does s mid (carried NoMessage mid next) d.says [] next.says [] a b first.does (λ c appends takes y. (own_event ManualStart tt o mid c b y k.over).does))
-          (ap (λ i. i.state) (sym k.session)) (sym k.link)
-          (acted_none next.acts next.link.epoch mid.acted ∙ (acted_none d.acts d.link.epoch s.acted ∙ sym (acted_none (reset (OpenMsg o) s).acts (reset (OpenMsg o) s).link.epoch s.acted))) refl (sym k.says);
-      joined = λ j. inr (
-        (λ was. not_awaited s.link (own was) (awaited j)),
-        answers_is s a x.reads ∙ awaited j,
-      );
-      apart = λ n. elim (decides s.link.phase) [
-        | inl j ↦ inr (k.drops ∙ stopped.drops (sym (phase_fits s a b x) ∙ j))
-        | inr m ↦ inl m
-      ];
-    }
-
-reset_event : (o : Open) (s : Side) (a b : End Message) → Stands s a b → (s.link.phase ≡ phase.Joined → s.link.heard ≡ s.link.epoch) → (reset (OpenMsg o) s).overflows ≡ false → Row s NoMessage (reset (OpenMsg o) s) a b
-reset_event o s a b x own over =
-    reset_row o s a b x own (subst (λ (t : Side). Stopped s.session.state t (met (OpenMsg o) t ManualStop)) (at_own s a b x) (like s.session.state s)) over
-  where
-    like : (st : State) (t : Side) → Stopped st (at st t) (met (OpenMsg o) (at st t) ManualStop)
-    like st t = (let k = stopped_is st o t in record { idle = k.idle; link = k.link; drops = k.drops })
-
--- ---- a message is handled
-
--- what stands in front reads as a message
-pub front_reads : (v : ℕ) (s : Side) (before : List (Passing Message)) (a b : End Message) → Before v s before a b → IsPrefix before (passing written b.appended) → is_waiting s.held ≡ true
-    → (m : Message) × (front (rule_of v) s.held ≡ Ok m)
-front_reads v s before a b x is waits = elim (decides s.link.phase) [
-  | inr n ↦ absurd (let none : is_waiting s.held ≡ false = ap is_waiting (x.holds.apart n) in cc (waits, none))
-  | inl j ↦ (
-      let there : IsPrefix (passing written a.taken ++ octets_of s.link.epoch s.held) (passing written b.appended) =
-      subst (λ w. IsPrefix w (passing written b.appended)) (x.holds.passed ∙ ap (λ w. passing written a.taken ++ w) (x.holds.joined j)) is in
-      let f = found v s.link.epoch s.held a.taken b.appended x.stands.mine.front x.good there waits in
-      (f.message, ap (front (rule_of v)) f.is ∙ front_ok v f.message f.rest f.good))
-]
-
-handles : (v : ℕ) (o : Open) (s : Side) (before : List (Passing Message)) (a b : End Message) → Before v s before a b → IsPrefix before (passing written b.appended) → is_waiting s.held ≡ true
-    → Advances s (carried (at_hand (front (rule_of v) s.held)) (without_front s) (handled (OpenMsg o) (front (rule_of v) s.held) s)) (handled (OpenMsg o) (front (rule_of v) s.held) s).says before [] a b
-handles v o s before a b x is waits = elim (decides s.link.phase) [
-  | inr n ↦ absurd (let none : is_waiting s.held ≡ false = ap is_waiting (x.holds.apart n) in cc (waits, none))
-  | inl j ↦ (
-      let there : IsPrefix (passing written a.taken ++ octets_of s.link.epoch s.held) (passing written b.appended) =
-      subst (λ w. IsPrefix w (passing written b.appended)) (x.holds.passed ∙ ap (λ w. passing written a.taken ++ w) (x.holds.joined j)) is in
-      let f = found v s.link.epoch s.held a.taken b.appended x.stands.mine.front x.good there waits in
-      let m : Message = f.message in
-      let reads : front (rule_of v) s.held ≡ Ok m = ap (front (rule_of v)) f.is ∙ front_ok v m f.rest f.good in
-      let left : (without_front s).held ≡ f.rest = ap (λ (w : List ℕ). rest_behind (header_fault w) w) f.is ∙ rest_ok v m f.rest f.good in
-      let h = handled_event m o s a b x.stands j f.next in
-      subst (λ (r : Result Message Fault). Advances s (carried (at_hand r) (without_front s) (handled (OpenMsg o) r s)) (handled (OpenMsg o) r s).says before [] a b) (sym reads)
-      (record {
-        past = Says s.link.epoch m ∷ [];
-        does = h.does;
-        holds = plus_nothing (carried (at_hand (Ok m)) (without_front s) (handled (OpenMsg o) (Ok m) s)) before (sides_after (model_side s a) h.does.events).end (holds_handled s m (handled (OpenMsg o) (Ok m) s) f.rest before a b x.holds j f.is left h);
-      }))
-]
-
-where_handled : (v : ℕ) (c : Bool) (h : AtHand) (s : Side) (d : Draft) (before : List (Passing Message)) (a b : End Message) → Before v s before a b → (c ≡ true → Advances s (carried h (without_front s) d) d.says before [] a b)
-    → Advances s (cond c (carried h (cond c (without_front s) s) d) (cond c (without_front s) s)) (says_where c d.says) before [] a b
-where_handled v true h s d before a b x next = next refl
-where_handled v false h s d before a b x next = idles v s s before a b x refl refl refl refl refl
-
--- ---- markers, and an UPDATE told
-
-up_by : (p q : Bool) → (p && q) ≡ true → q ≡ true
-up_by true q h = h
-up_by false q h = absurd (cc h)
-
-where_marked : (c : Bool) (n : ℕ) (s : Side) (a b : End Message) → (c ≡ true → is_up s ≡ true) → Stands s a b → Does s (cond c (marked n s) s) (says_where c (Mark s.link.epoch n ∷ [])) [] a b
-where_marked true n s a b up x = mark_event s n a b x (up refl)
-where_marked false n s a b up x = no_event s s a b x refl refl refl refl
-
-marked_keeps : (c : Bool) (n : ℕ) (s : Side) → ((cond c (marked n s) s).link ≡ s.link) × ((cond c (marked n s) s).held ≡ s.held)
-marked_keeps true n s = (refl, refl)
-marked_keeps false n s = (refl, refl)
-
-marks : (v : ℕ) (c : Bool) (n : ℕ) (s : Side) (before : List (Passing Message)) (a b : End Message) → (c ≡ true → is_up s ≡ true) → Before v s before a b
-    → Advances s (cond c (marked n s) s) (says_where c (Mark s.link.epoch n ∷ [])) before [] a b
-marks v c n s before a b up x =
-    by_does v s (cond c (marked n s) s) (says_where c (Mark s.link.epoch n ∷ [])) before a b x (sym (marked_keeps c n s).0) (sym (marked_keeps c n s).1) (where_marked c n s a b up x.stands)
-
--- a router that begins by a marker, or not, seen from one side
-pub marked_side : (g : Setting) (u v w n : ℕ) (x : Router) (p q : Bool)
-    → ((cond p (cond q (records g u x n (Some w)) (record x { snapshots = ends_channel (peers g.net u) w n x.snapshots.unfinished x.snapshots })) x).sides v ≡ cond (p && q) (cond (linked g.net u v && is_up (x.sides v)) (marked n (x.sides v)) (x.sides v)) (x.sides v))
-marked_side g u v w n x true true = refl
-marked_side g u v w n x true false = refl
-marked_side g u v w n x false q = refl
-
-marker_does : (p c : Bool) (n : ℕ) (s : Side) (a b : End Message) → (c ≡ true → is_up s ≡ true) → Stands s a b → Does s (cond p (cond c (marked n s) s) s) (says_where p (says_where c (Mark s.link.epoch n ∷ []))) [] a b
-marker_does true c n s a b up x = where_marked c n s a b up x
-marker_does false c n s a b up x = no_event s s a b x refl refl refl refl
-
-marker_keeps : (p c : Bool) (n : ℕ) (s : Side) → ((cond p (cond c (marked n s) s) s).link ≡ s.link) × ((cond p (cond c (marked n s) s) s).held ≡ s.held)
-marker_keeps true c n s = marked_keeps c n s
-marker_keeps false c n s = (refl, refl)
-
--- the marker is taken from this peer, or from another
-takes_marker : (v : ℕ) (t p c : Bool) (e n : ℕ) (s : Side) (before : List (Passing Message)) (a b : End Message) → (c ≡ true → is_up s ≡ true) → (k : Before v s before a b) → (t ≡ true → Ready s (Mark e n) k.holds.rest a b)
-    → Advances s (cond p (cond c (marked n s) s) s) (says_where p (says_where c (Mark s.link.epoch n ∷ []))) before (all_passes (if t then item.Mark e n ∷ [] else [])) a b
-takes_marker v true p c e n s before a b up k ready =
-    let r = ready refl in
-    then_takes v s (cond p (cond c (marked n s) s) s) before a b (Mark e n) (says_where p (says_where c (Mark s.link.epoch n ∷ []))) k r refl ((marker_keeps p c n s).1 ∙ r.none)
-    (λ z y next. then_does s s (cond p (cond c (marked n s) s) s) [] (Mark e n ∷ []) (says_where p (says_where c (Mark s.link.epoch n ∷ []))) [] z b (mark_taken s e n z b y next) (λ z' appends takes y'. marker_does p c n s z' b up y'))
-takes_marker v false p c e n s before a b up k ready =
-    by_does v s (cond p (cond c (marked n s) s) s) (says_where p (says_where c (Mark s.link.epoch n ∷ []))) before a b k (sym (marker_keeps p c n s).0) (sym (marker_keeps p c n s).1) (marker_does p c n s a b up k.stands)
-
-untold_up : (l c : Bool) (f : Option PrefixView) (q : PrefixView) → cond (l && c) f None ≡ Some q → c ≡ true
-untold_up true true f q h = refl
-untold_up true false f q h = absurd (cc h)
-untold_up false c f q h = absurd (cc h)
-
--- an UPDATE is told, to this peer or to another
-told_to : (v : ℕ) (c : Bool) (u : Update) (s : Side) (before : List (Passing Message)) (a b : End Message) → Before v s before a b → (c ≡ true → is_up s ≡ true)
-    → Advances s (cond c (told s u) s) (says_where c (Says s.link.epoch (UpdateMsg u) ∷ [])) before [] a b
-told_to v true u s before a b x up = by_does v s (told s u) (Says s.link.epoch (UpdateMsg u) ∷ []) before a b x refl refl (told_event s u a b x.stands (up refl))
-told_to v false u s before a b x up = idles v s s before a b x refl refl refl refl refl
-
-none_said : (c : Bool) → says_where c [] ≡ []
-none_said true = refl
-none_said false = refl
-
-advertises : (g : Setting) (u v w : ℕ) (x : Router) (q : Option PrefixView) (before : List (Passing Message)) (a b : End Message) → Before v (x.sides v) before a b → ((p : PrefixView) → q ≡ Some p → is_up (x.sides w) ≡ true)
-    → Advances (x.sides v) ((telling_to x w q (telling_of g u x)).sides v) (says_where (v == w) (says_update g u x v q)) before [] a b
-advertises g u v w x None before a b k up = subst (λ n. Advances (x.sides v) (x.sides v) n before [] a b) (sym (none_said (v == w))) (idles v (x.sides v) (x.sides v) before a b k refl refl refl refl refl)
-advertises g u v w x (Some q) before a b k up =
-    told_to v (v == w) (telling_of g u x q) (x.sides v) before a b k (λ h. ap (λ i. is_up (x.sides i)) (same_number v w h) ∙ up q refl)
-
--- ---- octets, and puts
-
-feeds : (v : ℕ) (c : Bool) (e : ℕ) (octets : List ℕ) (s : Side) (before : List (Passing Message)) (a b : End Message) → Before v s before a b → is_waiting s.held ≡ false ⊎ (c ≡ false)
-    → IsPrefix (before ++ all_passes (if c then item.Piece e octets ∷ [] else [])) (passing written b.appended)
-    → Advances s (cond c (fed s e octets) s) [] before (all_passes (if c then item.Piece e octets ∷ [] else [])) a b
-feeds v false e octets s before a b x waits is = idles v s s before a b x refl refl refl refl refl
-feeds v true e octets s before a b x waits is =
-    let quiet : is_waiting s.held ≡ false = elim waits [ inl h ↦ h | inr h ↦ absurd (cc h) ] in
-    let there : IsPrefix (before ++ octets_of e octets) (passing written b.appended) = subst (λ w. IsPrefix (before ++ w) (passing written b.appended)) (append-nil (octets_of e octets)) is in
-    let l = fed_same (uses s.link e) s octets in
-    let m = fed_more (uses s.link e) s octets in
-    let d : Does s (fed s e octets) [] [] a b = no_event s (fed s e octets) a b x.stands (ap state_of (sym m.0)) (sym l.0) (sym m.1) (sym m.2) in
-    let h = holds_piece v s e octets before a b x.stands (own_end s a b x.own x.stands) (λ j. x.stands.reads.phase ∙ ap phase_of j) x.good quiet x.holds there in
-    record {
-      past = [];
-      does = d;
-      holds = record {
-        rest = h.rest;
-        only = h.only;
-        passed = ap (λ w. before ++ w) (append-nil (octets_of e octets)) ∙ (h.passed ∙ ap (λ i. passing written i ++ h.rest) (sym (d.takes ∙ append-nil a.taken)));
-        joined = h.joined;
-        apart = h.apart;
-      };
-    }
-  where
-    fed_more : (k : Bool) (r : Side) (os : List ℕ) → (((cond k (record r { held = r.held ++ os }) r).session.state ≡ r.session.state) × ((cond k (record r { held = r.held ++ os }) r).acted ≡ r.acted) × ((cond k (record r { held = r.held ++ os }) r).sent ≡ r.sent))
-    fed_more true r os = (refl, refl, refl)
-    fed_more false r os = (refl, refl, refl)
-
-puts_one : (v : ℕ) (c : Bool) (i : What) (s : Side) (before : List (Passing Message)) (a b : End Message) → Before v s before a b → Advances s (cond c (put_from s i) s) [] before [] a b
-puts_one v true i s before a b x = idles v s (put_from s i) before a b x refl refl refl refl refl
-puts_one v false i s before a b x = idles v s s before a b x refl refl refl refl refl
-
-pub keeps_sides : (x : Router) (q : Option PrefixView) (path : PrefixView → List ℕ) (v : ℕ) → (keeping x q path).sides v ≡ x.sides v
-keeps_sides x None path v = refl
-keeps_sides x (Some q) path v = refl
-
-none_any : (p : ℕ → Bool) (xs : List ℕ) (v : ℕ) → list_any p xs ≡ false → list_any (nat_eq v) xs ≡ true → p v ≡ false
-none_any p [] v none is = absurd (cc is)
-none_any p (y ∷ ys) v none is = at (p y) (nat_eq v y) refl refl none is (λ k l. none_any p ys v k l)
-  where
-    at : (c d : Bool) → p y ≡ c → nat_eq v y ≡ d → (p y || list_any p ys) ≡ false → (nat_eq v y || list_any (nat_eq v) ys) ≡ true
-        → (list_any p ys ≡ false → list_any (nat_eq v) ys ≡ true → p v ≡ false) → p v ≡ false
-    at true d hp hv none is rest = absurd (let k = rw hp at none in cc k)
-    at false true hp hv none is rest = (let same : v ≡ y = grind (arith, nat_tests, hv) in ap p same ∙ hp)
-    at false false hp hv none is rest = (let k = rw hp at none in let l = rw hv at is in rest k l)
-
--- ---- each event
-
-abbrev own_open : Setting → ℕ → Open
-own_open g u = record { asn = u; hold = g.net.settings.hold; id = identifier g.net.routers u; params = [] }
-
--- a peer of the same number
-at_peer : (P : ℕ → Type 0) (v w : ℕ) → (v == w) ≡ true → P v → P w
-at_peer P v w h x = subst P (same_number v w h) x
-
-module _ (g : Setting) (net : IsNetwork g.net) (u v : ℕ) (x : Router) (before : List (Passing Message)) (a b : End Message) (linked_v : linked g.net u v ≡ true) (k : Before v (x.sides v) before a b) where
-  commanded : (c : Command) → overflows_by g u x c ≡ false → IsPrefix before (passing written b.appended) → Advances (x.sides v) ((obeyed g u x c).sides v) (says_by g u x c v) before [] a b
-  commanded (command.Start w) over is =
-      where_row v (v == w) (x.sides v) (meets_at g u x w ManualStart) before a b k is
-      (λ h. at_peer (λ i. (meets_at g u x i ManualStart).overflows ≡ false → Row (x.sides v) NoMessage (meets_at g u x i ManualStart) a b) v w h (λ fits'. own_event ManualStart tt (own_open g u) (x.sides v) a b k.stands fits') over)
-  commanded (command.Stop w) over is =
-      where_row v (v == w) (x.sides v) (meets_at g u x w ManualStop) before a b k is
-      (λ h. at_peer (λ i. Row (x.sides v) NoMessage (meets_at g u x i ManualStop) a b) v w h (stop_event (own_open g u) (x.sides v) a b k.stands))
-  commanded (command.Reset w) over is =
-      where_row v (v == w) (x.sides v) (resets_at g u x w) before a b k is
-      (λ h. at_peer (λ i. (resets_at g u x i).overflows ≡ false → Row (x.sides v) NoMessage (resets_at g u x i) a b) v w h (λ fits'. reset_event (own_open g u) (x.sides v) a b k.stands k.own fits') over)
-  commanded (command.Originate q) over is = idles v (x.sides v) (x.sides v) before a b k refl refl refl refl refl
-  commanded (command.Withdraw q) over is = idles v (x.sides v) (x.sides v) before a b k refl refl refl refl refl
-  commanded (command.Snapshot s) over is = marks v (linked g.net u v && is_up (x.sides v)) s (x.sides v) before a b (λ h. up_by (linked g.net u v) (is_up (x.sides v)) h) k
-  commanded command.Restart over is =
-      where_row v (linked g.net u v) (x.sides v) (meets_at g u x v ManualStop) before a b k is (λ h. stop_event (own_open g u) (x.sides v) a b k.stands)
-
-  -- items
-  items : (w : ℕ) (i : What) → is_waiting (x.sides w).held ≡ false → overflows_taking g u x w i ≡ false → IsPrefix (before ++ all_passes (if v == w then i ∷ [] else [])) (passing written b.appended)
-      → Advances (x.sides v) ((taken g u x w i).sides v) (says_of_taken g u x w i v) before (all_passes (if v == w then i ∷ [] else [])) a b
-  items w (item.Dial e) waits over is =
-      where_taken v (v == w) (item.Dial e) (Dial e) (x.sides v) (carried NoMessage (x.sides v) (signed_at g u x w (sign.Dial e))) (signed_at g u x w (sign.Dial e)).says before a b refl k
-      (λ h. at_peer
-      (λ i. (signed_at g u x i (sign.Dial e)).overflows ≡ false → is_waiting (x.sides i).held ≡ false → Advances (x.sides v) (carried NoMessage (x.sides v) (signed_at g u x i (sign.Dial e))) (signed_at g u x i (sign.Dial e)).says before (Control (Dial e) ∷ []) a b)
-      v w h
-      (λ fits' quiet.
-      (let r = ready v (x.sides v) before a b (Dial e) k quiet (there (v == w) h (item.Dial e) is) in
-      then_takes v (x.sides v) (carried NoMessage (x.sides v) (signed_at g u x v (sign.Dial e))) before a b (Dial e) (signed_at g u x v (sign.Dial e)).says k r refl (cleared (signed_at g u x v (sign.Dial e)).drops (x.sides v).held r.none)
-      (λ c y next. dial_event (own_open g u) (x.sides v) e c b y next fits'))) over waits)
+  not_awaited : (l : LinkView) → l.heard ≡ l.epoch → is_awaited l ≡ true → ⊥
+  not_awaited l same h = at (nat_lt l.epoch l.heard) refl h
     where
-      there : (c : Bool) → c ≡ true → (i : What) → IsPrefix (before ++ all_passes (if c then i ∷ [] else [])) (passing written b.appended) → IsPrefix (before ++ passes i) (passing written b.appended)
-      there true h i p = subst (λ l. IsPrefix (before ++ l) (passing written b.appended)) (append-nil (passes i)) p
-      there false h i p = absurd (cc h)
-  items w (item.Piece e octets) waits over is =
-      feeds v (v == w) e octets (x.sides v) before a b k (by_test (v == w) refl) is
-    where
-      by_test : (c : Bool) → (v == w) ≡ c → is_waiting (x.sides v).held ≡ false ⊎ (c ≡ false)
-      by_test true h = inl (ap (λ i. is_waiting (x.sides i).held) (same_number v w h) ∙ waits)
-      by_test false h = inr refl
-  items w (item.Mark e s) waits over is =
-      subst (λ (t : Side). Advances (x.sides v) t (says_of_taken g u x w (item.Mark e s) v) before (all_passes (if v == w then item.Mark e s ∷ [] else [])) a b) (sym (marked_side g u v w s x (heeds g u x w e) (is_greater x s)))
-      (takes_marker v (v == w) (heeds g u x w e && is_greater x s) (linked g.net u v && is_up (x.sides v)) e s (x.sides v) before a b (λ h. up_by (linked g.net u v) (is_up (x.sides v)) h) k
-      (λ h. at_peer (λ i. is_waiting (x.sides i).held ≡ false → Ready (x.sides v) (Mark e s) k.holds.rest a b) v w h (λ quiet. ready v (x.sides v) before a b (Mark e s) k quiet (there (v == w) h (item.Mark e s) is)) waits))
-    where
-      there : (c : Bool) → c ≡ true → (i : What) → IsPrefix (before ++ all_passes (if c then i ∷ [] else [])) (passing written b.appended) → IsPrefix (before ++ passes i) (passing written b.appended)
-      there true h i p = subst (λ l. IsPrefix (before ++ l) (passing written b.appended)) (append-nil (passes i)) p
-      there false h i p = absurd (cc h)
-  items w (item.Shut e) waits over is =
-      where_taken v (v == w) (item.Shut e) (Shut e) (x.sides v) (carried NoMessage (x.sides v) (signed_at g u x w (sign.Shut e))) (signed_at g u x w (sign.Shut e)).says before a b refl k
-      (λ h. at_peer
-      (λ i. is_waiting (x.sides i).held ≡ false → Advances (x.sides v) (carried NoMessage (x.sides v) (signed_at g u x i (sign.Shut e))) (signed_at g u x i (sign.Shut e)).says before (Control (Shut e) ∷ []) a b)
-      v w h
-      (λ quiet.
-      (let r = ready v (x.sides v) before a b (Shut e) k quiet (there (v == w) h (item.Shut e) is) in
-      then_takes v (x.sides v) (carried NoMessage (x.sides v) (signed_at g u x v (sign.Shut e))) before a b (Shut e) (signed_at g u x v (sign.Shut e)).says k r refl (cleared (signed_at g u x v (sign.Shut e)).drops (x.sides v).held r.none)
-      (λ c y next. shut_event (own_open g u) (x.sides v) e c b (own_end (x.sides v) c b k.own y) y next))) waits)
-    where
-      there : (c : Bool) → c ≡ true → (i : What) → IsPrefix (before ++ all_passes (if c then i ∷ [] else [])) (passing written b.appended) → IsPrefix (before ++ passes i) (passing written b.appended)
-      there true h i p = subst (λ l. IsPrefix (before ++ l) (passing written b.appended)) (append-nil (passes i)) p
-      there false h i p = absurd (cc h)
+      at : (c : Bool) → nat_lt l.epoch l.heard ≡ c → (nat_lt l.epoch l.heard && not l.heard_is_shut) ≡ true → ⊥
+      at true is h = (let above : l.epoch < l.heard = grind (arith, nat_tests, is) in omega (arith, above, same))
+      at false is h = (let k = rw is at h in cc k)
 
-  alone_is : IsPrefix (before ++ []) (passing written b.appended) → IsPrefix before (passing written b.appended)
-  alone_is is = subst (λ w. IsPrefix w (passing written b.appended)) (append-nil before) is
+  does_like : (s t r : Side) (new more : List (Entry Message)) (a b : End Message) → Does s t new [] a b → t.session.state ≡ r.session.state → t.link ≡ r.link → t.acted ≡ r.acted → t.sent ≡ r.sent → new ≡ more → Does s r more [] a b
+  does_like s t r new more a b d state link acted sent same =
+      subst (λ w. Does s r w [] a b) (append-nil new ∙ same) (then_does laws s t r new [] [] [] a b d (λ c appends takes y. no_event laws t r c b y (ap state_of state) link acted sent))
 
-  -- what the event leaves of the side is a step of it
-  pub step_side : (e : RouterEvent) → May g u x e → overflows g u x e ≡ false → IsPrefix (before ++ all_passes (taken_from v e)) (passing written b.appended)
-      → Advances (x.sides v) ((after g u x e).sides v) (says g u x e v) before (all_passes (taken_from v e)) a b
-  step_side (alone (Obeys c)) may over is = commanded c over (alone_is is)
-  step_side (alone Ticks) may over is =
-      where_row v (linked g.net u v) (x.sides v) (second_at g u x v) before a b k (alone_is is)
-      (λ h. second_event (own_open g u) (x.sides v) a b k.stands
-      (none_any (λ i. (second_at g u x i).overflows) (peers g.net u) v over (stays (linked g.net u) v (numbers g.net.routers) linked_v (is_peer g net u v linked_v))))
-  step_side (alone (Handles w)) may over is =
-      where_handled v (v == w) (at_hand (front (rule_of w) (x.sides w).held)) (x.sides v) (handled_at g u x w) before a b k
-      (λ h. at_peer
-      (λ i. is_waiting (x.sides i).held ≡ true → Advances (x.sides v) (carried (at_hand (front (rule_of i) (x.sides i).held)) (without_front (x.sides v)) (handled_at g u x i)) (handled_at g u x i).says before [] a b)
-      v w h (λ waits. handles v (own_open g u) (x.sides v) before a b k (alone_is is) waits) may.1)
-  step_side (alone Decides) may over is =
-      subst (λ (t : Side). Advances (x.sides v) t [] before [] a b) (sym (keeps_sides x (undecided g u x) (route g u x) v)) (idles v (x.sides v) (x.sides v) before a b k refl refl refl refl refl)
-  step_side (alone (Advertises w)) may over is =
-      advertises g u v w x (untold g u x w) before a b k (λ p h. untold_up (linked g.net u w) (is_up (x.sides w)) (find (is_untold g u x w) (prefixes g)) p h)
-  step_side (puts w i) may over is = puts_one v (v == w) i (x.sides v) before a b k
-  step_side (takes w i) may over is =
-      let turn : all_passes (if v == w then i ∷ [] else []) ≡ all_passes (if w == v then i ∷ [] else []) = ap (λ c. all_passes (if c then i ∷ [] else [])) (swapped v w) in
-      subst (λ l. Advances (x.sides v) ((taken g u x w i).sides v) (says_of_taken g u x w i v) before l a b) turn
-      (items w i may.1 over (subst (λ l. IsPrefix (before ++ l) (passing written b.appended)) (sym turn) is))
-  step_side (offers made) may over is = idles v (x.sides v) (x.sides v) before a b k refl refl refl refl refl
+  reset_row : (o : Open) (s : Side) (a b : End Message) → Stands s a b → (s.link.phase ≡ phase.Joined → s.link.heard ≡ s.link.epoch) → Stopped s.session.state s (met (OpenMsg o) s ManualStop) → (reset (OpenMsg o) s).overflows ≡ false
+      → Row s NoMessage (reset (OpenMsg o) s) a b
+  reset_row o s a b x own stopped over =
+      let d : Draft = met (OpenMsg o) s ManualStop in
+      let k : Restarts o d (reset (OpenMsg o) s) =
+      subst (λ (i : Draft). (comes (OpenMsg o) NoMessage i ManualStart).overflows ≡ false → Restarts o i (comes (OpenMsg o) NoMessage i ManualStart)) stopped.idle
+      (λ over'. from_idle (is_awaited d.link) (fits (next_number d.link)) o d d.session refl refl over') over in
+      let mid : Side = carried NoMessage s d in
+      let first = stop_event laws o s a b x in
+      let next : Draft = met (OpenMsg o) mid ManualStart in
+      let awaited : (reset (OpenMsg o) s).link.phase ≡ phase.Joined → is_awaited s.link ≡ true = λ j. sym stopped.link ∙ joined_by (is_awaited d.link) (ap (λ l. l.phase) (sym k.dials) ∙ j) in
+      record {
+        does = does_like s (carried NoMessage mid next) (carried NoMessage s (reset (OpenMsg o) s)) (d.says ++ next.says) (reset (OpenMsg o) s).says a b
+            (then_does laws s mid (carried NoMessage mid next) d.says [] next.says [] a b first.does (λ c appends takes y. (own_event laws ManualStart tt o mid c b y k.over).does))
+            (ap (λ i. i.state) (sym k.session)) (sym k.link)
+            (acted_none next.acts next.link.epoch mid.acted ∙ (acted_none d.acts d.link.epoch s.acted ∙ sym (acted_none (reset (OpenMsg o) s).acts (reset (OpenMsg o) s).link.epoch s.acted))) refl (sym k.says);
+        joined = λ j. inr (
+          (λ was. not_awaited s.link (own was) (awaited j)),
+          answers_is laws s a x.reads ∙ awaited j,
+        );
+        apart = λ n. elim (decides laws s.link.phase) [
+          | inl j ↦ inr (k.drops ∙ stopped.drops (sym (phase_fits laws s a b x) ∙ j))
+          | inr m ↦ inl m
+        ];
+      }
+
+  reset_event : (o : Open) (s : Side) (a b : End Message) → Stands s a b → (s.link.phase ≡ phase.Joined → s.link.heard ≡ s.link.epoch) → (reset (OpenMsg o) s).overflows ≡ false → Row s NoMessage (reset (OpenMsg o) s) a b
+  reset_event o s a b x own over =
+      reset_row o s a b x own (subst (λ (t : Side). Stopped s.session.state t (met (OpenMsg o) t ManualStop)) (at_own laws s a b x) (like s.session.state s)) over
+    where
+      like : (st : State) (t : Side) → Stopped st (at st t) (met (OpenMsg o) (at st t) ManualStop)
+      like st t = (let k = stopped_is st o t in record { idle = k.idle; link = k.link; drops = k.drops })
+
+  -- ---- a message is handled
+
+  -- what stands in front reads as a message
+  pub front_reads : (v : ℕ) (s : Side) (before : List (Passing Message)) (a b : End Message) → Before laws v s before a b → IsPrefix before (passing written b.appended) → is_waiting s.held ≡ true
+      → (m : Message) × (front (rule_of v) s.held ≡ Ok m)
+  front_reads v s before a b x is waits = elim (decides laws s.link.phase) [
+    | inr n ↦ absurd (let none : is_waiting s.held ≡ false = ap is_waiting (x.holds.apart n) in cc (waits, none))
+    | inl j ↦ (
+        let there : IsPrefix (passing written a.taken ++ octets_of s.link.epoch s.held) (passing written b.appended) =
+        subst (λ w. IsPrefix w (passing written b.appended)) (x.holds.passed ∙ ap (λ w. passing written a.taken ++ w) (x.holds.joined j)) is in
+        let f = found laws v s.link.epoch s.held a.taken b.appended x.stands.mine.front x.good there waits in
+        (f.message, ap (front (rule_of v)) f.is ∙ front_ok laws v f.message f.rest f.good))
+  ]
+
+  handles : (v : ℕ) (o : Open) (s : Side) (before : List (Passing Message)) (a b : End Message) → Before laws v s before a b → IsPrefix before (passing written b.appended) → is_waiting s.held ≡ true
+      → Advances s (carried (at_hand (front (rule_of v) s.held)) (without_front s) (handled (OpenMsg o) (front (rule_of v) s.held) s)) (handled (OpenMsg o) (front (rule_of v) s.held) s).says before [] a b
+  handles v o s before a b x is waits = elim (decides laws s.link.phase) [
+    | inr n ↦ absurd (let none : is_waiting s.held ≡ false = ap is_waiting (x.holds.apart n) in cc (waits, none))
+    | inl j ↦ (
+        let there : IsPrefix (passing written a.taken ++ octets_of s.link.epoch s.held) (passing written b.appended) =
+        subst (λ w. IsPrefix w (passing written b.appended)) (x.holds.passed ∙ ap (λ w. passing written a.taken ++ w) (x.holds.joined j)) is in
+        let f = found laws v s.link.epoch s.held a.taken b.appended x.stands.mine.front x.good there waits in
+        let m : Message = f.message in
+        let reads : front (rule_of v) s.held ≡ Ok m = ap (front (rule_of v)) f.is ∙ front_ok laws v m f.rest f.good in
+        let left : (without_front s).held ≡ f.rest = ap (λ (w : List ℕ). rest_behind (header_fault w) w) f.is ∙ rest_ok laws v m f.rest f.good in
+        let h = handled_event laws m o s a b x.stands j f.next in
+        subst (λ (r : Result Message Fault). Advances s (carried (at_hand r) (without_front s) (handled (OpenMsg o) r s)) (handled (OpenMsg o) r s).says before [] a b) (sym reads)
+        (record {
+          past = Says s.link.epoch m ∷ [];
+          does = h.does;
+          holds = plus_nothing laws (carried (at_hand (Ok m)) (without_front s) (handled (OpenMsg o) (Ok m) s)) before (sides_after (model_side s a) h.does.events).end (holds_handled laws s m (handled (OpenMsg o) (Ok m) s) f.rest before a b x.holds j f.is left h);
+        }))
+  ]
+
+  where_handled : (v : ℕ) (c : Bool) (h : AtHand) (s : Side) (d : Draft) (before : List (Passing Message)) (a b : End Message) → Before laws v s before a b → (c ≡ true → Advances s (carried h (without_front s) d) d.says before [] a b)
+      → Advances s (cond c (carried h (cond c (without_front s) s) d) (cond c (without_front s) s)) (says_where c d.says) before [] a b
+  where_handled v true h s d before a b x next = next refl
+  where_handled v false h s d before a b x next = idles laws v s s before a b x refl refl refl refl refl
+
+  -- ---- markers, and an UPDATE told
+
+  up_by : (p q : Bool) → (p && q) ≡ true → q ≡ true
+  up_by true q h = h
+  up_by false q h = absurd (cc h)
+
+  where_marked : (c : Bool) (n : ℕ) (s : Side) (a b : End Message) → (c ≡ true → is_up s ≡ true) → Stands s a b → Does s (cond c (marked n s) s) (says_where c (Mark s.link.epoch n ∷ [])) [] a b
+  where_marked true n s a b up x = mark_event laws s n a b x (up refl)
+  where_marked false n s a b up x = no_event laws s s a b x refl refl refl refl
+
+  marked_keeps : (c : Bool) (n : ℕ) (s : Side) → ((cond c (marked n s) s).link ≡ s.link) × ((cond c (marked n s) s).held ≡ s.held)
+  marked_keeps true n s = (refl, refl)
+  marked_keeps false n s = (refl, refl)
+
+  marks : (v : ℕ) (c : Bool) (n : ℕ) (s : Side) (before : List (Passing Message)) (a b : End Message) → (c ≡ true → is_up s ≡ true) → Before laws v s before a b
+      → Advances s (cond c (marked n s) s) (says_where c (Mark s.link.epoch n ∷ [])) before [] a b
+  marks v c n s before a b up x =
+      by_does laws v s (cond c (marked n s) s) (says_where c (Mark s.link.epoch n ∷ [])) before a b x (sym (marked_keeps c n s).0) (sym (marked_keeps c n s).1) (where_marked c n s a b up x.stands)
+
+  -- a router that begins by a marker, or not, seen from one side
+  pub marked_side : (g : Setting) (u v w n : ℕ) (x : Router) (p q : Bool)
+      → ((cond p (cond q (records g u x n (Some w)) (record x { snapshots = ends_channel (peers g.net u) w n x.snapshots.unfinished x.snapshots })) x).sides v ≡ cond (p && q) (cond (linked g.net u v && is_up (x.sides v)) (marked n (x.sides v)) (x.sides v)) (x.sides v))
+  marked_side g u v w n x true true = refl
+  marked_side g u v w n x true false = refl
+  marked_side g u v w n x false q = refl
+
+  marker_does : (p c : Bool) (n : ℕ) (s : Side) (a b : End Message) → (c ≡ true → is_up s ≡ true) → Stands s a b → Does s (cond p (cond c (marked n s) s) s) (says_where p (says_where c (Mark s.link.epoch n ∷ []))) [] a b
+  marker_does true c n s a b up x = where_marked c n s a b up x
+  marker_does false c n s a b up x = no_event laws s s a b x refl refl refl refl
+
+  marker_keeps : (p c : Bool) (n : ℕ) (s : Side) → ((cond p (cond c (marked n s) s) s).link ≡ s.link) × ((cond p (cond c (marked n s) s) s).held ≡ s.held)
+  marker_keeps true c n s = marked_keeps c n s
+  marker_keeps false c n s = (refl, refl)
+
+  -- the marker is taken from this peer, or from another
+  takes_marker : (v : ℕ) (t p c : Bool) (e n : ℕ) (s : Side) (before : List (Passing Message)) (a b : End Message) → (c ≡ true → is_up s ≡ true) → (k : Before laws v s before a b) → (t ≡ true → Ready laws s (Mark e n) k.holds.rest a b)
+      → Advances s (cond p (cond c (marked n s) s) s) (says_where p (says_where c (Mark s.link.epoch n ∷ []))) before (all_passes (if t then item.Mark e n ∷ [] else [])) a b
+  takes_marker v true p c e n s before a b up k there =
+      let r = there refl in
+      then_takes laws v s (cond p (cond c (marked n s) s) s) before a b (Mark e n) (says_where p (says_where c (Mark s.link.epoch n ∷ []))) k r refl ((marker_keeps p c n s).1 ∙ r.none)
+      (λ z y next. then_does laws s s (cond p (cond c (marked n s) s) s) [] (Mark e n ∷ []) (says_where p (says_where c (Mark s.link.epoch n ∷ []))) [] z b (mark_taken laws s e n z b y next) (λ z' appends takes y'. marker_does p c n s z' b up y'))
+  takes_marker v false p c e n s before a b up k there =
+      by_does laws v s (cond p (cond c (marked n s) s) s) (says_where p (says_where c (Mark s.link.epoch n ∷ []))) before a b k (sym (marker_keeps p c n s).0) (sym (marker_keeps p c n s).1) (marker_does p c n s a b up k.stands)
+
+  untold_up : (l c : Bool) (f : Option PrefixView) (q : PrefixView) → cond (l && c) f None ≡ Some q → c ≡ true
+  untold_up true true f q h = refl
+  untold_up true false f q h = absurd (cc h)
+  untold_up false c f q h = absurd (cc h)
+
+  -- an UPDATE is told, to this peer or to another
+  told_to : (v : ℕ) (c : Bool) (u : Update) (s : Side) (before : List (Passing Message)) (a b : End Message) → Before laws v s before a b → (c ≡ true → is_up s ≡ true)
+      → Advances s (cond c (told s u) s) (says_where c (Says s.link.epoch (UpdateMsg u) ∷ [])) before [] a b
+  told_to v true u s before a b x up = by_does laws v s (told s u) (Says s.link.epoch (UpdateMsg u) ∷ []) before a b x refl refl (told_event laws s u a b x.stands (up refl))
+  told_to v false u s before a b x up = idles laws v s s before a b x refl refl refl refl refl
+
+  none_said : (c : Bool) → says_where c [] ≡ []
+  none_said true = refl
+  none_said false = refl
+
+  advertises : (g : Setting) (u v w : ℕ) (x : Router) (q : Option PrefixView) (before : List (Passing Message)) (a b : End Message) → Before laws v (x.sides v) before a b → ((p : PrefixView) → q ≡ Some p → is_up (x.sides w) ≡ true)
+      → Advances (x.sides v) ((telling_to x w q (telling_of g u x)).sides v) (says_where (v == w) (says_update g u x v q)) before [] a b
+  advertises g u v w x None before a b k up = subst (λ n. Advances (x.sides v) (x.sides v) n before [] a b) (sym (none_said (v == w))) (idles laws v (x.sides v) (x.sides v) before a b k refl refl refl refl refl)
+  advertises g u v w x (Some q) before a b k up =
+      told_to v (v == w) (telling_of g u x q) (x.sides v) before a b k (λ h. ap (λ i. is_up (x.sides i)) (same_number laws v w h) ∙ up q refl)
+
+  -- ---- octets, and puts
+
+  feeds : (v : ℕ) (c : Bool) (e : ℕ) (octets : List ℕ) (s : Side) (before : List (Passing Message)) (a b : End Message) → Before laws v s before a b → is_waiting s.held ≡ false ⊎ (c ≡ false)
+      → IsPrefix (before ++ all_passes (if c then item.Piece e octets ∷ [] else [])) (passing written b.appended)
+      → Advances s (cond c (fed s e octets) s) [] before (all_passes (if c then item.Piece e octets ∷ [] else [])) a b
+  feeds v false e octets s before a b x waits is = idles laws v s s before a b x refl refl refl refl refl
+  feeds v true e octets s before a b x waits is =
+      let quiet : is_waiting s.held ≡ false = elim waits [ inl h ↦ h | inr h ↦ absurd (cc h) ] in
+      let there : IsPrefix (before ++ octets_of e octets) (passing written b.appended) = subst (λ w. IsPrefix (before ++ w) (passing written b.appended)) (append-nil (octets_of e octets)) is in
+      let l = fed_same laws (uses s.link e) s octets in
+      let m = fed_more (uses s.link e) s octets in
+      let d : Does s (fed s e octets) [] [] a b = no_event laws s (fed s e octets) a b x.stands (ap state_of (sym m.0)) (sym l.0) (sym m.1) (sym m.2) in
+      let h = holds_piece laws v s e octets before a b x.stands (own_end laws s a b x.own x.stands) (λ j. x.stands.reads.phase ∙ ap phase_of j) x.good quiet x.holds there in
+      record {
+        past = [];
+        does = d;
+        holds = record {
+          rest = h.rest;
+          only = h.only;
+          passed = ap (λ w. before ++ w) (append-nil (octets_of e octets)) ∙ (h.passed ∙ ap (λ i. passing written i ++ h.rest) (sym (d.takes ∙ append-nil a.taken)));
+          joined = h.joined;
+          apart = h.apart;
+        };
+      }
+    where
+      fed_more : (k : Bool) (r : Side) (os : List ℕ) → (((cond k (record r { held = r.held ++ os }) r).session.state ≡ r.session.state) × ((cond k (record r { held = r.held ++ os }) r).acted ≡ r.acted) × ((cond k (record r { held = r.held ++ os }) r).sent ≡ r.sent))
+      fed_more true r os = (refl, refl, refl)
+      fed_more false r os = (refl, refl, refl)
+
+  puts_one : (v : ℕ) (c : Bool) (i : What) (s : Side) (before : List (Passing Message)) (a b : End Message) → Before laws v s before a b → Advances s (cond c (put_from s i) s) [] before [] a b
+  puts_one v true i s before a b x = idles laws v s (put_from s i) before a b x refl refl refl refl refl
+  puts_one v false i s before a b x = idles laws v s s before a b x refl refl refl refl refl
+
+  pub keeps_sides : (x : Router) (q : Option PrefixView) (path : PrefixView → List ℕ) (v : ℕ) → (keeping x q path).sides v ≡ x.sides v
+  keeps_sides x None path v = refl
+  keeps_sides x (Some q) path v = refl
+
+  none_any : (p : ℕ → Bool) (xs : List ℕ) (v : ℕ) → list_any p xs ≡ false → list_any (nat_eq v) xs ≡ true → p v ≡ false
+  none_any p [] v none is = absurd (cc is)
+  none_any p (y ∷ ys) v none is = at (p y) (nat_eq v y) refl refl none is (λ k l. none_any p ys v k l)
+    where
+      at : (c d : Bool) → p y ≡ c → nat_eq v y ≡ d → (p y || list_any p ys) ≡ false → (nat_eq v y || list_any (nat_eq v) ys) ≡ true
+          → (list_any p ys ≡ false → list_any (nat_eq v) ys ≡ true → p v ≡ false) → p v ≡ false
+      at true d hp hv none is rest = absurd (let k = rw hp at none in cc k)
+      at false true hp hv none is rest = (let same : v ≡ y = grind (arith, nat_tests, hv) in ap p same ∙ hp)
+      at false false hp hv none is rest = (let k = rw hp at none in let l = rw hv at is in rest k l)
+
+  -- ---- each event
+
+  abbrev own_open : Setting → ℕ → Open
+  own_open g u = record { asn = u; hold = g.net.settings.hold; id = identifier g.net.routers u; params = [] }
+
+  -- a peer of the same number
+  at_peer : (P : ℕ → Type 0) (v w : ℕ) → (v == w) ≡ true → P v → P w
+  at_peer P v w h x = subst P (same_number laws v w h) x
+
+  module _ (g : Setting) (net : IsNetwork g.net) (u v : ℕ) (x : Router) (before : List (Passing Message)) (a b : End Message) (linked_v : linked g.net u v ≡ true) (k : Before laws v (x.sides v) before a b) where
+    commanded : (c : Command) → overflows_by g u x c ≡ false → IsPrefix before (passing written b.appended) → Advances (x.sides v) ((obeyed g u x c).sides v) (says_by g u x c v) before [] a b
+    commanded (command.Start w) over is =
+        where_row laws v (v == w) (x.sides v) (meets_at g u x w ManualStart) before a b k is
+        (λ h. at_peer (λ i. (meets_at g u x i ManualStart).overflows ≡ false → Row (x.sides v) NoMessage (meets_at g u x i ManualStart) a b) v w h (λ fits'. own_event laws ManualStart tt (own_open g u) (x.sides v) a b k.stands fits') over)
+    commanded (command.Stop w) over is =
+        where_row laws v (v == w) (x.sides v) (meets_at g u x w ManualStop) before a b k is
+        (λ h. at_peer (λ i. Row (x.sides v) NoMessage (meets_at g u x i ManualStop) a b) v w h (stop_event laws (own_open g u) (x.sides v) a b k.stands))
+    commanded (command.Reset w) over is =
+        where_row laws v (v == w) (x.sides v) (resets_at g u x w) before a b k is
+        (λ h. at_peer (λ i. (resets_at g u x i).overflows ≡ false → Row (x.sides v) NoMessage (resets_at g u x i) a b) v w h (λ fits'. reset_event (own_open g u) (x.sides v) a b k.stands k.own fits') over)
+    commanded (command.Originate q) over is = idles laws v (x.sides v) (x.sides v) before a b k refl refl refl refl refl
+    commanded (command.Withdraw q) over is = idles laws v (x.sides v) (x.sides v) before a b k refl refl refl refl refl
+    commanded (command.Snapshot s) over is = marks v (linked g.net u v && is_up (x.sides v)) s (x.sides v) before a b (λ h. up_by (linked g.net u v) (is_up (x.sides v)) h) k
+    commanded command.Restart over is =
+        where_row laws v (linked g.net u v) (x.sides v) (meets_at g u x v ManualStop) before a b k is (λ h. stop_event laws (own_open g u) (x.sides v) a b k.stands)
+
+    -- items
+    items : (w : ℕ) (i : What) → is_waiting (x.sides w).held ≡ false → overflows_taking g u x w i ≡ false → IsPrefix (before ++ all_passes (if v == w then i ∷ [] else [])) (passing written b.appended)
+        → Advances (x.sides v) ((taken g u x w i).sides v) (says_of_taken g u x w i v) before (all_passes (if v == w then i ∷ [] else [])) a b
+    items w (item.Dial e) waits over is =
+        where_taken laws v (v == w) (item.Dial e) (Dial e) (x.sides v) (carried NoMessage (x.sides v) (signed_at g u x w (sign.Dial e))) (signed_at g u x w (sign.Dial e)).says before a b refl k
+        (λ h. at_peer
+        (λ i. (signed_at g u x i (sign.Dial e)).overflows ≡ false → is_waiting (x.sides i).held ≡ false → Advances (x.sides v) (carried NoMessage (x.sides v) (signed_at g u x i (sign.Dial e))) (signed_at g u x i (sign.Dial e)).says before (Control (Dial e) ∷ []) a b)
+        v w h
+        (λ fits' quiet.
+        (let r = ready laws v (x.sides v) before a b (Dial e) k quiet (there (v == w) h (item.Dial e) is) in
+        then_takes laws v (x.sides v) (carried NoMessage (x.sides v) (signed_at g u x v (sign.Dial e))) before a b (Dial e) (signed_at g u x v (sign.Dial e)).says k r refl (cleared laws (signed_at g u x v (sign.Dial e)).drops (x.sides v).held r.none)
+        (λ c y next. dial_event laws (own_open g u) (x.sides v) e c b y next fits'))) over waits)
+      where
+        there : (c : Bool) → c ≡ true → (i : What) → IsPrefix (before ++ all_passes (if c then i ∷ [] else [])) (passing written b.appended) → IsPrefix (before ++ passes i) (passing written b.appended)
+        there true h i p = subst (λ l. IsPrefix (before ++ l) (passing written b.appended)) (append-nil (passes i)) p
+        there false h i p = absurd (cc h)
+    items w (item.Piece e octets) waits over is =
+        feeds v (v == w) e octets (x.sides v) before a b k (by_test (v == w) refl) is
+      where
+        by_test : (c : Bool) → (v == w) ≡ c → is_waiting (x.sides v).held ≡ false ⊎ (c ≡ false)
+        by_test true h = inl (ap (λ i. is_waiting (x.sides i).held) (same_number laws v w h) ∙ waits)
+        by_test false h = inr refl
+    items w (item.Mark e s) waits over is =
+        subst (λ (t : Side). Advances (x.sides v) t (says_of_taken g u x w (item.Mark e s) v) before (all_passes (if v == w then item.Mark e s ∷ [] else [])) a b) (sym (marked_side g u v w s x (heeds g u x w e) (is_greater x s)))
+        (takes_marker v (v == w) (heeds g u x w e && is_greater x s) (linked g.net u v && is_up (x.sides v)) e s (x.sides v) before a b (λ h. up_by (linked g.net u v) (is_up (x.sides v)) h) k
+        (λ h. at_peer (λ i. is_waiting (x.sides i).held ≡ false → Ready laws (x.sides v) (Mark e s) k.holds.rest a b) v w h (λ quiet. ready laws v (x.sides v) before a b (Mark e s) k quiet (there (v == w) h (item.Mark e s) is)) waits))
+      where
+        there : (c : Bool) → c ≡ true → (i : What) → IsPrefix (before ++ all_passes (if c then i ∷ [] else [])) (passing written b.appended) → IsPrefix (before ++ passes i) (passing written b.appended)
+        there true h i p = subst (λ l. IsPrefix (before ++ l) (passing written b.appended)) (append-nil (passes i)) p
+        there false h i p = absurd (cc h)
+    items w (item.Shut e) waits over is =
+        where_taken laws v (v == w) (item.Shut e) (Shut e) (x.sides v) (carried NoMessage (x.sides v) (signed_at g u x w (sign.Shut e))) (signed_at g u x w (sign.Shut e)).says before a b refl k
+        (λ h. at_peer
+        (λ i. is_waiting (x.sides i).held ≡ false → Advances (x.sides v) (carried NoMessage (x.sides v) (signed_at g u x i (sign.Shut e))) (signed_at g u x i (sign.Shut e)).says before (Control (Shut e) ∷ []) a b)
+        v w h
+        (λ quiet.
+        (let r = ready laws v (x.sides v) before a b (Shut e) k quiet (there (v == w) h (item.Shut e) is) in
+        then_takes laws v (x.sides v) (carried NoMessage (x.sides v) (signed_at g u x v (sign.Shut e))) before a b (Shut e) (signed_at g u x v (sign.Shut e)).says k r refl (cleared laws (signed_at g u x v (sign.Shut e)).drops (x.sides v).held r.none)
+        (λ c y next. shut_event laws (own_open g u) (x.sides v) e c b (own_end laws (x.sides v) c b k.own y) y next))) waits)
+      where
+        there : (c : Bool) → c ≡ true → (i : What) → IsPrefix (before ++ all_passes (if c then i ∷ [] else [])) (passing written b.appended) → IsPrefix (before ++ passes i) (passing written b.appended)
+        there true h i p = subst (λ l. IsPrefix (before ++ l) (passing written b.appended)) (append-nil (passes i)) p
+        there false h i p = absurd (cc h)
+
+    alone_is : IsPrefix (before ++ []) (passing written b.appended) → IsPrefix before (passing written b.appended)
+    alone_is is = subst (λ w. IsPrefix w (passing written b.appended)) (append-nil before) is
+
+    -- what the event leaves of the side is a step of it
+    pub step_side : (e : RouterEvent) → May g u x e → overflows g u x e ≡ false → IsPrefix (before ++ all_passes (taken_from v e)) (passing written b.appended)
+        → Advances (x.sides v) ((after g u x e).sides v) (says g u x e v) before (all_passes (taken_from v e)) a b
+    step_side (alone (Obeys c)) may over is = commanded c over (alone_is is)
+    step_side (alone Ticks) may over is =
+        where_row laws v (linked g.net u v) (x.sides v) (second_at g u x v) before a b k (alone_is is)
+        (λ h. second_event laws (own_open g u) (x.sides v) a b k.stands
+        (none_any (λ i. (second_at g u x i).overflows) (peers g.net u) v over (laws.links g.net net u v linked_v).peer))
+    step_side (alone (Handles w)) may over is =
+        where_handled v (v == w) (at_hand (front (rule_of w) (x.sides w).held)) (x.sides v) (handled_at g u x w) before a b k
+        (λ h. at_peer
+        (λ i. is_waiting (x.sides i).held ≡ true → Advances (x.sides v) (carried (at_hand (front (rule_of i) (x.sides i).held)) (without_front (x.sides v)) (handled_at g u x i)) (handled_at g u x i).says before [] a b)
+        v w h (λ waits. handles v (own_open g u) (x.sides v) before a b k (alone_is is) waits) may.1)
+    step_side (alone Decides) may over is =
+        subst (λ (t : Side). Advances (x.sides v) t [] before [] a b) (sym (keeps_sides x (undecided g u x) (route g u x) v)) (idles laws v (x.sides v) (x.sides v) before a b k refl refl refl refl refl)
+    step_side (alone (Advertises w)) may over is =
+        advertises g u v w x (untold g u x w) before a b k (λ p h. untold_up (linked g.net u w) (is_up (x.sides w)) (find (is_untold g u x w) (prefixes g)) p h)
+    step_side (puts w i) may over is = puts_one v (v == w) i (x.sides v) before a b k
+    step_side (takes w i) may over is =
+        let turn : all_passes (if v == w then i ∷ [] else []) ≡ all_passes (if w == v then i ∷ [] else []) = ap (λ c. all_passes (if c then i ∷ [] else [])) (swapped laws v w) in
+        subst (λ l. Advances (x.sides v) ((taken g u x w i).sides v) (says_of_taken g u x w i v) before l a b) turn
+        (items w i may.1 over (subst (λ l. IsPrefix (before ++ l) (passing written b.appended)) (sym turn) is))
+    step_side (offers made) may over is = idles laws v (x.sides v) (x.sides v) before a b k refl refl refl refl refl

@@ -1,17 +1,12 @@
 -- What is kept through a run of all routers, and that updates pass in order.
-use Rattle.std.proofs.Common.{◌≡◌, ◌≢◌, ℕ, ◌==◌, Bool, true, false, ◌&&◌, ◌||◌, cond, List, [], ◌∷◌, ◌++◌, refl, ap, sym, ◌∙◌, subst, arith, Option, None, Some, inl}
-use Rattle.std.specs.Prelude.{nat_eq, is_some, if◌then◌else◌, Ok}
-use Rattle.std.specs.List.{AllByRecursion, list_any, find}
+use Rattle.std.proofs.Common.{◌≡◌, ◌≢◌, ℕ, ◌==◌, Bool, true, false, ◌&&◌, cond, List, [], ◌∷◌, ◌++◌, refl, ap, sym, ◌∙◌, subst, Option, None, Some, inl}
+use Rattle.std.specs.Prelude.{is_some, if◌then◌else◌, Ok}
+use Rattle.std.specs.List.{AllByRecursion, find}
 use mathlib.Core.List.{IsPrefix}
-use Rattle.std.proofs.lemmas.Bool.Decides.{nat_tests}
-use Rattle.std.proofs.lemmas.List.Elements.{recursion_from_All}
-use Rattle.std.proofs.lemmas.Map.Views.{Contains-from_any}
 use Rattle.prefix_lanes.specs.Bits.{PrefixView}
 use Rattle.bgp_codec.specs.declared.message.Message.{Message}
 use Rattle.bgp_codec.specs.Spelling.{written}
-use Rattle.bgp_codec.proofs.UpdateLaws.{PrefixLaws}
-use Rattle.ranked_policy.specs.declared.network.Link.{Link}
-use Rattle.ranked_policy.specs.Plans.{IsNetwork, IsRouter, IsNamed, numbers}
+use Rattle.ranked_policy.specs.Plans.{IsNetwork, IsRouter, IsNamed}
 use Rattle.rib_tables.specs.Words.{nothing, path_in}
 use Rattle.run_model.specs.Links.{Entry}
 use Rattle.run_model.specs.Sessions as model
@@ -19,13 +14,12 @@ use Rattle.run_model.specs.Sessions.{first_sides}
 use Rattle.run_model.specs.Octets.{AllGood, passing}
 use Rattle.run_model.specs.Network as runs
 use Rattle.run_model.specs.Network.{NetworkEvent, alone, puts, takes, offers}
-use Rattle.run_model.proofs.IncarnationRuns.{first_facts}
 use Rattle.router_model.specs.declared.command.Command.TheVariants as command
 use Rattle.outbox.specs.declared.item.What.{What}
 use Rattle.outbox.specs.declared.item.What.TheVariants as item
 use Rattle.router_model.specs.Sides.{Side, is_up, front, marked}
 use Rattle.snap_marker.specs.Recordings.{MadeOffer}
-use Rattle.router_model.specs.Settings.{Setting, joins, linked, prefixes}
+use Rattle.router_model.specs.Settings.{Setting, linked, prefixes}
 use Rattle.router_model.specs.State.{Router, rule_of, heard, path_from, route, untold, undecided, is_untold}
 use Rattle.router_model.specs.Step.{Own, RouterEvent, Obeys, Ticks, Handles, Decides, Advertises, May, after, says, telling_to, telling_of, heeds, is_greater}
 use Rattle.router_model.specs.Laws.{all_passes}
@@ -33,7 +27,6 @@ use Rattle.router_runs.specs.Runs.{Logged, LoggedStep, RunState, RunOrder, IsRun
 use Rattle.router_model.specs.Settings.{IsSetting}
 use Rattle.router_runs.specs.Runs.{side_of, log_of}
 use Rattle.router_runs.specs.Promises.{UpdatesPassInOrder}
-use Rattle.router_runs.proofs.Peers.{is_peer}
 use Rattle.router_runs.specs.Kept.{IsGood, SideKept, AllAreGood}
 use Rattle.router_runs.specs.Said.{IsSmall, MayKeep, IsToldBy, IsSaid, Kept}
 use Rattle.router_runs.proofs.Events.{front_reads, marked_side, keeps_sides}
@@ -41,193 +34,175 @@ use Rattle.router_runs.proofs.Running.{before_of, taken_said, number_is, reached
 use Rattle.router_runs.proofs.Passing.{passes_in_order}
 use Rattle.router_runs.proofs.Goodness.{said_is_good, small_asn}
 use Rattle.router_runs.proofs.Saying.{good_append, good_each, step_said, step_keeps, best_kept, words_small, updates_told, told_front}
+use Rattle.router_runs.proofs.Lower.{Laws, first_facts}
 
--- ---- links
+module _ (laws : Laws) where
+  -- ---- links
 
-or_turned : (p q : Bool) → (p || q) ≡ (q || p)
-or_turned true true = refl
-or_turned true false = refl
-or_turned false true = refl
-or_turned false false = refl
+  pub linked_both : (g : Setting) → IsNetwork g.net → (u v : ℕ) → linked g.net u v ≡ true → linked g.net v u ≡ true
+  linked_both g net u v h = (laws.links g.net net u v h).back
 
-links_turned : (u v : ℕ) (ls : List Link) → list_any (joins u v) ls ≡ list_any (joins v u) ls
-links_turned u v [] = refl
-links_turned u v (l ∷ ls) =
-    ap (λ c. c || list_any (joins u v) ls) (or_turned ((l.one == u) && (l.other == v)) ((l.one == v) && (l.other == u))) ∙ ap (λ c. joins v u l || c) (links_turned u v ls)
+  pub linked_apart : (g : Setting) → IsNetwork g.net → (u v : ℕ) → linked g.net u v ≡ true → u ≢ v
+  linked_apart g net u v h = (laws.links g.net net u v h).apart
 
-pub linked_both : (g : Setting) (u v : ℕ) → linked g.net u v ≡ true → linked g.net v u ≡ true
-linked_both g u v h = sym (links_turned u v g.net.links) ∙ h
+  pub linked_router : (g : Setting) → IsNetwork g.net → (u v : ℕ) → linked g.net u v ≡ true → IsRouter g.net.routers u
+  linked_router g net u v h = (laws.links g.net net u v h).one
 
-own_link : (u : ℕ) (ls : List Link) → AllByRecursion (λ l. l.one ≢ l.other) ls → list_any (joins u u) ls ≡ true → ⊥
-own_link u [] all h = cc h
-own_link u (l ∷ ls) all h = at (l.one == u) (l.other == u) refl refl h (λ k. own_link u ls all.1 k)
-  where
-    at : (p q : Bool) → (l.one == u) ≡ p → (l.other == u) ≡ q → ((((l.one == u) && (l.other == u)) || ((l.one == u) && (l.other == u))) || list_any (joins u u) ls) ≡ true → (list_any (joins u u) ls ≡ true → ⊥) → ⊥
-    at true true hp hq h rest = all.0 (let a : l.one ≡ u = number_is l.one u hp in let b : l.other ≡ u = number_is l.other u hq in a ∙ sym b)
-    at true false hp hq h rest = rest (rw (hp, hq) at h)
-    at false q hp hq h rest = rest (rw hp at h)
+  -- ---- where none link is, nothing changes
 
-pub linked_apart : (g : Setting) → IsNetwork g.net → (u v : ℕ) → linked g.net u v ≡ true → u ≢ v
-linked_apart g net u v h = λ same. own_link u g.net.links (recursion_from_All (λ (l : Link). l.one ≢ l.other) g.net.links net.plan.links.apart) (subst (λ i. linked g.net u i ≡ true) (sym same) h)
-
-pub linked_router : (g : Setting) → IsNetwork g.net → (u v : ℕ) → linked g.net u v ≡ true → IsRouter g.net.routers u
-linked_router g net u v h = Contains-from_any {eq = nat_eq} (λ m n e. grind (arith, nat_tests, e)) u (numbers g.net.routers) (is_peer g net v u (linked_both g u v h))
-
--- ---- where none link is, nothing changes
-
-other_peer : (g : Setting) (u v w : ℕ) → linked g.net u w ≡ true → linked g.net u v ≡ false → (v == w) ≡ false
-other_peer g u v w some none = at (v == w) refl
-  where
-    at : (c : Bool) → (v == w) ≡ c → c ≡ false
-    at true h = absurd (let same : v ≡ w = number_is v w h in let k : linked g.net u v ≡ true = ap (λ i. linked g.net u i) same ∙ some in cc (k, none))
-    at false h = refl
-
-linked_untold : (l c : Bool) (f : Option PrefixView) → is_some (cond (l && c) f None) ≡ true → l ≡ true
-linked_untold true c f h = refl
-linked_untold false c f h = absurd (cc h)
-
-told_elsewhere : (g : Setting) (u v w : ℕ) (x : Router) (q : Option PrefixView) → (v == w) ≡ false → (telling_to x w q (telling_of g u x)).sides v ≡ x.sides v
-told_elsewhere g u v w x None miss = refl
-told_elsewhere g u v w x (Some q) miss = rw miss refl
-
-both_sides : (c : Bool) (s : Side) → cond c s s ≡ s
-both_sides true s = refl
-both_sides false s = refl
-
-module _ (g : Setting) (u v : ℕ) (x : Router) (none : linked g.net u v ≡ false) where
-  pub stays_apart : (e : RouterEvent) → May g u x e → (after g u x e).sides v ≡ x.sides v
-  stays_apart (alone (Obeys (command.Start w))) may = (let miss = other_peer g u v w may none in rw miss refl)
-  stays_apart (alone (Obeys (command.Stop w))) may = (let miss = other_peer g u v w may none in rw miss refl)
-  stays_apart (alone (Obeys (command.Reset w))) may = (let miss = other_peer g u v w may none in rw miss refl)
-  stays_apart (alone (Obeys (command.Originate q))) may = refl
-  stays_apart (alone (Obeys (command.Withdraw q))) may = refl
-  stays_apart (alone (Obeys (command.Snapshot s))) may = rw none refl
-  stays_apart (alone (Obeys command.Restart)) may = rw none refl
-  stays_apart (alone Ticks) may = rw none refl
-  stays_apart (alone (Handles w)) may = (let miss = other_peer g u v w may.0 none in rw miss refl)
-  stays_apart (alone Decides) may = keeps_sides x (undecided g u x) (route g u x) v
-  stays_apart (alone (Advertises w)) may =
-      told_elsewhere g u v w x (untold g u x w) (other_peer g u v w (linked_untold (linked g.net u w) (is_up (x.sides w)) (find (is_untold g u x w) (prefixes g)) may) none)
-  stays_apart (puts w i) may = (let miss = other_peer g u v w may.0 none in rw miss refl)
-  stays_apart (takes w (item.Dial e)) may = (let miss = other_peer g u v w may.0 none in rw miss refl)
-  stays_apart (takes w (item.Piece e octets)) may = (let miss = other_peer g u v w may.0 none in rw miss refl)
-  stays_apart (takes w (item.Mark e s)) may =
-      marked_side g u v w s x (heeds g u x w e) (is_greater x s)
-      ∙ (ap (λ c. cond (heeds g u x w e && is_greater x s) (cond (c && is_up (x.sides v)) (marked s (x.sides v)) (x.sides v)) (x.sides v)) none ∙ both_sides (heeds g u x w e && is_greater x s) (x.sides v))
-  stays_apart (takes w (item.Shut e)) may = (let miss = other_peer g u v w may.0 none in rw miss refl)
-  stays_apart (offers made) may = refl
-
--- ---- what is kept
-
-module _ (laws : PrefixLaws) (g : Setting) (set : IsSetting g) where
-  pub all_good : (state : RunState) → Kept g state → AllAreGood g state
-  all_good state k u v link = good_each (IsSaid g u) (IsGood u) (log_of state u v) (said_is_good laws g set u (linked_router g set.network u v link)) (k.said u v link)
-
-  -- paths heard have small numbers
-  heard_small : (state : RunState) → Kept g state → (u v : ℕ) (q : PrefixView) → linked g.net u v ≡ true → IsSmall (path_in (heard (side_of state u v) q))
-  heard_small state k u v q link =
-      let e : ℕ = (side_of state u v).link.epoch in
-      let back = linked_both g u v link in
-      let p = passes_in_order g state k.reached (linked_apart g set.network) v u e back in
-      let all : AllByRecursion (IsToldBy g v) ((side_of state v u).sent e) = subst (AllByRecursion (IsToldBy g v)) p.0.sent (updates_told g v e (log_of state v u) (k.said v u back)) in
-      words_small g v ((side_of state u v).acted e) nothing q (told_front g v ((side_of state u v).acted e) p.1.0 (subst (AllByRecursion (IsToldBy g v)) (sym p.1.1) all)) tt
-
-  word_small : (state : RunState) → Kept g state → (u : ℕ) (q : PrefixView) (v : ℕ) → IsSmall (path_from g u (state.routers u).router q v)
-  word_small state k u q v = at (linked g.net u v) (is_up (side_of state u v)) refl
+  other_peer : (g : Setting) (u v w : ℕ) → linked g.net u w ≡ true → linked g.net u v ≡ false → (v == w) ≡ false
+  other_peer g u v w some none = at (v == w) refl
     where
-      at : (l c : Bool) → linked g.net u v ≡ l → IsSmall (cond (l && c) (path_in (heard (side_of state u v) q)) [])
-      at true true h = heard_small state k u v q h
-      at true false h = tt
-      at false c h = tt
+      at : (c : Bool) → (v == w) ≡ c → c ≡ false
+      at true h = absurd (let same : v ≡ w = number_is laws v w h in let k : linked g.net u v ≡ true = ap (λ i. linked g.net u i) same ∙ some in cc (k, none))
+      at false h = refl
 
-  route_kept : (state : RunState) → Kept g state → (u : ℕ) → IsRouter g.net.routers u → (q : PrefixView) → IsNamed g.net.origins q → MayKeep u (route g u (state.routers u).router q)
-  route_kept state k u is q named =
-      let x : Router = (state.routers u).router in
-      best_kept (record { net = g.net; prefix = q; originated = x.originated q }) (path_from g u x q) u (route g u x q) (small_asn g set u is) (word_small state k u q)
-      (set.chooses u is q named (x.originated q) (path_from g u x q))
+  linked_untold : (l c : Bool) (f : Option PrefixView) → is_some (cond (l && c) f None) ≡ true → l ≡ true
+  linked_untold true c f h = refl
+  linked_untold false c f h = absurd (cc h)
 
-  first_kept : Kept g (runs.opening (λ u. new_logged g))
-  first_kept = record {
-    reached = record {
-      links = λ u v link. (let apart = linked_apart g set.network u v link in record {
-        steps = [];
-        run = tt;
-        here = side u v apart;
-        there = side v u (λ e. apart (sym e));
-      });
-      puts = λ u v. refl;
-      begins = λ u v. ([], refl);
-    };
-    said = λ u v link. tt;
-    paths = λ u q. inl refl;
-    apart = λ u v none. refl;
-  }
-    where
-      side : (u v : ℕ) → u ≢ v → SideKept (side_of (runs.opening (λ i. new_logged g)) u v) [] [] (first_sides u v) (first_sides v u).end
-      side u v apart = record {
-        state = refl;
-        stands = record {
-          reads = record { phase = refl; epoch = refl; heard = refl; is_shut = refl; acted = λ e. refl; sent = λ e. refl };
-          fits = record { phase = refl; has_said = tt; has_used = tt };
-          mine = first_facts u v apart;
-          theirs = first_facts v u (λ e. apart (sym e));
-        };
-        log = refl;
-        holds = record { rest = []; only = tt; passed = refl; joined = λ j. absurd (cc j); apart = λ n. refl };
-      }
+  told_elsewhere : (g : Setting) (u v w : ℕ) (x : Router) (q : Option PrefixView) → (v == w) ≡ false → (telling_to x w q (telling_of g u x)).sides v ≡ x.sides v
+  told_elsewhere g u v w x None miss = refl
+  told_elsewhere g u v w x (Some q) miss = rw miss refl
 
-  module _ (old : RunState) (k : Kept g old) (d : NetworkEvent Own What MadeOffer) (own : Logged) (step : LoggedStep g d.router (old.routers d.router) d.event own) where
-    reads_front : (w : ℕ) → d.event ≡ alone (Handles w) → (m : Message) × (front (rule_of w) ((old.routers d.router).router.sides w).held ≡ Ok m)
-    reads_front w is =
-        let u : ℕ = d.router in
-        let may : May g u (old.routers u).router (alone (Handles w)) = subst (May g u (old.routers u).router) is step.step.may in
-        let link = k.reached.links u w may.0 in
-        let before = before_of u w (side_of old u w) (side_of old w u) (log_of old u w) (log_of old w u) (old.taken w u) (old.taken u w) (linked_apart g set.network u w may.0) link (all_good old k w u (linked_both g u w may.0)) in
-        front_reads w (side_of old u w) (all_passes (old.taken w u)) (model.sides_after first_sides link.steps u w).end (model.sides_after first_sides link.steps w u).end before
-        (subst (λ l. IsPrefix (all_passes (old.taken w u)) (passing written l)) link.there.log (taken_said g old w u (k.reached.puts w u) (k.reached.begins w u))) may.1
+  both_sides : (c : Bool) (s : Side) → cond c s s ≡ s
+  both_sides true s = refl
+  both_sides false s = refl
 
-    pub kept_next : ((u v : ℕ) → IsPrefix ((runs.after (logged_steps g) old d own).taken u v) ((runs.after (logged_steps g) old d own).put u v)) → Kept g (runs.after (logged_steps g) old d own)
-    kept_next begins = record {
-      reached = reached_next g set.network (linked_apart g set.network) (linked_both g) old d own step k.reached (all_good old k) begins;
-      said = λ u v link. said_at u v (d.router == u) refl link;
-      paths = λ u q. path_at u q (d.router == u) refl;
-      apart = λ u v none. apart_at u v (d.router == u) refl none;
+  module _ (g : Setting) (u v : ℕ) (x : Router) (none : linked g.net u v ≡ false) where
+    pub stays_apart : (e : RouterEvent) → May g u x e → (after g u x e).sides v ≡ x.sides v
+    stays_apart (alone (Obeys (command.Start w))) may = (let miss = other_peer g u v w may none in rw miss refl)
+    stays_apart (alone (Obeys (command.Stop w))) may = (let miss = other_peer g u v w may none in rw miss refl)
+    stays_apart (alone (Obeys (command.Reset w))) may = (let miss = other_peer g u v w may none in rw miss refl)
+    stays_apart (alone (Obeys (command.Originate q))) may = refl
+    stays_apart (alone (Obeys (command.Withdraw q))) may = refl
+    stays_apart (alone (Obeys (command.Snapshot s))) may = rw none refl
+    stays_apart (alone (Obeys command.Restart)) may = rw none refl
+    stays_apart (alone Ticks) may = rw none refl
+    stays_apart (alone (Handles w)) may = (let miss = other_peer g u v w may.0 none in rw miss refl)
+    stays_apart (alone Decides) may = keeps_sides laws x (undecided g u x) (route g u x) v
+    stays_apart (alone (Advertises w)) may =
+        told_elsewhere g u v w x (untold g u x w) (other_peer g u v w (linked_untold (linked g.net u w) (is_up (x.sides w)) (find (is_untold g u x w) (prefixes g)) may) none)
+    stays_apart (puts w i) may = (let miss = other_peer g u v w may.0 none in rw miss refl)
+    stays_apart (takes w (item.Dial e)) may = (let miss = other_peer g u v w may.0 none in rw miss refl)
+    stays_apart (takes w (item.Piece e octets)) may = (let miss = other_peer g u v w may.0 none in rw miss refl)
+    stays_apart (takes w (item.Mark e s)) may =
+        marked_side laws g u v w s x (heeds g u x w e) (is_greater x s)
+        ∙ (ap (λ c. cond (heeds g u x w e && is_greater x s) (cond (c && is_up (x.sides v)) (marked s (x.sides v)) (x.sides v)) (x.sides v)) none ∙ both_sides (heeds g u x w e && is_greater x s) (x.sides v))
+    stays_apart (takes w (item.Shut e)) may = (let miss = other_peer g u v w may.0 none in rw miss refl)
+    stays_apart (offers made) may = refl
+
+  -- ---- what is kept
+
+  module _ (g : Setting) (set : IsSetting g) where
+    pub all_good : (state : RunState) → Kept g state → AllAreGood g state
+    all_good state k u v link = good_each laws (IsSaid g u) (IsGood u) (log_of state u v) (said_is_good laws g set u (linked_router g set.network u v link)) (k.said u v link)
+
+    -- paths heard have small numbers
+    heard_small : (state : RunState) → Kept g state → (u v : ℕ) (q : PrefixView) → linked g.net u v ≡ true → IsSmall (path_in (heard (side_of state u v) q))
+    heard_small state k u v q link =
+        let e : ℕ = (side_of state u v).link.epoch in
+        let back = linked_both g set.network u v link in
+        let p = passes_in_order laws g state k.reached (linked_apart g set.network) v u e back in
+        let all : AllByRecursion (IsToldBy g v) ((side_of state v u).sent e) = subst (AllByRecursion (IsToldBy g v)) p.0.sent (updates_told laws g v e (log_of state v u) (k.said v u back)) in
+        words_small laws g v ((side_of state u v).acted e) nothing q (told_front laws g v ((side_of state u v).acted e) p.1.0 (subst (AllByRecursion (IsToldBy g v)) (sym p.1.1) all)) tt
+
+    word_small : (state : RunState) → Kept g state → (u : ℕ) (q : PrefixView) (v : ℕ) → IsSmall (path_from g u (state.routers u).router q v)
+    word_small state k u q v = at (linked g.net u v) (is_up (side_of state u v)) refl
+      where
+        at : (l c : Bool) → linked g.net u v ≡ l → IsSmall (cond (l && c) (path_in (heard (side_of state u v) q)) [])
+        at true true h = heard_small state k u v q h
+        at true false h = tt
+        at false c h = tt
+
+    route_kept : (state : RunState) → Kept g state → (u : ℕ) → IsRouter g.net.routers u → (q : PrefixView) → IsNamed g.net.origins q → MayKeep u (route g u (state.routers u).router q)
+    route_kept state k u is q named =
+        let x : Router = (state.routers u).router in
+        best_kept laws (record { net = g.net; prefix = q; originated = x.originated q }) (path_from g u x q) u (route g u x q) (small_asn laws g set u is) (word_small state k u q)
+        (set.chooses u is q named (x.originated q) (path_from g u x q))
+
+    first_kept : Kept g (runs.opening (λ u. new_logged g))
+    first_kept = record {
+      reached = record {
+        links = λ u v link. (let apart = linked_apart g set.network u v link in record {
+          steps = [];
+          run = tt;
+          here = side u v apart;
+          there = side v u (λ e. apart (sym e));
+        });
+        puts = λ u v. refl;
+        begins = λ u v. ([], refl);
+      };
+      said = λ u v link. tt;
+      paths = λ u q. inl refl;
+      apart = λ u v none. refl;
     }
       where
-        said_at : (u v : ℕ) (c : Bool) → (d.router == u) ≡ c → linked g.net u v ≡ true → AllGood (IsSaid g u) ((if c then own else old.routers u).log v)
-        said_at u v true h link =
-            let to_u : d.router ≡ u = number_is d.router u h in
-            let new = step_said g d.router (old.routers d.router).router d.event reads_front (k.paths d.router) v in
-            subst (λ l. AllGood (IsSaid g u) l) (sym (ap (λ (f : ℕ → List (Entry Message)). f v) step.log))
-            (subst (λ i. AllGood (IsSaid g i) (log_of old d.router v ++ says g d.router (old.routers d.router).router d.event v)) to_u
-            (good_append (IsSaid g d.router) (log_of old d.router v) (says g d.router (old.routers d.router).router d.event v) (k.said d.router v (subst (λ i. linked g.net i v ≡ true) (sym to_u) link)) new))
-        said_at u v false h link = k.said u v link
+        side : (u v : ℕ) → u ≢ v → SideKept (side_of (runs.opening (λ i. new_logged g)) u v) [] [] (first_sides u v) (first_sides v u).end
+        side u v apart = record {
+          state = refl;
+          stands = record {
+            reads = record { phase = refl; epoch = refl; heard = refl; is_shut = refl; acted = λ e. refl; sent = λ e. refl };
+            fits = record { phase = refl; has_said = tt; has_used = tt };
+            mine = first_facts laws u v apart;
+            theirs = first_facts laws v u (λ e. apart (sym e));
+          };
+          log = refl;
+          holds = record { rest = []; only = tt; passed = refl; joined = λ j. absurd (cc j); apart = λ n. refl };
+        }
 
-        path_at : (u : ℕ) (q : PrefixView) (c : Bool) → (d.router == u) ≡ c → MayKeep u ((if c then own else old.routers u).router.kept q)
-        path_at u q true h =
-            let to_u : d.router ≡ u = number_is d.router u h in
-            subst (λ i. MayKeep i (own.router.kept q)) to_u
-            (subst (λ (y : Router). MayKeep d.router (y.kept q)) (sym step.step.leaves) (step_keeps g d.router (old.routers d.router).router d.event (route_kept old k d.router step.known) (k.paths d.router) q))
-        path_at u q false h = k.paths u q
+    module _ (old : RunState) (k : Kept g old) (d : NetworkEvent Own What MadeOffer) (own : Logged) (step : LoggedStep g d.router (old.routers d.router) d.event own) where
+      reads_front : (w : ℕ) → d.event ≡ alone (Handles w) → (m : Message) × (front (rule_of w) ((old.routers d.router).router.sides w).held ≡ Ok m)
+      reads_front w is =
+          let u : ℕ = d.router in
+          let may : May g u (old.routers u).router (alone (Handles w)) = subst (May g u (old.routers u).router) is step.step.may in
+          let link = k.reached.links u w may.0 in
+          let before = before_of laws u w (side_of old u w) (side_of old w u) (log_of old u w) (log_of old w u) (old.taken w u) (old.taken u w) (linked_apart g set.network u w may.0) link (all_good old k w u (linked_both g set.network u w may.0)) in
+          front_reads laws w (side_of old u w) (all_passes (old.taken w u)) (model.sides_after first_sides link.steps u w).end (model.sides_after first_sides link.steps w u).end before
+          (subst (λ l. IsPrefix (all_passes (old.taken w u)) (passing written l)) link.there.log (taken_said laws g old w u (k.reached.puts w u) (k.reached.begins w u))) may.1
 
-        apart_at : (u v : ℕ) (c : Bool) → (d.router == u) ≡ c → linked g.net u v ≡ false → is_up ((if c then own else old.routers u).router.sides v) ≡ false
-        apart_at u v true h none =
-            let to_u : d.router ≡ u = number_is d.router u h in
-            let none_here : linked g.net d.router v ≡ false = ap (λ i. linked g.net i v) to_u ∙ none in
-            ap (λ (y : Router). is_up (y.sides v)) step.step.leaves ∙ (ap is_up (stays_apart g d.router v (old.routers d.router).router none_here d.event step.step.may) ∙ k.apart d.router v none_here)
-        apart_at u v false h none = k.apart u v none
+      pub kept_next : ((u v : ℕ) → IsPrefix ((runs.after (logged_steps g) old d own).taken u v) ((runs.after (logged_steps g) old d own).put u v)) → Kept g (runs.after (logged_steps g) old d own)
+      kept_next begins = record {
+        reached = reached_next laws g set.network (linked_apart g set.network) (linked_both g set.network) old d own step k.reached (all_good old k) begins;
+        said = λ u v link. said_at u v (d.router == u) refl link;
+        paths = λ u q. path_at u q (d.router == u) refl;
+        apart = λ u v none. apart_at u v (d.router == u) refl none;
+      }
+        where
+          said_at : (u v : ℕ) (c : Bool) → (d.router == u) ≡ c → linked g.net u v ≡ true → AllGood (IsSaid g u) ((if c then own else old.routers u).log v)
+          said_at u v true h link =
+              let to_u : d.router ≡ u = number_is laws d.router u h in
+              let new = step_said laws g d.router (old.routers d.router).router d.event reads_front (k.paths d.router) v in
+              subst (λ l. AllGood (IsSaid g u) l) (sym (ap (λ (f : ℕ → List (Entry Message)). f v) step.log))
+              (subst (λ i. AllGood (IsSaid g i) (log_of old d.router v ++ says g d.router (old.routers d.router).router d.event v)) to_u
+              (good_append laws (IsSaid g d.router) (log_of old d.router v) (says g d.router (old.routers d.router).router d.event v) (k.said d.router v (subst (λ i. linked g.net i v ≡ true) (sym to_u) link)) new))
+          said_at u v false h link = k.said u v link
 
-  pub kept_run : (order : RunOrder) (old new : RunState) → Kept g old → runs.Run (logged_steps g) old order new → Kept g new
-  kept_run [] old new k r = subst (Kept g) r k
-  kept_run (d ∷ ds) old new k r =
-      let next : RunState = r.0 in
-      let s = r.1 in
-      let own : Logged = s.0 in
-      let k' : Kept g (runs.after (logged_steps g) old d own) = kept_next old k d own s.1 (subst (λ (i : RunState). (u v : ℕ) → IsPrefix (i.taken u v) (i.put u v)) s.2 s.3) in
-      kept_run ds next new (subst (Kept g) (sym s.2) k') r.2
+          path_at : (u : ℕ) (q : PrefixView) (c : Bool) → (d.router == u) ≡ c → MayKeep u ((if c then own else old.routers u).router.kept q)
+          path_at u q true h =
+              let to_u : d.router ≡ u = number_is laws d.router u h in
+              subst (λ i. MayKeep i (own.router.kept q)) to_u
+              (subst (λ (y : Router). MayKeep d.router (y.kept q)) (sym step.step.leaves) (step_keeps laws g d.router (old.routers d.router).router d.event (route_kept old k d.router step.known) (k.paths d.router) q))
+          path_at u q false h = k.paths u q
 
-  pub kept_to : (order : RunOrder) (state : RunState) → IsRunTo g order state → Kept g state
-  kept_to order state r = kept_run order (runs.opening (λ u. new_logged g)) state first_kept r
+          apart_at : (u v : ℕ) (c : Bool) → (d.router == u) ≡ c → linked g.net u v ≡ false → is_up ((if c then own else old.routers u).router.sides v) ≡ false
+          apart_at u v true h none =
+              let to_u : d.router ≡ u = number_is laws d.router u h in
+              let none_here : linked g.net d.router v ≡ false = ap (λ i. linked g.net i v) to_u ∙ none in
+              ap (λ (y : Router). is_up (y.sides v)) step.step.leaves ∙ (ap is_up (stays_apart g d.router v (old.routers d.router).router none_here d.event step.step.may) ∙ k.apart d.router v none_here)
+          apart_at u v false h none = k.apart u v none
 
-pub updates_pass_in_order : PrefixLaws → UpdatesPassInOrder
-updates_pass_in_order laws g set order state r u v e link = passes_in_order g state (kept_to laws g set order state r).reached (linked_apart g set.network) u v e link
+    pub kept_run : (order : RunOrder) (old new : RunState) → Kept g old → runs.Run (logged_steps g) old order new → Kept g new
+    kept_run [] old new k r = subst (Kept g) r k
+    kept_run (d ∷ ds) old new k r =
+        let next : RunState = r.0 in
+        let s = r.1 in
+        let own : Logged = s.0 in
+        let k' : Kept g (runs.after (logged_steps g) old d own) = kept_next old k d own s.1 (subst (λ (i : RunState). (u v : ℕ) → IsPrefix (i.taken u v) (i.put u v)) s.2 s.3) in
+        kept_run ds next new (subst (Kept g) (sym s.2) k') r.2
+
+    pub kept_to : (order : RunOrder) (state : RunState) → IsRunTo g order state → Kept g state
+    kept_to order state r = kept_run order (runs.opening (λ u. new_logged g)) state first_kept r
+
+  pub updates_pass_in_order : UpdatesPassInOrder
+  updates_pass_in_order g set order state r u v e link = passes_in_order laws g state (kept_to g set order state r).reached (linked_apart g set.network) u v e link

@@ -1,5 +1,6 @@
-pub mod Peers
 pub mod Closes
+pub mod Entries
+pub mod Lower
 pub mod Moving
 pub mod Doing
 pub mod Rows

@@ -1,5 +1,5 @@
 -- A close loses the recording, and no part of it is ever made.
-use Rattle.std.proofs.Common.{◌≡◌, ◌≢◌, ℕ, ◌==◌, ◌<◌, ◌≤◌, Bool, true, false, List, [], ◌∷◌, ◌++◌, refl, ap, sym, ◌∙◌, arith, subst, None, Some, inl, inr}
+use Rattle.std.proofs.Common.{◌≡◌, ◌≢◌, ℕ, ◌==◌, ◌≤◌, Bool, true, false, List, [], ◌∷◌, ◌++◌, refl, ap, sym, ◌∙◌, arith, subst, None, Some, inl, inr}
 use Rattle.std.specs.Prelude.{if◌then◌else◌, slice_get}
 use mathlib.Core.Logic.{◌⊎◌}
 use Rattle.std.proofs.lemmas.Bool.Decides.{nat_tests}
@@ -13,7 +13,7 @@ use Rattle.router_model.specs.State.{Router}
 use Rattle.router_model.specs.Step.{Own, RouterEvent, May}
 use Rattle.router_model.specs.Recording.{IsRecording, IsNext, GoesOn, LeavesFirst, LeavingLosesTheRecording, RecordingsGoOn}
 use Rattle.router_runs.specs.Runs.{Logged, LoggedStep, RunOrder, RunState, logged_steps, new_logged}
-use Rattle.router_runs.specs.Snapshots.{HasMade, CloseLosesTheRecording}
+use Rattle.router_runs.specs.Snapshots.{CloseLosesTheRecording}
 
 -- ---- lists of offers
 

@@ -1,5 +1,5 @@
 -- The octets that a side holds or dropped, at each kind of step.
-use Rattle.std.proofs.Common.{◌≡◌, ◌≢◌, ℕ, ◌<◌, ◌≤◌, ◌==◌, Bool, true, false, ◌&&◌, cond, List, [], ◌∷◌, ◌++◌, length, take, drop, slice_get, refl, ap, sym, ◌∙◌, subst, arith, append_assoc, length-append, Option, None, Some, inl, inr}
+use Rattle.std.proofs.Common.{◌≡◌, ◌≢◌, ◌⊎◌, ℕ, zero, suc, ◌+◌, ◌<◌, ◌≤◌, ◌==◌, Bool, true, false, ◌&&◌, cond, List, [], ◌∷◌, ◌++◌, length, take, drop, slice_get, refl, ap, sym, ◌∙◌, subst, arith, append_assoc, length-append, Option, None, Some, inl, inr}
 use Rattle.std.specs.Prelude.{Ok, nat_le}
 use mathlib.Core.List.{IsPrefix}
 use Rattle.std.proofs.lemmas.List.{append-nil}
@@ -9,220 +9,238 @@ use Rattle.bgp_codec.specs.declared.message.Message.{Message}
 use Rattle.bgp_codec.specs.Header.{IsFrame, header_fault, length_field}
 use Rattle.bgp_codec.specs.Faults.{reading}
 use Rattle.bgp_codec.specs.Spelling.{written}
-use Rattle.bgp_codec.proofs.FrameLemmas.{front_law}
 use Rattle.bgp_framing.specs.Held.{is_waiting}
-use Rattle.bgp_framing.proofs.StreamLemmas.{front_of}
 use Rattle.link_epoch.specs.declared.link_end.Phase.{Phase}
 use Rattle.link_epoch.specs.declared.link_end.Phase.TheVariants as phase
 use Rattle.run_model.specs.Links as links
 use Rattle.run_model.specs.Links.{Entry, Dial, Says, Mark, Shut, End, incarnation, heard_number, answers, greatest_dial}
 use Rattle.run_model.specs.Octets.{Passing, Octet, Control, octets_of, passing, OnlyOctets, AllGood, AllFrames, IsFraming}
-use Rattle.run_model.proofs.OctetFacts.{octets_more, passing_more, meet, behind, at_end, good_rest, none_stale, no_stale_octet}
-use Rattle.run_model.proofs.IncarnationRuns.{answers_above}
 use Rattle.router_model.specs.Sides.{Side, Draft, AtHand, at_hand, carried, without_front, front, read_front, rest_behind, fed, uses, is_joined}
 use Rattle.router_model.specs.State.{rule_of}
 use Rattle.router_runs.specs.Reading.{sides_after, model_side}
 use Rattle.router_runs.specs.Doing.{Stands, Row, Hand}
 use Rattle.router_runs.specs.Kept.{IsGood, Holds}
+use Rattle.router_runs.proofs.Lower.{Laws, passing_more}
+use Rattle.router_runs.proofs.Entries.{octets_more}
 
--- ---- frames
+module _ (laws : Laws) where
+  -- ---- frames
 
-pub framing : IsFraming IsFrame
-framing = record {
-  some = λ f is. λ none. (let l = is.has_header in let z : length f ≡ 0 = ap length none in omega (arith, l, z));
-  prefix_free = λ f g a b is theirs same.
-      let one = front_of front_law (f ++ a) f a is refl in
-      let other = front_of front_law (f ++ a) g b theirs same in
-      let size : length f ≡ length g = sym one.field ∙ other.field in
-      sym (take-append_seam f a) ∙ (ap (λ n. take n (f ++ a)) size ∙ (ap (take (length g)) same ∙ take-append_seam g b));
-}
+  -- a frame in front tells what a header of so many octets does
+  record HasFront (octets frame : List ℕ) : Type 0 where
+    long : 19 ≤ length octets
+    good : header_fault octets ≡ None
+    field : length_field octets ≡ length frame
+    enough : length frame ≤ length octets
 
--- messages that are good are written as frames
-pub are_frames : (u : ℕ) (entries : List (Entry Message)) → AllGood (IsGood u) entries → AllFrames IsFrame written entries
-are_frames u [] all = tt
-are_frames u (Dial e ∷ rest) all = are_frames u rest all
-are_frames u (Says e m ∷ rest) all = (all.0.0, are_frames u rest all.1)
-are_frames u (Mark e n ∷ rest) all = are_frames u rest all
-are_frames u (Shut e ∷ rest) all = are_frames u rest all
+  front_of : (octets frame more : List ℕ) → IsFrame frame → octets ≡ frame ++ more → HasFront octets frame
+  front_of octets frame more is e =
+      let i = laws.header (length frame) octets is.has_header in
+      let cut : take (length frame) octets ≡ frame = ap (take (length frame)) e ∙ take-append_seam frame more in
+      let size : length octets ≡ length frame + length more = ap length e ∙ length-append frame more in
+      let wide = is.has_header in
+      record {
+        long = omega (arith, size, wide);
+        good = sym i.same_fault ∙ (ap header_fault cut ∙ is.good);
+        field = sym i.same_length ∙ (ap length_field cut ∙ sym is.whole);
+        enough = omega (arith, size);
+      }
 
-pub waiting_frame : (f rest : List ℕ) → IsFrame f → is_waiting (f ++ rest) ≡ true
-waiting_frame f rest is =
-    let h = front_of front_law (f ++ rest) f rest is refl in
-    let l1 = h.long in
-    let l2 = h.field in
-    let l3 = h.enough in
-    let long : nat_le 19 (length (f ++ rest)) ≡ true = grind (arith, nat_tests, l1) in
-    let enough : nat_le (length_field (f ++ rest)) (length (f ++ rest)) ≡ true = (let k : length_field (f ++ rest) ≤ length (f ++ rest) = omega (arith, l2, l3) in grind (arith, nat_tests, k)) in
-    rw (long, h.good, enough) refl
+  pub framing : IsFraming IsFrame
+  framing = record {
+    some = λ f is. λ none. (let l = is.has_header in let z : length f ≡ 0 = ap length none in omega (arith, l, z));
+    prefix_free = λ f g a b is theirs same.
+        let one = front_of (f ++ a) f a is refl in
+        let other = front_of (f ++ a) g b theirs same in
+        let size : length f ≡ length g = sym one.field ∙ other.field in
+        sym (take-append_seam f a) ∙ (ap (λ n. take n (f ++ a)) size ∙ (ap (take (length g)) same ∙ take-append_seam g b));
+  }
 
--- octets with a message in front read as it
-pub front_ok : (u : ℕ) (m : Message) (rest : List ℕ) → IsGood u m → front (rule_of u) (written m ++ rest) ≡ Ok m
-front_ok u m rest good =
-    let h = front_of front_law (written m ++ rest) (written m) rest good.0 refl in
-    ap (λ x. read_front (rule_of u) x (written m ++ rest)) h.good ∙ (ap (λ n. reading (rule_of u) (take n (written m ++ rest))) h.field ∙ (ap (reading (rule_of u)) (take-append_seam (written m) rest) ∙ good.1))
+  -- messages that are good are written as frames
+  pub all_frames : (u : ℕ) (entries : List (Entry Message)) → AllGood (IsGood u) entries → AllFrames IsFrame written entries
+  all_frames u [] all = tt
+  all_frames u (Dial e ∷ r) all = all_frames u r all
+  all_frames u (Says e m ∷ r) all = (all.0.0, all_frames u r all.1)
+  all_frames u (Mark e s ∷ r) all = all_frames u r all
+  all_frames u (Shut e ∷ r) all = all_frames u r all
 
-pub rest_ok : (u : ℕ) (m : Message) (rest : List ℕ) → IsGood u m → rest_behind (header_fault (written m ++ rest)) (written m ++ rest) ≡ rest
-rest_ok u m rest good =
-    let h = front_of front_law (written m ++ rest) (written m) rest good.0 refl in
-    ap (λ x. rest_behind x (written m ++ rest)) h.good ∙ (ap (λ n. drop n (written m ++ rest)) h.field ∙ drop-append_seam (written m) rest)
+  pub waiting_frame : (f rest : List ℕ) → IsFrame f → is_waiting (f ++ rest) ≡ true
+  waiting_frame f rest is =
+      let h = front_of (f ++ rest) f rest is refl in
+      let l1 = h.long in
+      let l2 = h.field in
+      let l3 = h.enough in
+      let long : nat_le 19 (length (f ++ rest)) ≡ true = grind (arith, nat_tests, l1) in
+      let enough : nat_le (length_field (f ++ rest)) (length (f ++ rest)) ≡ true = (let k : length_field (f ++ rest) ≤ length (f ++ rest) = omega (arith, l2, l3) in grind (arith, nat_tests, k)) in
+      rw (long, h.good, enough) refl
 
--- too few octets of a frame wait for more
-short_at : (b : Bool) (held : List ℕ) (h : ℕ) (t : List ℕ) → nat_le 19 (length held) ≡ b → IsFrame (held ++ h ∷ t) → is_waiting held ≡ false
-short_at false held h t is frame = rw is refl
-short_at true held h t is frame =
-    let long : 19 ≤ length held = grind (arith, nat_tests, is) in
-    let k = front_law (length held) (held ++ h ∷ t) long in
-    let cut : take (length held) (held ++ h ∷ t) ≡ held = take-append_seam held (h ∷ t) in
-    let good : header_fault held ≡ None = ap header_fault (sym cut) ∙ (k.same_fault ∙ frame.good) in
-    let field : length_field held ≡ length (held ++ h ∷ t) = ap length_field (sym cut) ∙ (k.same_length ∙ sym frame.whole) in
-    let more : length held < length (held ++ h ∷ t) = omega (arith, length-append held (h ∷ t)) in
-    let few : nat_le (length_field held) (length held) ≡ false = grind (arith, nat_tests, field, more) in
-    rw (is, good, few) refl
+  -- octets with a message in front read as it
+  pub front_ok : (u : ℕ) (m : Message) (rest : List ℕ) → IsGood u m → front (rule_of u) (written m ++ rest) ≡ Ok m
+  front_ok u m rest good =
+      let h = front_of (written m ++ rest) (written m) rest good.0 refl in
+      ap (λ x. read_front (rule_of u) x (written m ++ rest)) h.good ∙ (ap (λ n. reading (rule_of u) (take n (written m ++ rest))) h.field ∙ (ap (reading (rule_of u)) (take-append_seam (written m) rest) ∙ good.1))
 
--- what waits in front of what is held is the next message
-pub record Found (u e : ℕ) (held : List ℕ) (place : Option (Entry Message)) : Type 0 where
-  pub message : Message
-  pub rest : List ℕ
-  pub good : IsGood u message
-  pub is : held ≡ written message ++ rest
-  pub next : place ≡ Some (Says e message)
+  pub rest_ok : (u : ℕ) (m : Message) (rest : List ℕ) → IsGood u m → rest_behind (header_fault (written m ++ rest)) (written m ++ rest) ≡ rest
+  rest_ok u m rest good =
+      let h = front_of (written m ++ rest) (written m) rest good.0 refl in
+      ap (λ x. rest_behind x (written m ++ rest)) h.good ∙ (ap (λ n. drop n (written m ++ rest)) h.field ∙ drop-append_seam (written m) rest)
 
-same_number : (e d b : ℕ) (bs ws : List ℕ) (p q : List (Passing Message)) → ws ≢ [] → octets_of e (b ∷ bs) ++ q ≡ octets_of d ws ++ p → e ≡ d
-same_number e d b bs [] p q some h = absurd (some refl)
-same_number e d b bs (w ∷ ws) p q some h = cc (h)
+  -- too few octets of a frame wait for more
+  short_at : (b : Bool) (held : List ℕ) (h : ℕ) (t : List ℕ) → nat_le 19 (length held) ≡ b → IsFrame (held ++ h ∷ t) → is_waiting held ≡ false
+  short_at false held h t is frame = rw is refl
+  short_at true held h t is frame =
+      let long : 19 ≤ length held = grind (arith, nat_tests, is) in
+      let k = laws.header (length held) (held ++ h ∷ t) long in
+      let cut : take (length held) (held ++ h ∷ t) ≡ held = take-append_seam held (h ∷ t) in
+      let good : header_fault held ≡ None = ap header_fault (sym cut) ∙ (k.same_fault ∙ frame.good) in
+      let field : length_field held ≡ length (held ++ h ∷ t) = ap length_field (sym cut) ∙ (k.same_length ∙ sym frame.whole) in
+      let more : length held < length (held ++ h ∷ t) = omega (arith, length-append held (h ∷ t)) in
+      let few : nat_le (length_field held) (length held) ≡ false = grind (arith, nat_tests, field, more) in
+      rw (is, good, few) refl
 
-found_head : (u e b : ℕ) (bs : List ℕ) (q : List (Passing Message)) (entries : List (Entry Message)) → AllGood (IsGood u) entries → octets_of e (b ∷ bs) ++ q ≡ passing written entries → is_waiting (b ∷ bs) ≡ true
-    → (m : Message) × (rest : List ℕ) × IsGood u m × (b ∷ bs ≡ written m ++ rest) × ((r : List (Entry Message)) × (entries ≡ Says e m ∷ r))
-found_head u e b bs q [] all h waits = absurd (cc (h))
-found_head u e b bs q (Dial d ∷ r) all h waits = absurd (cc (h))
-found_head u e b bs q (Mark d s ∷ r) all h waits = absurd (cc (h))
-found_head u e b bs q (Shut d ∷ r) all h waits = absurd (cc (h))
-found_head u e b bs q (Says d n ∷ r) all h waits =
-    let some : written n ≢ [] = framing.some (written n) all.0.0 in
-    let number : e ≡ d = same_number e d b bs (written n) (passing written r) q some h in
-    elim (meet d e (written n) (b ∷ bs) (passing written r) q (sym h)) [
-      | inl k ↦ (n, k.0, all.0, sym k.1, (r, ap (λ i. Says i n ∷ r) (sym number)))
-      | inr k ↦ absurd (let no = short_at (nat_le 19 (length (b ∷ bs))) (b ∷ bs) k.0 k.1 refl (subst IsFrame k.2 all.0.0) in cc (waits, no))
-    ]
+  -- what waits in front of what is held is the next message
+  pub record Found (u e : ℕ) (held : List ℕ) (place : Option (Entry Message)) : Type 0 where
+    pub message : Message
+    pub rest : List ℕ
+    pub good : IsGood u message
+    pub is : held ≡ written message ++ rest
+    pub next : place ≡ Some (Says e message)
 
-found_in : (u e : ℕ) (held : List ℕ) (past log : List (Entry Message)) (front : IsPrefix past log) → AllGood (IsGood u) log → (q : List (Passing Message)) → octets_of e held ++ q ≡ passing written front.0 → is_waiting held ≡ true
-    → Found u e held (slice_get log (length past))
-found_in u e [] past log front all q h waits = absurd (cc waits)
-found_in u e (b ∷ bs) past log front all q h waits =
-    let k = found_head u e b bs q front.0 (good_rest (IsGood u) past front.0 (subst (AllGood (IsGood u)) (sym front.1) all)) h waits in
-    record { message = k.0; rest = k.1; good = k.2; is = k.3; next = at_end past log (Says e k.0) k.4.0 (ap (λ w. past ++ w) (sym k.4.1) ∙ front.1) }
+  -- an entry at a place is good
+  good_at : (u e n : ℕ) (m : Message) (log : List (Entry Message)) → AllGood (IsGood u) log → slice_get log n ≡ Some (Says e m) → IsGood u m
+  good_at u e n m [] all is = absurd (cc is)
+  good_at u e zero m (Says d k ∷ log) all is = (let same : k ≡ m = cc is in subst (IsGood u) same all.0)
+  good_at u e zero m (Dial d ∷ log) all is = absurd (cc is)
+  good_at u e zero m (Mark d k ∷ log) all is = absurd (cc is)
+  good_at u e zero m (Shut d ∷ log) all is = absurd (cc is)
+  good_at u e (suc n) m (Says d k ∷ log) all is = good_at u e n m log all.1 is
+  good_at u e (suc n) m (Dial d ∷ log) all is = good_at u e n m log all is
+  good_at u e (suc n) m (Mark d k ∷ log) all is = good_at u e n m log all is
+  good_at u e (suc n) m (Shut d ∷ log) all is = good_at u e n m log all is
 
-pub found : (u e : ℕ) (held : List ℕ) (past log : List (Entry Message)) → IsPrefix past log → AllGood (IsGood u) log → IsPrefix (passing written past ++ octets_of e held) (passing written log) → is_waiting held ≡ true
-    → Found u e held (slice_get log (length past))
-found u e held past log front all is waits = (let k = behind written past log (octets_of e held) front is in found_in u e held past log front all k.0 k.1 waits)
+  -- what waits is no mere beginning of a frame
+  whole : (held f : List ℕ) → IsFrame f → is_waiting held ≡ true → IsPrefix held f ⊎ IsPrefix f held → (rest : List ℕ) × (held ≡ f ++ rest)
+  whole held f is waits (inr p) = (p.0, sym p.1)
+  whole held f is waits (inl p) = at p.0 p.1
+    where
+      at : (t : List ℕ) → held ++ t ≡ f → (rest : List ℕ) × (held ≡ f ++ rest)
+      at [] same = ([], sym (append-nil held) ∙ (same ∙ sym (append-nil f)))
+      at (h ∷ t) same = absurd (let no = short_at (nat_le 19 (length held)) held h t refl (subst IsFrame (sym same) is) in cc (waits, no))
 
--- ---- octets alone
+  pub found : (u e : ℕ) (held : List ℕ) (past log : List (Entry Message)) → IsPrefix past log → AllGood (IsGood u) log → IsPrefix (passing written past ++ octets_of e held) (passing written log) → is_waiting held ≡ true
+      → Found u e held (slice_get log (length past))
+  found u e held past log front all is waits =
+      let some : held ≢ [] = λ none. (let no : is_waiting held ≡ false = ap is_waiting none in cc (waits, no)) in
+      let h = laws.held written framing past log e held (all_frames u log all) front some is in
+      let w = whole held (written h.0) h.2 waits h.3 in
+      record { message = h.0; rest = w.0; good = good_at u e (length past) h.0 log all h.1; is = w.1; next = h.1 }
 
-pub only_octets : (e : ℕ) (bs : List ℕ) → OnlyOctets {M = Message} (octets_of e bs)
-only_octets e [] = tt
-only_octets e (b ∷ bs) = only_octets e bs
+  -- ---- octets alone
 
-only_more : (xs ys : List (Passing Message)) → OnlyOctets xs → OnlyOctets ys → OnlyOctets (xs ++ ys)
-only_more [] ys p q = q
-only_more (Octet e b ∷ xs) ys p q = only_more xs ys p q
-only_more (Control x ∷ xs) ys p q = absurd p
+  pub only_octets : (e : ℕ) (bs : List ℕ) → OnlyOctets {M = Message} (octets_of e bs)
+  only_octets e [] = tt
+  only_octets e (b ∷ bs) = only_octets e bs
 
-pub cleared : (b : Bool) (xs : List ℕ) → xs ≡ [] → cond b [] xs ≡ []
-cleared true xs h = refl
-cleared false xs h = h
+  only_more : (xs ys : List (Passing Message)) → OnlyOctets xs → OnlyOctets ys → OnlyOctets (xs ++ ys)
+  only_more [] ys p q = q
+  only_more (Octet e b ∷ xs) ys p q = only_more xs ys p q
+  only_more (Control x ∷ xs) ys p q = absurd p
 
--- ---- what is held, after each kind of step
+  pub cleared : (b : Bool) (xs : List ℕ) → xs ≡ [] → cond b [] xs ≡ []
+  cleared true xs h = refl
+  cleared false xs h = h
 
--- nothing is taken
-pub holds_quiet : (s : Side) (h : AtHand) (d : Draft) (items : List (Passing Message)) (a b : End Message) → Stands s a b → Holds s items a → IsPrefix items (passing written b.appended) → (r : Row s h d a b)
-    → Holds (carried h s d) items (sides_after (model_side s a) r.does.events).end
-holds_quiet s h d items a b x k is r =
-    let none : answers a ≡ true → k.rest ≡ [] = λ yes.
-    none_stale written a.taken b.appended k.rest x.mine.front x.theirs.sound (x.theirs.told (greatest_dial a.taken) (answers_above a yes)) k.only (subst (λ i. IsPrefix i (passing written b.appended)) k.passed is) in
-    record {
-      rest = k.rest;
-      only = k.only;
-      passed = k.passed ∙ ap (λ t. passing written t ++ k.rest) (sym (r.does.takes ∙ append-nil a.taken));
-      joined = λ j. elim (r.joined j) [
-        | inl w ↦ k.joined w.0 ∙ (ap (λ e. octets_of e s.held) (sym w.1) ∙ ap (λ c. octets_of d.link.epoch (cond c [] s.held)) (sym w.2))
-        | inr w ↦ none w.1 ∙ ap (λ o. octets_of d.link.epoch o) (sym (cleared d.drops s.held (k.apart w.0)))
-      ];
-      apart = λ n. elim (r.apart n) [
-        | inl w ↦ cleared d.drops s.held (k.apart w)
-        | inr w ↦ ap (λ c. cond c [] s.held) w
-      ];
-    }
+  -- ---- what is held, after each kind of step
 
--- a message is handled
-pub holds_handled : (s : Side) (m : Message) (d : Draft) (behind : List ℕ) (items : List (Passing Message)) (a b : End Message) → Holds s items a → s.link.phase ≡ phase.Joined
-    → s.held ≡ written m ++ behind → (without_front s).held ≡ behind → (r : Hand s m d a b)
-    → Holds (carried (at_hand (Ok m)) (without_front s) d) items (sides_after (model_side s a) r.does.events).end
-holds_handled s m d behind items a b k joined is left r =
-    let e : ℕ = s.link.epoch in
-    let split : k.rest ≡ octets_of e (written m) ++ octets_of e behind = k.joined joined ∙ (ap (octets_of e) is ∙ octets_more e (written m) behind) in
-    let one : passing written (Says e m ∷ []) ≡ octets_of e (written m) = append-nil (octets_of e (written m)) in
-    record {
-      rest = octets_of e behind;
-      only = only_octets e behind;
-      passed = k.passed ∙ (ap (λ w. passing written a.taken ++ w) split ∙ (sym (append_assoc (passing written a.taken) (octets_of e (written m)) (octets_of e behind))
-          ∙ ap (λ w. w ++ octets_of e behind) (ap (λ w. passing written a.taken ++ w) (sym one) ∙ (sym (passing_more written a.taken (Says e m ∷ [])) ∙ ap (passing written) (sym r.does.takes)))));
-      joined = λ j. (let w = r.joined j in ap (octets_of e) (sym left) ∙ (ap (λ i. octets_of i (without_front s).held) (sym w.0) ∙ ap (λ c. octets_of d.link.epoch (cond c [] (without_front s).held)) (sym w.1)));
-      apart = λ n. ap (λ c. cond c [] (without_front s).held) (r.apart n);
-    }
+  -- nothing is taken
+  pub holds_quiet : (s : Side) (h : AtHand) (d : Draft) (items : List (Passing Message)) (a b : End Message) → Stands s a b → Holds s items a → IsPrefix items (passing written b.appended) → (r : Row s h d a b)
+      → Holds (carried h s d) items (sides_after (model_side s a) r.does.events).end
+  holds_quiet s h d items a b x k is r =
+      let none : answers a ≡ true → k.rest ≡ [] = λ yes.
+      laws.none_dropped written a b x.mine x.theirs yes k.rest k.only (subst (λ i. IsPrefix i (passing written b.appended)) k.passed is) in
+      record {
+        rest = k.rest;
+        only = k.only;
+        passed = k.passed ∙ ap (λ t. passing written t ++ k.rest) (sym (r.does.takes ∙ append-nil a.taken));
+        joined = λ j. elim (r.joined j) [
+          | inl w ↦ k.joined w.0 ∙ (ap (λ e. octets_of e s.held) (sym w.1) ∙ ap (λ c. octets_of d.link.epoch (cond c [] s.held)) (sym w.2))
+          | inr w ↦ none w.1 ∙ ap (λ o. octets_of d.link.epoch o) (sym (cleared d.drops s.held (k.apart w.0)))
+        ];
+        apart = λ n. elim (r.apart n) [
+          | inl w ↦ cleared d.drops s.held (k.apart w)
+          | inr w ↦ ap (λ c. cond c [] s.held) w
+        ];
+      }
 
--- an entry that is no message is taken, and whatever was dropped passed before it
-pub holds_control : (t : Side) (x : Entry Message) (messages : List (Entry Message)) (items : List (Passing Message)) (s : Side) (a c : End Message) → (k : Holds s items a) → passing written messages ≡ k.rest
-    → c.taken ≡ a.taken ++ (messages ++ x ∷ []) → passing written (x ∷ []) ≡ Control x ∷ [] → t.held ≡ [] → Holds t (items ++ Control x ∷ []) c
-holds_control t x messages items s a c k are takes one none = record {
-  rest = [];
-  only = tt;
-  passed = ap (λ w. w ++ Control x ∷ []) k.passed ∙ (append_assoc (passing written a.taken) k.rest (Control x ∷ [])
-      ∙ (ap (λ w. passing written a.taken ++ w) (ap (λ w. w ++ Control x ∷ []) (sym are) ∙ (ap (λ w. passing written messages ++ w) (sym one) ∙ sym (passing_more written messages (x ∷ []))))
-      ∙ (sym (passing_more written a.taken (messages ++ x ∷ [])) ∙ (ap (passing written) (sym takes) ∙ sym (append-nil (passing written c.taken))))));
-  joined = λ j. ap (octets_of t.link.epoch) (sym none);
-  apart = λ n. none;
-}
+  -- a message is handled
+  pub holds_handled : (s : Side) (m : Message) (d : Draft) (behind : List ℕ) (items : List (Passing Message)) (a b : End Message) → Holds s items a → s.link.phase ≡ phase.Joined
+      → s.held ≡ written m ++ behind → (without_front s).held ≡ behind → (r : Hand s m d a b)
+      → Holds (carried (at_hand (Ok m)) (without_front s) d) items (sides_after (model_side s a) r.does.events).end
+  holds_handled s m d behind items a b k joined is left r =
+      let e : ℕ = s.link.epoch in
+      let split : k.rest ≡ octets_of e (written m) ++ octets_of e behind = k.joined joined ∙ (ap (octets_of e) is ∙ octets_more e (written m) behind) in
+      let one : passing written (Says e m ∷ []) ≡ octets_of e (written m) = append-nil (octets_of e (written m)) in
+      record {
+        rest = octets_of e behind;
+        only = only_octets e behind;
+        passed = k.passed ∙ (ap (λ w. passing written a.taken ++ w) split ∙ (sym (append_assoc (passing written a.taken) (octets_of e (written m)) (octets_of e behind))
+            ∙ ap (λ w. w ++ octets_of e behind) (ap (λ w. passing written a.taken ++ w) (sym one) ∙ (sym (passing_more laws written a.taken (Says e m ∷ [])) ∙ ap (passing written) (sym r.does.takes)))));
+        joined = λ j. (let w = r.joined j in ap (octets_of e) (sym left) ∙ (ap (λ i. octets_of i (without_front s).held) (sym w.0) ∙ ap (λ c. octets_of d.link.epoch (cond c [] (without_front s).held)) (sym w.1)));
+        apart = λ n. ap (λ c. cond c [] (without_front s).held) (r.apart n);
+      }
 
--- octets are taken
-not_used : (p : Phase) (c : Bool) → p ≢ phase.Joined → (is_joined p && c) ≡ false
-not_used phase.Shut c n = refl
-not_used phase.Offered c n = refl
-not_used phase.Joined c n = absurd (n refl)
+  -- an entry that is no message is taken, and whatever was dropped passed before it
+  pub holds_control : (t : Side) (x : Entry Message) (messages : List (Entry Message)) (items : List (Passing Message)) (s : Side) (a c : End Message) → (k : Holds s items a) → passing written messages ≡ k.rest
+      → c.taken ≡ a.taken ++ (messages ++ x ∷ []) → passing written (x ∷ []) ≡ Control x ∷ [] → t.held ≡ [] → Holds t (items ++ Control x ∷ []) c
+  holds_control t x messages items s a c k are takes one none = record {
+    rest = [];
+    only = tt;
+    passed = ap (λ w. w ++ Control x ∷ []) k.passed ∙ (append_assoc (passing written a.taken) k.rest (Control x ∷ [])
+        ∙ (ap (λ w. passing written a.taken ++ w) (ap (λ w. w ++ Control x ∷ []) (sym are) ∙ (ap (λ w. passing written messages ++ w) (sym one) ∙ sym (passing_more laws written messages (x ∷ []))))
+        ∙ (sym (passing_more laws written a.taken (messages ++ x ∷ [])) ∙ (ap (passing written) (sym takes) ∙ sym (append-nil (passing written c.taken))))));
+    joined = λ j. ap (octets_of t.link.epoch) (sym none);
+    apart = λ n. none;
+  }
 
-pub fed_same : (b : Bool) (s : Side) (octets : List ℕ) → (((cond b (record s { held = s.held ++ octets }) s).link ≡ s.link) × ((cond b (record s { held = s.held ++ octets }) s).held ≡ cond b (s.held ++ octets) s.held))
-fed_same true s octets = (refl, refl)
-fed_same false s octets = (refl, refl)
+  -- octets are taken
+  not_used : (p : Phase) (c : Bool) → p ≢ phase.Joined → (is_joined p && c) ≡ false
+  not_used phase.Shut c n = refl
+  not_used phase.Offered c n = refl
+  not_used phase.Joined c n = absurd (n refl)
 
-empty_feed : (b : Bool) (xs : List ℕ) → cond b (xs ++ []) xs ≡ xs
-empty_feed true xs = append-nil xs
-empty_feed false xs = refl
+  pub fed_same : (b : Bool) (s : Side) (octets : List ℕ) → (((cond b (record s { held = s.held ++ octets }) s).link ≡ s.link) × ((cond b (record s { held = s.held ++ octets }) s).held ≡ cond b (s.held ++ octets) s.held))
+  fed_same true s octets = (refl, refl)
+  fed_same false s octets = (refl, refl)
 
-pub holds_piece : (u : ℕ) (s : Side) (e : ℕ) (octets : List ℕ) (items : List (Passing Message)) (a b : End Message) → Stands s a b → (a.phase ≡ links.Joined → heard_number a ≡ incarnation a)
-    → (s.link.phase ≡ phase.Joined → a.phase ≡ links.Joined) → AllGood (IsGood u) b.appended → is_waiting s.held ≡ false → Holds s items a → IsPrefix (items ++ octets_of e octets) (passing written b.appended)
-    → Holds (fed s e octets) (items ++ octets_of e octets) a
-holds_piece u s e octets items a b x own here all waits k is =
-    let b' : Bool = uses s.link e in
-    let l = fed_same b' s octets in
-    let whole : (f rest : List ℕ) → IsFrame f → s.held ≢ f ++ rest = λ f rest fr h. (let yes : is_waiting s.held ≡ true = ap is_waiting h ∙ waiting_frame f rest fr in cc (waits, yes)) in
-    record {
-      rest = k.rest ++ octets_of e octets;
-      only = only_more k.rest (octets_of e octets) k.only (only_octets e octets);
-      passed = ap (λ w. w ++ octets_of e octets) k.passed ∙ append_assoc (passing written a.taken) k.rest (octets_of e octets);
-      joined = λ j. (let was : s.link.phase ≡ phase.Joined = ap (λ i. i.phase) (sym l.0) ∙ j in
-          at octets was (k.joined was) whole is ∙ (ap (octets_of s.link.epoch) (sym l.1) ∙ ap (λ i. octets_of i.epoch (fed s e octets).held) (sym l.0)));
-      apart = λ n. (let was : s.link.phase ≢ phase.Joined = λ j. n (ap (λ i. i.phase) l.0 ∙ j) in
-          l.1 ∙ (ap (λ c. cond c (s.held ++ octets) s.held) (not_used s.link.phase (e == s.link.epoch) was) ∙ k.apart was));
-    }
-  where
-    at : (os : List ℕ) → s.link.phase ≡ phase.Joined → k.rest ≡ octets_of s.link.epoch s.held → ((f rest : List ℕ) → IsFrame f → s.held ≢ f ++ rest)
-        → IsPrefix (items ++ octets_of e os) (passing written b.appended) → k.rest ++ octets_of e os ≡ octets_of s.link.epoch (cond (uses s.link e) (s.held ++ os) s.held)
-    at [] j same whole is = append-nil k.rest ∙ (same ∙ ap (octets_of s.link.epoch) (sym (empty_feed (uses s.link e) s.held)))
-    at (o ∷ os) j same whole is =
-        let n : ℕ = s.link.epoch in
-        let number : heard_number a ≡ n = own (here j) ∙ sym x.reads.epoch in
-        let there : IsPrefix (passing written a.taken ++ (octets_of n s.held ++ octets_of e (o ∷ os))) (passing written b.appended) =
-        subst (λ w. IsPrefix w (passing written b.appended)) (ap (λ w. w ++ octets_of e (o ∷ os)) (k.passed ∙ ap (λ w. passing written a.taken ++ w) same) ∙ append_assoc (passing written a.taken) (octets_of n s.held) (octets_of e (o ∷ os))) is in
-        let stale : e ≡ n = no_stale_octet IsFrame written framing a.taken b.appended n e o os s.held (are_frames u b.appended all) x.mine.front x.theirs.sound number whole there in
-        let hit : (e == n) ≡ true = grind (arith, nat_tests, stale) in
-        let used : uses s.link e ≡ true = ap (λ p. is_joined p && (e == n)) j ∙ hit in
-        ap (λ w. w ++ octets_of e (o ∷ os)) same ∙ (ap (λ i. octets_of n s.held ++ octets_of i (o ∷ os)) stale ∙ (sym (octets_more n s.held (o ∷ os)) ∙ ap (λ c. octets_of n (cond c (s.held ++ o ∷ os) s.held)) (sym used)))
+  empty_feed : (b : Bool) (xs : List ℕ) → cond b (xs ++ []) xs ≡ xs
+  empty_feed true xs = append-nil xs
+  empty_feed false xs = refl
+
+  pub holds_piece : (u : ℕ) (s : Side) (e : ℕ) (octets : List ℕ) (items : List (Passing Message)) (a b : End Message) → Stands s a b → (a.phase ≡ links.Joined → heard_number a ≡ incarnation a)
+      → (s.link.phase ≡ phase.Joined → a.phase ≡ links.Joined) → AllGood (IsGood u) b.appended → is_waiting s.held ≡ false → Holds s items a → IsPrefix (items ++ octets_of e octets) (passing written b.appended)
+      → Holds (fed s e octets) (items ++ octets_of e octets) a
+  holds_piece u s e octets items a b x own here all waits k is =
+      let b' : Bool = uses s.link e in
+      let l = fed_same b' s octets in
+      let whole : (f rest : List ℕ) → IsFrame f → s.held ≢ f ++ rest = λ f rest fr h. (let yes : is_waiting s.held ≡ true = ap is_waiting h ∙ waiting_frame f rest fr in cc (waits, yes)) in
+      record {
+        rest = k.rest ++ octets_of e octets;
+        only = only_more k.rest (octets_of e octets) k.only (only_octets e octets);
+        passed = ap (λ w. w ++ octets_of e octets) k.passed ∙ append_assoc (passing written a.taken) k.rest (octets_of e octets);
+        joined = λ j. (let was : s.link.phase ≡ phase.Joined = ap (λ i. i.phase) (sym l.0) ∙ j in
+            at octets was (k.joined was) whole is ∙ (ap (octets_of s.link.epoch) (sym l.1) ∙ ap (λ i. octets_of i.epoch (fed s e octets).held) (sym l.0)));
+        apart = λ n. (let was : s.link.phase ≢ phase.Joined = λ j. n (ap (λ i. i.phase) l.0 ∙ j) in
+            l.1 ∙ (ap (λ c. cond c (s.held ++ octets) s.held) (not_used s.link.phase (e == s.link.epoch) was) ∙ k.apart was));
+      }
+    where
+      at : (os : List ℕ) → s.link.phase ≡ phase.Joined → k.rest ≡ octets_of s.link.epoch s.held → ((f rest : List ℕ) → IsFrame f → s.held ≢ f ++ rest)
+          → IsPrefix (items ++ octets_of e os) (passing written b.appended) → k.rest ++ octets_of e os ≡ octets_of s.link.epoch (cond (uses s.link e) (s.held ++ os) s.held)
+      at [] j same whole is = append-nil k.rest ∙ (same ∙ ap (octets_of s.link.epoch) (sym (empty_feed (uses s.link e) s.held)))
+      at (o ∷ os) j same whole is =
+          let n : ℕ = s.link.epoch in
+          let there : IsPrefix (passing written a.taken ++ (octets_of n s.held ++ octets_of e (o ∷ os))) (passing written b.appended) =
+          subst (λ w. IsPrefix w (passing written b.appended)) (ap (λ w. w ++ octets_of e (o ∷ os)) (k.passed ∙ ap (λ w. passing written a.taken ++ w) same) ∙ append_assoc (passing written a.taken) (octets_of n s.held) (octets_of e (o ∷ os))) is in
+          let stale : e ≡ n = laws.no_stale written framing a b x.mine x.theirs (own (here j)) (all_frames u b.appended all) e o os s.held whole (subst (λ i. IsPrefix (passing written a.taken ++ (octets_of i s.held ++ octets_of e (o ∷ os))) (passing written b.appended)) x.reads.epoch there) ∙ sym x.reads.epoch in
+          let hit : (e == n) ≡ true = grind (arith, nat_tests, stale) in
+          let used : uses s.link e ≡ true = ap (λ p. is_joined p && (e == n)) j ∙ hit in
+          ap (λ w. w ++ octets_of e (o ∷ os)) same ∙ (ap (λ i. octets_of n s.held ++ octets_of i (o ∷ os)) stale ∙ (sym (octets_more n s.held (o ∷ os)) ∙ ap (λ c. octets_of n (cond c (s.held ++ o ∷ os) s.held)) (sym used)))

@@ -6,3 +6,4 @@ pub mod Doing
 pub mod Kept
 pub mod Said
 pub mod Snapshots
+pub mod LawsBelow

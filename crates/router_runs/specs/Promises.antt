@@ -1,5 +1,5 @@
 -- What holds of every run of a network of routers: first in, first out in each incarnation of a session, from end to end.
-use Rattle.std.specs.Prelude.{ℕ, ◌≡◌, Bool, true, false, List}
+use Rattle.std.specs.Prelude.{ℕ, ◌≡◌, true, false, List}
 use mathlib.Core.List.{IsPrefix}
 use Rattle.bgp_codec.specs.declared.message.Message.{Message}
 use Rattle.run_model.specs.Links.{said}

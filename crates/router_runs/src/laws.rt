@@ -1,18 +1,54 @@
 //! The laws of runs of a network of routers. Each is the contract of a function with no work of its own.
 
+ghost use Rattle.bgp_codec.specs.Header.{IsFrame};
+ghost use Rattle.router_runs.specs.LawsBelow.{LawsBelow};
 ghost use Rattle.router_runs.specs.Promises.{NothingIsActedOnAfterTheClose, UpdatesPassInOrder};
 ghost use Rattle.router_runs.specs.Said.{RunsKeep, SaidIsGood};
 ghost use Rattle.router_runs.specs.Snapshots.{CloseLosesTheRecording};
 
-use prefix_lanes::{a_prefix_is_its_bits, masking_clears_bits};
-use router_model::laws::leaving_loses_the_recording;
+use bgp_codec::Message;
+use bgp_codec::laws::{a_peers_writing_is_read, header_is_its_front, written_has_a_header};
+use router_model::laws::{
+    leaving_loses_the_recording, linked_routers_are_peers, steps_append_what_they_say,
+};
+use run_model::{
+    Framing, end_facts_hold, entries_add_up, joined_heard_its_own, moves_keep_end_facts,
+    no_octet_is_stale, octets_are_entries, octets_of_an_incarnation, session_events_lead_on,
+    sessions_are_link_runs,
+};
+
+/// Frames of BGP-4 (RFC 4271 section 4.1): octets with a good header whose Length is their number.
+struct Frames;
+
+impl Framing for Frames {
+    ghost is_frame = { IsFrame };
+}
+
+/// What the crates below say of link ends, sessions, octets and the steps of one router.
+fn laws_below()
+    ensures { LawsBelow }
+{
+    header_is_its_front();
+    written_has_a_header();
+    a_peers_writing_is_read();
+    end_facts_hold::<Message>();
+    moves_keep_end_facts::<Message>();
+    entries_add_up::<Message>();
+    joined_heard_its_own::<Message>();
+    session_events_lead_on::<Message>();
+    sessions_are_link_runs::<Message>();
+    octets_are_entries::<Message, Frames>();
+    no_octet_is_stale::<Message, Frames>();
+    octets_of_an_incarnation::<Message>();
+    linked_routers_are_peers();
+    steps_append_what_they_say();
+}
 
 /// Every message that a router may say is written as a frame, and each of its peers reads it back.
 pub fn what_is_said_is_good()
     ensures { SaidIsGood }
 {
-    a_prefix_is_its_bits();
-    masking_clears_bits();
+    laws_below();
 }
 
 /// What is kept through a run holds of every state of it: a run of the sessions of the laws of runs leads to the two sides of each
@@ -20,8 +56,7 @@ pub fn what_is_said_is_good()
 pub fn runs_keep()
     ensures { RunsKeep }
 {
-    a_prefix_is_its_bits();
-    masking_clears_bits();
+    laws_below();
 }
 
 /// Updates pass in order. In every run, from each router to each peer and for each incarnation: the messages used are a beginning of
@@ -33,8 +68,7 @@ pub fn runs_keep()
 pub fn updates_pass_in_order()
     ensures { UpdatesPassInOrder }
 {
-    a_prefix_is_its_bits();
-    masking_clears_bits();
+    laws_below();
 }
 
 /// Nothing is acted on after the close: where an event of a router leaves Established, no later one acts on an UPDATE of that
@@ -42,8 +76,7 @@ pub fn updates_pass_in_order()
 pub fn nothing_is_acted_on_after_the_close()
     ensures { NothingIsActedOnAfterTheClose }
 {
-    a_prefix_is_its_bits();
-    masking_clears_bits();
+    laws_below();
 }
 
 /// A close loses the recording. Where a session leaves Established while its router records a snapshot, the router queues

@@ -1,20 +1,19 @@
 -- What was sent is what was acted on, then what is on its way, at each moment.
-use Rattle.std.proofs.Common.{◌≡◌, ℕ, ◌+◌, ◌<◌, ◌≤◌, Bool, true, false, List, [], ◌∷◌, ◌++◌, length, take, drop, Option, Some, None, refl, sym, ap, subst, ◌∙◌, append_assoc, arith, inl, inr, ◌⊎◌}
+use Rattle.std.proofs.Common.{◌≡◌, ℕ, ◌≤◌, Bool, true, false, List, [], ◌∷◌, ◌++◌, length, take, drop, Option, Some, None, refl, sym, ap, subst, ◌∙◌, append_assoc, arith, inl}
 use Rattle.std.specs.Prelude.{nat_le, ◌==◌, ◌&&◌, ◌||◌, not, is_some, IsTrue}
 use Rattle.std.specs.List.{concat, AllByRecursion}
 use Rattle.std.proofs.lemmas.Bool.{leb-true, le-leb, eqb-true}
 use Rattle.std.proofs.lemmas.List.{append-nil, take-append-drop, length-append, length-take-le, drop_all}
 use Rattle.std.proofs.lemmas.List.Folds.{concat-append}
 use Rattle.bgp_codec.specs.declared.fault.Fault.{Fault}
-use Rattle.bgp_codec.specs.Header.{header_fault, length_field, kind_field, IsFrame, HeaderIsItsFront}
+use Rattle.bgp_codec.specs.Header.{header_fault, length_field, IsFrame, HeaderIsItsFront}
 use Rattle.bgp_framing.specs.Frames.{Splits, SplitsOnce, SplitsInPieces, SplitsIntoNothing}
 use Rattle.bgp_framing.specs.Held.{is_waiting}
-use Rattle.world_core.specs.declared.event.Side.{Side}
 use Rattle.world_core.specs.declared.event.Side.TheVariants.{Left, Right}
 use Rattle.world_core.specs.declared.event.DuoEvent.{DuoEvent}
 use Rattle.world_core.specs.declared.event.DuoEvent.TheVariants.{Send, Put, Take, Handle}
-use Rattle.world_core.specs.declared.event.Stepped.TheVariants.{Did, Nothing}
-use Rattle.world_core.specs.Duo.{End, Ends, opening, empty_end, is_update, has_frame, sends, puts, handles, gains_piece, loses_piece, end_put, end_handle, end_step, end_take, taken, unless_waiting, step, run, end_of, other}
+use Rattle.world_core.specs.declared.event.Stepped.TheVariants.{Did}
+use Rattle.world_core.specs.Duo.{End, Ends, opening, empty_end, is_update, has_frame, sends, puts, handles, gains_piece, loses_piece, end_put, end_handle, end_step, taken, unless_waiting, step, run}
 use Rattle.world_core.specs.SentAndActed.{Begins, ActsInOrder, AlwaysInOrder, NoFaultWaits}
 
 -- what a sent is what b acted on, what b holds, what stands in the pipe, and what waits in the outbox

@@ -1,15 +1,15 @@
 -- What is played comes out again, and keeps its promises.
-use Rattle.std.proofs.Common.{◌≡◌, ℕ, ◌+◌, Bool, true, false, List, [], ◌∷◌, ◌++◌, refl, ap, sym, ◌∙◌, subst}
+use Rattle.std.proofs.Common.{◌≡◌, ℕ, ◌+◌, true, List, [], ◌∷◌, ◌++◌, refl, ap, sym, subst}
 use Rattle.std.specs.Prelude.{Ok}
 use mathlib.Core.List.{IsPrefix}
-use Rattle.router_model.specs.Settings.{Setting, IsSetting, linked}
+use Rattle.router_model.specs.Settings.{Setting, linked}
 use Rattle.router_model.specs.State.{Router}
 use Rattle.router_model.specs.Step.{RouterEvent}
 use Rattle.router_model.specs.Laws.{AnswersAreSteps, LinkedRoutersArePeers}
 use Rattle.router_runs.specs.Promises.{UpdatesPassInOrder}
 use Rattle.world_core.specs.declared.schedule.Event.{Event}
 use Rattle.world_core.specs.World.{World, WorldAnswer, Does, Nothing, Stops, new_world, world_answer, world_after, world_of, onward, played, IsReplayed, IsRunOfWorld}
-use Rattle.world_core.specs.Keeping.{KeepsItsPromises, PlayedWorldsKeepTheirPromises, WhatIsPlayedIsReplayed, StepsAreReplayed}
+use Rattle.world_core.specs.Keeping.{PlayedWorldsKeepTheirPromises, WhatIsPlayedIsReplayed, StepsAreReplayed}
 use Rattle.world_core.proofs.Playing.{what_is_played_is_a_run}
 
 -- ---- one event more

@@ -1,5 +1,5 @@
 -- Two ends of one link as plain data, and what each event does to them.
-use Rattle.std.specs.Prelude.{◌≡◌, ℕ, nat_le, nat_eq, ◌==◌, ◌&&◌, not, Bool, true, false, List, [], ◌∷◌, ◌++◌, length, take, drop, is_some, Result, Ok, Err, if◌then◌else◌}
+use Rattle.std.specs.Prelude.{ℕ, nat_le, ◌==◌, ◌&&◌, not, Bool, true, false, List, [], ◌∷◌, ◌++◌, length, take, drop, is_some, Result, Ok, Err, if◌then◌else◌}
 use Rattle.bgp_codec.specs.Header.{header_fault, length_field, kind_field}
 use Rattle.bgp_framing.specs.Held.{is_waiting}
 use Rattle.world_core.specs.declared.event.Side.{Side}

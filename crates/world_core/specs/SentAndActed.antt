@@ -1,7 +1,6 @@
 -- What is acted on is what was sent, in order.
-use Rattle.std.specs.Prelude.{◌≡◌, ℕ, List, ◌++◌, false, IsTrue, is_some, None}
+use Rattle.std.specs.Prelude.{◌≡◌, ℕ, List, ◌++◌, IsTrue}
 use Rattle.std.specs.List.{AllByRecursion}
-use Rattle.bgp_codec.specs.Header.{header_fault}
 use Rattle.world_core.specs.declared.event.Side.{Side}
 use Rattle.world_core.specs.declared.event.DuoEvent.{DuoEvent}
 use Rattle.world_core.specs.Duo.{Ends, opening, run, end_of, other, is_update, has_frame}

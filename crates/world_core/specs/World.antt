@@ -1,8 +1,6 @@
 -- The routers of a network with the pipes between them and the offers that they made: what each event of a schedule answers and
 -- leaves, and what holds of every world that was played.
-use Rattle.std.specs.Prelude.{ℕ, ◌+◌, ◌≡◌, ◌==◌, max, nat_lt, ◌&&◌, true, cond, List, [], ◌∷◌, ◌++◌, map, drop, Option, None, Some, Result, Ok, Err, MatchResult, slice_get}
-use mathlib.Core.List.{IsPrefix}
-use mathlib.Core.Logic.{◌⊎◌}
+use Rattle.std.specs.Prelude.{ℕ, ◌+◌, ◌≡◌, ◌==◌, max, nat_lt, ◌&&◌, cond, List, [], ◌∷◌, ◌++◌, map, drop, Option, None, Some, Result, Ok, Err, MatchResult, slice_get}
 use Rattle.ranked_policy.specs.Plans.{IsRouter}
 use Rattle.run_model.specs.Network as runs
 use Rattle.run_model.specs.Network.{NetworkEvent, alone, puts, takes, offers}
@@ -12,13 +10,13 @@ use Rattle.router_model.specs.declared.refusal.RouterError.{RouterError}
 use Rattle.router_model.specs.declared.refusal.RouterError.TheVariants as error
 use Rattle.router_model.specs.declared.refusal.Stepped.{Stepped}
 use Rattle.router_model.specs.declared.refusal.Stepped.TheVariants as stepped
-use Rattle.router_model.specs.Settings.{Setting, IsSetting, linked, is_router}
+use Rattle.router_model.specs.Settings.{Setting, linked, is_router}
 use Rattle.router_model.specs.State.{new_router}
 use Rattle.router_model.specs.Step.{Own, RouterEvent, after, next_offer}
 use Rattle.router_model.specs.Step as step
 use Rattle.router_model.specs.Calls.{Stamped, Call, Obey, Tick, Put, Take, Handle, Decide, Advertise, Answer, Steps, Refuses, answer, stamp_of, greatest_stamp}
 use Rattle.router_model.specs.Calls as calls
-use Rattle.router_runs.specs.Runs.{RunOrder, RunState, IsRunTo, logged_steps}
+use Rattle.router_runs.specs.Runs.{RunOrder, RunState, IsRunTo}
 use Rattle.world_core.specs.declared.schedule.Event.{Event}
 use Rattle.world_core.specs.declared.schedule.Event.TheVariants as schedule
 use Rattle.world_core.specs.declared.schedule.StepFault.{StepFault}
