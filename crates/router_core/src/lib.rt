@@ -1,4 +1,12 @@
-//! One router.
+//! One router: its sessions with its peers, and what it puts, takes and handles.
+//!
+//! Its contract: each call answers, and leaves the router, as `router_model::specs::Calls` says, in
+//! every setting of the router's network: the step is done, there was nothing to do, or it is
+//! refused, and then the router is as it was (`specs/Views`). Want of memory is answered only where
+//! a growth was refused, after every other refusal.
+//!
+//! Each draft is made by value, judged, given room, and then carried out by appends alone
+//! (`router_side`).
 #![tactic(auto)]
 
 mod opening;
@@ -8,3 +16,6 @@ mod router;
 pub use outbox::{Item, PieceOctets, What};
 pub use router::Router;
 pub use router_model::{Command, RouterError, Stepped};
+
+#[cfg(test)]
+mod tests;

@@ -1,3 +1,4 @@
 pub mod Said
 pub mod Sizes
 pub mod FrontLemmas
+pub mod Fresh

@@ -1,3 +1,4 @@
 pub mod Sayings
 pub mod Drafts
 pub mod SideOf
+pub mod Freshness

@@ -17,6 +17,7 @@
 mod at_hand;
 mod draft;
 mod enqueue;
+pub mod laws;
 mod reading;
 mod say;
 mod side;

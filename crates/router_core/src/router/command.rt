@@ -47,7 +47,7 @@ impl Router<'_> {
     }
 
     // The session with a peer starts.
-    fn start(&mut self, peer: Asn) -> Result<Stepped, RouterError>
+    pub(crate) fn start(&mut self, peer: Asn) -> Result<Stepped, RouterError>
         ensures answers { Answers result self.old (Obey (Start peer)) self.new }
         ensures same { IsSame self.old self.new }
     {
@@ -62,7 +62,7 @@ impl Router<'_> {
     }
 
     // It stops.
-    fn stop(&mut self, peer: Asn) -> Result<Stepped, RouterError>
+    pub(crate) fn stop(&mut self, peer: Asn) -> Result<Stepped, RouterError>
         ensures answers { Answers result self.old (Obey (Stop peer)) self.new }
         ensures same { IsSame self.old self.new }
     {
@@ -77,7 +77,7 @@ impl Router<'_> {
     }
 
     // It stops, and starts again.
-    fn reset(&mut self, peer: Asn) -> Result<Stepped, RouterError>
+    pub(crate) fn reset(&mut self, peer: Asn) -> Result<Stepped, RouterError>
         ensures answers { Answers result self.old (Obey (Reset peer)) self.new }
         ensures same { IsSame self.old self.new }
     {

@@ -1,0 +1,56 @@
+-- Histories of a side by incarnation: what an incarnation has before its session is Established, and what stays so.
+use Rattle.std.specs.Prelude.{ℕ, ◌≡◌, ◌<◌, ◌≤◌, Bool, true, false, List, [], ◌⊎◌}
+use Rattle.bgp_codec.specs.declared.message.Message.{Message}
+use Rattle.link_epoch.specs.declared.link_end.Phase.TheVariants.{Shut}
+use Rattle.session_fsm.specs.declared.state.State.{State}
+use Rattle.session_fsm.specs.declared.state.State.TheVariants.{Idle, Connect, Active, OpenSent, OpenConfirm, Established}
+use Rattle.session_fsm.specs.declared.event.FsmEvent.TheVariants.{ManualStart, ManualStop}
+use Rattle.router_model.specs.Sides.{Side, Draft, AtHand, NoMessage, met, reset, second, carried, is_up}
+
+-- the session is on its way to Established
+abbrev pub is_opening : State → Bool
+is_opening Idle = false
+is_opening Connect = true
+is_opening Active = false
+is_opening OpenSent = true
+is_opening OpenConfirm = true
+is_opening Established = false
+
+-- the session has no incarnation of its link
+abbrev pub is_away : State → Bool
+is_away Idle = true
+is_away Connect = false
+is_away Active = true
+is_away OpenSent = false
+is_away OpenConfirm = false
+is_away Established = false
+
+-- nothing was acted on or sent in this incarnation
+abbrev pub IsUnsaid : Side → ℕ → Type 0
+IsUnsaid s n = (s.acted n ≡ []) × (s.sent n ≡ [])
+
+-- nothing is acted on or sent before the session of an incarnation is Established
+pub record IsFresh (s : Side) : Type 0 where
+  pub later : (n : ℕ) → s.link.epoch < n → IsUnsaid s n
+  pub opening : is_opening s.session.state ≡ true → IsUnsaid s s.link.epoch
+  pub away : is_away s.session.state ≡ true → s.link.phase ≡ Shut
+
+-- a session that comes up, or is up in another incarnation than before, has said and heard nothing in it
+abbrev pub ComesUpUnsaid : Side → Draft → Type 0
+ComesUpUnsaid s a = is_up (carried NoMessage s a) ≡ true → (is_up s ≡ false) ⊎ (s.link.epoch < a.link.epoch) → IsUnsaid s a.link.epoch
+
+-- a draft that keeps this
+pub record KeepsFresh (s : Side) (h : AtHand) (a : Draft) : Type 0 where
+  pub fresh : IsFresh (carried h s a)
+  pub up : ComesUpUnsaid s a
+  pub onward : s.link.epoch ≤ a.link.epoch
+
+-- a start, a stop, a reset and a second keep it, where no dial passes the greatest incarnation
+pub record EventsKeepFresh (own_open : Message) (s : Side) : Type 0 where
+  pub start : (met own_open s ManualStart).overflows ≡ false → KeepsFresh s NoMessage (met own_open s ManualStart)
+  pub stop : KeepsFresh s NoMessage (met own_open s ManualStop)
+  pub reset : (reset own_open s).overflows ≡ false → KeepsFresh s NoMessage (reset own_open s)
+  pub second : (second own_open s).overflows ≡ false → KeepsFresh s NoMessage (second own_open s)
+
+abbrev pub SessionsKeepFresh : Type 0
+SessionsKeepFresh = (own_open : Message) (s : Side) → IsFresh s → EventsKeepFresh own_open s
