@@ -9,13 +9,13 @@ ghost use Rattle.run_model.specs.Offers as model;
 ghost use Rattle.snap_collector.specs.Verdicts.{any_lost, abandoned_or, all_parts, decides, has_part, pending, in_flight, mismatch, fault_at, first_fault, moving_or_settled, verdict};
 ghost use Rattle.snap_collector.specs.Collecting.{member_of, made_in, why_of, outcome_of, has_offered};
 
-use crate::members::MemberOf;
+use crate::members::Member;
 use crate::outcome::{Outcome, Why};
 use ranked_policy::Asn;
 use snap_marker::{Lost, Offer};
 
-/// Whether the router has offered.
-pub(crate) fn has_offered(offers: &[Offer], router: Asn) -> bool
+/// Whether one of the offers is the router's.
+pub fn has_offered(offers: &[Offer], router: Asn) -> bool
     ensures { result ≡ has_offered (made_in offers.now) router }
 {
     for offer in offers {
@@ -59,7 +59,7 @@ fn has_part(offers: &[Offer], router: Asn) -> bool
 }
 
 /// Whether every router has offered a part.
-fn all_parts(members: &[MemberOf], offers: &[Offer]) -> bool
+fn all_parts(members: &[Member], offers: &[Offer]) -> bool
     ensures { result ≡ all_parts (map member_of members.now) (made_in offers.now) }
 {
     for member in members {
@@ -70,8 +70,9 @@ fn all_parts(members: &[MemberOf], offers: &[Offer]) -> bool
     true
 }
 
-/// Whether the offers decide their snapshot: one is a loss, or every router has offered a part.
-pub(crate) fn decides(members: &[MemberOf], offers: &[Offer]) -> bool
+/// Whether the offers for one number decide their snapshot: one is a loss, or every router has
+/// offered a part. It takes no memory.
+pub fn decides(members: &[Member], offers: &[Offer]) -> bool
     ensures { result ≡ decides (map member_of members.now) (made_in offers.now) }
 {
     match first_lost(offers) {
@@ -169,7 +170,7 @@ fn first_mismatch(offers: &[Offer], router: Asn, peers: &[Asn]) -> Option<Asn>
 }
 
 /// The first fault of a router's part.
-fn fault_at(offers: &[Offer], member: &MemberOf) -> Option<Why>
+fn fault_at(offers: &[Offer], member: &Member) -> Option<Why>
     ensures { option_map why_of result ≡ fault_at (made_in offers.now) (member_of member.now) }
 {
     if pending(offers, member.router) {
@@ -185,7 +186,7 @@ fn fault_at(offers: &[Offer], member: &MemberOf) -> Option<Why>
 }
 
 /// The outcome of parts of every router: the first fault of them, or settled.
-fn faults(members: &[MemberOf], offers: &[Offer]) -> Outcome
+fn faults(members: &[Member], offers: &[Offer]) -> Outcome
     ensures { outcome_of result ≡ moving_or_settled (first_fault (map member_of members.now) (made_in offers.now)) }
 {
     for member in members {
@@ -199,8 +200,9 @@ fn faults(members: &[MemberOf], offers: &[Offer]) -> Outcome
     Outcome::Settled
 }
 
-/// The verdict on the offers for one snapshot.
-pub(crate) fn verdict(members: &[MemberOf], offers: &[Offer]) -> Outcome
+/// The verdict on the offers for one number, in the order in which they came, none of them behind
+/// the one that decided. It takes no memory.
+pub fn verdict(members: &[Member], offers: &[Offer]) -> Outcome
     ensures { outcome_of result ≡ verdict (map member_of members.now) (made_in offers.now) }
 {
     match first_lost(offers) {

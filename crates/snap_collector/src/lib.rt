@@ -1,13 +1,26 @@
-//! x
+//! How a snapshot comes out (Chandy and Lamport 1985): the verdict on what routers offer of it.
+//!
+//! Each router of a network offers, for the number of a snapshot, either the part that it recorded
+//! or that its recording was lost. The first loss abandons the snapshot; a part of every router
+//! decides it else. Then it is moving at the first fault of the parts, routers rising: a part that is
+//! pending, a channel that is not empty, two parts that name different incarnations of one link; or
+//! it is settled, where there is none.
+//!
+//! The one contract: [`verdict`] is that function of the offers, [`decides`] whether they decide; and
+//! the verdict is how the snapshot comes out by the laws of network runs, of all offers made, those
+//! that came late among them ([`laws::verdicts_are_outcomes`]).
+//!
+//! Left out: who keeps the offers, and for which numbers.
 #![tactic(auto)]
-mod collector;
+
 mod judging;
 pub mod laws;
 mod members;
 mod outcome;
-mod refusal;
 
-pub use collector::Snapshot;
-pub use members::MemberOf;
-pub use outcome::{Outcome, Taken, Why};
-pub use refusal::CollectError;
+pub use judging::{decides, has_offered, verdict};
+pub use members::{Member, is_member};
+pub use outcome::{Outcome, Why};
+
+#[cfg(test)]
+mod tests;

@@ -8,7 +8,7 @@ use ranked_policy::{Asn, Items};
 
 /// A router, and its peers.
 #[derive(Debug, Drop)]
-pub struct MemberOf {
+pub struct Member {
     /// The router.
     pub router: Asn,
     /// Its peers, rising.
@@ -16,7 +16,7 @@ pub struct MemberOf {
 }
 
 /// Whether a router is one of them.
-pub(crate) fn is_member(members: &[MemberOf], router: Asn) -> bool
+pub fn is_member(members: &[Member], router: Asn) -> bool
     ensures { result ≡ is_member (map member_of members.now) router }
 {
     for member in members {

@@ -33,14 +33,3 @@ pub enum Outcome {
     /// Every router has a part, and none has a fault.
     Settled,
 }
-
-/// What became of an offer.
-#[derive(Clone, Copy, Debug, PartialEq, Eq)]
-pub enum Taken {
-    /// It is kept, and the snapshot is not decided yet.
-    Kept,
-    /// It is kept, and has decided the snapshot.
-    Decided,
-    /// The snapshot was decided before: it is not kept.
-    Late,
-}
