@@ -7,3 +7,4 @@ pub mod Kept
 pub mod Said
 pub mod Snapshots
 pub mod LawsBelow
+pub mod Journals
