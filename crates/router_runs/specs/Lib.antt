@@ -7,3 +7,5 @@ pub mod Kept
 pub mod Said
 pub mod Snapshots
 pub mod LawsBelow
+pub mod Model
+pub mod Acts
