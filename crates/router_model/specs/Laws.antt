@@ -1,4 +1,4 @@
--- What the definitions say together.
+-- What the definitions of one router say together.
 use Rattle.std.specs.Prelude.{ℕ, ◌≡◌, ◌≢◌, ◌<◌, max, nat_eq, true, false, ◌++◌, List, [], ◌∷◌}
 use Rattle.std.specs.List.{list_any}
 use Rattle.bgp_codec.specs.declared.message.Message.{Message}
@@ -48,7 +48,7 @@ AnswersAreSteps =
     (g : Setting) → IsNetwork g.net → (u : ℕ) (x : Stamped) (call : Call) (e : RouterEvent)
     → answer g u x call ≡ Steps e → IsEventOf call e × Step g u x.router e (after g u x.router e)
 
--- and a call is idle exactly where none of the events that it can be may come
+-- and a call is idle only where none of the events that it can be may come
 abbrev pub IdleWhereNothingMayCome : Type 0
 IdleWhereNothingMayCome =
     (g : Setting) → IsNetwork g.net → (u : ℕ) (x : Stamped) (call : Call)

@@ -17,3 +17,4 @@ pub mod Saying
 pub mod Keeping
 pub mod Leaving
 pub mod Losing
+pub mod Acts

@@ -8,3 +8,5 @@ pub mod Said
 pub mod Snapshots
 pub mod LawsBelow
 pub mod Journals
+pub mod Model
+pub mod Acts

@@ -2,6 +2,7 @@
 
 ghost use Rattle.bgp_codec.specs.Header.{IsFrame};
 ghost use Rattle.router_runs.specs.LawsBelow.{LawsBelow};
+ghost use Rattle.router_runs.specs.Acts.{QuietStepsAreActs};
 ghost use Rattle.router_runs.specs.Promises.{NothingIsActedOnAfterTheClose, UpdatesPassInOrder};
 ghost use Rattle.router_runs.specs.Said.{RunsKeep, SaidIsGood};
 ghost use Rattle.router_runs.specs.Snapshots.{CloseLosesTheRecording};
@@ -88,4 +89,12 @@ pub fn close_loses_the_recording()
     ensures { CloseLosesTheRecording }
 {
     leaving_loses_the_recording();
+}
+
+/// A step of a side that tells no UPDATE and neither sends nor takes a marker is a list of events of the network of the laws
+/// of runs; they may come, and leave everything else as it was.
+pub fn quiet_steps_are_acts()
+    ensures { QuietStepsAreActs }
+{
+    laws_below();
 }
