@@ -1,9 +1,9 @@
 -- An event moves a side to a greater incarnation, or its session down: from its way to Established, to Established, to away.
-use Rattle.std.proofs.Common.{◌≡◌, ◌≢◌, ℕ, ◌+◌, ◌<◌, ◌≤◌, ◌==◌, Bool, true, false, cond, ◌||◌, ◌&&◌, not, List, [], ◌∷◌, Option, None, Some, refl, sym, ap, subst, ◌∙◌, arith, inl, inr, ◌⊎◌}
+use Rattle.std.proofs.Common.{◌≡◌, ℕ, ◌+◌, ◌<◌, ◌≤◌, ◌==◌, Bool, true, false, cond, ◌&&◌, not, List, [], ◌∷◌, Option, None, Some, refl, sym, ap, subst, ◌∙◌, arith, inl, inr, ◌⊎◌}
 use Rattle.std.specs.Prelude.{nat_lt, max}
 use Rattle.std.proofs.lemmas.Bool.Decides.{nat_tests}
 use Rattle.bgp_codec.specs.declared.message.Message.{Message}
-use Rattle.link_epoch.specs.Ends.{LinkView, is_awaited, next_number, dialled, hung_up, number_shut}
+use Rattle.link_epoch.specs.Ends.{LinkView, is_awaited, next_number, number_shut}
 use Rattle.link_epoch.specs.declared.link_end.Phase.TheVariants.{Shut}
 use Rattle.session_fsm.specs.declared.state.State.{State}
 use Rattle.session_fsm.specs.declared.state.State.TheVariants.{Idle, Connect, Active, OpenSent, OpenConfirm, Established}
@@ -12,7 +12,7 @@ use Rattle.session_fsm.specs.declared.event.FsmEvent.TheVariants as event
 use Rattle.session_fsm.specs.declared.actions.Action.{Action}
 use Rattle.session_fsm.specs.declared.actions.Action.TheVariants as action
 use Rattle.session_fsm.specs.Table.{SessionView, Outcome, on_state, on_event}
-use Rattle.router_model.specs.Sides.{Draft, AtHand, NoMessage, HasFault, HasUpdate, does, does_all, meets, joins, obeys, obeys_all, comes, dials, hangs_up, shuts, tells_fault, fits}
+use Rattle.router_model.specs.Sides.{Draft, AtHand, NoMessage, HasFault, HasUpdate, does, meets, obeys, obeys_all, comes, hangs_up, shuts, tells_fault, fits}
 use Rattle.bgp_codec.specs.declared.update.Update.{Update}
 use Rattle.session_fsm.specs.Timers.{ticked, runs_out}
 use Rattle.router_model.specs.Sides.{Side, acted_with, is_established, is_up, draft_of, met, reset, second, expires}
@@ -226,7 +226,7 @@ rank_up : (c d : State) → rank c ≤ rank d → is_established c ≡ true → 
 rank_up c d l h k = grind arith
 
 not_onward : (s : Side) (a : Draft) → Moves s.session.state s.link a → s.link.epoch ≤ a.link.epoch
-not_onward s a m = elim m.onward [ | inl t ↦ omega (arith, t) | inr t ↦ omega (arith, t.0) ]
+not_onward s a m = elim m.onward [ inl t ↦ omega (arith, t) | inr t ↦ omega (arith, t.0) ]
 
 unsaid_on : (s : Side) (a : Draft) → IsFresh s → Moves s.session.state s.link a → is_opening a.session.state ≡ true → IsUnsaid s a.link.epoch
 unsaid_on s a f m o =
@@ -240,9 +240,9 @@ unsaid_up s a f m u w =
     elim m.onward [
       | inl t ↦ f.later a.link.epoch t
       | inr t ↦ elim w [
-            | inl d ↦ subst (IsUnsaid s) (sym t.0) (f.opening (rank_up a.session.state s.session.state t.1 u d))
-            | inr d ↦ absurd (omega (arith, d, t.0))
-          ]
+        | inl d ↦ subst (IsUnsaid s) (sym t.0) (f.opening (rank_up a.session.state s.session.state t.1 u d))
+        | inr d ↦ absurd (omega (arith, d, t.0))
+      ]
     ]
 
 pub keeps_fresh : (s : Side) (a : Draft) → IsFresh s → Moves s.session.state s.link a → KeepsFresh s NoMessage a
@@ -276,8 +276,8 @@ met_moves o s e f k h = comes_moves o NoMessage (draft_of s.session s.link) e f.
 both_move : (c : State) (l : LinkView) (a b : Draft) → Moves c l a → Moves a.session.state a.link b → Moves c l b
 both_move c l a b m n = record {
   onward = elim n.onward [
-    | inl t ↦ inl (elim m.onward [ | inl u ↦ omega (arith, t, u) | inr u ↦ omega (arith, t, u.0) ])
-    | inr t ↦ elim m.onward [ | inl u ↦ inl (omega (arith, t.0, u)) | inr u ↦ inr (t.0 ∙ u.0, omega (arith, t.1, u.1)) ]
+    | inl t ↦ inl (elim m.onward [ inl u ↦ omega (arith, t, u) | inr u ↦ omega (arith, t, u.0) ])
+    | inr t ↦ elim m.onward [ inl u ↦ inl (omega (arith, t.0, u)) | inr u ↦ inr (t.0 ∙ u.0, omega (arith, t.1, u.1)) ]
   ];
   away = n.away;
 }

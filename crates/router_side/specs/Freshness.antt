@@ -1,5 +1,5 @@
 -- Histories of a side by incarnation: what an incarnation has before its session is Established, and what stays so.
-use Rattle.std.specs.Prelude.{ℕ, ◌≡◌, ◌<◌, ◌≤◌, Bool, true, false, List, [], ◌⊎◌}
+use Rattle.std.specs.Prelude.{ℕ, ◌≡◌, ◌<◌, ◌≤◌, Bool, true, false, [], ◌⊎◌}
 use Rattle.bgp_codec.specs.declared.message.Message.{Message}
 use Rattle.link_epoch.specs.declared.link_end.Phase.TheVariants.{Shut}
 use Rattle.session_fsm.specs.declared.state.State.{State}
