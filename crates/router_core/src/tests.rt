@@ -94,47 +94,93 @@ fn put(router: &mut Router<'_>) -> Result<Option<Item>, RouterError> {
     Ok(Some(item))
 }
 
-// The incarnation of a piece, and its octets.
-fn octets_of(alloc: Global, item: Option<Item>) -> Result<Option<(u32, Vec<u8>)>, AllocError> {
-    let mut octets = Vec::new(alloc);
-    let Some(item) = item else {
-        return Ok(None);
-    };
-    match item.what {
-        What::Piece(epoch, piece) => {
-            octets.extend_from_slice(piece.as_slice())?;
-            Ok(Some((epoch, octets)))
-        }
-        What::Dial(_) | What::Mark(_, _) | What::Shut(_) => Ok(None),
+// Whether an item was taken, and something done with it.
+fn takes(router: &mut Router<'_>, what: What) -> bool {
+    take(router, what) == Ok(Stepped::Did)
+}
+
+// Whether a piece with this message was taken.
+fn takes_message(
+    alloc: Global,
+    router: &mut Router<'_>,
+    epoch: u32,
+    tail: &[u8],
+) -> Result<bool, Fail> {
+    let what = piece(alloc, epoch, tail)?;
+    Ok(takes(router, what))
+}
+
+// Whether a piece with this message was taken, and the message handled.
+fn obeys(alloc: Global, router: &mut Router<'_>, epoch: u32, tail: &[u8]) -> Result<bool, Fail> {
+    let taken = takes_message(alloc, router, epoch, tail)?;
+    Ok(taken && router.handle(2) == Ok(Stepped::Did))
+}
+
+// Whether the next item is the Dial of a number.
+fn puts_dial(router: &mut Router<'_>, number: u32) -> bool {
+    match put(router) {
+        Ok(Some(item)) => match item.what {
+            What::Dial(dialled) => dialled == number,
+            What::Piece(_, _) | What::Mark(_, _) | What::Shut(_) => false,
+        },
+        Ok(None) | Err(_) => false,
     }
 }
 
-fn is_dial(item: &Option<Item>, number: u32) -> bool {
-    match item {
-        Some(
-            Item {
-                what: What::Dial(dialled),
-                ..
-            },
-        ) => *dialled == number,
-        Some(_) | None => false,
+// Whether the next item is the Shut of a number.
+fn puts_shut(router: &mut Router<'_>, number: u32) -> bool {
+    match put(router) {
+        Ok(Some(item)) => match item.what {
+            What::Shut(shut) => shut == number,
+            What::Piece(_, _) | What::Mark(_, _) | What::Dial(_) => false,
+        },
+        Ok(None) | Err(_) => false,
     }
 }
 
-fn is_shut(item: &Option<Item>, number: u32) -> bool {
-    match item {
-        Some(
-            Item {
-                what: What::Shut(shut),
-                ..
-            },
-        ) => *shut == number,
-        Some(_) | None => false,
+// Whether nothing is left to put.
+fn puts_nothing(router: &mut Router<'_>) -> bool {
+    match put(router) {
+        Ok(None) => true,
+        Ok(Some(_)) | Err(_) => false,
     }
 }
 
-// Both start; 2 takes the Dial of 1, whose stamp is 2, with stamp 3, so that what it puts next has stamp
-// 5. After 1 took the Dial of 2, its next piece is its OPEN.
+// Whether the next item is a piece of an incarnation with just these octets.
+fn puts_octets(router: &mut Router<'_>, epoch: u32, octets: &[u8]) -> bool {
+    match put(router) {
+        Ok(Some(item)) => match item.what {
+            What::Piece(of, piece) => of == epoch && piece.as_slice() == octets,
+            What::Dial(_) | What::Mark(_, _) | What::Shut(_) => false,
+        },
+        Ok(None) | Err(_) => false,
+    }
+}
+
+// Whether the next item is a piece with the router's OPEN and then this message.
+fn puts_open_and(
+    alloc: Global,
+    router: &mut Router<'_>,
+    epoch: u32,
+    tail: &[u8],
+) -> Result<bool, AllocError> {
+    let mut want = message(alloc, &OPEN_OF_ONE)?;
+    let behind = message(alloc, tail)?;
+    want.extend_from_slice(behind.as_slice())?;
+    Ok(puts_octets(router, epoch, want.as_slice()))
+}
+
+// Router 1, whose session with 2 was started and whose Dial of 1 was answered.
+fn joined(alloc: Global, net: &Network) -> Result<Router<'_>, Fail> {
+    let mut one = router(alloc, net, 1)?;
+    if one.start(2) != Ok(Stepped::Did) || !takes(&mut one, What::Dial(1)) {
+        return Err("the session starts, and is joined".into());
+    }
+    Ok(one)
+}
+
+// Both start; 2 takes the Dial of 1, whose stamp is 2. After 1 took the Dial of 2, its next piece is its
+// OPEN.
 #[test]
 fn sessions_open(rt: HostRuntime) -> Result<(), Fail> {
     let net = two_routers(rt.alloc(), 4096)?;
@@ -142,12 +188,11 @@ fn sessions_open(rt: HostRuntime) -> Result<(), Fail> {
     assert_eq!(rt; one.start(2), Ok(Stepped::Did));
     assert_eq!(rt; one.start(3), Err(RouterError::NoSuchPeer));
     let dial = put(&mut one)?;
-    assert!(rt; is_dial(&dial, 1));
     assert_eq!(rt; dial.map(|item| item.stamp), Some(2));
-    assert_eq!(rt; take(&mut one, What::Dial(1)), Ok(Stepped::Did));
-    let open = octets_of(rt.alloc(), put(&mut one)?)?;
-    assert_eq!(rt; open, Some((1, message(rt.alloc(), &OPEN_OF_ONE)?)));
-    assert!(rt; put(&mut one)?.is_none());
+    assert!(rt; takes(&mut one, What::Dial(1)));
+    let open = message(rt.alloc(), &OPEN_OF_ONE)?;
+    assert!(rt; puts_octets(&mut one, 1, open.as_slice()));
+    assert!(rt; puts_nothing(&mut one));
     Ok(())
 }
 
@@ -156,24 +201,20 @@ fn sessions_open(rt: HostRuntime) -> Result<(), Fail> {
 #[test]
 fn a_fault_in_a_header_closes(rt: HostRuntime) -> Result<(), Fail> {
     let net = two_routers(rt.alloc(), 4096)?;
-    let mut one = router(rt.alloc(), &net, 1)?;
-    assert_eq!(rt; one.start(2), Ok(Stepped::Did));
-    assert_eq!(rt; take(&mut one, What::Dial(1)), Ok(Stepped::Did));
+    let mut one = joined(rt.alloc(), &net)?;
     let mut octets = vec![in rt.alloc(); 0xfeu8; 1]?;
     octets.extend_from_slice(&[0xff; 18])?;
     let octets = PieceOctets::new(octets).ok_or("a piece has octets")?;
-    assert_eq!(rt; take(&mut one, What::Piece(1, octets)), Ok(Stepped::Did));
+    assert!(rt; takes(&mut one, What::Piece(1, octets)));
     assert_eq!(rt;
         take(&mut one, What::Dial(2)),
         Err(RouterError::Held { peer: 2 })
     );
     assert_eq!(rt; one.handle(2), Ok(Stepped::Did));
-    assert!(rt; is_dial(&put(&mut one)?, 1));
-    let mut want = message(rt.alloc(), &OPEN_OF_ONE)?;
-    want.extend_from_slice(message(rt.alloc(), &[0x00, 0x15, 0x03, 0x01, 0x01])?.as_slice())?;
-    assert_eq!(rt; octets_of(rt.alloc(), put(&mut one)?)?, Some((1, want)));
-    assert!(rt; is_shut(&put(&mut one)?, 1));
-    assert!(rt; put(&mut one)?.is_none());
+    assert!(rt; puts_dial(&mut one, 1));
+    assert!(rt; puts_open_and(rt.alloc(), &mut one, 1, &[0x00, 0x15, 0x03, 0x01, 0x01])?);
+    assert!(rt; puts_shut(&mut one, 1));
+    assert!(rt; puts_nothing(&mut one));
     assert_eq!(rt; one.handle(2), Ok(Stepped::Nothing));
     Ok(())
 }
@@ -182,22 +223,14 @@ fn a_fault_in_a_header_closes(rt: HostRuntime) -> Result<(), Fail> {
 #[test]
 fn an_open_of_another_router_closes(rt: HostRuntime) -> Result<(), Fail> {
     let net = two_routers(rt.alloc(), 4096)?;
-    let mut one = router(rt.alloc(), &net, 1)?;
-    assert_eq!(rt; one.start(2), Ok(Stepped::Did));
-    assert_eq!(rt; take(&mut one, What::Dial(1)), Ok(Stepped::Did));
+    let mut one = joined(rt.alloc(), &net)?;
     let of_three = [
         0x00, 0x1d, 0x01, 0x04, 0x00, 0x03, 0x00, 0x5a, 0x0a, 0x00, 0x00, 0x02, 0x00,
     ];
-    assert_eq!(rt;
-        take(&mut one, piece(rt.alloc(), 1, &of_three)?),
-        Ok(Stepped::Did)
-    );
-    assert_eq!(rt; one.handle(2), Ok(Stepped::Did));
-    assert!(rt; is_dial(&put(&mut one)?, 1));
-    let mut want = message(rt.alloc(), &OPEN_OF_ONE)?;
-    want.extend_from_slice(message(rt.alloc(), &[0x00, 0x15, 0x03, 0x02, 0x02])?.as_slice())?;
-    assert_eq!(rt; octets_of(rt.alloc(), put(&mut one)?)?, Some((1, want)));
-    assert!(rt; is_shut(&put(&mut one)?, 1));
+    assert!(rt; obeys(rt.alloc(), &mut one, 1, &of_three)?);
+    assert!(rt; puts_dial(&mut one, 1));
+    assert!(rt; puts_open_and(rt.alloc(), &mut one, 1, &[0x00, 0x15, 0x03, 0x02, 0x02])?);
+    assert!(rt; puts_shut(&mut one, 1));
     Ok(())
 }
 
@@ -206,62 +239,41 @@ fn an_open_of_another_router_closes(rt: HostRuntime) -> Result<(), Fail> {
 #[test]
 fn octets_of_an_old_incarnation_are_gone(rt: HostRuntime) -> Result<(), Fail> {
     let net = two_routers(rt.alloc(), 4096)?;
-    let mut one = router(rt.alloc(), &net, 1)?;
-    assert_eq!(rt; one.start(2), Ok(Stepped::Did));
-    assert_eq!(rt; take(&mut one, What::Dial(1)), Ok(Stepped::Did));
+    let mut one = joined(rt.alloc(), &net)?;
     let octets = PieceOctets::new(vec![in rt.alloc(); 0xffu8; 1]?).ok_or("a piece has octets")?;
-    assert_eq!(rt; take(&mut one, What::Piece(1, octets)), Ok(Stepped::Did));
-    assert_eq!(rt; take(&mut one, What::Shut(1)), Ok(Stepped::Did));
-    assert_eq!(rt; take(&mut one, What::Dial(2)), Ok(Stepped::Did));
-    assert_eq!(rt;
-        take(&mut one, piece(rt.alloc(), 2, &OPEN_OF_TWO)?),
-        Ok(Stepped::Did)
-    );
-    assert_eq!(rt; one.handle(2), Ok(Stepped::Did));
-    assert!(rt; is_dial(&put(&mut one)?, 1));
-    assert_eq!(rt;
-        octets_of(rt.alloc(), put(&mut one)?)?,
-        Some((1, message(rt.alloc(), &OPEN_OF_ONE)?))
-    );
-    assert!(rt; is_shut(&put(&mut one)?, 1));
-    assert!(rt; is_dial(&put(&mut one)?, 2));
-    let mut want = message(rt.alloc(), &OPEN_OF_ONE)?;
-    want.extend_from_slice(message(rt.alloc(), &ALIVE)?.as_slice())?;
-    assert_eq!(rt; octets_of(rt.alloc(), put(&mut one)?)?, Some((2, want)));
-    assert!(rt; put(&mut one)?.is_none());
+    assert!(rt; takes(&mut one, What::Piece(1, octets)));
+    assert!(rt; takes(&mut one, What::Shut(1)) && takes(&mut one, What::Dial(2)));
+    assert!(rt; obeys(rt.alloc(), &mut one, 2, &OPEN_OF_TWO)?);
+    assert!(rt; puts_dial(&mut one, 1));
+    let open = message(rt.alloc(), &OPEN_OF_ONE)?;
+    assert!(rt; puts_octets(&mut one, 1, open.as_slice()));
+    assert!(rt; puts_shut(&mut one, 1) && puts_dial(&mut one, 2));
+    assert!(rt; puts_open_and(rt.alloc(), &mut one, 2, &ALIVE)?);
+    assert!(rt; puts_nothing(&mut one));
     Ok(())
+}
+
+// The OPEN and the KEEPALIVE of 2, and the KEEPALIVE that answers, put by 1 behind its OPEN.
+fn established(alloc: Global, one: &mut Router<'_>) -> Result<bool, Fail> {
+    let opened = obeys(alloc, one, 1, &OPEN_OF_TWO)?;
+    let alive = obeys(alloc, one, 1, &ALIVE)?;
+    let dialled = puts_dial(one, 1);
+    let told = puts_open_and(alloc, one, 1, &ALIVE)?;
+    Ok(opened && alive && dialled && told)
 }
 
 // An UPDATE whose path begins with another number than the peer's: NOTIFICATION 3/11.
 #[test]
 fn an_update_of_another_router_closes(rt: HostRuntime) -> Result<(), Fail> {
     let net = two_routers(rt.alloc(), 4096)?;
-    let mut one = router(rt.alloc(), &net, 1)?;
-    assert_eq!(rt; one.start(2), Ok(Stepped::Did));
-    assert_eq!(rt; take(&mut one, What::Dial(1)), Ok(Stepped::Did));
-    assert_eq!(rt;
-        take(&mut one, piece(rt.alloc(), 1, &OPEN_OF_TWO)?),
-        Ok(Stepped::Did)
-    );
-    assert_eq!(rt; one.handle(2), Ok(Stepped::Did));
-    assert_eq!(rt;
-        take(&mut one, piece(rt.alloc(), 1, &ALIVE)?),
-        Ok(Stepped::Did)
-    );
-    assert_eq!(rt; one.handle(2), Ok(Stepped::Did));
+    let mut one = joined(rt.alloc(), &net)?;
+    assert!(rt; established(rt.alloc(), &mut one)?);
     let update =
         b"\x00\x2c\x02\x00\x00\x00\x12\x40\x01\x01\x00\x40\x02\x04\x02\x01\x00\x01\x40\x03\x04\x0a\x00\x00\x01\x10\x0a\x01";
-    assert_eq!(rt;
-        take(&mut one, piece(rt.alloc(), 1, update.as_slice())?),
-        Ok(Stepped::Did)
-    );
-    assert_eq!(rt; one.handle(2), Ok(Stepped::Did));
-    assert!(rt; is_dial(&put(&mut one)?, 1));
-    let mut want = message(rt.alloc(), &OPEN_OF_ONE)?;
-    want.extend_from_slice(message(rt.alloc(), &ALIVE)?.as_slice())?;
-    want.extend_from_slice(message(rt.alloc(), &[0x00, 0x15, 0x03, 0x03, 0x0b])?.as_slice())?;
-    assert_eq!(rt; octets_of(rt.alloc(), put(&mut one)?)?, Some((1, want)));
-    assert!(rt; is_shut(&put(&mut one)?, 1));
+    assert!(rt; obeys(rt.alloc(), &mut one, 1, update.as_slice())?);
+    let notice = message(rt.alloc(), &[0x00, 0x15, 0x03, 0x03, 0x0b])?;
+    assert!(rt; puts_octets(&mut one, 1, notice.as_slice()));
+    assert!(rt; puts_shut(&mut one, 1));
     Ok(())
 }
 
@@ -272,15 +284,11 @@ fn no_stamp_is_left(rt: HostRuntime) -> Result<(), Fail> {
     let mut one = router(rt.alloc(), &net, 1)?;
     assert_eq!(rt; one.start(2), Ok(Stepped::Did));
     for stamp in [0x4000_0000_0000_0000, u64::MAX] {
-        assert_eq!(rt;
-            router_takes(&mut one, stamp, What::Dial(1)),
-            Err(RouterError::StampEnd)
-        );
+        let answer = router_takes(&mut one, stamp, What::Dial(1));
+        assert_eq!(rt; answer, Err(RouterError::StampEnd));
     }
-    assert_eq!(rt;
-        router_takes(&mut one, 0x3fff_ffff_ffff_ffff, What::Dial(1)),
-        Ok(Stepped::Did)
-    );
+    let answer = router_takes(&mut one, 0x3fff_ffff_ffff_ffff, What::Dial(1));
+    assert_eq!(rt; answer, Ok(Stepped::Did));
     assert_eq!(rt; one.stop(2), Err(RouterError::StampEnd));
     Ok(())
 }
@@ -293,10 +301,8 @@ fn a_reset_dials_anew(rt: HostRuntime) -> Result<(), Fail> {
     assert_eq!(rt; one.start(2), Ok(Stepped::Did));
     assert_eq!(rt; one.reset(2), Ok(Stepped::Did));
     assert_eq!(rt; one.stop(2), Ok(Stepped::Did));
-    assert!(rt; is_dial(&put(&mut one)?, 1));
-    assert!(rt; is_shut(&put(&mut one)?, 1));
-    assert!(rt; is_dial(&put(&mut one)?, 2));
-    assert!(rt; is_shut(&put(&mut one)?, 2));
-    assert!(rt; put(&mut one)?.is_none());
+    assert!(rt; puts_dial(&mut one, 1) && puts_shut(&mut one, 1));
+    assert!(rt; puts_dial(&mut one, 2) && puts_shut(&mut one, 2));
+    assert!(rt; puts_nothing(&mut one));
     Ok(())
 }
