@@ -4,7 +4,7 @@ use crate::laws::{
     the_last_word_goes_on, the_last_word_is_one, the_last_word_stays, the_word_follows,
     the_words_follow, what_follows_is_the_last_mention,
 };
-use bgp_codec::{Attrs, Items, Segment, SegmentKind, Update};
+use bgp_codec::{Attrs, Items, Numbers, Segment, SegmentKind, Update};
 use prefix_lanes::Prefix;
 use ranked_policy::{Asn, NetBuilder, Network, Path, Settings};
 use std::alloc::{AllocError, Global};
@@ -71,8 +71,8 @@ fn network(alloc: Global) -> Result<Network, Fail> {
     }
 }
 
-fn numbers(alloc: Global, numbers: &[Asn]) -> Result<Items<Asn>, AllocError> {
-    Ok(Items::from_vec(numbers.to_vec(alloc)?))
+fn numbers(alloc: Global, numbers: &[Asn]) -> Result<Numbers, AllocError> {
+    Numbers::from_slice(alloc, numbers)
 }
 
 // A path of one segment.
