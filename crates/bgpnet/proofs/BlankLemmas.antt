@@ -39,7 +39,7 @@ all_kept (x ∷ xs) all =
     let f : is_blank x ≡ false = All-head (λ o. is_blank o ≡ false) x xs all in
     rw f (ap (λ (l : List ℕ). x ∷ l) (all_kept xs (All-tail (λ o. is_blank o ≡ false) x xs all)))
 
-behind_behind : (i n : ℕ) (xs : List ℕ) → drop n (drop i xs) ≡ drop (i + n) xs
+pub behind_behind : (i n : ℕ) (xs : List ℕ) → drop n (drop i xs) ≡ drop (i + n) xs
 behind_behind zero n xs = let e : n ≡ 0 + n = omega arith in ap (λ (m : ℕ). drop m xs) e
 behind_behind (suc i) zero [] = let e : suc i ≡ suc i + 0 = omega arith in ap (λ (m : ℕ). drop m []) e
 behind_behind (suc i) (suc n) [] = let e : suc i + suc n ≡ suc (i + suc n) = omega arith in ap (λ (m : ℕ). drop m []) (sym e)

@@ -4,3 +4,4 @@ pub mod WritingLemmas
 pub mod CheckLemmas
 pub mod PlaceLemmas
 pub mod BlankLemmas
+pub mod HexInputLemmas

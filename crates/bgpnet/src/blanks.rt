@@ -35,8 +35,8 @@ fn has_clean_piece(octets: &[u8]) -> bool
     }
 }
 
-// Moves the octets that are no blanks to the front, and answers how many they are.
-fn pack(text: &mut [u8]) -> usize
+/// Moves the octets that are no blanks to the front, and answers how many they are.
+pub fn pack(text: &mut [u8]) -> usize
     ensures bound { result ≤ length text.old }
     ensures kept { take result text.new ≡ filter (λ octet. not (is_blank octet)) text.old }
     ensures len { length text.new ≡ length text.old }
@@ -63,12 +63,4 @@ fn pack(text: &mut [u8]) -> usize
         }
     }
     kept
-}
-
-/// Takes the blanks out of a text, in its place.
-pub fn remove_blanks(text: &mut Vec<u8>)
-    ensures { text.new.items ≡ filter (λ octet. not (is_blank octet)) text.old.items }
-{
-    let kept = pack(text.as_mut_slice());
-    text.truncate(kept);
 }

@@ -1,6 +1,7 @@
 //! The words behind the program's name.
 
-ghost use Rattle.std.specs.Prelude.{◌≡◌, true, ◌⊎◌, OnOk, OnErr};
+ghost use Rattle.std.specs.Prelude.{◌≡◌, ◌&&◌, nat_le, true, ◌⊎◌, OnOk, OnErr};
+ghost use Rattle.std.specs.List.{list_all};
 
 use crate::channel::{IoStopped, Sink, Source};
 use crate::engines::check::check_stream;
@@ -49,6 +50,24 @@ A path is its routers, the router itself first and the origin last, or 'none'. A
 output is 'stable'. 'refused LINE CODE' names the first line that can't be read and what is wrong
 with it.";
 
+// What is said of a sign before the number of `--peer`.
+const NOT_DIGITS: &str = "\
+error: invalid value for '--peer <AS>': a number is decimal digits alone
+
+For more information, try '--help'.
+";
+
+// Whether all octets are decimal digits.
+fn are_digits(text: &[u8]) -> bool
+    ensures { result ≡ list_all (λ octet. nat_le 48 octet && nat_le octet 57) text.now }
+{
+    let mut are_digits = true;
+    for octet in text {
+        are_digits = are_digits & (b'0' <= *octet) & (*octet <= b'9');
+    }
+    are_digits
+}
+
 fn parse(alloc: Global, words: &[&str]) -> Result<Asked, Error> {
     let peer = Arg::new(alloc, "peer")
         .long("peer")
@@ -70,10 +89,15 @@ fn parse(alloc: Global, words: &[&str]) -> Result<Asked, Error> {
     if matches.subcommand_matches("check").is_some() {
         return Ok(Asked::Check);
     }
-    let peer = matches
-        .subcommand_matches("decode")
-        .and_then(|found| found.get_one::<u16>("peer"));
-    Ok(Asked::Decode(peer))
+    let Some(found) = matches.subcommand_matches("decode") else {
+        return Ok(Asked::Decode(None));
+    };
+    match found.get_str("peer") {
+        Some(number) if !are_digits(number.as_bytes()) => {
+            Ok(Asked::Text(String::from_str(alloc, NOT_DIGITS)?, USAGE))
+        }
+        _ => Ok(Asked::Decode(found.get_one::<u16>("peer"))),
+    }
 }
 
 fn read_words(alloc: Global, words: &[&str]) -> Result<Asked, AllocError> {

@@ -6,6 +6,7 @@ ghost use Rattle.bgpnet.specs.Engine.{ReadsUpTo, AppendsFront};
 
 pub mod check;
 pub mod decode;
+pub mod hex_input;
 
 use crate::channel::{IoStopped, Sink, Source};
 use crate::status::MEMORY;

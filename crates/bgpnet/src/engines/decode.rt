@@ -1,32 +1,26 @@
 //! `bgpnet decode`: a stream of BGP octets in hex, as lines.
 
-ghost use Rattle.std.specs.Prelude.{◌≡◌, ◌⊎◌, IfOk, OnOk, OnErr, true};
+ghost use Rattle.std.specs.Prelude.{◌≡◌, ℕ, List, ◌⊎◌, IfOk, OnOk, OnErr, true};
 ghost use Rattle.bgpnet.specs.Decoding.{output, DecodeGives};
+ghost use Rattle.bgpnet.specs.Digits.{HearsHex};
 ghost use Rattle.bgpnet.specs.Engine.{Printed, PrintedFront};
 
-use super::{INPUT_LIMIT, InputError, read_input, want_of_memory, write_out};
-use crate::blanks::remove_blanks;
+use super::hex_input::{HexInput, read_hex};
+use super::{InputError, want_of_memory, write_out};
 use crate::channel::{IoStopped, Sink, Source};
-use crate::digits::read_hex;
 use crate::status::REFUSED;
 use crate::stream::stream_output;
 use bgp_codec::Rule;
-use hex::FromHexError;
 use std::alloc::{AllocError, Global};
 
 // What is printed for an input, and the status.
-fn decode_output(alloc: Global, rule: &Rule, input: Vec<u8>) -> Result<(Vec<u8>, u8), AllocError>
-    ensures { IfOk result (λ printed. DecodeGives rule.now input.items (output printed.0.items printed.1)) }
+fn decode_output(alloc: Global, rule: &Rule, heard: HexInput) -> Result<(Vec<u8>, u8), AllocError>
+    ensures { IfOk result (λ printed. (input : List ℕ) → HearsHex input heard → DecodeGives rule.now input (output printed.0.items printed.1)) }
 {
-    if input.len() > INPUT_LIMIT {
-        return Ok((Vec::from_slice(alloc, b"refused 0 N6\n")?, REFUSED));
-    }
-    let mut digits = input;
-    remove_blanks(&mut digits);
-    match read_hex(alloc, digits.as_slice()) {
-        Ok(octets) => stream_output(alloc, rule, octets.as_slice()),
-        Err(FromHexError::OutOfMemory) => Err(AllocError),
-        Err(_) => Ok((Vec::from_slice(alloc, b"bad hex\n")?, REFUSED)),
+    match heard {
+        HexInput::TooLong => Ok((Vec::from_slice(alloc, b"refused 0 N6\n")?, REFUSED)),
+        HexInput::BadHex => Ok((Vec::from_slice(alloc, b"bad hex\n")?, REFUSED)),
+        HexInput::Octets(octets) => stream_output(alloc, rule, octets.as_slice()),
     }
 }
 
@@ -49,7 +43,7 @@ pub fn decode_stream<S: Source, T: Sink>(
     // A failed read or write leaves a beginning of the text.
     ensures stopped { OnErr result (PrintedFront rule.now (S.remaining source.old) (T.contents sink.old) (T.contents sink.new)) }
 {
-    let input = match read_input(alloc, source) {
+    let input = match read_hex(alloc, source) {
         Ok(input) => input,
         Err(InputError::Memory) => return want_of_memory(sink),
         Err(InputError::Stopped) => return Err(IoStopped),

@@ -294,6 +294,8 @@ fn words(rt: HostRuntime) -> Result<(), Fail> {
         (&["decode", "--peer", "0"], 2),
         (&["decode", "--peer", "65536"], 2),
         (&["decode", "--peer", "1x"], 2),
+        (&["decode", "--peer", "+5"], 2),
+        (&["decode", "--peer=+65535"], 2),
         (&["decode", "--peer"], 2),
         (&["decode", "--peer", "1", "--peer", "2"], 2),
         (&["decode", "more"], 2),

@@ -1,8 +1,16 @@
--- as long as every digit was good, what was written is what was read
-use Rattle.std.proofs.Common.{◌≡◌, ◌*◌, ◌<◌, take, drop}
-use Rattle.hex.specs.Hex.{decode_pairs}
-use Rattle.hex.proofs.Pairs.{prepend}
+-- the octets in front are those of the digits that were seen
+use Rattle.std.proofs.Common.{◌-◌, length}
+use Rattle.bgpnet.proofs.DigitLemmas.{Written}
 use Rattle.bgpnet.proofs.digits.write_octets.Given as goal
 
+abbrev pub invariant-pieces : goal.invariant-pieces
+invariant-pieces l = Written l.digits l.octets l.greatest l.i
+
+abbrev pub decreases-pieces : goal.decreases-pieces
+decreases-pieces l = length l.initial.octets - l.i
+
 abbrev pub invariant-octets : goal.invariant-octets
-invariant-octets l = l.greatest < 16 → decode_pairs 0 l.digits ≡ prepend (take l.i l.octets) (decode_pairs (2 * l.i) (drop (2 * l.i) l.digits))
+invariant-octets l = Written l.digits l.octets l.greatest l.i
+
+abbrev pub decreases-octets : goal.decreases-octets
+decreases-octets l = length l.initial.octets - l.i
