@@ -408,24 +408,34 @@ fn forgets_one_of_two(rt: HostRuntime) -> Result<(), Fail> {
     Ok(())
 }
 
+// Whether the best of a prefix is this path.
+fn best_is(alloc: Global, rib: &Rib, prefix: &Prefix, path: &[Asn]) -> Result<bool, Fail> {
+    let found = best(alloc, rib, prefix)?;
+    Ok(found.as_slice() == path)
+}
+
+// The tables of router 4, to which both peers have told of two prefixes, none of them Established.
+fn heard_of_two<'a>(alloc: Global, net: &'a Network, named: &Prefixes) -> Result<Rib<'a>, Fail> {
+    let mut rib = tables(alloc, net, 4)?;
+    hears(alloc, &mut rib, 2, &[2, 1], &[named.short])?;
+    hears(alloc, &mut rib, 3, &[3, 1], &[named.short])?;
+    hears(alloc, &mut rib, 2, &[2, 4, 3, 1], &[named.long])?;
+    Ok(rib)
+}
+
 // The best is over Established peers alone: the shorter path first, then the lesser number.
 #[test]
 fn the_best_of_two_peers(rt: HostRuntime) -> Result<(), Fail> {
     let alloc = rt.alloc();
     let named = named_prefixes()?;
     let net = network(alloc)?;
-    let mut rib = tables(alloc, &net, 4)?;
-    hears(alloc, &mut rib, 2, &[2, 1], &[named.short])?;
-    hears(alloc, &mut rib, 3, &[3, 1], &[named.short])?;
-    hears(alloc, &mut rib, 2, &[2, 4, 3, 1], &[named.long])?;
-    assert!(rt; best(alloc, &rib, &named.short)?.is_empty());
+    let mut rib = heard_of_two(alloc, &net, &named)?;
+    assert!(rt; best_is(alloc, &rib, &named.short, &[])?);
     comes_up(&mut rib, 3)?;
-    let one = best(alloc, &rib, &named.short)?;
-    assert_eq!(rt; one.as_slice(), [4u32, 3, 1].as_slice());
+    assert!(rt; best_is(alloc, &rib, &named.short, &[4, 3, 1])?);
     comes_up(&mut rib, 2)?;
-    let both = best(alloc, &rib, &named.short)?;
-    assert_eq!(rt; both.as_slice(), [4u32, 2, 1].as_slice());
-    assert!(rt; best(alloc, &rib, &named.long)?.is_empty());
+    assert!(rt; best_is(alloc, &rib, &named.short, &[4, 2, 1])?);
+    assert!(rt; best_is(alloc, &rib, &named.long, &[])?);
     Ok(())
 }
 
