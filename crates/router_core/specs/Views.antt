@@ -1,4 +1,4 @@
--- A router of the code as a router of the definitions: its list of peers as a function of numbers.
+-- A router of the code as a router of the definitions: its list of peers as a function of numbers, its tables as what its sides say.
 use Rattle.std.specs.Prelude.{ℕ, zero, suc, ◌≡◌, ◌≢◌, ◌≤◌, ◌<◌, ◌==◌, nat_lt, Bool, true, false, cond, List, [], ◌∷◌, length, map, Option, None, Some, Result, Ok, Err, MatchResult, ◌+◌}
 use Rattle.bgp_codec.specs.declared.message.Message.{Message}
 use Rattle.session_fsm.specs.declared.config.SessionConfig.{SessionConfig}
@@ -9,25 +9,40 @@ use Rattle.router_model.specs.declared.refusal.RouterError.{RouterError}
 use Rattle.router_model.specs.declared.refusal.RouterError.TheVariants as error
 use Rattle.router_model.specs.declared.refusal.Stepped.{Stepped}
 use Rattle.router_model.specs.declared.refusal.Stepped.TheVariants as stepped
-use Rattle.snap_marker.specs.Recordings.{no_snapshots}
+use Rattle.std.specs.Prelude.{◌↔◌}
+use Rattle.std.specs.List.{Contains, All, AllByRecursion}
+use Rattle.std.specs.Prelude.{is_some, MatchOption}
+use Rattle.router_side.specs.Freshness.{IsFresh}
+use Rattle.prefix_lanes.specs.Bits.{PrefixView}
+use Rattle.ranked_policy.specs.Plans.{IsNamed}
+use Rattle.ranked_policy.specs.declared.network.Origin.{Origin}
+use Rattle.rib_tables.specs.declared.word.Word.{Word}
+use Rattle.rib_tables.specs.Words.{nothing, lists}
+use Rattle.rib_tables.specs.Tables.{word_of, path_of}
+use Rattle.rib_tables.specs.Owners.{RibView}
+use Rattle.snap_marker.specs.declared.part.Offer.{Offer}
+use Rattle.snap_marker.specs.Parts.{MarkView, snapshots_of, IsOver, IsOf, offer_of, router_of}
 use Rattle.router_model.specs.Settings.{Setting, ChoosesByRank, linked, peers}
 use Rattle.bgp_codec.specs.declared.rule.Rule.{Rule}
 use Rattle.outbox.specs.declared.item.Item.{Item}
 use Rattle.outbox.specs.declared.item.What.{What}
 use Rattle.outbox.specs.declared.item.What.TheVariants as item
 use Rattle.run_model.specs.Network.{alone, puts, takes, offers}
-use Rattle.router_model.specs.Sides.{Side, AtHand, Draft, carried, at_hand, front, without_front, handled}
-use Rattle.router_model.specs.State.{open_of, new_router}
-use Rattle.router_model.specs.Step.{moved}
+use Rattle.router_model.specs.Sides.{Side, AtHand, Draft, carried, at_hand, front, without_front, handled, is_up}
+use Rattle.router_model.specs.State.{open_of, new_router, heard, last_told}
+use Rattle.router_model.specs.Step.{moved, next_offer}
 use Rattle.router_model.specs.Calls.{Stamped, Call, Put, Answer, Steps, Idle, Refuses, greatest_stamp, answer, Gives}
 use Rattle.router_core.specs.declared.peers.Peer.{Peer}
 
--- a router: its network and number, what it says of itself, its peers by rising number, and the stamp of its last event
+-- a router: its network and number, what it says of itself, its peers by rising number, its tables, what it records, and the stamp
+-- of its last event
 pub record RouterView : Type 0 where
   pub net : Plan
   pub number : ℕ
   pub own_open : Message
   pub peers : List Peer
+  pub tables : RibView
+  pub marks : MarkView
   pub stamp : ℕ
 
 abbrev pub is_number : ℕ → Peer → Bool
@@ -62,7 +77,46 @@ sides_of x = side_at (side_opening (config_of x.net)) x.peers
 
 -- the router as the definitions have it, with the stamp of its last event
 abbrev pub plain_of : RouterView → Stamped
-plain_of x = record { router = record { sides = sides_of x; kept = λ q. []; originated = λ q. false; snapshots = no_snapshots }; stamp = x.stamp }
+plain_of x = record {
+  router = record { sides = sides_of x; kept = path_of x.tables.kept; originated = lists x.tables.originated; snapshots = snapshots_of x.marks };
+  stamp = x.stamp;
+}
+
+-- ---- tables and sides
+
+-- the last word heard from a peer in Established, and the last told to it: nothing in every other state
+abbrev pub heard_now : Side → PrefixView → Word
+heard_now s q = cond (is_up s) (heard s q) nothing
+
+abbrev pub told_now : Side → PrefixView → Word
+told_now s q = cond (is_up s) (last_told s q) nothing
+
+-- the tables have of a peer what the side towards it says
+pub record Follows (origins : List Origin) (t : RibView) (v : ℕ) (s : Side) : Type 0 where
+  pub up : Contains t.established v ↔ (is_up s ≡ true)
+  pub heard : (q : PrefixView) → IsNamed origins q → word_of t.heard v q ≡ heard_now s q
+  pub told : (q : PrefixView) → IsNamed origins q → word_of t.sent v q ≡ told_now s q
+
+-- a path that can be told: of at most so many routers of the network
+pub record IsTellable (net : Plan) (path : List ℕ) : Type 0 where
+  pub few : length path ≤ 16
+  pub routers : All (IsRouter net.routers) path
+
+-- the tables of a router are those of its sides, and name what the network names
+pub record IsTabled (x : RouterView) : Type 0 where
+  pub net : x.tables.net ≡ x.net
+  pub router : x.tables.router ≡ x.number
+  pub peers : (v : ℕ) → linked x.net x.number v ≡ true → Follows x.net.origins x.tables v (sides_of x v)
+  pub fresh : (v : ℕ) → IsFresh (sides_of x v)
+  pub kept : (q : PrefixView) → (IsNamed x.net.origins q → ⊥) → path_of x.tables.kept q ≡ []
+  pub tellable : (q : PrefixView) → IsTellable x.net (path_of x.tables.kept q)
+  pub originated : (q : PrefixView) → lists x.tables.originated q ≡ true → IsNamed x.net.origins q
+
+-- what is recorded and offered is this router's, over its links
+pub record IsMarked (x : RouterView) : Type 0 where
+  pub over : IsOver (peers x.net x.number) x.marks.unfinished
+  pub unfinished : IsOf x.number x.marks.unfinished
+  pub queue : AllByRecursion (λ o. router_of o ≡ x.number) x.marks.queue
 
 -- what every router of the code is
 pub record IsSound (x : RouterView) : Type 0 where
@@ -73,6 +127,8 @@ pub record IsSound (x : RouterView) : Type 0 where
   pub own_open : x.own_open ≡ open_of x.net x.number
   pub sayable : IsSayable x.own_open
   pub stamp : x.stamp ≤ greatest_stamp
+  pub tabled : IsTabled x
+  pub marked : IsMarked x
 
 -- a call answers and leaves what it is to, in every setting of its network that chooses by rank
 abbrev pub Answers : Result Stepped RouterError → RouterView → Call → RouterView → Type 0
@@ -119,8 +175,13 @@ abbrev pub Carries : Result Stepped RouterError → RouterView → ℕ → AtHan
 Carries r x v h a overflows stamp y =
     Ends (nat_lt greatest_stamp stamp) overflows r (plain_of x) (record { router = moved (plain_of x).router v h a; stamp = stamp }) (plain_of y)
 
-abbrev pub IsNoMark : What → Type 0
-IsNoMark (item.Dial e) = Unit {0}
-IsNoMark (item.Piece e octets) = Unit {0}
-IsNoMark (item.Mark e s) = ⊥
-IsNoMark (item.Shut e) = Unit {0}
+-- ---- offers
+
+-- the offer that waits in front, as the router's
+abbrev pub ShowsOffer : Option Offer → RouterView → Type 0
+ShowsOffer r x =
+    MatchOption r (next_offer (plain_of x).router ≡ None) (λ o. (next_offer (plain_of x).router ≡ Some (offer_of o)) × (router_of o ≡ x.number))
+
+-- an offer waits
+abbrev pub HasOffer : RouterView → Type 0
+HasOffer x = is_some (next_offer (plain_of x).router) ≡ true

@@ -12,10 +12,13 @@
 mod opening;
 mod peers;
 mod router;
+mod tables;
+mod telling;
 
 pub use outbox::{Item, PieceOctets, What};
 pub use router::Router;
 pub use router_model::{Command, RouterError, Stepped};
+pub use snap_marker::Offer;
 
 #[cfg(test)]
 mod tests;

@@ -1,22 +1,30 @@
-//! A router: its peers, and the stamp of its last event.
+//! A router: its peers, its tables, what it records, and the stamp of its last event.
 
 ghost use Rattle.std.specs.Prelude.{◌≡◌, true, false, IfOk, MatchOption};
 ghost use Rattle.ranked_policy.specs.Plans.{IsRouter};
 ghost use Rattle.router_model.specs.Settings.{linked};
-ghost use Rattle.router_core.specs.Views.{Opens, listed, IsFound};
+ghost use Rattle.router_core.specs.Views.{Opens, plain_of, listed, IsFound};
 
+mod all;
+mod carry;
+mod choose;
 mod command;
 mod handle;
+mod offer;
 mod put;
+mod record;
 mod take;
 
 use crate::opening::{new_peers, own_open};
 use crate::peers::{Peer, place_of};
 use bgp_codec::Message;
+use prefix_lanes::Prefix;
 use ranked_policy::{Asn, Network};
+use rib_tables::Rib;
 use router_model::RouterError;
 use router_model::laws::linked_routers_are_peers;
 use session_fsm::SessionConfig;
+use snap_marker::MarkState;
 use std::alloc::Global;
 use std::marker::Model;
 
@@ -31,6 +39,8 @@ pub struct Router<'a> {
     own_open: Message,
     // By rising number.
     peers: Vec<Peer>,
+    tables: Rib<'a>,
+    marks: MarkState,
     stamp: u64,
 }
 
@@ -39,9 +49,9 @@ impl<'a> Model for Router<'a> {
 
     ghost Value = { RouterView };
 
-    ghost view = { λ r. record { net = r.network.now; number = r.number; own_open = r.own_open; peers = r.peers.items; stamp = r.stamp } };
+    ghost view = { λ r. record { net = r.network.now; number = r.number; own_open = r.own_open; peers = r.peers.items; tables = r.tables; marks = r.marks; stamp = r.stamp } };
 
-    ghost invariant = { λ r. IsSound (record { net = r.network.now; number = r.number; own_open = r.own_open; peers = r.peers.items; stamp = r.stamp }) };
+    ghost invariant = { λ r. IsSound (record { net = r.network.now; number = r.number; own_open = r.own_open; peers = r.peers.items; tables = r.tables; marks = r.marks; stamp = r.stamp }) };
 }
 
 impl<'a> Router<'a> {
@@ -60,13 +70,39 @@ impl<'a> Router<'a> {
         let Ok(peers) = new_peers(alloc, network, number, config) else {
             return Err(RouterError::Memory);
         };
+        let Ok(tables) = Rib::new(alloc, network, number) else {
+            return Err(RouterError::Memory);
+        };
         Ok(Router {
             network,
             number,
             own_open: own_open(alloc, network, number),
             peers,
+            tables,
+            marks: MarkState::new(alloc),
             stamp: 0,
         })
+    }
+
+    /// Its number.
+    pub fn number(&self) -> Asn
+        ensures { result ≡ self.now.number }
+    {
+        self.number
+    }
+
+    /// The stamp of its last event, 0 at first.
+    pub fn stamp(&self) -> u64
+        ensures { result ≡ self.now.stamp }
+    {
+        self.stamp
+    }
+
+    /// The path that it keeps for a prefix (Loc-RIB, RFC 4271 section 3.2): empty where it keeps none.
+    pub fn kept(&self, prefix: &Prefix) -> &[Asn]
+        ensures { result.now ≡ (plain_of self.now).router.kept prefix.now }
+    {
+        self.tables.path(prefix)
     }
 
     // The place of a peer.

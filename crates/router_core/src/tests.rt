@@ -173,7 +173,7 @@ fn puts_open_and(
 // Router 1, whose session with 2 was started and whose Dial of 1 was answered.
 fn joined(alloc: Global, net: &Network) -> Result<Router<'_>, Fail> {
     let mut one = router(alloc, net, 1)?;
-    if one.start(2) != Ok(Stepped::Did) || !takes(&mut one, What::Dial(1)) {
+    if one.command(Command::Start(2)) != Ok(Stepped::Did) || !takes(&mut one, What::Dial(1)) {
         return Err("the session starts, and is joined".into());
     }
     Ok(one)
@@ -185,8 +185,11 @@ fn joined(alloc: Global, net: &Network) -> Result<Router<'_>, Fail> {
 fn sessions_open(rt: HostRuntime) -> Result<(), Fail> {
     let net = two_routers(rt.alloc(), 4096)?;
     let mut one = router(rt.alloc(), &net, 1)?;
-    assert_eq!(rt; one.start(2), Ok(Stepped::Did));
-    assert_eq!(rt; one.start(3), Err(RouterError::NoSuchPeer));
+    assert_eq!(rt; one.command(Command::Start(2)), Ok(Stepped::Did));
+    assert_eq!(rt;
+        one.command(Command::Start(3)),
+        Err(RouterError::NoSuchPeer)
+    );
     let dial = put(&mut one)?;
     assert_eq!(rt; dial.map(|item| item.stamp), Some(2));
     assert!(rt; takes(&mut one, What::Dial(1)));
@@ -282,14 +285,14 @@ fn an_update_of_another_router_closes(rt: HostRuntime) -> Result<(), Fail> {
 fn no_stamp_is_left(rt: HostRuntime) -> Result<(), Fail> {
     let net = two_routers(rt.alloc(), 4096)?;
     let mut one = router(rt.alloc(), &net, 1)?;
-    assert_eq!(rt; one.start(2), Ok(Stepped::Did));
+    assert_eq!(rt; one.command(Command::Start(2)), Ok(Stepped::Did));
     for stamp in [0x4000_0000_0000_0000, u64::MAX] {
         let answer = router_takes(&mut one, stamp, What::Dial(1));
         assert_eq!(rt; answer, Err(RouterError::StampEnd));
     }
     let answer = router_takes(&mut one, 0x3fff_ffff_ffff_ffff, What::Dial(1));
     assert_eq!(rt; answer, Ok(Stepped::Did));
-    assert_eq!(rt; one.stop(2), Err(RouterError::StampEnd));
+    assert_eq!(rt; one.command(Command::Stop(2)), Err(RouterError::StampEnd));
     Ok(())
 }
 
@@ -298,11 +301,103 @@ fn no_stamp_is_left(rt: HostRuntime) -> Result<(), Fail> {
 fn a_reset_dials_anew(rt: HostRuntime) -> Result<(), Fail> {
     let net = two_routers(rt.alloc(), 18)?;
     let mut one = router(rt.alloc(), &net, 1)?;
-    assert_eq!(rt; one.start(2), Ok(Stepped::Did));
-    assert_eq!(rt; one.reset(2), Ok(Stepped::Did));
-    assert_eq!(rt; one.stop(2), Ok(Stepped::Did));
+    assert_eq!(rt; one.command(Command::Start(2)), Ok(Stepped::Did));
+    assert_eq!(rt; one.command(Command::Reset(2)), Ok(Stepped::Did));
+    assert_eq!(rt; one.command(Command::Stop(2)), Ok(Stepped::Did));
     assert!(rt; puts_dial(&mut one, 1) && puts_shut(&mut one, 1));
     assert!(rt; puts_dial(&mut one, 2) && puts_shut(&mut one, 2));
     assert!(rt; puts_nothing(&mut one));
+    Ok(())
+}
+
+// ---- two routers by hand
+
+// Carries one item from one router to the other.
+fn carries(
+    from: &mut Router<'_>,
+    to: &mut Router<'_>,
+    u: Asn,
+    v: Asn,
+) -> Result<bool, RouterError> {
+    let Some(item) = from.next_item(v)? else {
+        return Ok(false);
+    };
+    if to.take_item(u, &item) != Ok(Stepped::Did) {
+        return Ok(false);
+    }
+    from.item_put(v);
+    Ok(true)
+}
+
+// One turn of both: each way one item, one message; then each decides and tells.
+fn turn(one: &mut Router<'_>, two: &mut Router<'_>) -> Result<(), RouterError> {
+    carries(one, two, 1, 2)?;
+    carries(two, one, 2, 1)?;
+    one.handle(2)?;
+    two.handle(1)?;
+    one.decide()?;
+    two.decide()?;
+    one.advertise()?;
+    two.advertise()?;
+    Ok(())
+}
+
+fn turns(one: &mut Router<'_>, two: &mut Router<'_>, n: u32) -> Result<(), RouterError> {
+    for _ in 0..n {
+        turn(one, two)?;
+    }
+    Ok(())
+}
+
+// Both start, and router 1 originates its prefix.
+fn begins(one: &mut Router<'_>, two: &mut Router<'_>, prefix: Prefix) -> Result<(), RouterError> {
+    one.command(Command::Start(2))?;
+    two.command(Command::Start(1))?;
+    one.command(Command::Originate(prefix))?;
+    Ok(())
+}
+
+// Both have their routes after some turns, at this cut.
+fn settle(alloc: Global, cut: usize, n: u32) -> Result<bool, Fail> {
+    let net = two_routers(alloc, cut)?;
+    let prefix = Prefix::new(0x0a01_0000, 16).ok_or("a prefix")?;
+    let mut one = router(alloc, &net, 1)?;
+    let mut two = router(alloc, &net, 2)?;
+    begins(&mut one, &mut two, prefix)?;
+    turns(&mut one, &mut two, n)?;
+    Ok(one.kept(&prefix) == [1].as_slice() && two.kept(&prefix) == [2, 1].as_slice())
+}
+
+#[test]
+fn two_routers_have_their_routes(rt: HostRuntime) -> Result<(), Fail> {
+    assert!(rt; settle(rt.alloc(), 4096, 40)?);
+    assert!(rt; settle(rt.alloc(), 18, 100)?);
+    assert!(rt; settle(rt.alloc(), 1, 400)?);
+    Ok(())
+}
+
+// A snapshot of both, once they have their routes: each has a part, which is not pending.
+fn parts(alloc: Global) -> Result<bool, Fail> {
+    let net = two_routers(alloc, 4096)?;
+    let prefix = Prefix::new(0x0a01_0000, 16).ok_or("a prefix")?;
+    let mut one = router(alloc, &net, 1)?;
+    let mut two = router(alloc, &net, 2)?;
+    begins(&mut one, &mut two, prefix)?;
+    turns(&mut one, &mut two, 40)?;
+    one.command(Command::Snapshot(1))?;
+    turns(&mut one, &mut two, 10)?;
+    Ok(is_quiet_part(one.next_offer()) && is_quiet_part(two.next_offer()))
+}
+
+fn is_quiet_part(offer: Option<&Offer>) -> bool {
+    match offer {
+        Some(Offer::Part(part)) => !part.pending && part.number == 1,
+        Some(Offer::Lost(_)) | None => false,
+    }
+}
+
+#[test]
+fn two_routers_record(rt: HostRuntime) -> Result<(), Fail> {
+    assert!(rt; parts(rt.alloc())?);
     Ok(())
 }

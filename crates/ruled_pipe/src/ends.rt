@@ -6,7 +6,7 @@ ghost use Rattle.ruled_pipe.specs.Refusals.{refusal_of};
 
 use crate::log::Log;
 use crate::refusal::PipeError;
-use crate::rule::{InOrder, Put, Roles, Took};
+use crate::rule::{FirstInFirstOut, Put, Roles, Took};
 use crossbeam_queue::{Pass, RuledArrayQueue};
 use std::alloc::{AllocError, Global};
 use std::marker::Model;
@@ -16,7 +16,7 @@ use std::sync::{Arc, Wait};
 pub const MOST_ITEMS: usize = 1024;
 
 /// The queue of a pipe, which both ends own.
-pub(crate) type Line<T> = RuledArrayQueue<T, Log<T>, InOrder>;
+pub(crate) type Line<T> = RuledArrayQueue<T, Log<T>, FirstInFirstOut>;
 
 /// The end that puts. Contracts see which pipe it is of, how many items that holds at most, and the
 /// items that this end has put, oldest first.

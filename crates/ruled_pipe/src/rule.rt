@@ -12,9 +12,9 @@ use crate::log::Log;
 use crossbeam_queue::protocol::{Join, Lesson, Outcome, Protocol, Split};
 
 /// What was put is what was taken, followed by what the queue holds.
-pub struct InOrder;
+pub struct FirstInFirstOut;
 
-impl<T> Protocol<T, Log<T>> for InOrder {
+impl<T> Protocol<T, Log<T>> for FirstInFirstOut {
     ghost holds = { Carried };
 
     ghost first = { log true true [] [] };

@@ -1,56 +1,31 @@
 //! Commands to a router.
 
-ghost use Rattle.std.specs.Prelude.{◌≡◌, ◌≤◌, ◌<◌, length};
-ghost use Rattle.router_side.specs.Sayings.{told_of, IsSayableWhere};
-ghost use Rattle.router_side.specs.Drafts.{draft, hand};
-ghost use Rattle.router_model.specs.Calls.{Obey};
-ghost use Rattle.router_model.specs.declared.command.Command.TheVariants.{Start, Stop, Reset};
-ghost use Rattle.router_core.specs.Views.{IsAt, IsSame, Answers, Carries};
-
 use super::{GREATEST_STAMP, Router};
+use prefix_lanes::Prefix;
 use ranked_policy::Asn;
-use router_model::{RouterError, Stepped};
-use router_side::{Given, Sketch};
+use router_model::{Command, RouterError, Stepped};
 use session_fsm::FsmEvent;
 
 impl Router<'_> {
-    // Carries out the draft of one side at a stamp, or refuses it and changes nothing.
-    pub(super) fn carry_out(
-        &mut self,
-        peer: Asn,
-        at: usize,
-        given: Given,
-        made: &Sketch,
-        overflows: bool,
-        stamp: u64,
-    ) -> Result<Stepped, RouterError>
-        requires told { IsSayableWhere (told_of (hand given)) }
-        requires below { at < length self.old.peers }
-        requires place { IsAt self.old.peers peer at }
-        ensures carries { Carries result self.old peer (hand given) (draft self.old.own_open (hand given) made.now) overflows stamp self.new }
-        ensures same { IsSame self.old self.new }
-    {
-        if stamp > GREATEST_STAMP {
-            return Err(RouterError::StampEnd);
+    /// Obeys a command. Nothing where a prefix is originated already, or is not.
+    ///
+    /// Refused [`RouterError::NoSuchPeer`], [`RouterError::NotOrigin`], [`RouterError::OldSnapshot`],
+    /// [`RouterError::StampEnd`], [`RouterError::EpochEnd`], and [`RouterError::Memory`] where a growth
+    /// was; then all is as it was.
+    pub fn command(&mut self, command: Command) -> Result<Stepped, RouterError> {
+        match command {
+            Command::Start(peer) => self.start(peer),
+            Command::Stop(peer) => self.stop(peer),
+            Command::Reset(peer) => self.reset(peer),
+            Command::Originate(prefix) => self.originate(&prefix),
+            Command::Withdraw(prefix) => self.withdraw(&prefix),
+            Command::Snapshot(number) => self.snapshot(number),
+            Command::Restart => self.restart(),
         }
-        if overflows {
-            return Err(RouterError::EpochEnd);
-        }
-        let alloc = *self.peers.allocator();
-        let end = &mut self.peers[at].end;
-        if end.reserve(&self.own_open, &given, made).is_err() {
-            return Err(RouterError::Memory);
-        }
-        end.commit(alloc, &self.own_open, given, made);
-        self.stamp = stamp;
-        Ok(Stepped::Did)
     }
 
     // The session with a peer starts.
-    pub(crate) fn start(&mut self, peer: Asn) -> Result<Stepped, RouterError>
-        ensures answers { Answers result self.old (Obey (Start peer)) self.new }
-        ensures same { IsSame self.old self.new }
-    {
+    fn start(&mut self, peer: Asn) -> Result<Stepped, RouterError> {
         let Some(at) = self.find(peer) else {
             return Err(RouterError::NoSuchPeer);
         };
@@ -58,14 +33,11 @@ impl Router<'_> {
             .end
             .meet(&self.own_open, FsmEvent::ManualStart);
         let (overflows, stamp) = (made.overflows, self.stamp + 1);
-        self.carry_out(peer, at, Given::Nothing, &made, overflows, stamp)
+        self.carry_out(peer, at, &made, overflows, stamp)
     }
 
     // It stops.
-    pub(crate) fn stop(&mut self, peer: Asn) -> Result<Stepped, RouterError>
-        ensures answers { Answers result self.old (Obey (Stop peer)) self.new }
-        ensures same { IsSame self.old self.new }
-    {
+    fn stop(&mut self, peer: Asn) -> Result<Stepped, RouterError> {
         let Some(at) = self.find(peer) else {
             return Err(RouterError::NoSuchPeer);
         };
@@ -73,19 +45,50 @@ impl Router<'_> {
             .end
             .meet(&self.own_open, FsmEvent::ManualStop);
         let stamp = self.stamp + 1;
-        self.carry_out(peer, at, Given::Nothing, &made, false, stamp)
+        self.carry_out(peer, at, &made, false, stamp)
     }
 
     // It stops, and starts again.
-    pub(crate) fn reset(&mut self, peer: Asn) -> Result<Stepped, RouterError>
-        ensures answers { Answers result self.old (Obey (Reset peer)) self.new }
-        ensures same { IsSame self.old self.new }
-    {
+    fn reset(&mut self, peer: Asn) -> Result<Stepped, RouterError> {
         let Some(at) = self.find(peer) else {
             return Err(RouterError::NoSuchPeer);
         };
         let made = self.peers[at].end.reset(&self.own_open);
         let (overflows, stamp) = (made.overflows, self.stamp + 1);
-        self.carry_out(peer, at, Given::Nothing, &made, overflows, stamp)
+        self.carry_out(peer, at, &made, overflows, stamp)
+    }
+
+    // A prefix is originated from now on.
+    fn originate(&mut self, prefix: &Prefix) -> Result<Stepped, RouterError> {
+        if !self.network.is_origin(self.number, prefix) {
+            return Err(RouterError::NotOrigin);
+        }
+        if self.tables.is_originated(prefix) {
+            return Ok(Stepped::Nothing);
+        }
+        let stamp = self.stamp + 1;
+        if stamp > GREATEST_STAMP {
+            return Err(RouterError::StampEnd);
+        }
+        self.tables.originate(prefix);
+        self.stamp = stamp;
+        Ok(Stepped::Did)
+    }
+
+    // It is originated no longer.
+    fn withdraw(&mut self, prefix: &Prefix) -> Result<Stepped, RouterError> {
+        if !self.network.is_origin(self.number, prefix) {
+            return Err(RouterError::NotOrigin);
+        }
+        if !self.tables.is_originated(prefix) {
+            return Ok(Stepped::Nothing);
+        }
+        let stamp = self.stamp + 1;
+        if stamp > GREATEST_STAMP {
+            return Err(RouterError::StampEnd);
+        }
+        self.tables.withdraw(prefix);
+        self.stamp = stamp;
+        Ok(Stepped::Did)
     }
 }

@@ -2,24 +2,23 @@
 
 ghost use Rattle.std.specs.Prelude.{◌≡◌};
 ghost use Rattle.router_model.specs.Calls.{Take};
-ghost use Rattle.router_core.specs.Views.{IsSame, Answers, IsNoMark};
+ghost use Rattle.router_core.specs.Views.{IsSame, Answers};
 
 use super::{GREATEST_STAMP, Router};
 use link_epoch::Sign;
 use outbox::{Item, What};
 use ranked_policy::Asn;
 use router_model::{RouterError, Stepped};
-use router_side::Given;
 
 impl Router<'_> {
-    /// Takes the next item of a peer, whatever it is. What is not of the incarnation that the end
-    /// joined is dropped.
+    /// Takes the next item of a peer, whatever it is: a Dial or a Shut, a piece of octets, or a marker.
+    /// Pieces and markers are used in the incarnation that the end joined, and markers in Established
+    /// alone; all others are dropped.
     ///
     /// Refused [`RouterError::NoSuchPeer`], [`RouterError::Held`] where a whole message or a fault of
     /// that peer waits, [`RouterError::StampEnd`], [`RouterError::EpochEnd`], and
     /// [`RouterError::Memory`] where a growth was; then all is as it was.
     pub fn take_item(&mut self, peer: Asn, item: &Item) -> Result<Stepped, RouterError>
-        requires { IsNoMark item.now.what }
         ensures answers { Answers result self.old (Take peer item.now.stamp item.now.what) self.new }
         ensures same { IsSame self.old self.new }
     {
@@ -37,18 +36,18 @@ impl Router<'_> {
             What::Dial(number) => {
                 let made = self.peers[at].end.sign(&self.own_open, Sign::Dial(*number));
                 let overflows = made.overflows;
-                self.carry_out(peer, at, Given::Nothing, &made, overflows, stamp)
+                self.carry_out(peer, at, &made, overflows, stamp)
             }
             What::Shut(number) => {
                 let made = self.peers[at].end.sign(&self.own_open, Sign::Shut(*number));
-                self.carry_out(peer, at, Given::Nothing, &made, false, stamp)
+                self.carry_out(peer, at, &made, false, stamp)
             }
             What::Piece(epoch, octets) => {
                 self.peers[at].end.take_piece(*epoch, octets.as_slice());
                 self.stamp = stamp;
                 Ok(Stepped::Did)
             }
-            What::Mark(_, _) => unreachable!(),
+            What::Mark(epoch, number) => self.take_mark(peer, at, *epoch, *number, stamp),
         }
     }
 }

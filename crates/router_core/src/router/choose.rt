@@ -1,0 +1,108 @@
+//! What a router chooses, and whom it tells of it (RFC 4271 section 9).
+
+use super::{GREATEST_STAMP, Router};
+use crate::peers::Peer;
+use crate::telling::telling;
+use bgp_codec::Message;
+use prefix_lanes::Prefix;
+use ranked_policy::Asn;
+use router_model::{RouterError, Stepped};
+
+/// At so many octets in its outbox a peer is told nothing more.
+const OUTBOX_LIMIT: usize = 65_536;
+
+// Whom to tell next.
+enum Next {
+    // The least peer that waits and has room, at its place, and its least prefix.
+    Peer(usize, Prefix),
+    // Each peer that waits is at the limit: the least of them.
+    Blocked(Asn),
+    // Nobody waits.
+    Nobody,
+}
+
+impl Router<'_> {
+    /// Decides once (RFC 4271 section 9.1): the least prefix, by address and then by length, whose kept
+    /// path is not the best of the choices gets its best. Nothing where each kept path is.
+    ///
+    /// Refused [`RouterError::StampEnd`], and [`RouterError::Memory`] where a growth was; then all is as
+    /// it was.
+    pub fn decide(&mut self) -> Result<Stepped, RouterError> {
+        if self.tables.dirty().is_none() {
+            return Ok(Stepped::Nothing);
+        }
+        let stamp = self.stamp + 1;
+        if stamp > GREATEST_STAMP {
+            return Err(RouterError::StampEnd);
+        }
+        let alloc = *self.peers.allocator();
+        if self.tables.decide(alloc).is_err() {
+            return Err(RouterError::Memory);
+        }
+        self.stamp = stamp;
+        Ok(Stepped::Did)
+    }
+
+    // Whom to tell next.
+    fn next_to_tell(&self) -> Next {
+        let mut blocked = None;
+        for at in 0..self.peers.len() {
+            let peer = &self.peers[at];
+            if let Some(prefix) = self.tables.waiting(peer.number) {
+                if peer.end.octets_waiting() < OUTBOX_LIMIT {
+                    return Next::Peer(at, prefix);
+                }
+                if blocked.is_none() {
+                    blocked = Some(peer.number);
+                }
+            }
+        }
+        match blocked {
+            Some(peer) => Next::Blocked(peer),
+            None => Next::Nobody,
+        }
+    }
+
+    /// Tells one peer of one prefix (RFC 4271 section 9.2): the least Established peer that was not told
+    /// some kept path and whose outbox has less than 65,536 octets is told the kept path of the least
+    /// such prefix, in one UPDATE. Nothing where each was told all.
+    ///
+    /// Refused [`RouterError::Blocked`] where each peer that waits is at the limit,
+    /// [`RouterError::StampEnd`], and [`RouterError::Memory`] where a growth was; then all is as it was.
+    pub fn advertise(&mut self) -> Result<Stepped, RouterError> {
+        match self.next_to_tell() {
+            Next::Nobody => Ok(Stepped::Nothing),
+            Next::Blocked(peer) => Err(RouterError::Blocked { peer }),
+            Next::Peer(at, prefix) => self.tell(at, &prefix),
+        }
+    }
+
+    // The kept path of a prefix is told to the peer at a place.
+    fn tell(&mut self, at: usize, prefix: &Prefix) -> Result<Stepped, RouterError> {
+        let stamp = self.stamp + 1;
+        if stamp > GREATEST_STAMP {
+            return Err(RouterError::StampEnd);
+        }
+        let alloc = *self.peers.allocator();
+        let Ok(update) = telling(
+            alloc,
+            self.network,
+            self.number,
+            prefix,
+            self.tables.path(prefix),
+        ) else {
+            return Err(RouterError::Memory);
+        };
+        let message = Message::UpdateMsg(update);
+        let Peer { number, end } = &mut self.peers[at];
+        if end.reserve_telling(&message).is_err() {
+            return Err(RouterError::Memory);
+        }
+        if self.tables.tell(*number, prefix).is_err() {
+            return Err(RouterError::Memory);
+        }
+        end.tell(message);
+        self.stamp = stamp;
+        Ok(Stepped::Did)
+    }
+}
