@@ -17,7 +17,8 @@ use Rattle.prefix_lanes.specs.Bits.{PrefixView}
 use Rattle.ranked_policy.specs.Plans.{IsNamed}
 use Rattle.ranked_policy.specs.declared.network.Origin.{Origin}
 use Rattle.rib_tables.specs.declared.word.Word.{Word}
-use Rattle.rib_tables.specs.Words.{nothing, lists}
+use Rattle.rib_tables.specs.declared.word.Word.TheVariants.{Sequence}
+use Rattle.rib_tables.specs.Words.{nothing, lists, path_in}
 use Rattle.rib_tables.specs.Tables.{word_of, path_of}
 use Rattle.rib_tables.specs.Owners.{RibView}
 use Rattle.snap_marker.specs.declared.part.Offer.{Offer}
@@ -102,12 +103,17 @@ pub record IsTellable (net : Plan) (path : List ℕ) : Type 0 where
   pub few : length path ≤ 16
   pub routers : All (IsRouter net.routers) path
 
+-- the word is a path, and no AS_PATH of another kind
+abbrev pub IsPathWord : Word → Type 0
+IsPathWord word = word ≡ Sequence (path_in word)
+
 -- the tables of a router are those of its sides, and name what the network names
 pub record IsTabled (x : RouterView) : Type 0 where
   pub net : x.tables.net ≡ x.net
   pub router : x.tables.router ≡ x.number
   pub peers : (v : ℕ) → linked x.net x.number v ≡ true → Follows x.net.origins x.tables v (sides_of x v)
   pub fresh : (v : ℕ) → IsFresh (sides_of x v)
+  pub sent : (v : ℕ) (q : PrefixView) → IsPathWord (word_of x.tables.sent v q)
   pub kept : (q : PrefixView) → (IsNamed x.net.origins q → ⊥) → path_of x.tables.kept q ≡ []
   pub tellable : (q : PrefixView) → IsTellable x.net (path_of x.tables.kept q)
   pub originated : (q : PrefixView) → lists x.tables.originated q ≡ true → IsNamed x.net.origins q

@@ -1,5 +1,9 @@
 //! Commands to a router.
 
+ghost use Rattle.router_model.specs.Calls.{Obey};
+ghost use Rattle.router_model.specs.declared.command.Command.TheVariants.{Originate, Withdraw};
+ghost use Rattle.router_core.specs.Views.{IsSame, Answers};
+
 use super::{GREATEST_STAMP, Router};
 use prefix_lanes::Prefix;
 use ranked_policy::Asn;
@@ -59,7 +63,10 @@ impl Router<'_> {
     }
 
     // A prefix is originated from now on.
-    fn originate(&mut self, prefix: &Prefix) -> Result<Stepped, RouterError> {
+    fn originate(&mut self, prefix: &Prefix) -> Result<Stepped, RouterError>
+        ensures answers { Answers result self.old (Obey (Originate prefix.now)) self.new }
+        ensures same { IsSame self.old self.new }
+    {
         if !self.network.is_origin(self.number, prefix) {
             return Err(RouterError::NotOrigin);
         }
@@ -76,7 +83,10 @@ impl Router<'_> {
     }
 
     // It is originated no longer.
-    fn withdraw(&mut self, prefix: &Prefix) -> Result<Stepped, RouterError> {
+    fn withdraw(&mut self, prefix: &Prefix) -> Result<Stepped, RouterError>
+        ensures answers { Answers result self.old (Obey (Withdraw prefix.now)) self.new }
+        ensures same { IsSame self.old self.new }
+    {
         if !self.network.is_origin(self.number, prefix) {
             return Err(RouterError::NotOrigin);
         }
