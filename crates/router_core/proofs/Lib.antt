@@ -3,6 +3,7 @@ pub mod PeerLemmas
 pub mod Following
 pub mod Naming
 pub mod Originations
+pub mod Starting
 pub mod Carrying
 pub mod Serving
 pub mod Taking
