@@ -1,5 +1,9 @@
 //! What a router records of a snapshot (Chandy and Lamport 1985).
 
+ghost use Rattle.std.specs.Prelude.{◌≤◌};
+ghost use Rattle.router_model.specs.Calls.{greatest_stamp};
+ghost use Rattle.router_core.specs.Views.{IsFound, IsSame, TakesMark};
+
 use super::{GREATEST_STAMP, Router};
 use crate::peers::Peer;
 use prefix_lanes::Prefix;
@@ -155,7 +159,12 @@ impl Router<'_> {
         epoch: u32,
         number: u32,
         stamp: u64,
-    ) -> Result<Stepped, RouterError> {
+    ) -> Result<Stepped, RouterError>
+        requires place { IsFound self.old.peers peer at }
+        requires stamp { stamp ≤ greatest_stamp }
+        ensures takes { TakesMark result self.old peer epoch number stamp self.new }
+        ensures same { IsSame self.old self.new }
+    {
         let end = &self.peers[at].end;
         if end.is_up() && end.uses(epoch) {
             if number > self.marks.last() {
