@@ -7,3 +7,4 @@ pub mod Starting
 pub mod Carrying
 pub mod Serving
 pub mod Taking
+pub mod Handling
