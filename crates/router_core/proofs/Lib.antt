@@ -5,3 +5,4 @@ pub mod Originations
 pub mod Carrying
 pub mod Serving
 pub mod Taking
+pub mod Marking

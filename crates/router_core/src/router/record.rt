@@ -1,5 +1,11 @@
 //! What a router records of a snapshot (Chandy and Lamport 1985).
 
+ghost use Rattle.std.specs.Prelude.{◌≡◌, [], ◌∷◌, map, IfOk, OnOk};
+ghost use Rattle.rib_tables.specs.Words.{lists};
+ghost use Rattle.snap_marker.specs.Parts.{seen};
+ghost use Rattle.router_model.specs.Step.{awaits};
+ghost use Rattle.router_core.specs.Recorded.{paths_of, own_of, channels_of, down_in, Become, HaveRoomToMark, marked_if_up};
+
 use super::{GREATEST_STAMP, Router};
 use crate::peers::Peer;
 use prefix_lanes::Prefix;
@@ -14,7 +20,9 @@ fn kept_paths(
     alloc: Global,
     origins: &[Origin],
     tables: &Rib<'_>,
-) -> Result<Vec<KeptPath>, AllocError> {
+) -> Result<Vec<KeptPath>, AllocError>
+    ensures { IfOk result (λ kept. kept.items ≡ paths_of origins.now tables.now.kept) }
+{
     let mut kept = Vec::new(alloc);
     kept.reserve(origins.len())?;
     for origin in origins {
@@ -27,38 +35,65 @@ fn kept_paths(
     Ok(kept)
 }
 
-// The prefixes that are originated.
+// Whether a prefix is originated.
+fn is_own(tables: &Rib<'_>, prefix: &Prefix) -> bool
+    ensures { result ≡ lists tables.now.originated prefix.now }
+{
+    tables.is_originated(prefix)
+}
+
+// The prefixes of the network that are originated.
 fn originated(
     alloc: Global,
     origins: &[Origin],
     tables: &Rib<'_>,
-) -> Result<Vec<Prefix>, AllocError> {
+) -> Result<Vec<Prefix>, AllocError>
+    ensures { IfOk result (λ own. own.items ≡ own_of origins.now tables.now.originated) }
+{
     let mut own = Vec::new(alloc);
     for origin in origins {
-        if tables.is_originated(&origin.prefix) {
+        if is_own(tables, &origin.prefix) {
             own.push(origin.prefix)?;
         }
     }
     Ok(own)
 }
 
+// Whether the marker of a peer is still to come, where that of the first came.
+fn awaits(first: Option<Asn>, peer: Asn) -> bool
+    ensures { result ≡ awaits first peer }
+{
+    match first {
+        None => true,
+        Some(first) => peer != first,
+    }
+}
+
 // A channel for each peer, open but for the one whose marker came.
-fn channels(alloc: Global, peers: &[Peer], first: Option<Asn>) -> Result<Vec<Channel>, AllocError> {
-    let mut links = Vec::new(alloc);
-    links.reserve(peers.len())?;
+fn channels(
+    alloc: Global,
+    peers: &[Peer],
+    first: Option<Asn>,
+) -> Result<Vec<Channel>, AllocError>
+    ensures { IfOk result (λ made. map seen made.items ≡ channels_of first peers.now) }
+{
+    let mut made = Vec::new(alloc);
+    made.reserve(peers.len())?;
     for peer in peers {
-        links.push(Channel {
+        made.push(Channel {
             peer: peer.number,
             epoch: peer.end.epoch(),
-            is_open: first != Some(peer.number),
+            is_open: awaits(first, peer.number),
             updates: Vec::new(alloc),
         })?;
     }
-    Ok(links)
+    Ok(made)
 }
 
 // The least peer whose session is not Established.
-fn first_down(peers: &[Peer]) -> Option<Asn> {
+fn first_down(peers: &[Peer]) -> Option<Asn>
+    ensures { result ≡ down_in peers.now }
+{
     for peer in peers {
         if !peer.end.is_up() {
             return Some(peer.number);
@@ -68,20 +103,33 @@ fn first_down(peers: &[Peer]) -> Option<Asn> {
 }
 
 // Makes room for a marker to each peer.
-fn reserve_markers(peers: &mut Vec<Peer>) -> Result<(), AllocError> {
-    for at in 0..peers.len() {
-        peers[at].end.reserve_marker()?;
+fn reserve_markers(peers: &mut [Peer]) -> Result<(), AllocError>
+    ensures same { Become (λ s. s) peers.old peers.new }
+    ensures room { OnOk result (HaveRoomToMark peers.new) }
+{
+    for peer in peers.iter_mut() {
+        peer.end.reserve_marker()?;
     }
     Ok(())
 }
 
-// The marker of a snapshot goes to each Established peer, behind all that waits.
-fn mark_all(peers: &mut Vec<Peer>, number: u32) {
-    for at in 0..peers.len() {
-        let end = &mut peers[at].end;
-        if end.is_up() {
-            end.mark(number);
-        }
+// The marker of a snapshot goes to a peer in Established, behind all that waits.
+fn mark(peer: &mut Peer, number: u32)
+    requires { HaveRoomToMark (peer.old ∷ []) }
+    ensures { Become (marked_if_up number) (peer.old ∷ []) (peer.new ∷ []) }
+{
+    if peer.end.is_up() {
+        peer.end.mark(number);
+    }
+}
+
+// It goes to each.
+fn mark_all(peers: &mut [Peer], number: u32)
+    requires { HaveRoomToMark peers.old }
+    ensures { Become (marked_if_up number) peers.old peers.new }
+{
+    for peer in peers.iter_mut() {
+        mark(peer, number);
     }
 }
 
@@ -107,12 +155,12 @@ impl Router<'_> {
     // The snapshot is recorded, and its markers go out. A refusal leaves the router as it was.
     fn begin(&mut self, alloc: Global, number: u32, first: Option<Asn>) -> Result<(), AllocError> {
         let part = self.part_now(alloc, number, first)?;
-        reserve_markers(&mut self.peers)?;
+        reserve_markers(self.peers.as_mut_slice())?;
         let down = first_down(self.peers.as_slice());
         if self.marks.begin(part, down).is_err() {
             return Err(AllocError);
         }
-        mark_all(&mut self.peers, number);
+        mark_all(self.peers.as_mut_slice(), number);
         Ok(())
     }
 
