@@ -2,6 +2,9 @@ pub mod Beginnings
 pub mod PeerLemmas
 pub mod Naming
 pub mod Originations
+pub mod Leasts
+pub mod Choices
+pub mod Choosing
 pub mod Carrying
 pub mod Serving
 pub mod Taking

@@ -1,5 +1,8 @@
 //! What a router chooses, and whom it tells of it (RFC 4271 section 9).
 
+ghost use Rattle.router_model.specs.Calls.{Decide, Advertise};
+ghost use Rattle.router_core.specs.Views.{IsSame, Answers};
+
 use super::{GREATEST_STAMP, Router};
 use crate::peers::Peer;
 use crate::telling::telling;
@@ -27,7 +30,10 @@ impl Router<'_> {
     ///
     /// Refused [`RouterError::StampEnd`], and [`RouterError::Memory`] where a growth was; then all is as
     /// it was.
-    pub fn decide(&mut self) -> Result<Stepped, RouterError> {
+    pub fn decide(&mut self) -> Result<Stepped, RouterError>
+        ensures answers { Answers result self.old Decide self.new }
+        ensures same { IsSame self.old self.new }
+    {
         if self.tables.dirty().is_none() {
             return Ok(Stepped::Nothing);
         }
