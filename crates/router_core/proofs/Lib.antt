@@ -3,8 +3,9 @@ pub mod PeerLemmas
 pub mod Naming
 pub mod Originations
 pub mod Leasts
-pub mod Choices
+pub mod BestLemmas
 pub mod Choosing
+pub mod Deciding
 pub mod Carrying
 pub mod Serving
 pub mod Taking

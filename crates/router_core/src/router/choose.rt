@@ -4,6 +4,7 @@ ghost use Rattle.router_model.specs.Calls.{Decide, Advertise};
 ghost use Rattle.router_core.specs.Views.{IsSame, Answers};
 
 use super::{GREATEST_STAMP, Router};
+use crate::choices::the_best_is_the_route;
 use crate::peers::Peer;
 use crate::telling::telling;
 use bgp_codec::Message;
@@ -34,17 +35,18 @@ impl Router<'_> {
         ensures answers { Answers result self.old Decide self.new }
         ensures same { IsSame self.old self.new }
     {
-        if self.tables.dirty().is_none() {
+        the_best_is_the_route(&self.tables);
+        let Some(_) = self.tables.dirty() else {
             return Ok(Stepped::Nothing);
-        }
+        };
         let stamp = self.stamp + 1;
         if stamp > GREATEST_STAMP {
             return Err(RouterError::StampEnd);
         }
         let alloc = *self.peers.allocator();
-        if self.tables.decide(alloc).is_err() {
+        let Ok(_) = self.tables.decide(alloc) else {
             return Err(RouterError::Memory);
-        }
+        };
         self.stamp = stamp;
         Ok(Stepped::Did)
     }
