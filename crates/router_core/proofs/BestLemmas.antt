@@ -1,16 +1,15 @@
 -- The best of the words of peers is one, by the tables' definition and by that of stable paths.
 use Rattle.std.proofs.Common.{◌≡◌, ℕ, Bool, true, false, cond, List, [], ◌∷◌, refl, sym, ap, subst, ◌∙◌, inl, inr}
-use Rattle.std.specs.Prelude.{◌↔◌, ◌⊎◌}
 use Rattle.std.specs.Bool.{Decides}
 use Rattle.std.specs.List.{Contains}
 use Rattle.std.proofs.lemmas.Bool.{true≢false}
 use Rattle.prefix_lanes.specs.Bits.{PrefixView}
 use Rattle.ranked_policy.specs.Plans.{Plan, Linked}
-use Rattle.ranked_policy.specs.Policies.{Table, IsTableOf, Originates}
+use Rattle.ranked_policy.specs.Policies.{Table}
 use Rattle.rib_tables.specs.Words.{lists}
 use Rattle.rib_tables.specs.Choices as tables
 use Rattle.rib_tables.specs.Promises.{HasPathOf}
-use Rattle.stable_paths.specs.Stable.{Problem, own_path, IsChoice, IsFirst, IsFirstOrNone, IsBestOf}
+use Rattle.stable_paths.specs.Stable.{Problem, IsChoice, IsFirstOrNone, IsBestOf}
 use Rattle.router_core.proofs.Naming.{decides_lists}
 
 module _ (net : Plan) (u : ℕ) (q : PrefixView) (os : List PrefixView) (words : ℕ → List ℕ) where

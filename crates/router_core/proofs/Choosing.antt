@@ -1,9 +1,8 @@
 -- What a router chooses and whom it tells, by its tables and by the definitions.
-use Rattle.std.proofs.Common.{◌≡◌, ℕ, Bool, true, false, not, cond, ◌&&◌, ◌||◌, List, [], ◌∷◌, map, Option, None, Some, refl, sym, ap, subst, ◌∙◌, inl, inr}
-use Rattle.std.specs.Prelude.{MatchOption, is_some, IsTrue, ◌↔◌, ◌⊎◌, nat_eq}
+use Rattle.std.proofs.Common.{◌≡◌, ℕ, Bool, true, false, List, [], map, Option, None, Some, refl, sym, ap, subst, ◌∙◌, inl, inr}
+use Rattle.std.specs.Prelude.{MatchOption, is_some, ◌↔◌, ◌⊎◌}
 use Rattle.std.specs.Bool.{Decides}
-use Rattle.std.specs.List.{AllPairs, Contains, find, list_any}
-use Rattle.std.specs.Str.{bytes_eq}
+use Rattle.std.specs.List.{AllPairs, Contains, find}
 use Rattle.std.proofs.lemmas.Bool.{true≢false}
 use Rattle.std.proofs.lemmas.Slice.Eq.{bytes_eq-Decides}
 use Rattle.prefix_lanes.specs.Bits.{PrefixView}
@@ -11,18 +10,18 @@ use Rattle.ranked_policy.specs.Plans.{Plan, IsNetwork, IsRouter, IsNamed, IsBefo
 use Rattle.ranked_policy.specs.Policies.{Table, IsTableOf}
 use Rattle.rib_tables.specs.declared.word.Word.{Word}
 use Rattle.rib_tables.specs.declared.word.Word.TheVariants.{Sequence}
-use Rattle.rib_tables.specs.Words.{nothing, path_in, lists}
-use Rattle.rib_tables.specs.Tables.{word_of, path_of, IsTold}
+use Rattle.rib_tables.specs.Words.{path_in, lists}
+use Rattle.rib_tables.specs.Tables.{word_of, path_of}
 use Rattle.rib_tables.specs.Least.{HoldsOfAll, IsLeastWithout}
 use Rattle.rib_tables.specs.Choices as tables
-use Rattle.rib_tables.specs.Owners.{RibView, sources_of, IsSettled, IsServed}
+use Rattle.rib_tables.specs.Owners.{sources_of, IsSettled, IsServed}
 use Rattle.rib_tables.specs.Promises.{BestOverWords, HearsWords, HasPathOf}
-use Rattle.stable_paths.specs.Stable.{IsBest, IsProblem}
+use Rattle.stable_paths.specs.Stable.{IsBest}
 use Rattle.stable_paths.specs.Promises.{OneBest}
-use Rattle.router_model.specs.Settings.{Setting, ChoosesByRank, linked, peers, prefixes}
+use Rattle.router_model.specs.Settings.{Setting, ChoosesByRank, linked, prefixes}
 use Rattle.router_model.specs.Sides.{is_up}
-use Rattle.router_model.specs.State.{Router, heard, last_told, same_path, path_from, route, is_undecided, undecided, is_untold, untold, is_waiting_peer, is_pending}
-use Rattle.router_core.specs.Views.{RouterView, IsSound, IsTabled, Follows, sides_of, heard_now, told_now, plain_of}
+use Rattle.router_model.specs.State.{Router, heard, last_told, same_path, path_from, route, is_undecided, undecided, is_untold, untold, is_waiting_peer}
+use Rattle.router_core.specs.Views.{RouterView, IsSound, IsTabled, Follows, sides_of, plain_of}
 use Rattle.router_core.proofs.Naming.{decides_linked}
 use Rattle.router_core.proofs.Leasts.{least_is, any_is_found}
 use Rattle.router_core.proofs.BestLemmas.{problem, best_to, best_from}
@@ -50,7 +49,7 @@ module _ (over : BestOverWords) (one : OneBest) (g : Setting) (x : RouterView) (
   tables_net : x.tables.net ≡ g.net
   tables_net = tabled.net ∙ sym c.net
 
-  link_is : (v : ℕ) → Linked x.tables.net.links x.tables.router v → linked x.net x.number v ≡ true
+  pub link_is : (v : ℕ) → Linked x.tables.net.links x.tables.router v → linked x.net x.number v ≡ true
   link_is v l =
       (decides_linked x.net x.number v).1
       (subst (λ (n : ℕ). Linked x.net.links n v) tabled.router (subst (λ (net : Plan). Linked net.links x.tables.router v) tabled.net l))
@@ -108,7 +107,7 @@ module _ (over : BestOverWords) (one : OneBest) (g : Setting) (x : RouterView) (
 
   -- ---- what is to be decided
 
-  settled_decides : (q : PrefixView) → IsNamed x.net.origins q → Decides (same_path (path_of x.tables.kept q) (route g x.number r q)) (IsSettled x.tables q)
+  pub settled_decides : (q : PrefixView) → IsNamed x.net.origins q → Decides (same_path (path_of x.tables.kept q) (route g x.number r q)) (IsSettled x.tables q)
   settled_decides q n =
       let d = path_decides (path_of x.tables.kept q) (route g x.number r q) in (
         λ t. subst (tables.IsBest (sources_of x.tables) q) (sym (d.0 t)) (best_under q n (route g x.number r q) (by_rank q n)),
@@ -137,13 +136,13 @@ module _ (over : BestOverWords) (one : OneBest) (g : Setting) (x : RouterView) (
     f : Follows x.net.origins x.tables v (sides_of x v)
     f = tabled.peers v l
 
-    there : linked g.net x.number v ≡ true
+    pub there : linked g.net x.number v ≡ true
     there = ap (λ (net : Plan). linked net x.number v) c.net ∙ l
 
     told_word : is_up (sides_of x v) ≡ true → (q : PrefixView) → IsNamed x.net.origins q → word_of x.tables.sent v q ≡ last_told (sides_of x v) q
     told_word up q n = f.told q n ∙ rw up refl
 
-    served_decides : is_up (sides_of x v) ≡ true → (q : PrefixView) → IsNamed x.net.origins q
+    pub served_decides : is_up (sides_of x v) ≡ true → (q : PrefixView) → IsNamed x.net.origins q
         → Decides (same_path (path_of x.tables.kept q) (path_in (last_told (sides_of x v) q))) (IsServed x.tables v q)
     served_decides up q n =
         let d = path_decides (path_of x.tables.kept q) (path_in (last_told (sides_of x v) q)) in
@@ -153,7 +152,7 @@ module _ (over : BestOverWords) (one : OneBest) (g : Setting) (x : RouterView) (
         )
 
     -- a peer that is not Established waits for nothing
-    down_served : is_up (sides_of x v) ≡ false → (q : PrefixView) → IsServed x.tables v q
+    pub down_served : is_up (sides_of x v) ≡ false → (q : PrefixView) → IsServed x.tables v q
     down_served down q k = absurd (true≢false (sym (f.up.0 k) ∙ down))
 
     none_down : is_up (sides_of x v) ≡ false → (found : Option PrefixView) → MatchOption found (HoldsOfAll x.tables.net.origins (IsServed x.tables v)) (IsLeastWithout x.tables.net.origins (IsServed x.tables v))

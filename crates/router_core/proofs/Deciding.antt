@@ -1,6 +1,6 @@
 -- A decision of the tables as a step of the router.
-use Rattle.std.proofs.Common.{◌≡◌, ℕ, ◌+◌, ◌≤◌, ◌<◌, ◌^◌, Bool, true, false, not, cond, List, [], ◌∷◌, length, Option, None, Some, refl, sym, ap, subst, ◌∙◌, arith, inl, inr}
-use Rattle.std.specs.Prelude.{◌≢◌, nat_lt, Ok, Err, MatchOption}
+use Rattle.std.proofs.Common.{◌≡◌, ℕ, ◌+◌, ◌≤◌, ◌<◌, ◌^◌, Bool, true, false, cond, List, [], ◌∷◌, length, Option, None, Some, refl, sym, ap, subst, ◌∙◌, arith, inl, inr}
+use Rattle.std.specs.Prelude.{nat_lt, Ok, Err, MatchOption}
 use Rattle.std.specs.List.{Contains}
 use Rattle.std.proofs.Math.Path.{fun_ext}
 use Rattle.std.proofs.lemmas.Bool.Decides.{not_from_Decides}
@@ -16,7 +16,7 @@ use Rattle.rib_tables.specs.Promises.{BestOverWords}
 use Rattle.stable_paths.specs.Promises.{OneBest}
 use Rattle.router_model.specs.declared.refusal.RouterError.TheVariants as error
 use Rattle.router_model.specs.declared.refusal.Stepped.TheVariants as stepped
-use Rattle.router_model.specs.Settings.{Setting, ChoosesByRank}
+use Rattle.router_model.specs.Settings.{Setting}
 use Rattle.router_model.specs.State.{undecided, route}
 use Rattle.router_model.specs.Step.{keeping}
 use Rattle.router_model.specs.Calls.{Decide, Gives, answer, greatest_stamp}

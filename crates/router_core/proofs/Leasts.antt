@@ -18,10 +18,10 @@ any_is_found p (x ∷ xs) = at (p x) (any_is_found p xs)
     at true h = refl
     at false h = h
 
-named_here : (o : Origin) (os : List Origin) → IsNamed (o ∷ os) o.prefix
+pub named_here : (o : Origin) (os : List Origin) → IsNamed (o ∷ os) o.prefix
 named_here o os = (0, o, omega arith, refl, refl)
 
-named_further : (o : Origin) (os : List Origin) (q : PrefixView) → IsNamed os q → IsNamed (o ∷ os) q
+pub named_further : (o : Origin) (os : List Origin) (q : PrefixView) → IsNamed os q → IsNamed (o ∷ os) q
 named_further o os q n = let lt = n.2 in (suc n.0, n.1, omega arith, n.3, n.4)
 
 module _ (test : PrefixView → Bool) where

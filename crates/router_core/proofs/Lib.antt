@@ -6,6 +6,7 @@ pub mod Leasts
 pub mod BestLemmas
 pub mod Choosing
 pub mod Deciding
+pub mod Pending
 pub mod Carrying
 pub mod Serving
 pub mod Taking

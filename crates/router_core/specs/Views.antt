@@ -10,7 +10,7 @@ use Rattle.router_model.specs.declared.refusal.RouterError.TheVariants as error
 use Rattle.router_model.specs.declared.refusal.Stepped.{Stepped}
 use Rattle.router_model.specs.declared.refusal.Stepped.TheVariants as stepped
 use Rattle.std.specs.Prelude.{◌↔◌}
-use Rattle.std.specs.List.{Contains, All, AllByRecursion}
+use Rattle.std.specs.List.{Contains, AllByRecursion}
 use Rattle.std.specs.Prelude.{is_some, MatchOption}
 use Rattle.router_side.specs.Freshness.{IsFresh}
 use Rattle.prefix_lanes.specs.Bits.{PrefixView}
@@ -26,8 +26,6 @@ use Rattle.snap_marker.specs.Parts.{MarkView, snapshots_of, IsOver, IsOf, offer_
 use Rattle.router_model.specs.Settings.{Setting, ChoosesByRank, linked, peers}
 use Rattle.bgp_codec.specs.declared.rule.Rule.{Rule}
 use Rattle.outbox.specs.declared.item.Item.{Item}
-use Rattle.outbox.specs.declared.item.What.{What}
-use Rattle.outbox.specs.declared.item.What.TheVariants as item
 use Rattle.run_model.specs.Network.{alone, puts, takes, offers}
 use Rattle.router_model.specs.Sides.{Side, AtHand, Draft, carried, at_hand, front, without_front, handled, is_up}
 use Rattle.router_model.specs.State.{open_of, new_router, heard, last_told}

@@ -1,4 +1,4 @@
-use Rattle.std.proofs.Common.{◌≡◌, ◌+◌, ◌≤◌, true, false, arith, sym, subst, ◌∙◌}
+use Rattle.std.proofs.Common.{◌≡◌, ◌+◌, ◌≤◌, true, false, arith, subst, ◌∙◌}
 use Rattle.std.specs.Prelude.{nat_lt, Ok, Err, MatchOption}
 use Rattle.std.proofs.lemmas.Bool.Decides.{nat_tests}
 use Rattle.rib_tables.specs.Least.{HoldsOfAll, IsLeastWithout}
@@ -8,7 +8,6 @@ use Rattle.router_model.specs.declared.refusal.Stepped.TheVariants as stepped
 use Rattle.router_model.specs.Calls.{Decide, greatest_stamp}
 use Rattle.router_core.specs.Views.{RouterView, Answers}
 use Rattle.router_core.proofs.Originations.{with_tables}
-use Rattle.router_core.proofs.Choosing.{Chooses}
 use Rattle.router_core.proofs.Deciding.{decided_all, late_to_decide, no_memory_to_decide, decides_found, sound_found}
 use Rattle.router_core.proofs.router.Router.decide.Goals as goal
 
