@@ -28,14 +28,14 @@ joins_of link u v false b true true ea eb ec ed h = inr (eqb-true link.one v ec,
 joins_of link u v false b true false ea eb ec ed h = absurd cc
 joins_of link u v false b false d ea eb ec ed h = absurd cc
 
-is_joined : (link : Link) (u v : ℕ) → joins u v link ≡ true → Joins link u v
+pub is_joined : (link : Link) (u v : ℕ) → joins u v link ≡ true → Joins link u v
 is_joined link u v h = joins_of link u v (link.one == u) (link.other == v) (link.one == v) (link.other == u) refl refl refl refl h
 
 or_true : (b : Bool) → (b || true) ≡ true
 or_true true = refl
 or_true false = refl
 
-joins_is : (link : Link) (u v : ℕ) → Joins link u v → joins u v link ≡ true
+pub joins_is : (link : Link) (u v : ℕ) → Joins link u v → joins u v link ≡ true
 joins_is link u v h =
     elim h [
       | inl k ↦ rw (eq-eqb link.one u k.0, eq-eqb link.other v k.1) refl

@@ -2,6 +2,11 @@ pub mod Beginnings
 pub mod PeerLemmas
 pub mod Naming
 pub mod Originations
+pub mod Leasts
+pub mod BestLemmas
+pub mod Choosing
+pub mod Deciding
+pub mod Pending
 pub mod Carrying
 pub mod Serving
 pub mod Taking

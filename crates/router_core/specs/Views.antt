@@ -1,5 +1,5 @@
 -- A router of the code as a router of the definitions: its list of peers as a function of numbers, its tables as what its sides say.
-use Rattle.std.specs.Prelude.{ℕ, zero, suc, ◌≡◌, ◌≢◌, ◌≤◌, ◌<◌, ◌==◌, nat_lt, Bool, true, false, cond, List, [], ◌∷◌, length, map, Option, None, Some, Result, Ok, Err, MatchResult, ◌+◌}
+use Rattle.std.specs.Prelude.{ℕ, zero, suc, ◌≡◌, ◌≢◌, ◌≤◌, ◌<◌, ◌==◌, ◌^◌, nat_lt, Bool, true, false, cond, List, [], ◌∷◌, length, map, Option, None, Some, Result, Ok, Err, MatchResult, ◌+◌}
 use Rattle.bgp_codec.specs.declared.message.Message.{Message}
 use Rattle.session_fsm.specs.declared.config.SessionConfig.{SessionConfig}
 use Rattle.ranked_policy.specs.Plans.{Plan, IsNetwork, IsRouter}
@@ -10,7 +10,7 @@ use Rattle.router_model.specs.declared.refusal.RouterError.TheVariants as error
 use Rattle.router_model.specs.declared.refusal.Stepped.{Stepped}
 use Rattle.router_model.specs.declared.refusal.Stepped.TheVariants as stepped
 use Rattle.std.specs.Prelude.{◌↔◌}
-use Rattle.std.specs.List.{Contains, All, AllByRecursion}
+use Rattle.std.specs.List.{Contains, AllByRecursion}
 use Rattle.std.specs.Prelude.{is_some, MatchOption}
 use Rattle.router_side.specs.Freshness.{IsFresh}
 use Rattle.prefix_lanes.specs.Bits.{PrefixView}
@@ -26,8 +26,6 @@ use Rattle.snap_marker.specs.Parts.{MarkView, snapshots_of, IsOver, IsOf, offer_
 use Rattle.router_model.specs.Settings.{Setting, ChoosesByRank, linked, peers}
 use Rattle.bgp_codec.specs.declared.rule.Rule.{Rule}
 use Rattle.outbox.specs.declared.item.Item.{Item}
-use Rattle.outbox.specs.declared.item.What.{What}
-use Rattle.outbox.specs.declared.item.What.TheVariants as item
 use Rattle.run_model.specs.Network.{alone, puts, takes, offers}
 use Rattle.router_model.specs.Sides.{Side, AtHand, Draft, carried, at_hand, front, without_front, handled, is_up}
 use Rattle.router_model.specs.State.{open_of, new_router, heard, last_told}
@@ -98,10 +96,14 @@ pub record Follows (origins : List Origin) (t : RibView) (v : ℕ) (s : Side) : 
   pub heard : (q : PrefixView) → IsNamed origins q → word_of t.heard v q ≡ heard_now s q
   pub told : (q : PrefixView) → IsNamed origins q → word_of t.sent v q ≡ told_now s q
 
--- a path that can be told: of at most so many routers of the network
-pub record IsTellable (net : Plan) (path : List ℕ) : Type 0 where
+-- each number is one of two octets
+abbrev pub AreShort : List ℕ → Type 0
+AreShort numbers = AllByRecursion (λ n. n < 2 ^ 16) numbers
+
+-- a path that can be told: of at most so many numbers, each of two octets
+pub record IsTellable (path : List ℕ) : Type 0 where
   pub few : length path ≤ 16
-  pub routers : All (IsRouter net.routers) path
+  pub short : AreShort path
 
 -- the word is a path, and no AS_PATH of another kind
 abbrev pub IsPathWord : Word → Type 0
@@ -113,9 +115,10 @@ pub record IsTabled (x : RouterView) : Type 0 where
   pub router : x.tables.router ≡ x.number
   pub peers : (v : ℕ) → linked x.net x.number v ≡ true → Follows x.net.origins x.tables v (sides_of x v)
   pub fresh : (v : ℕ) → IsFresh (sides_of x v)
+  pub short : (v : ℕ) (q : PrefixView) → AreShort (path_in (word_of x.tables.heard v q))
   pub sent : (v : ℕ) (q : PrefixView) → IsPathWord (word_of x.tables.sent v q)
   pub kept : (q : PrefixView) → (IsNamed x.net.origins q → ⊥) → path_of x.tables.kept q ≡ []
-  pub tellable : (q : PrefixView) → IsTellable x.net (path_of x.tables.kept q)
+  pub tellable : (q : PrefixView) → IsTellable (path_of x.tables.kept q)
   pub originated : (q : PrefixView) → lists x.tables.originated q ≡ true → IsNamed x.net.origins q
 
 -- what is recorded and offered is this router's, over its links

@@ -1,6 +1,10 @@
 //! What a router chooses, and whom it tells of it (RFC 4271 section 9).
 
+ghost use Rattle.router_model.specs.Calls.{Decide, Advertise};
+ghost use Rattle.router_core.specs.Views.{IsSame, Answers};
+
 use super::{GREATEST_STAMP, Router};
+use crate::choices::the_best_is_the_route;
 use crate::peers::Peer;
 use crate::telling::telling;
 use bgp_codec::Message;
@@ -27,18 +31,22 @@ impl Router<'_> {
     ///
     /// Refused [`RouterError::StampEnd`], and [`RouterError::Memory`] where a growth was; then all is as
     /// it was.
-    pub fn decide(&mut self) -> Result<Stepped, RouterError> {
-        if self.tables.dirty().is_none() {
+    pub fn decide(&mut self) -> Result<Stepped, RouterError>
+        ensures answers { Answers result self.old Decide self.new }
+        ensures same { IsSame self.old self.new }
+    {
+        the_best_is_the_route(&self.tables);
+        let Some(_) = self.tables.dirty() else {
             return Ok(Stepped::Nothing);
-        }
+        };
         let stamp = self.stamp + 1;
         if stamp > GREATEST_STAMP {
             return Err(RouterError::StampEnd);
         }
         let alloc = *self.peers.allocator();
-        if self.tables.decide(alloc).is_err() {
+        let Ok(_) = self.tables.decide(alloc) else {
             return Err(RouterError::Memory);
-        }
+        };
         self.stamp = stamp;
         Ok(Stepped::Did)
     }
