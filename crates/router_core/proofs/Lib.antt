@@ -1,5 +1,6 @@
 pub mod Beginnings
 pub mod PeerLemmas
+pub mod Following
 pub mod Naming
 pub mod Originations
 pub mod Leasts
