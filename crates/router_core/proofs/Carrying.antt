@@ -50,7 +50,7 @@ fresh_alike s z x l a b f =
     record {
       later = λ n h. let k = f.later n (subst (λ e. e < n) epoch h) in (ap (λ (us : ℕ → List Update). us n) a ∙ k.0, ap (λ (us : ℕ → List Update). us n) b ∙ k.1);
       opening = λ h. let k = f.opening (sym (ap is_opening state) ∙ h) in
-      (ap (λ (us : ℕ → List Update). us z.link.epoch) a ∙ ap s.acted epoch ∙ k.0, ap (λ (us : ℕ → List Update). us z.link.epoch) b ∙ ap s.sent epoch ∙ k.1);
+          (ap (λ (us : ℕ → List Update). us z.link.epoch) a ∙ ap s.acted epoch ∙ k.0, ap (λ (us : ℕ → List Update). us z.link.epoch) b ∙ ap s.sent epoch ∙ k.1);
       away = λ h. ap (λ (y : LinkView). y.phase) l ∙ f.away (sym (ap is_away state) ∙ h);
     }
 
@@ -212,9 +212,9 @@ module _ (r : RouterView) (v i : ℕ) (p q : Peer) (c : Changes r v i p q) where
       record {
         leaves = leaves r.tables t v (standing (side p.end)) (standing (side q.end)) f;
         follows =
-        subst (Follows r.net.origins t v) (sym is)
-        (follows_by r.net.origins v (side p.end) z none refl r.tables t (is_up (side p.end)) (is_up z) refl refl h.onward
-        (λ up b. let n = h.up up b in (ap (λ (us : ℕ → List Update). us a.link.epoch) none ∙ n.0, n.1)) (is_followed s) on);
+            subst (Follows r.net.origins t v) (sym is)
+            (follows_by r.net.origins v (side p.end) z none refl r.tables t (is_up (side p.end)) (is_up z) refl refl h.onward
+            (λ up b. let n = h.up up b in (ap (λ (us : ℕ → List Update). us a.link.epoch) none ∙ n.0, n.1)) (is_followed s) on);
         fresh = subst IsFresh (sym is) h.fresh;
         sent = paths r.tables t v (standing (side p.end)) (standing (side q.end)) f s.tabled.sent;
       }

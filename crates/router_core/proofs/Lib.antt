@@ -12,3 +12,4 @@ pub mod Carrying
 pub mod Serving
 pub mod Taking
 pub mod Marking
+pub mod Recording

@@ -5,11 +5,16 @@ use Rattle.ranked_policy.specs.declared.network.Origin.{Origin}
 use Rattle.rib_tables.specs.Words.{lists}
 use Rattle.rib_tables.specs.Tables.{Paths, path_of}
 use Rattle.snap_marker.specs.declared.part.KeptPath.{KeptPath}
-use Rattle.snap_marker.specs.Parts.{Seen}
+use Rattle.rib_tables.specs.Least.{HoldsOfAll}
+use Rattle.rib_tables.specs.Owners.{RibView, IsSettled, AllServed, IsPending}
+use Rattle.snap_marker.specs.declared.part.Part.{Part}
+use Rattle.snap_marker.specs.Parts.{Seen, seen}
+use Rattle.router_model.specs.Settings.{Setting, ChoosesByRank}
 use Rattle.router_model.specs.Sides.{Side, marked, is_up}
-use Rattle.router_model.specs.Step.{awaits}
+use Rattle.router_model.specs.Step.{awaits, records}
 use Rattle.router_side.specs.SideOf.{side, HasRoomToMark}
 use Rattle.router_core.specs.declared.peers.Peer.{Peer}
+use Rattle.router_core.specs.Views.{RouterView, plain_of, listed}
 
 -- the path kept for each prefix that the network names
 abbrev pub paths_of : List Origin → Paths → List KeptPath
@@ -43,3 +48,22 @@ HaveRoomToMark (p ∷ ps) = HasRoomToMark p.end × HaveRoomToMark ps
 -- the marker goes to a peer whose session is Established
 abbrev pub marked_if_up : ℕ → Side → Side
 marked_if_up s x = cond (is_up x) (marked s x) x
+
+-- what a router with these tables and peers is now, as its part of a snapshot
+pub record IsPart (origins : List Origin) (t : RibView) (ps : List Peer) (u s : ℕ) (first : Option ℕ) (p : Part) : Type 0 where
+  pub router : p.router ≡ u
+  pub number : p.number ≡ s
+  pub kept : p.kept.items ≡ paths_of origins t.kept
+  pub originated : p.originated.items ≡ own_of origins t.originated
+  pub channels : map seen p.channels.items ≡ channels_of first ps
+  pub some : p.pending ≡ true → IsPending t
+  pub none : p.pending ≡ false → HoldsOfAll t.net.origins (IsSettled t) × AllServed t
+
+-- the marker came from a peer, or a command
+abbrev pub IsPeer : List Peer → Option ℕ → Type 0
+IsPeer ps None = Unit {0}
+IsPeer ps (Some v) = listed v ps ≡ true
+
+-- a snapshot is recorded, at the stamp that the router then has, in every setting of its network that chooses by rank
+abbrev pub Records : RouterView → ℕ → Option ℕ → RouterView → Type 0
+Records x s first y = (g : Setting) → g.net ≡ x.net → ChoosesByRank g → plain_of y ≡ record { router = records g x.number (plain_of x).router s first; stamp = y.stamp }

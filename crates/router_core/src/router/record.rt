@@ -1,16 +1,19 @@
 //! What a router records of a snapshot (Chandy and Lamport 1985).
 
-ghost use Rattle.std.specs.Prelude.{◌≡◌, [], ◌∷◌, map, IfOk, OnOk};
+ghost use Rattle.std.specs.Prelude.{◌≡◌, [], ◌∷◌, map, IfOk, OnOk, OnErr};
 ghost use Rattle.rib_tables.specs.Words.{lists};
 ghost use Rattle.snap_marker.specs.Parts.{seen};
 ghost use Rattle.router_model.specs.Step.{awaits};
-ghost use Rattle.router_core.specs.Recorded.{paths_of, own_of, channels_of, down_in, Become, HaveRoomToMark, marked_if_up};
+ghost use Rattle.router_core.specs.Views.{plain_of, IsSame};
+ghost use Rattle.router_core.specs.Recorded.{paths_of, own_of, channels_of, down_in, Become, HaveRoomToMark, marked_if_up, IsPart, IsPeer, Records};
 
 use super::{GREATEST_STAMP, Router};
+use crate::choices::the_best_is_the_route;
 use crate::peers::Peer;
 use prefix_lanes::Prefix;
 use ranked_policy::{Asn, Origin, Path};
 use rib_tables::Rib;
+use router_model::laws::linked_routers_are_peers;
 use router_model::{RouterError, Stepped};
 use snap_marker::{Channel, KeptPath, Part};
 use std::alloc::{AllocError, Global};
@@ -70,11 +73,7 @@ fn awaits(first: Option<Asn>, peer: Asn) -> bool
 }
 
 // A channel for each peer, open but for the one whose marker came.
-fn channels(
-    alloc: Global,
-    peers: &[Peer],
-    first: Option<Asn>,
-) -> Result<Vec<Channel>, AllocError>
+fn channels(alloc: Global, peers: &[Peer], first: Option<Asn>) -> Result<Vec<Channel>, AllocError>
     ensures { IfOk result (λ made. map seen made.items ≡ channels_of first peers.now) }
 {
     let mut made = Vec::new(alloc);
@@ -102,8 +101,8 @@ fn first_down(peers: &[Peer]) -> Option<Asn>
     None
 }
 
-// Makes room for a marker to each peer.
-fn reserve_markers(peers: &mut [Peer]) -> Result<(), AllocError>
+// Makes room for a marker to each of these.
+fn reserve_each(peers: &mut [Peer]) -> Result<(), AllocError>
     ensures same { Become (λ s. s) peers.old peers.new }
     ensures room { OnOk result (HaveRoomToMark peers.new) }
 {
@@ -111,6 +110,14 @@ fn reserve_markers(peers: &mut [Peer]) -> Result<(), AllocError>
         peer.end.reserve_marker()?;
     }
     Ok(())
+}
+
+// Makes room for a marker to each peer.
+fn reserve_markers(peers: &mut Vec<Peer>) -> Result<(), AllocError>
+    ensures same { Become (λ s. s) peers.old.items peers.new.items }
+    ensures room { OnOk result (HaveRoomToMark peers.new.items) }
+{
+    reserve_each(peers.as_mut_slice())
 }
 
 // The marker of a snapshot goes to a peer in Established, behind all that waits.
@@ -123,8 +130,8 @@ fn mark(peer: &mut Peer, number: u32)
     }
 }
 
-// It goes to each.
-fn mark_all(peers: &mut [Peer], number: u32)
+// It goes to each of these.
+fn mark_each(peers: &mut [Peer], number: u32)
     requires { HaveRoomToMark peers.old }
     ensures { Become (marked_if_up number) peers.old peers.new }
 {
@@ -133,34 +140,68 @@ fn mark_all(peers: &mut [Peer], number: u32)
     }
 }
 
-impl Router<'_> {
-    // What the router is now, as a part of a snapshot.
-    fn part_now(
-        &mut self,
-        alloc: Global,
-        number: u32,
-        first: Option<Asn>,
-    ) -> Result<Part, AllocError> {
-        let origins = self.network.origins();
-        Ok(Part {
-            router: self.number,
-            number,
-            kept: kept_paths(alloc, origins, &self.tables)?,
-            originated: originated(alloc, origins, &self.tables)?,
-            pending: self.tables.is_pending(),
-            channels: channels(alloc, self.peers.as_slice(), first)?,
-        })
-    }
+// It goes to each peer.
+fn mark_all(peers: &mut Vec<Peer>, number: u32)
+    requires { HaveRoomToMark peers.old.items }
+    ensures { Become (marked_if_up number) peers.old.items peers.new.items }
+{
+    mark_each(peers.as_mut_slice(), number);
+}
 
+// What a router is now, as its part of a snapshot.
+fn part_now(
+    alloc: Global,
+    number: Asn,
+    origins: &[Origin],
+    tables: &mut Rib<'_>,
+    peers: &[Peer],
+    snapshot: u32,
+    first: Option<Asn>,
+) -> Result<Part, AllocError>
+    ensures part { IfOk result (IsPart origins.now tables.old peers.now number snapshot first) }
+    ensures same { tables.new ≡ tables.old }
+{
+    let kept = kept_paths(alloc, origins, tables)?;
+    let originated = originated(alloc, origins, tables)?;
+    let channels = channels(alloc, peers, first)?;
+    Ok(Part {
+        router: number,
+        number: snapshot,
+        kept,
+        originated,
+        pending: tables.is_pending(),
+        channels,
+    })
+}
+
+impl Router<'_> {
     // The snapshot is recorded, and its markers go out. A refusal leaves the router as it was.
-    fn begin(&mut self, alloc: Global, number: u32, first: Option<Asn>) -> Result<(), AllocError> {
-        let part = self.part_now(alloc, number, first)?;
-        reserve_markers(self.peers.as_mut_slice())?;
+    fn begin(&mut self, alloc: Global, number: u32, first: Option<Asn>) -> Result<(), AllocError>
+        requires first { IsPeer self.old.peers first }
+        ensures ok { OnOk result (Records self.old number first self.new) }
+        ensures err { OnErr result (plain_of self.new ≡ plain_of self.old) }
+        ensures stamp { self.new.stamp ≡ self.old.stamp }
+        ensures same { IsSame self.old self.new }
+    {
+        linked_routers_are_peers();
+        the_best_is_the_route(&self.tables);
+        let origins = self.network.origins();
+        let peers = self.peers.as_slice();
+        let part = part_now(
+            alloc,
+            self.number,
+            origins,
+            &mut self.tables,
+            peers,
+            number,
+            first,
+        )?;
         let down = first_down(self.peers.as_slice());
+        reserve_markers(&mut self.peers)?;
         if self.marks.begin(part, down).is_err() {
             return Err(AllocError);
         }
-        mark_all(self.peers.as_mut_slice(), number);
+        mark_all(&mut self.peers, number);
         Ok(())
     }
 

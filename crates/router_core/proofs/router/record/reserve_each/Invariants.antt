@@ -1,5 +1,5 @@
 use Rattle.router_core.proofs.Marking.{Passed, RoomBelow}
-use Rattle.router_core.proofs.router.record.reserve_markers.Given as goal
+use Rattle.router_core.proofs.router.record.reserve_each.Given as goal
 
 -- the peers passed have room, and no side changed
 abbrev pub invariant-loop-peer : goal.invariant-loop-peer

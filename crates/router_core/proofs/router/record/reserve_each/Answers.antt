@@ -2,7 +2,7 @@ use Rattle.std.proofs.Common.{◌<◌, ◌≤◌, ◌+◌, ◌∙◌, sym, ap, r
 use Rattle.router_side.specs.SideOf.{side}
 use Rattle.router_core.specs.declared.peers.Peer.{Peer}
 use Rattle.router_core.proofs.Marking.{passed_next, passed_same, room_next, room_all}
-use Rattle.router_core.proofs.router.record.reserve_markers.Goals as goal
+use Rattle.router_core.proofs.router.record.reserve_each.Goals as goal
 
 pub returns-in_err-reserve_marker-clause-same : goal.returns-in_err-reserve_marker-clause-same
 returns-in_err-reserve_marker-clause-same c =

@@ -3,7 +3,7 @@ use Rattle.router_side.specs.SideOf.{side, HasRoomToMark}
 use Rattle.router_core.specs.declared.peers.Peer.{Peer}
 use Rattle.router_core.specs.Recorded.{marked_if_up}
 use Rattle.router_core.proofs.Marking.{passed_next, passed_all, room_here, room_left}
-use Rattle.router_core.proofs.router.record.mark_all.Goals as goal
+use Rattle.router_core.proofs.router.record.mark_each.Goals as goal
 
 pub mark-requires : goal.mark-requires
 mark-requires c =
@@ -18,7 +18,7 @@ loop-peer-preserved c =
     let q = c.mark.new.peer in
     record {
       marked = passed_next (marked_if_up c.args.number) l.peer-index c.args.peers.now l.peers p q l.invariant.marked (omega (arith, c.loop-peer-test.true)) c.mark.ensures.0
-      c.mark.ensures.1;
+          c.mark.ensures.1;
       room = room_left l.peer-index l.peers q l.invariant.room;
     }
 

@@ -1,6 +1,6 @@
 use Rattle.router_core.specs.Recorded.{marked_if_up}
 use Rattle.router_core.proofs.Marking.{Passed, RoomFrom}
-use Rattle.router_core.proofs.router.record.mark_all.Given as goal
+use Rattle.router_core.proofs.router.record.mark_each.Given as goal
 
 -- the peers passed are marked, and the others have room for it
 abbrev pub invariant-loop-peer : goal.invariant-loop-peer
