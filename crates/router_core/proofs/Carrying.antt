@@ -253,6 +253,13 @@ drafted g r v i p F a of at here made =
     let s : side p.end ≡ sides_of r v = ap (λ (w : Peer). side w.end) here ∙ sym (side_here (side_opening (config_of r.net)) r.peers v i p at) in
     made ∙ ap (λ (m : Message). F m (side p.end)) of.own_open ∙ ap (F (open_of g.net r.number)) s
 
+-- and it keeps histories fresh where the definitions' does
+pub keeps_here : (r : RouterView) (v i : ℕ) (p : Peer) → IsAt r.peers v i → p ≡ get_or r.peers i p → IsSound r → (a b : Draft) → a ≡ b
+    → (IsFresh (side p.end) → KeepsFresh (side p.end) NoMessage b) → KeepsFresh (sides_of r v) NoMessage a
+keeps_here r v i p at here s a b e k =
+    let f : side p.end ≡ sides_of r v = ap (λ (w : Peer). side w.end) here ∙ sym (side_here (side_opening (config_of r.net)) r.peers v i p at) in
+    subst (λ (y : Side). KeepsFresh y NoMessage a) f (subst (KeepsFresh (side p.end) NoMessage) (sym e) (k (subst IsFresh (sym f) (s.tabled.fresh v))))
+
 -- a call whose event is the draft of one side, carried out
 pub one_step : (g : Setting) (r : RouterView) (y : Stamped) (v : ℕ) (h : AtHand) (a b : Draft) (stamp : ℕ) (call : Call) (e : RouterEvent) (res : Result Stepped RouterError) (o : Draft → Bool) → a ≡ b
     → stamped_after g r.number (plain_of r) call e ≡ record { router = moved (plain_of r).router v h b; stamp = stamp }

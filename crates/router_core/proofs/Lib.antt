@@ -8,6 +8,7 @@ pub mod BestLemmas
 pub mod Choosing
 pub mod Deciding
 pub mod Pending
+pub mod Starting
 pub mod Carrying
 pub mod Serving
 pub mod Taking

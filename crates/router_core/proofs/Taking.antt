@@ -75,6 +75,6 @@ module _ (g : Setting) (r : RouterView) (v i : ℕ) (p : Peer) (of : IsOf g r) (
 
   pub takes_piece : (e : ℕ) (octets : List ℕ) (q : Peer) → Changes r v i p q → side q.end ≡ fed (side p.end) e octets → is_waiting (side p.end).held ≡ false
       → nat_lt greatest_stamp next ≡ false
-      → Gives g r.number (Ok stepped.Did) (answer g r.number (plain_of r) (Take v stamp (item.Piece e octets))) (plain_of r) (Take v stamp (item.Piece e octets)) (plain_of (with_peer r i q next))
+      → Gives g r.number (Ok stepped.Did) (answer g r.number (plain_of r) (Take v stamp (item.Piece e octets))) (plain_of r) (Take v stamp (item.Piece e octets)) (plain_of (with_peer r i q r.tables r.marks next))
   takes_piece e octets q c is free late =
-      late_is (item.Piece e octets) (Ok stepped.Did) (plain_of (with_peer r i q next)) false free late (refl, becomes r v i p q c next (λ s. fed s e octets) is)
+      late_is (item.Piece e octets) (Ok stepped.Did) (plain_of (with_peer r i q r.tables r.marks next)) false free late (refl, becomes r v i p q c next (λ s. fed s e octets) is)

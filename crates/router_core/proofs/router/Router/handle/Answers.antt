@@ -15,14 +15,14 @@ use Rattle.router_core.proofs.router.Router.handle.Goals as goal
 
 pub returns-then-not-is_waiting-clause-answers : goal.returns-then-not-is_waiting-clause-answers
 returns-then-not-is_waiting-clause-answers c =
-    let r : RouterView = record { net = c.self.inside.network.now; number = c.self.inside.number; own_open = c.self.inside.own_open; peers = c.self.inside.peers.items; stamp = c.self.inside.stamp } in
+    let r : RouterView = record { net = c.self.inside.network.now; number = c.self.inside.number; own_open = c.self.inside.own_open; peers = c.self.inside.peers.items; tables = c.self.inside.tables; marks = c.self.inside.marks; stamp = c.self.inside.stamp } in
     let found = subst (λ (x : RouterView). IsFound x.peers c.args.peer c.in-Some.at) (sym c.self.view_is) c.in-Some.ensures.place in
     subst (λ (x : RouterView). Answers (Ok stepped.Nothing) x (Handle c.args.peer) x) c.self.view_is (λ g e ranks.
     hands_nothing g r c.args.peer c.in-Some.at c.index.result.now (of_sound g r c.self.invariant e) found.2 c.index.ensures found.1 (sym c.is_waiting.ensures ∙ c.if-not-is_waiting.true))
 
 pub returns-then-stamp-gt-GREATEST_STAMP-clause-answers : goal.returns-then-stamp-gt-GREATEST_STAMP-clause-answers
 returns-then-stamp-gt-GREATEST_STAMP-clause-answers c =
-    let r : RouterView = record { net = c.self.inside.network.now; number = c.self.inside.number; own_open = c.self.inside.own_open; peers = c.self.inside.peers.items; stamp = c.self.inside.stamp } in
+    let r : RouterView = record { net = c.self.inside.network.now; number = c.self.inside.number; own_open = c.self.inside.own_open; peers = c.self.inside.peers.items; tables = c.self.inside.tables; marks = c.self.inside.marks; stamp = c.self.inside.stamp } in
     let found = subst (λ (x : RouterView). IsFound x.peers c.args.peer c.in-Some.at) (sym c.self.view_is) c.in-Some.ensures.place in
     let late : nat_lt greatest_stamp (r.stamp + 1) ≡ true = grind (arith, nat_tests, c.if-stamp-gt-GREATEST_STAMP.true) in
     subst (λ (x : RouterView). Answers (Err error.StampEnd) x (Handle c.args.peer) x) c.self.view_is (λ g e ranks.
@@ -30,7 +30,7 @@ returns-then-stamp-gt-GREATEST_STAMP-clause-answers c =
 
 pub invariant_of-self : goal.invariant_of-self
 invariant_of-self c =
-    let r : RouterView = record { net = c.self.inside.network.now; number = c.self.inside.number; own_open = c.self.inside.own_open; peers = c.self.inside.peers.items; stamp = c.self.inside.stamp } in
+    let r : RouterView = record { net = c.self.inside.network.now; number = c.self.inside.number; own_open = c.self.inside.own_open; peers = c.self.inside.peers.items; tables = c.self.inside.tables; marks = c.self.inside.marks; stamp = c.self.inside.stamp } in
     let found = subst (λ (x : RouterView). IsFound x.peers c.args.peer c.in-Some.at) (sym c.self.view_is) c.in-Some.ensures.place in
     let p = c.index_mut.result.now in
     let q : Peer = record { number = p.number; end = c.handle_front.new.end } in
@@ -40,7 +40,7 @@ invariant_of-self c =
 
 pub invariant_of-self-in-Err : goal.invariant_of-self-in-Err
 invariant_of-self-in-Err c =
-    let r : RouterView = record { net = c.self.inside.network.now; number = c.self.inside.number; own_open = c.self.inside.own_open; peers = c.self.inside.peers.items; stamp = c.self.inside.stamp } in
+    let r : RouterView = record { net = c.self.inside.network.now; number = c.self.inside.number; own_open = c.self.inside.own_open; peers = c.self.inside.peers.items; tables = c.self.inside.tables; marks = c.self.inside.marks; stamp = c.self.inside.stamp } in
     let found = subst (λ (x : RouterView). IsFound x.peers c.args.peer c.in-Some.at) (sym c.self.view_is) c.in-Some.ensures.place in
     let p = c.index_mut.result.now in
     let q : Peer = record { number = p.number; end = c.handle_front.new.end } in
@@ -49,7 +49,7 @@ invariant_of-self-in-Err c =
 
 pub returns-in-Ok-clause-answers : goal.returns-in-Ok-clause-answers
 returns-in-Ok-clause-answers c =
-    let r : RouterView = record { net = c.self.inside.network.now; number = c.self.inside.number; own_open = c.self.inside.own_open; peers = c.self.inside.peers.items; stamp = c.self.inside.stamp } in
+    let r : RouterView = record { net = c.self.inside.network.now; number = c.self.inside.number; own_open = c.self.inside.own_open; peers = c.self.inside.peers.items; tables = c.self.inside.tables; marks = c.self.inside.marks; stamp = c.self.inside.stamp } in
     let found = subst (λ (x : RouterView). IsFound x.peers c.args.peer c.in-Some.at) (sym c.self.view_is) c.in-Some.ensures.place in
     let p = c.index_mut.result.now in
     let q : Peer = record { number = p.number; end = c.handle_front.new.end } in
@@ -62,7 +62,7 @@ returns-in-Ok-clause-answers c =
 
 pub returns-in-Err-clause-answers : goal.returns-in-Err-clause-answers
 returns-in-Err-clause-answers c =
-    let r : RouterView = record { net = c.self.inside.network.now; number = c.self.inside.number; own_open = c.self.inside.own_open; peers = c.self.inside.peers.items; stamp = c.self.inside.stamp } in
+    let r : RouterView = record { net = c.self.inside.network.now; number = c.self.inside.number; own_open = c.self.inside.own_open; peers = c.self.inside.peers.items; tables = c.self.inside.tables; marks = c.self.inside.marks; stamp = c.self.inside.stamp } in
     let found = subst (λ (x : RouterView). IsFound x.peers c.args.peer c.in-Some.at) (sym c.self.view_is) c.in-Some.ensures.place in
     let p = c.index_mut.result.now in
     let q : Peer = record { number = p.number; end = c.handle_front.new.end } in

@@ -18,7 +18,7 @@ use Rattle.router_core.proofs.router.Router.take_item.Goals as goal
 
 pub returns-then-is_waiting-clause-answers : goal.returns-then-is_waiting-clause-answers
 returns-then-is_waiting-clause-answers c =
-    let r : RouterView = record { net = c.self.inside.network.now; number = c.self.inside.number; own_open = c.self.inside.own_open; peers = c.self.inside.peers.items; stamp = c.self.inside.stamp } in
+    let r : RouterView = record { net = c.self.inside.network.now; number = c.self.inside.number; own_open = c.self.inside.own_open; peers = c.self.inside.peers.items; tables = c.self.inside.tables; marks = c.self.inside.marks; stamp = c.self.inside.stamp } in
     let found = subst (λ (x : RouterView). IsFound x.peers c.args.peer c.in-Some.at) (sym c.self.view_is) c.in-Some.ensures.place in
     subst (λ (x : RouterView). Answers (Err (error.Held c.args.peer)) x (Take c.args.peer c.args.item.now.stamp c.args.item.now.what) x) c.self.view_is (λ g e ranks.
     takes_held g r c.args.peer c.in-Some.at c.index.result.now (of_sound g r c.self.invariant e) found.2 c.index.ensures found.1 c.args.item.now.stamp c.args.item.now.what
@@ -26,7 +26,7 @@ returns-then-is_waiting-clause-answers c =
 
 pub returns-then-stamp-gt-GREATEST_STAMP-clause-answers : goal.returns-then-stamp-gt-GREATEST_STAMP-clause-answers
 returns-then-stamp-gt-GREATEST_STAMP-clause-answers c =
-    let r : RouterView = record { net = c.self.inside.network.now; number = c.self.inside.number; own_open = c.self.inside.own_open; peers = c.self.inside.peers.items; stamp = c.self.inside.stamp } in
+    let r : RouterView = record { net = c.self.inside.network.now; number = c.self.inside.number; own_open = c.self.inside.own_open; peers = c.self.inside.peers.items; tables = c.self.inside.tables; marks = c.self.inside.marks; stamp = c.self.inside.stamp } in
     let found = subst (λ (x : RouterView). IsFound x.peers c.args.peer c.in-Some.at) (sym c.self.view_is) c.in-Some.ensures.place in
     let late : nat_lt greatest_stamp (max r.stamp c.args.item.now.stamp + 1) ≡ true = grind (arith, nat_tests, c.if-stamp-gt-GREATEST_STAMP.true, c.max.ensures, c.saturating_add-stamp.ensures) in
     subst (λ (x : RouterView). Answers (Err error.StampEnd) x (Take c.args.peer c.args.item.now.stamp c.args.item.now.what) x) c.self.view_is (λ g e ranks.
@@ -35,7 +35,7 @@ returns-then-stamp-gt-GREATEST_STAMP-clause-answers c =
 
 pub invariant_of-self : goal.invariant_of-self
 invariant_of-self c =
-    let r : RouterView = record { net = c.self.inside.network.now; number = c.self.inside.number; own_open = c.self.inside.own_open; peers = c.self.inside.peers.items; stamp = c.self.inside.stamp } in
+    let r : RouterView = record { net = c.self.inside.network.now; number = c.self.inside.number; own_open = c.self.inside.own_open; peers = c.self.inside.peers.items; tables = c.self.inside.tables; marks = c.self.inside.marks; stamp = c.self.inside.stamp } in
     let found = subst (λ (x : RouterView). IsFound x.peers c.args.peer c.in-Some.at) (sym c.self.view_is) c.in-Some.ensures.place in
     let p = c.index_mut.result.now in
     let q : Peer = record { number = p.number; end = c.take_piece.new.self } in
@@ -45,7 +45,7 @@ invariant_of-self c =
 
 pub returns-in-Dial-clause-answers : goal.returns-in-Dial-clause-answers
 returns-in-Dial-clause-answers c =
-    let r : RouterView = record { net = c.self.inside.network.now; number = c.self.inside.number; own_open = c.self.inside.own_open; peers = c.self.inside.peers.items; stamp = c.self.inside.stamp } in
+    let r : RouterView = record { net = c.self.inside.network.now; number = c.self.inside.number; own_open = c.self.inside.own_open; peers = c.self.inside.peers.items; tables = c.self.inside.tables; marks = c.self.inside.marks; stamp = c.self.inside.stamp } in
     let found = subst (λ (x : RouterView). IsFound x.peers c.args.peer c.in-Some.at) (sym c.self.view_is) c.in-Some.ensures.place in
     let next : c.saturating_add-stamp.result ≡ max r.stamp c.args.item.now.stamp + 1 = omega (arith, c.if-stamp-gt-GREATEST_STAMP.false, c.max.ensures, c.saturating_add-stamp.ensures) in
     let p = c.index-in-Dial.result.now in
@@ -62,7 +62,7 @@ returns-in-Dial-clause-answers c =
 
 pub returns-in-Shut-clause-answers : goal.returns-in-Shut-clause-answers
 returns-in-Shut-clause-answers c =
-    let r : RouterView = record { net = c.self.inside.network.now; number = c.self.inside.number; own_open = c.self.inside.own_open; peers = c.self.inside.peers.items; stamp = c.self.inside.stamp } in
+    let r : RouterView = record { net = c.self.inside.network.now; number = c.self.inside.number; own_open = c.self.inside.own_open; peers = c.self.inside.peers.items; tables = c.self.inside.tables; marks = c.self.inside.marks; stamp = c.self.inside.stamp } in
     let found = subst (λ (x : RouterView). IsFound x.peers c.args.peer c.in-Some.at) (sym c.self.view_is) c.in-Some.ensures.place in
     let next : c.saturating_add-stamp.result ≡ max r.stamp c.args.item.now.stamp + 1 = omega (arith, c.if-stamp-gt-GREATEST_STAMP.false, c.max.ensures, c.saturating_add-stamp.ensures) in
     let p = c.index-in-Shut.result.now in
@@ -79,7 +79,7 @@ returns-in-Shut-clause-answers c =
 
 pub returns-in-Piece-clause-answers : goal.returns-in-Piece-clause-answers
 returns-in-Piece-clause-answers c =
-    let r : RouterView = record { net = c.self.inside.network.now; number = c.self.inside.number; own_open = c.self.inside.own_open; peers = c.self.inside.peers.items; stamp = c.self.inside.stamp } in
+    let r : RouterView = record { net = c.self.inside.network.now; number = c.self.inside.number; own_open = c.self.inside.own_open; peers = c.self.inside.peers.items; tables = c.self.inside.tables; marks = c.self.inside.marks; stamp = c.self.inside.stamp } in
     let found = subst (λ (x : RouterView). IsFound x.peers c.args.peer c.in-Some.at) (sym c.self.view_is) c.in-Some.ensures.place in
     let next : c.saturating_add-stamp.result ≡ max r.stamp c.args.item.now.stamp + 1 = omega (arith, c.if-stamp-gt-GREATEST_STAMP.false, c.max.ensures, c.saturating_add-stamp.ensures) in
     let p = c.index_mut.result.now in
