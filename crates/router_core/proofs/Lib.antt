@@ -14,3 +14,4 @@ pub mod Serving
 pub mod Taking
 pub mod Marking
 pub mod Recording
+pub mod Snapshots

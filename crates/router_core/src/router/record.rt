@@ -198,11 +198,13 @@ impl Router<'_> {
         )?;
         let down = first_down(self.peers.as_slice());
         reserve_markers(&mut self.peers)?;
-        if self.marks.begin(part, down).is_err() {
-            return Err(AllocError);
+        match self.marks.begin(part, down) {
+            Err(_) => Err(AllocError),
+            Ok(()) => {
+                mark_all(&mut self.peers, number);
+                Ok(())
+            }
         }
-        mark_all(&mut self.peers, number);
-        Ok(())
     }
 
     // Records a snapshot at a stamp that is left, by a command or by the marker of a first peer.
