@@ -1,6 +1,7 @@
 -- A snapshot that is recorded, as a step of the router.
 use Rattle.std.proofs.Common.{◌≡◌, ℕ, ◌+◌, ◌≤◌, ◌<◌, ◌==◌, Bool, true, false, not, cond, ◌&&◌, List, [], ◌∷◌, map, Option, None, Some, refl, sym, ap, subst, ◌∙◌}
 use Rattle.std.proofs.lemmas.Bool.{eqb-true}
+use Rattle.std.specs.Prelude.{Result, Ok, Err, OnErr}
 use Rattle.std.specs.List.{find}
 use Rattle.std.proofs.Math.Path.{fun_ext}
 use Rattle.bgp_codec.specs.declared.message.Message.{Message}
@@ -62,7 +63,7 @@ pub record Marks (r : RouterView) (m : MarkView) : Type 0 where
   pub own : AreOf r.number m
 
 module _ (r : RouterView) (qs : List Peer) (m : MarkView) (stamp : ℕ) (f : Side → Side) (al : Alike f) (b : Become f r.peers qs) where
-  none : Side
+  abbrev none : Side
   none = side_opening (config_of r.net)
 
   by_listed : {X : Type 0} (get : Side → X) → ((s : Side) → get (f s) ≡ get s) → (v : ℕ) (c : Bool) → get (cond c (f (sides_of r v)) (sides_of r v)) ≡ get (sides_of r v)
@@ -128,7 +129,7 @@ marked_then s = become_then (marked_if_up s)
 
 module _ (over : BestOverWords) (one : OneBest) (law : LinkedRoutersArePeers) (g : Setting) (r : RouterView) (c : Chooses g r) (s : ℕ) (first : Option ℕ) (is_peer : IsPeer r.peers first)
     (p : Part) (k : IsPart r.net.origins r.tables r.peers r.number s first p) where
-  x : Router
+  abbrev pub x : Router
   x = (plain_of r).router
 
   kept_same : kept_in p.kept.items ≡ x.kept
@@ -201,3 +202,9 @@ module _ (over : BestOverWords) (one : OneBest) (law : LinkedRoutersArePeers) (g
       ap (λ (y : ℕ → Side). record { router = record x { sides = y; snapshots = snapshots_of m }; stamp = stamp }) (sides_same qs b)
       ∙ ap (λ (y : Snapshots). record { router = record x { sides = λ (v : ℕ). cond (linked g.net r.number v && is_up (x.sides v)) (marked s (x.sides v)) (x.sides v); snapshots = y }; stamp = stamp })
       (is ∙ begun_same d e)
+
+-- ---- a refusal
+
+pub on_err : {A E : Type 0} {X : Type 0} (r : Result A E) → X → OnErr r X
+on_err (Ok a) h = tt
+on_err (Err e) h = h

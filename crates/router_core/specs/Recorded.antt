@@ -1,5 +1,5 @@
 -- What a router is as a snapshot is recorded, as the code has it: lists by prefix and by peer.
-use Rattle.std.specs.Prelude.{ℕ, ◌≡◌, Bool, true, false, not, cond, List, [], ◌∷◌, map, filter, Option, None, Some}
+use Rattle.std.specs.Prelude.{ℕ, ◌≡◌, Bool, true, false, not, cond, List, [], ◌∷◌, map, filter, Option, None, Some, Result, MatchResult}
 use Rattle.prefix_lanes.specs.Bits.{PrefixView}
 use Rattle.ranked_policy.specs.declared.network.Origin.{Origin}
 use Rattle.rib_tables.specs.Words.{lists}
@@ -9,6 +9,10 @@ use Rattle.rib_tables.specs.Least.{HoldsOfAll}
 use Rattle.rib_tables.specs.Owners.{RibView, IsSettled, AllServed, IsPending}
 use Rattle.snap_marker.specs.declared.part.Part.{Part}
 use Rattle.snap_marker.specs.Parts.{Seen, seen}
+use Rattle.router_model.specs.declared.refusal.RouterError.{RouterError}
+use Rattle.router_model.specs.declared.refusal.RouterError.TheVariants as error
+use Rattle.router_model.specs.declared.refusal.Stepped.{Stepped}
+use Rattle.router_model.specs.declared.refusal.Stepped.TheVariants as stepped
 use Rattle.router_model.specs.Settings.{Setting, ChoosesByRank}
 use Rattle.router_model.specs.Sides.{Side, marked, is_up}
 use Rattle.router_model.specs.Step.{awaits, records}
@@ -67,3 +71,10 @@ IsPeer ps (Some v) = listed v ps ≡ true
 -- a snapshot is recorded, at the stamp that the router then has, in every setting of its network that chooses by rank
 abbrev pub Records : RouterView → ℕ → Option ℕ → RouterView → Type 0
 Records x s first y = (g : Setting) → g.net ≡ x.net → ChoosesByRank g → plain_of y ≡ record { router = records g x.number (plain_of x).router s first; stamp = y.stamp }
+
+-- a snapshot is recorded at this stamp, or memory was wanting
+abbrev pub RecordsAt : Result Stepped RouterError → RouterView → ℕ → Option ℕ → ℕ → RouterView → Type 0
+RecordsAt r x s first stamp y =
+    (g : Setting) → g.net ≡ x.net → ChoosesByRank g → MatchResult r
+    (λ did. (did ≡ stepped.Did) × (plain_of y ≡ record { router = records g x.number (plain_of x).router s first; stamp = stamp }))
+    (λ why. (why ≡ error.Memory) × (plain_of y ≡ plain_of x))

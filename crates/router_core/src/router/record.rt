@@ -1,11 +1,13 @@
 //! What a router records of a snapshot (Chandy and Lamport 1985).
 
-ghost use Rattle.std.specs.Prelude.{◌≡◌, [], ◌∷◌, map, IfOk, OnOk, OnErr};
+ghost use Rattle.std.specs.Prelude.{◌≡◌, [], ◌∷◌, ◌≤◌, map, MatchResult, IfOk, OnOk, OnErr};
 ghost use Rattle.rib_tables.specs.Words.{lists};
 ghost use Rattle.snap_marker.specs.Parts.{seen};
+ghost use Rattle.router_model.specs.declared.command.Command.TheVariants.{Snapshot};
 ghost use Rattle.router_model.specs.Step.{awaits};
-ghost use Rattle.router_core.specs.Views.{plain_of, IsSame};
-ghost use Rattle.router_core.specs.Recorded.{paths_of, own_of, channels_of, down_in, Become, HaveRoomToMark, marked_if_up, IsPart, IsPeer, Records};
+ghost use Rattle.router_model.specs.Calls.{Obey, greatest_stamp};
+ghost use Rattle.router_core.specs.Views.{plain_of, Answers, IsFound, IsSame, TakesMark};
+ghost use Rattle.router_core.specs.Recorded.{paths_of, own_of, channels_of, down_in, Become, HaveRoomToMark, marked_if_up, IsPart, IsPeer, Records, RecordsAt};
 
 use super::{GREATEST_STAMP, Router};
 use crate::choices::the_best_is_the_route;
@@ -213,7 +215,12 @@ impl Router<'_> {
         number: u32,
         first: Option<Asn>,
         stamp: u64,
-    ) -> Result<Stepped, RouterError> {
+    ) -> Result<Stepped, RouterError>
+        requires first { IsPeer self.old.peers first }
+        requires few { stamp ≤ greatest_stamp }
+        ensures records { RecordsAt result self.old number first stamp self.new }
+        ensures same { IsSame self.old self.new }
+    {
         let alloc = *self.peers.allocator();
         match self.begin(alloc, number, first) {
             Ok(()) => {
@@ -225,7 +232,10 @@ impl Router<'_> {
     }
 
     // The command to record a snapshot.
-    pub(super) fn snapshot(&mut self, number: u32) -> Result<Stepped, RouterError> {
+    pub(super) fn snapshot(&mut self, number: u32) -> Result<Stepped, RouterError>
+        ensures answers { Answers result self.old (Obey (Snapshot number)) self.new }
+        ensures same { IsSame self.old self.new }
+    {
         let last = self.marks.last();
         if number <= last {
             return Err(RouterError::OldSnapshot { last });
@@ -246,7 +256,12 @@ impl Router<'_> {
         epoch: u32,
         number: u32,
         stamp: u64,
-    ) -> Result<Stepped, RouterError> {
+    ) -> Result<Stepped, RouterError>
+        requires place { IsFound self.old.peers peer at }
+        requires stamp { stamp ≤ greatest_stamp }
+        ensures takes { TakesMark result self.old peer epoch number stamp self.new }
+        ensures same { IsSame self.old self.new }
+    {
         let end = &self.peers[at].end;
         if end.is_up() && end.uses(epoch) {
             if number > self.marks.last() {

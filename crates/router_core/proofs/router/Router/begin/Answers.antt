@@ -10,7 +10,7 @@ use Rattle.router_core.specs.Views.{RouterView, plain_of}
 use Rattle.router_core.specs.Recorded.{IsPeer, Records, IsPart, marked_if_up, down_in}
 use Rattle.router_core.proofs.Choosing.{Chooses}
 use Rattle.router_core.proofs.Recording.{peers_as}
-use Rattle.router_core.proofs.Snapshots.{with_peers, Marks, same_alike, marked_alike, stays_sound, same_plain, marked_then, recorded}
+use Rattle.router_core.proofs.Snapshots.{with_peers, Marks, same_alike, marked_alike, stays_sound, same_plain, marked_then, recorded, on_err}
 use Rattle.router_core.proofs.router.Router.begin.Goals as goal
 
 pub invariant_of-self-in_err-reserve_markers : goal.invariant_of-self-in_err-reserve_markers
@@ -24,7 +24,7 @@ pub returns-in_err-reserve_markers-clause-err : goal.returns-in_err-reserve_mark
 returns-in_err-reserve_markers-clause-err c =
     let r : RouterView = record { net = c.self.inside.network.now; number = c.self.inside.number; own_open = c.self.inside.own_open; peers = c.self.inside.peers.items; tables = c.self.inside.tables; marks = c.self.inside.marks; stamp = c.self.inside.stamp } in
     rw c.part_now.ensures.same
-    (λ u. same_plain r c.reserve_markers.new.peers.items r.marks c.reserve_markers.ensures.same refl ∙ ap plain_of c.self.view_is)
+    (on_err c.from_residual-in_err-reserve_markers.result (same_plain r c.reserve_markers.new.peers.items r.marks c.reserve_markers.ensures.same refl ∙ ap plain_of c.self.view_is))
 
 pub invariant_of-self-in-Err : goal.invariant_of-self-in-Err
 invariant_of-self-in-Err c =
