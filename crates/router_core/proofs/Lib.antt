@@ -7,6 +7,7 @@ pub mod BestLemmas
 pub mod Choosing
 pub mod Deciding
 pub mod Pending
+pub mod Sayable
 pub mod Carrying
 pub mod Serving
 pub mod Taking
