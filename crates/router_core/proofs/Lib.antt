@@ -4,6 +4,7 @@ pub mod Naming
 pub mod Originations
 pub mod Leasts
 pub mod BestLemmas
+pub mod Awaiting
 pub mod Choosing
 pub mod Deciding
 pub mod Pending

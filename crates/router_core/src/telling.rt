@@ -3,7 +3,7 @@
 ghost use Rattle.std.specs.Prelude.{◌≡◌, ◌≤◌, [], ◌∷◌, IfOk, length};
 ghost use Rattle.prefix_lanes.specs.Bits.{IsCanonical};
 ghost use Rattle.bgp_codec.specs.declared.message.Message.TheVariants.{UpdateMsg};
-ghost use Rattle.ranked_policy.specs.Plans.{IsRouter, IsNamed, IsUnicast};
+ghost use Rattle.ranked_policy.specs.Plans.{IsNetwork, IsRouter, IsNamed, IsUnicast};
 ghost use Rattle.router_model.specs.Settings.{identifier};
 ghost use Rattle.router_model.specs.State.{no_attributes, withdrawal, announcement, telling};
 ghost use Rattle.router_side.specs.Sayings.{IsSayable};
@@ -103,13 +103,13 @@ pub(crate) fn telling(
     prefix: &Prefix,
     path: &[Asn],
 ) -> Result<Update, AllocError>
+    requires network { IsNetwork network.now }
     requires router { IsRouter network.now.routers number }
     requires named { IsNamed network.now.origins prefix.now }
     requires tellable { IsTellable path.now }
     ensures update { IfOk result (λ update. update ≡ telling (identifier network.now.routers number) prefix.now path.now) }
     ensures sayable { IfOk result (λ update. IsSayable (UpdateMsg update)) }
 {
-    network.origins();
     if path.is_empty() {
         return withdrawal(alloc, prefix);
     }
