@@ -9,6 +9,7 @@ pub mod Choosing
 pub mod Deciding
 pub mod Pending
 pub mod Sayable
+pub mod Nexts
 pub mod Carrying
 pub mod Serving
 pub mod Taking

@@ -58,12 +58,7 @@ fn withdrawal(alloc: Global, prefix: &Prefix) -> Result<Update, AllocError>
 }
 
 // One announced prefix, its path as one AS_SEQUENCE.
-fn announcement(
-    alloc: Global,
-    id: u32,
-    prefix: &Prefix,
-    path: &[Asn],
-) -> Result<Update, AllocError>
+fn announcement(alloc: Global, id: u32, prefix: &Prefix, path: &[Asn]) -> Result<Update, AllocError>
     requires id { IsUnicast id }
     requires prefix { IsCanonical prefix.now }
     requires tellable { IsTellable path.now }
