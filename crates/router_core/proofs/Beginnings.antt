@@ -66,7 +66,7 @@ hold_is hold h =
       | inr k ↦ (let l : nat_le 3 hold ≡ true = grind (arith, nat_tests, k) in rw l (or_true (hold == 0)))
     ]
 
-unicast_is : (id : ℕ) → IsUnicast id → is_unicast id ≡ true
+pub unicast_is : (id : ℕ) → IsUnicast id → is_unicast id ≡ true
 unicast_is id h =
     let low : nat_le 1 (id / 2 ^ 24) ≡ true = grind (arith, nat_tests, h.0) in
     let high : nat_le (id / 2 ^ 24) 223 ≡ true = grind (arith, nat_tests, h.1) in

@@ -24,10 +24,8 @@ use Rattle.router_model.specs.State.{Router, heard, last_told, same_path, path_f
 use Rattle.router_core.specs.Views.{RouterView, IsSound, IsTabled, Follows, sides_of, plain_of}
 use Rattle.router_core.proofs.Naming.{decides_linked}
 use Rattle.router_core.proofs.Leasts.{least_is, any_is_found}
+use Rattle.router_core.proofs.Awaiting.{path_decides, link_is, rising, found_in, prefixes_are}
 use Rattle.router_core.proofs.BestLemmas.{problem, best_to, best_from}
-
-pub path_decides : (a b : List ℕ) → Decides (same_path a b) (a ≡ b)
-path_decides a b = bytes_eq-Decides a b
 
 -- a router whose tables are those of its sides, in a setting of its network that chooses by rank
 pub record Chooses (g : Setting) (x : RouterView) : Type 0 where
@@ -49,11 +47,6 @@ module _ (over : BestOverWords) (one : OneBest) (g : Setting) (x : RouterView) (
   tables_net : x.tables.net ≡ g.net
   tables_net = tabled.net ∙ sym c.net
 
-  pub link_is : (v : ℕ) → Linked x.tables.net.links x.tables.router v → linked x.net x.number v ≡ true
-  link_is v l =
-      (decides_linked x.net x.number v).1
-      (subst (λ (n : ℕ). Linked x.net.links n v) tabled.router (subst (λ (net : Plan). Linked net.links x.tables.router v) tabled.net l))
-
   said_by : (q : PrefixView) → IsNamed x.net.origins q → (v : ℕ) → linked x.net x.number v ≡ true → (b : Bool) → is_up (sides_of x v) ≡ b
       → (Contains x.tables.established v × (words q v ≡ path_in (word_of x.tables.heard v q))) ⊎ ((Contains x.tables.established v → ⊥) × (words q v ≡ []))
   said_by q n v l true up =
@@ -68,7 +61,7 @@ module _ (over : BestOverWords) (one : OneBest) (g : Setting) (x : RouterView) (
       inr ((λ k. true≢false (sym (f.up.0 k) ∙ up)), rw (there, up) refl)
 
   hears_words : (q : PrefixView) → IsNamed x.net.origins q → HearsWords (sources_of x.tables) q (words q)
-  hears_words q n = record { linked = c.linked; said = λ v l. said_by q n v (link_is v l) (is_up (sides_of x v)) refl }
+  hears_words q n = record { linked = c.linked; said = λ v l. said_by q n v (link_is g x c.sound c.net v l) (is_up (sides_of x v)) refl }
 
   named_in : (q : PrefixView) → IsNamed x.net.origins q → IsNamed g.net.origins q
   named_in q n = subst (λ (net : Plan). IsNamed net.origins q) (sym c.net) n
@@ -114,67 +107,8 @@ module _ (over : BestOverWords) (one : OneBest) (g : Setting) (x : RouterView) (
         λ s. d.1 (best_is_route q n (path_of x.tables.kept q) s),
       )
 
-  rising : AllPairs (λ a b. IsBefore a.prefix b.prefix) x.net.origins
-  rising = c.sound.network.plan.origins.rising
-
-  found_in : (Holds : PrefixView → Type 0) (found : Option PrefixView) → MatchOption found (HoldsOfAll x.tables.net.origins Holds) (IsLeastWithout x.tables.net.origins Holds)
-      → MatchOption found (HoldsOfAll x.net.origins Holds) (IsLeastWithout x.net.origins Holds)
-  found_in Holds found h = subst (λ (net : Plan). MatchOption found (HoldsOfAll net.origins Holds) (IsLeastWithout net.origins Holds)) tabled.net h
-
-  prefixes_are : (p : PrefixView → Bool) → find p (map (λ o. o.prefix) x.net.origins) ≡ find p (prefixes g)
-  prefixes_are p = ap (λ (net : Plan). find p (map (λ o. o.prefix) net.origins)) (sym c.net)
-
   pub undecided_is : (found : Option PrefixView) → MatchOption found (HoldsOfAll x.tables.net.origins (IsSettled x.tables)) (IsLeastWithout x.tables.net.origins (IsSettled x.tables))
       → found ≡ undecided g x.number r
   undecided_is found h =
-      least_is (λ q. same_path (path_of x.tables.kept q) (route g x.number r q)) (IsSettled x.tables) x.net.origins rising settled_decides found (found_in (IsSettled x.tables) found h)
-      ∙ prefixes_are (is_undecided g x.number r)
-
-  -- ---- what is to be told
-
-  module _ (v : ℕ) (l : linked x.net x.number v ≡ true) where
-    f : Follows x.net.origins x.tables v (sides_of x v)
-    f = tabled.peers v l
-
-    pub there : linked g.net x.number v ≡ true
-    there = ap (λ (net : Plan). linked net x.number v) c.net ∙ l
-
-    told_word : is_up (sides_of x v) ≡ true → (q : PrefixView) → IsNamed x.net.origins q → word_of x.tables.sent v q ≡ last_told (sides_of x v) q
-    told_word up q n = f.told q n ∙ rw up refl
-
-    pub served_decides : is_up (sides_of x v) ≡ true → (q : PrefixView) → IsNamed x.net.origins q
-        → Decides (same_path (path_of x.tables.kept q) (path_in (last_told (sides_of x v) q))) (IsServed x.tables v q)
-    served_decides up q n =
-        let d = path_decides (path_of x.tables.kept q) (path_in (last_told (sides_of x v) q)) in
-        let word = told_word up q n in (
-          λ t k. tabled.sent v q ∙ ap (λ (w : Word). Sequence (path_in w)) word ∙ ap Sequence (sym (d.0 t)),
-          λ s. d.1 (sym (ap path_in (sym word ∙ s (f.up.1 up)))),
-        )
-
-    -- a peer that is not Established waits for nothing
-    pub down_served : is_up (sides_of x v) ≡ false → (q : PrefixView) → IsServed x.tables v q
-    down_served down q k = absurd (true≢false (sym (f.up.0 k) ∙ down))
-
-    none_down : is_up (sides_of x v) ≡ false → (found : Option PrefixView) → MatchOption found (HoldsOfAll x.tables.net.origins (IsServed x.tables v)) (IsLeastWithout x.tables.net.origins (IsServed x.tables v))
-        → found ≡ None
-    none_down down None h = refl
-    none_down down (Some q) h = absurd (h.fails (down_served down q))
-
-    untold_by : (b : Bool) → is_up (sides_of x v) ≡ b → (found : Option PrefixView)
-        → MatchOption found (HoldsOfAll x.tables.net.origins (IsServed x.tables v)) (IsLeastWithout x.tables.net.origins (IsServed x.tables v)) → found ≡ untold g x.number r v
-    untold_by true up found h =
-        least_is (λ q. same_path (path_of x.tables.kept q) (path_in (last_told (sides_of x v) q))) (IsServed x.tables v) x.net.origins rising (served_decides up) found (found_in (IsServed x.tables v) found h)
-        ∙ prefixes_are (is_untold g x.number r v) ∙ rw (there, up) refl
-    untold_by false up found h = none_down up found h ∙ rw (there, up) refl
-
-    pub untold_is : (found : Option PrefixView) → MatchOption found (HoldsOfAll x.tables.net.origins (IsServed x.tables v)) (IsLeastWithout x.tables.net.origins (IsServed x.tables v))
-        → found ≡ untold g x.number r v
-    untold_is found h = untold_by (is_up (sides_of x v)) refl found h
-
-    waits_by : (b : Bool) → is_up (sides_of x v) ≡ b → is_waiting_peer g x.number r v ≡ is_some (untold g x.number r v)
-    waits_by true up = rw (there, up) (any_is_found (is_untold g x.number r v) (prefixes g))
-    waits_by false up = rw (there, up) refl
-
-    pub waiting_is : (found : Option PrefixView) → MatchOption found (HoldsOfAll x.tables.net.origins (IsServed x.tables v)) (IsLeastWithout x.tables.net.origins (IsServed x.tables v))
-        → is_waiting_peer g x.number r v ≡ is_some found
-    waiting_is found h = waits_by (is_up (sides_of x v)) refl ∙ ap is_some (sym (untold_is found h))
+      least_is (λ q. same_path (path_of x.tables.kept q) (route g x.number r q)) (IsSettled x.tables) x.net.origins (rising g x c.sound c.net) settled_decides found (found_in g x c.sound c.net (IsSettled x.tables) found h)
+      ∙ prefixes_are g x c.sound c.net (is_undecided g x.number r)

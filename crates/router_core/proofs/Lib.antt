@@ -5,10 +5,13 @@ pub mod Naming
 pub mod Originations
 pub mod Leasts
 pub mod BestLemmas
+pub mod Awaiting
 pub mod Choosing
 pub mod Deciding
 pub mod Pending
 pub mod Starting
+pub mod Sayable
+pub mod Nexts
 pub mod Carrying
 pub mod Serving
 pub mod Taking

@@ -17,7 +17,8 @@ use Rattle.router_model.specs.Sides.{is_up}
 use Rattle.router_model.specs.State.{Router, is_undecided, is_untold, is_waiting_peer, is_pending}
 use Rattle.router_core.specs.Views.{RouterView, sides_of, plain_of}
 use Rattle.router_core.proofs.Leasts.{named_here, named_further}
-use Rattle.router_core.proofs.Choosing.{Chooses, settled_decides, served_decides, down_served, link_is}
+use Rattle.router_core.proofs.Awaiting.{served_decides, down_served, link_is}
+use Rattle.router_core.proofs.Choosing.{Chooses, settled_decides}
 
 -- ---- lists
 
@@ -81,9 +82,9 @@ module _ (over : BestOverWords) (one : OneBest) (law : LinkedRoutersArePeers) (g
   waits_by : (v : ℕ) → linked x.net x.number v ≡ true → (q : PrefixView) → IsNamed x.net.origins q → (IsServed x.tables v q → ⊥) → (b : Bool) → is_up (sides_of x v) ≡ b
       → is_waiting_peer g x.number r v ≡ true
   waits_by v l q n fails true up =
-      let d = served_decides over one g x c v l up q n in
+      let d = served_decides g x c.sound c.net v l up q n in
       rw up (in_prefixes (is_untold g x.number r v) true (any_named (is_untold g x.number r v) x.net.origins q n.0 n.1 n.2 n.3 n.4 (not_same _ (λ t. fails (d.0 t)))))
-  waits_by v l q n fails false down = absurd (fails (down_served over one g x c v l down q))
+  waits_by v l q n fails false down = absurd (fails (down_served g x c.sound c.net v l down q))
 
   some_waits : (v : ℕ) → linked x.net x.number v ≡ true → (q : PrefixView) → IsNamed x.net.origins q → (IsServed x.tables v q → ⊥) → list_any (is_waiting_peer g x.number r) (peers g.net x.number) ≡ true
   some_waits v l q n fails =
@@ -92,7 +93,7 @@ module _ (over : BestOverWords) (one : OneBest) (law : LinkedRoutersArePeers) (g
 
   awaited_by : (a : IsAwaited x.tables) → (b : Bool) → linked x.net x.number a.peer ≡ b → list_any (is_waiting_peer g x.number r) (peers g.net x.number) ≡ true
   awaited_by a true l = some_waits a.peer l a.prefix (named a.prefix a.is_named) a.waits
-  awaited_by a false l = absurd (a.waits (λ k. absurd (let t = link_is over one g x c a.peer (c.linked a.peer k) in let both = sym l ∙ t in cc)))
+  awaited_by a false l = absurd (a.waits (λ k. absurd (let t = link_is g x c.sound c.net a.peer (c.linked a.peer k) in let both = sym l ∙ t in cc)))
 
   pending : IsPending x.tables → is_pending g x.number r ≡ true
   pending (inl h) = or_left (list_any (is_undecided g x.number r) (prefixes g)) (list_any (is_waiting_peer g x.number r) (peers g.net x.number)) (some_undecided h.0 (named h.0 h.1) h.2)
@@ -101,7 +102,7 @@ module _ (over : BestOverWords) (one : OneBest) (law : LinkedRoutersArePeers) (g
   served_by : AllServed x.tables → (v : ℕ) → linked x.net x.number v ≡ true → (b : Bool) → is_up (sides_of x v) ≡ b → is_waiting_peer g x.number r v ≡ false
   served_by all v l true up =
       rw up (in_prefixes (is_untold g x.number r v) false
-      (none_named (is_untold g x.number r v) x.net.origins (λ q n. let d = served_decides over one g x c v l up q n in same_not _ (d.1 (all v q (named_back q n))))))
+      (none_named (is_untold g x.number r v) x.net.origins (λ q n. let d = served_decides g x c.sound c.net v l up q n in same_not _ (d.1 (all v q (named_back q n))))))
   served_by all v l false down = rw down refl
 
   quiet : HoldsOfAll x.tables.net.origins (IsSettled x.tables) → AllServed x.tables → is_pending g x.number r ≡ false
