@@ -28,14 +28,14 @@ joins_of link u v false b true true ea eb ec ed h = inr (eqb-true link.one v ec,
 joins_of link u v false b true false ea eb ec ed h = absurd cc
 joins_of link u v false b false d ea eb ec ed h = absurd cc
 
-is_joined : (link : Link) (u v : ℕ) → joins u v link ≡ true → Joins link u v
+pub is_joined : (link : Link) (u v : ℕ) → joins u v link ≡ true → Joins link u v
 is_joined link u v h = joins_of link u v (link.one == u) (link.other == v) (link.one == v) (link.other == u) refl refl refl refl h
 
 or_true : (b : Bool) → (b || true) ≡ true
 or_true true = refl
 or_true false = refl
 
-joins_is : (link : Link) (u v : ℕ) → Joins link u v → joins u v link ≡ true
+pub joins_is : (link : Link) (u v : ℕ) → Joins link u v → joins u v link ≡ true
 joins_is link u v h =
     elim h [
       | inl k ↦ rw (eq-eqb link.one u k.0, eq-eqb link.other v k.1) refl
@@ -66,7 +66,7 @@ hold_is hold h =
       | inr k ↦ (let l : nat_le 3 hold ≡ true = grind (arith, nat_tests, k) in rw l (or_true (hold == 0)))
     ]
 
-unicast_is : (id : ℕ) → IsUnicast id → is_unicast id ≡ true
+pub unicast_is : (id : ℕ) → IsUnicast id → is_unicast id ≡ true
 unicast_is id h =
     let low : nat_le 1 (id / 2 ^ 24) ≡ true = grind (arith, nat_tests, h.0) in
     let high : nat_le (id / 2 ^ 24) 223 ≡ true = grind (arith, nat_tests, h.1) in

@@ -43,7 +43,7 @@ pub nothing_seen : (b : Bool) (v : ℕ) (x y : Snapshots) → y ≡ x → y ≡ 
 nothing_seen true v x y e = e
 nothing_seen false v x y e = e
 
-fresh_alike : (s z : Side) → z.session ≡ s.session → z.link ≡ s.link → z.acted ≡ s.acted → z.sent ≡ s.sent → IsFresh s → IsFresh z
+pub fresh_alike : (s z : Side) → z.session ≡ s.session → z.link ≡ s.link → z.acted ≡ s.acted → z.sent ≡ s.sent → IsFresh s → IsFresh z
 fresh_alike s z x l a b f =
     let state = ap (λ (y : SessionView). y.state) x in
     let epoch = ap (λ (y : LinkView). y.epoch) l in

@@ -1,17 +1,18 @@
 -- Prefixes, origins and links by their tests.
-use Rattle.std.proofs.Common.{◌≡◌, ℕ, Bool, true, false, ◌&&◌, List, [], ◌∷◌, refl, sym, ap, ◌∙◌}
+use Rattle.std.proofs.Common.{◌≡◌, ℕ, Bool, true, ◌&&◌, List, refl, ap, ◌∙◌}
 use Rattle.std.specs.Prelude.{◌==◌, ◌↔◌, IsTrue}
 use Rattle.std.specs.Bool.{Decides}
-use Rattle.std.specs.List.{Contains, list_any}
+use Rattle.std.specs.List.{Contains}
 use Rattle.std.proofs.lemmas.Bool.{and_parts, and_from, eq-eqb, eqb-true}
 use Rattle.std.proofs.lemmas.Bool.Decides.{Decides-by_or, same_from_decides}
 use Rattle.std.proofs.lemmas.List.Elements.{Decides-contains}
 use Rattle.std.proofs.lemmas.List.Folds.{Any-from_list_any, list_any-from_Any}
 use Rattle.prefix_lanes.specs.Bits.{PrefixView}
 use Rattle.ranked_policy.specs.declared.network.Origin.{Origin}
-use Rattle.ranked_policy.specs.Plans.{IsOrigin}
+use Rattle.ranked_policy.specs.Plans.{Plan, IsOrigin, Linked}
 use Rattle.rib_tables.specs.Words.{is_prefix, lists}
-use Rattle.router_model.specs.Settings.{is_origin}
+use Rattle.router_model.specs.Settings.{is_origin, joins, linked}
+use Rattle.router_core.proofs.Beginnings.{is_joined, joins_is}
 
 pub is_prefix-true : (p q : PrefixView) → is_prefix p q ≡ true → p ≡ q
 is_prefix-true p q t =
@@ -43,3 +44,9 @@ origin_is origins u q b h =
       λ found. list_any-from_Any (names_it u q) origins
           (found.0, found.1, found.2, found.3, and_from (is_prefix found.1.prefix q) (found.1.router == u) (is_prefix-from found.1.prefix q found.4.0) (eq-eqb found.1.router u found.4.1)),
     )
+
+pub decides_linked : (net : Plan) (u v : ℕ) → Decides (linked net u v) (Linked net.links u v)
+decides_linked net u v = (
+  λ t. let found = Any-from_list_any (joins u v) net.links t in (found.0, found.1, found.2, found.3, is_joined found.1 u v found.4),
+  λ found. list_any-from_Any (joins u v) net.links (found.0, found.1, found.2, found.3, joins_is found.1 u v found.4),
+)

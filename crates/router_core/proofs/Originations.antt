@@ -1,7 +1,6 @@
 -- What is originated from now on, or no longer, as a step of the router.
-use Rattle.std.proofs.Common.{◌≡◌, ℕ, ◌+◌, ◌≤◌, Bool, true, false, not, cond, List, [], ◌∷◌, refl, sym, ap, subst, ◌∙◌}
+use Rattle.std.proofs.Common.{◌≡◌, ℕ, ◌+◌, ◌≤◌, Bool, true, false, cond, List, refl, sym, ap, subst, ◌∙◌}
 use Rattle.std.specs.Prelude.{◌≢◌, ◌↔◌, IsTrue, nat_lt, Ok, Err, ◌⊎◌}
-use Rattle.std.specs.Bool.{Decides}
 use Rattle.std.specs.List.{Contains}
 use Rattle.std.proofs.Math.Path.{fun_ext}
 use Rattle.std.proofs.lemmas.Bool.{false_from_ne_true}
@@ -16,7 +15,7 @@ use Rattle.router_model.specs.declared.refusal.RouterError.TheVariants as error
 use Rattle.router_model.specs.declared.refusal.Stepped.TheVariants as stepped
 use Rattle.router_model.specs.Settings.{Setting, is_origin}
 use Rattle.router_model.specs.Calls.{Obey, Gives, answer, greatest_stamp}
-use Rattle.router_core.specs.Views.{RouterView, IsSound, IsTabled, IsMarked, plain_of}
+use Rattle.router_core.specs.Views.{RouterView, IsSound, IsTabled, plain_of}
 use Rattle.router_core.proofs.Naming.{is_prefix-true, is_prefix-from, decides_lists, lists_is, origin_is}
 
 -- the router with other tables, at this stamp
@@ -58,6 +57,7 @@ module _ (x : RouterView) (stamp : ℕ) (sound : IsSound x) (few : stamp ≤ gre
         router = t.router;
         peers = λ v l. let f = t.peers v l in record { up = f.up; heard = f.heard; told = f.told };
         fresh = t.fresh;
+        short = t.short;
         sent = t.sent;
         kept = t.kept;
         tellable = t.tellable;

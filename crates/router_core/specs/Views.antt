@@ -1,5 +1,5 @@
 -- A router of the code as a router of the definitions: its list of peers as a function of numbers, its tables as what its sides say.
-use Rattle.std.specs.Prelude.{ℕ, zero, suc, ◌≡◌, ◌≢◌, ◌≤◌, ◌<◌, ◌==◌, nat_lt, Bool, true, false, cond, List, [], ◌∷◌, length, map, Option, None, Some, Result, Ok, Err, MatchResult, ◌+◌}
+use Rattle.std.specs.Prelude.{ℕ, zero, suc, ◌≡◌, ◌≢◌, ◌≤◌, ◌<◌, ◌==◌, ◌^◌, nat_lt, Bool, true, false, cond, List, [], ◌∷◌, length, map, Option, None, Some, Result, Ok, Err, MatchResult, ◌+◌}
 use Rattle.bgp_codec.specs.declared.message.Message.{Message}
 use Rattle.session_fsm.specs.declared.config.SessionConfig.{SessionConfig}
 use Rattle.ranked_policy.specs.Plans.{Plan, IsNetwork, IsRouter}
@@ -10,7 +10,7 @@ use Rattle.router_model.specs.declared.refusal.RouterError.TheVariants as error
 use Rattle.router_model.specs.declared.refusal.Stepped.{Stepped}
 use Rattle.router_model.specs.declared.refusal.Stepped.TheVariants as stepped
 use Rattle.std.specs.Prelude.{◌↔◌}
-use Rattle.std.specs.List.{Contains, All, AllByRecursion}
+use Rattle.std.specs.List.{Contains, AllByRecursion, find}
 use Rattle.std.specs.Prelude.{is_some, MatchOption}
 use Rattle.router_side.specs.Freshness.{IsFresh}
 use Rattle.prefix_lanes.specs.Bits.{PrefixView}
@@ -23,17 +23,17 @@ use Rattle.rib_tables.specs.Tables.{word_of, path_of}
 use Rattle.rib_tables.specs.Owners.{RibView}
 use Rattle.snap_marker.specs.declared.part.Offer.{Offer}
 use Rattle.snap_marker.specs.Parts.{MarkView, snapshots_of, IsOver, IsOf, offer_of, router_of}
-use Rattle.router_model.specs.Settings.{Setting, ChoosesByRank, linked, peers}
+use Rattle.router_model.specs.Settings.{Setting, ChoosesByRank, linked, peers, identifier}
 use Rattle.bgp_codec.specs.declared.rule.Rule.{Rule}
 use Rattle.outbox.specs.declared.item.Item.{Item}
-use Rattle.outbox.specs.declared.item.What.{What}
-use Rattle.outbox.specs.declared.item.What.TheVariants as item
 use Rattle.run_model.specs.Network.{alone, puts, takes, offers}
-use Rattle.router_model.specs.Sides.{Side, AtHand, Draft, carried, at_hand, front, without_front, handled, is_up}
-use Rattle.router_model.specs.State.{open_of, new_router, heard, last_told}
-use Rattle.router_model.specs.Step.{moved, taken, next_offer}
-use Rattle.router_model.specs.Calls.{Stamped, Call, Put, Answer, Steps, Idle, Refuses, greatest_stamp, answer, Gives}
+use Rattle.router_model.specs.Sides.{Side, AtHand, Draft, carried, at_hand, front, without_front, handled, is_up, told}
+use Rattle.router_model.specs.State.{open_of, new_router, heard, last_told, telling, untold, is_waiting_peer}
+use Rattle.router_model.specs.Step.{moved, taken, next_offer, with_side}
+use Rattle.router_model.specs.Calls.{Stamped, Call, Put, Answer, Steps, Idle, Refuses, greatest_stamp, answer, Gives, has_room}
 use Rattle.router_core.specs.declared.peers.Peer.{Peer}
+use Rattle.router_core.specs.declared.router.choose.Next.{Next}
+use Rattle.router_core.specs.declared.router.choose.Next.TheVariants as next
 
 -- a router: its network and number, what it says of itself, its peers by rising number, its tables, what it records, and the stamp
 -- of its last event
@@ -98,10 +98,14 @@ pub record Follows (origins : List Origin) (t : RibView) (v : ℕ) (s : Side) : 
   pub heard : (q : PrefixView) → IsNamed origins q → word_of t.heard v q ≡ heard_now s q
   pub told : (q : PrefixView) → IsNamed origins q → word_of t.sent v q ≡ told_now s q
 
--- a path that can be told: of at most so many routers of the network
-pub record IsTellable (net : Plan) (path : List ℕ) : Type 0 where
+-- each number is one of two octets
+abbrev pub AreShort : List ℕ → Type 0
+AreShort numbers = AllByRecursion (λ n. n < 2 ^ 16) numbers
+
+-- a path that can be told: of at most so many numbers, each of two octets
+pub record IsTellable (path : List ℕ) : Type 0 where
   pub few : length path ≤ 16
-  pub routers : All (IsRouter net.routers) path
+  pub short : AreShort path
 
 -- the word is a path, and no AS_PATH of another kind
 abbrev pub IsPathWord : Word → Type 0
@@ -113,9 +117,10 @@ pub record IsTabled (x : RouterView) : Type 0 where
   pub router : x.tables.router ≡ x.number
   pub peers : (v : ℕ) → linked x.net x.number v ≡ true → Follows x.net.origins x.tables v (sides_of x v)
   pub fresh : (v : ℕ) → IsFresh (sides_of x v)
+  pub short : (v : ℕ) (q : PrefixView) → AreShort (path_in (word_of x.tables.heard v q))
   pub sent : (v : ℕ) (q : PrefixView) → IsPathWord (word_of x.tables.sent v q)
   pub kept : (q : PrefixView) → (IsNamed x.net.origins q → ⊥) → path_of x.tables.kept q ≡ []
-  pub tellable : (q : PrefixView) → IsTellable x.net (path_of x.tables.kept q)
+  pub tellable : (q : PrefixView) → IsTellable (path_of x.tables.kept q)
   pub originated : (q : PrefixView) → lists x.tables.originated q ≡ true → IsNamed x.net.origins q
 
 -- what is recorded and offered is this router's, over its links
@@ -198,3 +203,37 @@ ShowsOffer r x =
 -- an offer waits
 abbrev pub HasOffer : RouterView → Type 0
 HasOffer x = is_some (next_offer (plain_of x).router) ≡ true
+
+-- ---- whom an UPDATE is told
+
+-- a setting of the network in which nothing is chosen: whom an UPDATE is told depends on no choice
+abbrev pub unchosen : Plan → Setting
+unchosen net = record { net = net; best = λ u q originated words. [] }
+
+abbrev pub waits_at : RouterView → ℕ → Bool
+waits_at x v = is_waiting_peer (unchosen x.net) x.number (plain_of x).router v
+
+abbrev pub has_room_at : RouterView → ℕ → Bool
+has_room_at x v = has_room (unchosen x.net) x.number (plain_of x).router v
+
+-- the peer at this place was not told the kept path of this prefix, the least one
+pub record MayTell (x : RouterView) (at : ℕ) (q : PrefixView) : Type 0 where
+  pub peer : ℕ
+  pub place : IsAt x.peers peer at
+  pub waits : untold (unchosen x.net) x.number (plain_of x).router peer ≡ Some q
+
+-- the first peer that waits and has room; where none has, the first that waits
+abbrev pub IsNext : RouterView → Next → Type 0
+IsNext x (next.Peer at q) = (found : MayTell x at q) × (find (has_room_at x) (peers x.net x.number) ≡ Some found.peer)
+IsNext x (next.Blocked v) = (find (has_room_at x) (peers x.net x.number) ≡ None) × (find (waits_at x) (peers x.net x.number) ≡ Some v)
+IsNext x next.Nobody = (find (has_room_at x) (peers x.net x.number) ≡ None) × (find (waits_at x) (peers x.net x.number) ≡ None)
+
+-- the kept path of a prefix is told to a peer
+abbrev pub told_to : Stamped → Plan → ℕ → ℕ → PrefixView → Stamped
+told_to x net u v q = record {
+  router = with_side x.router v (λ s. told s (telling (identifier net.routers u) q (x.router.kept q)));
+  stamp = x.stamp + 1;
+}
+
+abbrev pub Tells : Result Stepped RouterError → RouterView → ℕ → PrefixView → RouterView → Type 0
+Tells r x v q y = Ends (nat_lt greatest_stamp (x.stamp + 1)) false r (plain_of x) (told_to (plain_of x) x.net x.number v q) (plain_of y)

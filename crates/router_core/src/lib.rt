@@ -9,6 +9,7 @@
 //! (`router_side`).
 #![tactic(auto)]
 
+mod choices;
 mod opening;
 mod peers;
 mod router;

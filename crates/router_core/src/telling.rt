@@ -1,5 +1,15 @@
 //! The UPDATEs that tell of a kept path (RFC 4271 sections 4.3 and 5.1).
 
+ghost use Rattle.std.specs.Prelude.{◌≡◌, ◌≤◌, [], ◌∷◌, IfOk, length};
+ghost use Rattle.prefix_lanes.specs.Bits.{IsCanonical};
+ghost use Rattle.bgp_codec.specs.declared.message.Message.TheVariants.{UpdateMsg};
+ghost use Rattle.ranked_policy.specs.Plans.{IsNetwork, IsRouter, IsNamed, IsUnicast};
+ghost use Rattle.router_model.specs.Settings.{identifier};
+ghost use Rattle.router_model.specs.State.{no_attributes, withdrawal, announcement, telling};
+ghost use Rattle.router_side.specs.Sayings.{IsSayable};
+ghost use Rattle.router_core.specs.Views.{IsTellable};
+
+use bgp_codec::laws::written_has_a_header;
 use bgp_codec::{Attrs, Items, Numbers, Segment, SegmentKind, Update};
 use prefix_lanes::Prefix;
 use ranked_policy::{Asn, Network};
@@ -9,14 +19,18 @@ use std::alloc::{AllocError, Global};
 const IGP: u8 = 0;
 
 // A list of one.
-fn only<T: Drop>(alloc: Global, one: T) -> Result<Items<T>, AllocError> {
+fn only<T: Drop>(alloc: Global, one: T) -> Result<Items<T>, AllocError>
+    ensures { IfOk result (λ items. items ≡ one ∷ []) }
+{
     let mut items = Vec::new(alloc);
     items.push(one)?;
     Ok(Items::from_vec(items))
 }
 
 // No attributes.
-fn no_attributes(alloc: Global) -> Attrs {
+fn no_attributes(alloc: Global) -> Attrs
+    ensures { result ≡ no_attributes }
+{
     Attrs {
         origin: None,
         path: None,
@@ -30,7 +44,12 @@ fn no_attributes(alloc: Global) -> Attrs {
 }
 
 // One withdrawn prefix.
-fn withdrawal(alloc: Global, prefix: &Prefix) -> Result<Update, AllocError> {
+fn withdrawal(alloc: Global, prefix: &Prefix) -> Result<Update, AllocError>
+    requires { IsCanonical prefix.now }
+    ensures update { IfOk result (λ update. update ≡ withdrawal prefix.now) }
+    ensures sayable { IfOk result (λ update. IsSayable (UpdateMsg update)) }
+{
+    written_has_a_header();
     Ok(Update {
         withdrawn: only(alloc, *prefix)?,
         attrs: no_attributes(alloc),
@@ -39,12 +58,15 @@ fn withdrawal(alloc: Global, prefix: &Prefix) -> Result<Update, AllocError> {
 }
 
 // One announced prefix, its path as one AS_SEQUENCE.
-fn announcement(
-    alloc: Global,
-    id: u32,
-    prefix: &Prefix,
-    path: &[Asn],
-) -> Result<Update, AllocError> {
+fn announcement(alloc: Global, id: u32, prefix: &Prefix, path: &[Asn]) -> Result<Update, AllocError>
+    requires id { IsUnicast id }
+    requires prefix { IsCanonical prefix.now }
+    requires tellable { IsTellable path.now }
+    requires some { 1 ≤ length path.now }
+    ensures update { IfOk result (λ update. update ≡ announcement id prefix.now path.now) }
+    ensures sayable { IfOk result (λ update. IsSayable (UpdateMsg update)) }
+{
+    written_has_a_header();
     let segment = Segment {
         kind: SegmentKind::AsSequence,
         numbers: Numbers::from_slice(alloc, path)?,
@@ -75,12 +97,17 @@ pub(crate) fn telling(
     number: Asn,
     prefix: &Prefix,
     path: &[Asn],
-) -> Result<Update, AllocError> {
-    match path {
-        [] => withdrawal(alloc, prefix),
-        [_, ..] => {
-            let id = network.router(number).unwrap().id;
-            announcement(alloc, id, prefix, path)
-        }
+) -> Result<Update, AllocError>
+    requires network { IsNetwork network.now }
+    requires router { IsRouter network.now.routers number }
+    requires named { IsNamed network.now.origins prefix.now }
+    requires tellable { IsTellable path.now }
+    ensures update { IfOk result (λ update. update ≡ telling (identifier network.now.routers number) prefix.now path.now) }
+    ensures sayable { IfOk result (λ update. IsSayable (UpdateMsg update)) }
+{
+    if path.is_empty() {
+        return withdrawal(alloc, prefix);
     }
+    let router = network.router(number).unwrap();
+    announcement(alloc, router.id, prefix, path)
 }

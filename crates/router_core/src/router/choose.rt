@@ -1,6 +1,11 @@
 //! What a router chooses, and whom it tells of it (RFC 4271 section 9).
 
+ghost use Rattle.std.specs.Prelude.{ℕ};
+ghost use Rattle.router_model.specs.Calls.{Decide, Advertise};
+ghost use Rattle.router_core.specs.Views.{IsSame, Answers, IsAt, IsNext, MayTell, Tells};
+
 use super::{GREATEST_STAMP, Router};
+use crate::choices::the_best_is_the_route;
 use crate::peers::Peer;
 use crate::telling::telling;
 use bgp_codec::Message;
@@ -27,35 +32,40 @@ impl Router<'_> {
     ///
     /// Refused [`RouterError::StampEnd`], and [`RouterError::Memory`] where a growth was; then all is as
     /// it was.
-    pub fn decide(&mut self) -> Result<Stepped, RouterError> {
-        if self.tables.dirty().is_none() {
+    pub fn decide(&mut self) -> Result<Stepped, RouterError>
+        ensures answers { Answers result self.old Decide self.new }
+        ensures same { IsSame self.old self.new }
+    {
+        the_best_is_the_route(&self.tables);
+        let Some(_) = self.tables.dirty() else {
             return Ok(Stepped::Nothing);
-        }
+        };
         let stamp = self.stamp + 1;
         if stamp > GREATEST_STAMP {
             return Err(RouterError::StampEnd);
         }
         let alloc = *self.peers.allocator();
-        if self.tables.decide(alloc).is_err() {
+        let Ok(_) = self.tables.decide(alloc) else {
             return Err(RouterError::Memory);
-        }
+        };
         self.stamp = stamp;
         Ok(Stepped::Did)
     }
 
     // Whom to tell next.
-    fn next_to_tell(&self) -> Next {
+    fn next_to_tell(&self) -> Next
+        ensures { IsNext self.now result }
+    {
         let mut blocked = None;
         for at in 0..self.peers.len() {
             let peer = &self.peers[at];
-            if let Some(prefix) = self.tables.waiting(peer.number) {
-                if peer.end.octets_waiting() < OUTBOX_LIMIT {
-                    return Next::Peer(at, prefix);
-                }
-                if blocked.is_none() {
-                    blocked = Some(peer.number);
-                }
+            let Some(prefix) = self.tables.waiting(peer.number) else {
+                continue;
+            };
+            if peer.end.octets_waiting() < OUTBOX_LIMIT {
+                return Next::Peer(at, prefix);
             }
+            blocked = blocked.or(Some(peer.number));
         }
         match blocked {
             Some(peer) => Next::Blocked(peer),
@@ -69,7 +79,10 @@ impl Router<'_> {
     ///
     /// Refused [`RouterError::Blocked`] where each peer that waits is at the limit,
     /// [`RouterError::StampEnd`], and [`RouterError::Memory`] where a growth was; then all is as it was.
-    pub fn advertise(&mut self) -> Result<Stepped, RouterError> {
+    pub fn advertise(&mut self) -> Result<Stepped, RouterError>
+        ensures answers { Answers result self.old Advertise self.new }
+        ensures same { IsSame self.old self.new }
+    {
         match self.next_to_tell() {
             Next::Nobody => Ok(Stepped::Nothing),
             Next::Blocked(peer) => Err(RouterError::Blocked { peer }),
@@ -78,7 +91,11 @@ impl Router<'_> {
     }
 
     // The kept path of a prefix is told to the peer at a place.
-    fn tell(&mut self, at: usize, prefix: &Prefix) -> Result<Stepped, RouterError> {
+    fn tell(&mut self, at: usize, prefix: &Prefix) -> Result<Stepped, RouterError>
+        requires { MayTell self.old at prefix.now }
+        ensures tells { (v : ℕ) → IsAt self.old.peers v at → Tells result self.old v prefix.now self.new }
+        ensures same { IsSame self.old self.new }
+    {
         let stamp = self.stamp + 1;
         if stamp > GREATEST_STAMP {
             return Err(RouterError::StampEnd);

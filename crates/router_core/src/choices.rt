@@ -1,0 +1,23 @@
+//! What tables choose is what the definitions choose.
+
+ghost use Rattle.std.specs.Prelude.{ℕ};
+ghost use Rattle.std.specs.List.{Contains};
+ghost use Rattle.ranked_policy.specs.Plans.{Linked};
+ghost use Rattle.rib_tables.specs.Promises.{BestOverWords};
+ghost use Rattle.stable_paths.specs.Promises.{OneBest};
+
+use rib_tables::Rib;
+use rib_tables::laws::the_best_is_over_the_words;
+use stable_paths::laws::one_best;
+
+/// The peers that are Established are linked, and the best of what they said is the one best of the
+/// definitions. It does no work.
+pub(crate) fn the_best_is_the_route(tables: &Rib<'_>)
+    ensures linked { (v : ℕ) → Contains tables.now.established v → Linked tables.now.net.links tables.now.router v }
+    ensures over { BestOverWords }
+    ensures one { OneBest }
+{
+    the_best_is_over_the_words();
+    one_best();
+    tables.network();
+}
