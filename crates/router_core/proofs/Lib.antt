@@ -18,3 +18,4 @@ pub mod Taking
 pub mod Marking
 pub mod Recording
 pub mod Snapshots
+pub mod MarkTaking

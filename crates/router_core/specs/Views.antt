@@ -26,6 +26,7 @@ use Rattle.snap_marker.specs.Parts.{MarkView, snapshots_of, IsOver, IsOf, offer_
 use Rattle.router_model.specs.Settings.{Setting, ChoosesByRank, linked, peers, identifier}
 use Rattle.bgp_codec.specs.declared.rule.Rule.{Rule}
 use Rattle.outbox.specs.declared.item.Item.{Item}
+use Rattle.outbox.specs.declared.item.What.TheVariants as item
 use Rattle.run_model.specs.Network.{alone, puts, takes, offers}
 use Rattle.router_model.specs.Sides.{Side, AtHand, Draft, carried, at_hand, front, without_front, handled, is_up, told}
 use Rattle.router_model.specs.State.{open_of, new_router, heard, last_told, telling, untold, is_waiting_peer}
