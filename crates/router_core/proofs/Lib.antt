@@ -15,6 +15,7 @@ pub mod Nexts
 pub mod Carrying
 pub mod Serving
 pub mod Taking
+pub mod Handling
 pub mod Marking
 pub mod Recording
 pub mod Snapshots

@@ -138,7 +138,7 @@ or_cond false c = refl
 turned : (a b : ℕ) → (a == b) ≡ nat_eq b a
 turned a b = grind (arith, nat_tests)
 
-listed_any : (v : ℕ) (ps : List Peer) → listed v ps ≡ list_any (nat_eq v) (map (λ p. p.number) ps)
+pub listed_any : (v : ℕ) (ps : List Peer) → listed v ps ≡ list_any (nat_eq v) (map (λ p. p.number) ps)
 listed_any v [] = refl
 listed_any v (p ∷ ps) = rw (turned p.number v, listed_any v ps) (or_cond (nat_eq v p.number) (list_any (nat_eq v) (map (λ q. q.number) ps)))
 

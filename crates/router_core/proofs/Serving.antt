@@ -106,9 +106,11 @@ module _ (g : Setting) (r : RouterView) (v i : ℕ) (p : Peer) (of : IsOf g r) (
       let same : a ≡ b = drafted g r v i p (λ o s. handled o (front (rule_of v) s.held) s) a of at here ea in
       let hand : h ≡ at_hand n = eh ∙ ap (λ (s : Side). at_hand (front (rule_of v) s.held)) (sym stands) in
       let done = fronts r v i p q c t m (r.stamp + 1) h a is l x in
-      hand_is (Ok stepped.Did) (plain_of (with_peer r i q t m (r.stamp + 1))) true false w late
-      (refl, done ∙ ap (λ (k : AtHand). record { router = moved (with_side (plain_of r).router v without_front) v k a; stamp = r.stamp + 1 }) hand
-      ∙ ap (λ (d : Draft). record { router = moved (with_side (plain_of r).router v without_front) v (at_hand n) d; stamp = r.stamp + 1 }) same)
+      hand_is (Ok stepped.Did) (plain_of (with_peer r i q t m (r.stamp + 1))) true false w late (
+        refl,
+        done ∙ ap (λ (k : AtHand). record { router = moved (with_side (plain_of r).router v without_front) v k a; stamp = r.stamp + 1 }) hand
+            ∙ ap (λ (d : Draft). record { router = moved (with_side (plain_of r).router v without_front) v (at_hand n) d; stamp = r.stamp + 1 }) same,
+      )
 
 -- ---- what is put next, shown
 

@@ -230,7 +230,8 @@ impl MarkState {
     pub fn on_update(&mut self, peer: Asn, copy: Option<Update>)
         requires link { IsLink self.old.unfinished peer }
         requires copy { IfSome copy (λ _. is_heard self.old.unfinished peer ≡ true) }
-        requires room { HasRoom self.old.unfinished peer }
+        requires room { IfSome copy (λ _. HasRoom self.old.unfinished peer) }
+        ensures none { copy ≡ None → self.new ≡ self.old }
         ensures acted_on { (u : update.Update) → copy ≡ copy_for self.old.unfinished peer u → snapshots_of self.new ≡ acted_on peer (UpdateMsg u) (snapshots_of self.old) }
         ensures over { (peers : List ℕ) → IsOver peers self.old.unfinished → IsOver peers self.new.unfinished }
         ensures router { (u : ℕ) → AreOf u self.old → AreOf u self.new }

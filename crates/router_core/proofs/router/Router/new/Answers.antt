@@ -23,5 +23,9 @@ invariant_of-result c =
     }
 
 pub returns : goal.returns
-returns c = (refl, refl, λ g e.
-    opens c.args.network.now c.args.number c.own_open.result c.in-Ok.peers.items c.in-Ok-new.tables c.new-2.result (rw (sym c.settings-settings.ensures.value) c.in-Ok.ensures.sides) c.in-Ok-new.ensures c.new-2.ensures.none g e)
+returns c = (
+  refl,
+  refl,
+  λ g e.
+      opens c.args.network.now c.args.number c.own_open.result c.in-Ok.peers.items c.in-Ok-new.tables c.new-2.result (rw (sym c.settings-settings.ensures.value) c.in-Ok.ensures.sides) c.in-Ok-new.ensures c.new-2.ensures.none g e,
+)

@@ -26,4 +26,4 @@ carry_out-requires-clause-fresh c = λ o.
     let found = subst (λ (x : RouterView). IsFound x.peers c.args.peer c.in-Some.at) (sym c.self.view_is) c.in-Some.ensures.place in
     subst (λ (x : RouterView). KeepsFresh (sides_of x c.args.peer) NoMessage (draft x.own_open NoMessage c.meet-made.result)) c.self.view_is
     (keeps_here r c.args.peer c.in-Some.at p found.2 c.index.ensures c.self.invariant (draft r.own_open NoMessage c.meet-made.result) (met r.own_open (side p.end) ManualStop) c.meet-made.ensures
-    (λ f. (c.sessions_keep_fresh.ensures r.own_open (side p.end) f).stop ))
+    (λ f. (c.sessions_keep_fresh.ensures r.own_open (side p.end) f).stop))
