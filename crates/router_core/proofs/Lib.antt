@@ -10,6 +10,8 @@ pub mod Deciding
 pub mod Pending
 pub mod Sayable
 pub mod Nexts
+pub mod Tellings
+pub mod Untold
 pub mod Carrying
 pub mod Serving
 pub mod Taking
