@@ -12,6 +12,9 @@ pub mod Pending
 pub mod Starting
 pub mod Sayable
 pub mod Nexts
+pub mod Tellings
+pub mod Untold
+pub mod Advertising
 pub mod Carrying
 pub mod Serving
 pub mod Taking
@@ -19,3 +22,4 @@ pub mod Handling
 pub mod Marking
 pub mod Recording
 pub mod Snapshots
+pub mod MarkTaking

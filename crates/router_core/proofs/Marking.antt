@@ -21,7 +21,7 @@ passed_on f zero (p ∷ ps) (r ∷ qs) d q h l n s = (n ∙ ap (λ (xs : List Pe
 passed_on f (suc i) [] (r ∷ qs) d q h l n s = absurd h
 passed_on f (suc i) (p ∷ ps) (r ∷ qs) d q h l n s = (h.0, h.1, passed_on f i ps qs d q h.2 (omega (arith, l)) n s)
 
-same_become : (ps : List Peer) → Become (λ s. s) ps ps
+pub same_become : (ps : List Peer) → Become (λ s. s) ps ps
 same_become [] = tt
 same_become (p ∷ ps) = (refl, refl, same_become ps)
 

@@ -1,16 +1,15 @@
 -- What tells of a kept path can be said: it is writable with nobody named, and short.
-use Rattle.std.proofs.Common.{◌≡◌, ◌≢◌, ℕ, zero, suc, ◌+◌, ◌*◌, ◌^◌, ◌<◌, ◌≤◌, Bool, true, false, List, [], ◌∷◌, ◌++◌, length, take, refl, sym, ap, subst, ◌∙◌, arith, length-append}
-use Rattle.std.specs.Prelude.{Some, None, nat_le}
-use Rattle.std.specs.List.{flat_map, AllByRecursion}
+use Rattle.std.proofs.Common.{◌≡◌, ℕ, zero, suc, ◌+◌, ◌*◌, ◌^◌, ◌<◌, ◌≤◌, Bool, true, false, List, [], ◌∷◌, ◌++◌, length, take, refl, arith, length-append}
+use Rattle.std.specs.Prelude.{nat_le}
+use Rattle.std.specs.List.{flat_map}
 use Rattle.std.specs.Int.{w16, w32, to_be_bytes}
 use Rattle.prefix_lanes.specs.Bits.{PrefixView, IsCanonical}
 use Rattle.bgp_codec.specs.declared.message.Message.TheVariants.{UpdateMsg}
-use Rattle.bgp_codec.specs.declared.path.Segment.{Segment}
 use Rattle.bgp_codec.specs.declared.path.SegmentKind.TheVariants.{AsSequence}
 use Rattle.bgp_codec.specs.declared.attributes.Raw.{Raw}
 use Rattle.bgp_codec.specs.declared.update.Update.{Update}
 use Rattle.bgp_codec.specs.Updates.{prefix_octets, raw_octets, attr_octets, raw_of, attrs_octets, path_octets, long_string, octet_count, UpdateFits, AttrsFit}
-use Rattle.bgp_codec.specs.Spelling.{WrittenHasAHeader, written}
+use Rattle.bgp_codec.specs.Spelling.{WrittenHasAHeader}
 use Rattle.ranked_policy.specs.Plans.{IsUnicast}
 use Rattle.router_model.specs.State.{withdrawal, announcement, telling}
 use Rattle.router_side.specs.Sayings.{IsSayable}

@@ -112,12 +112,12 @@ impl Router<'_> {
         };
         let message = Message::UpdateMsg(update);
         let Peer { number, end } = &mut self.peers[at];
-        if end.reserve_telling(&message).is_err() {
+        let Ok(()) = end.reserve_telling(&message) else {
             return Err(RouterError::Memory);
-        }
-        if self.tables.tell(*number, prefix).is_err() {
+        };
+        let Ok(()) = self.tables.tell(*number, prefix) else {
             return Err(RouterError::Memory);
-        }
+        };
         end.tell(message);
         self.stamp = stamp;
         Ok(Stepped::Did)

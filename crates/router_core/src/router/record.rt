@@ -1,9 +1,11 @@
 //! What a router records of a snapshot (Chandy and Lamport 1985).
 
-ghost use Rattle.std.specs.Prelude.{◌≡◌, [], ◌∷◌, ◌≤◌, map, MatchResult, IfOk, OnOk, OnErr};
+ghost use Rattle.std.specs.Prelude.{◌≡◌, ◌&&◌, [], ◌∷◌, ◌≤◌, map, MatchResult, IfOk, OnOk, OnErr};
 ghost use Rattle.rib_tables.specs.Words.{lists};
 ghost use Rattle.snap_marker.specs.Parts.{seen};
 ghost use Rattle.router_model.specs.declared.command.Command.TheVariants.{Snapshot};
+ghost use Rattle.router_model.specs.Sides.{is_up, uses};
+ghost use Rattle.router_side.specs.SideOf.{side};
 ghost use Rattle.router_model.specs.Step.{awaits};
 ghost use Rattle.router_model.specs.Calls.{Obey, greatest_stamp};
 ghost use Rattle.router_core.specs.Views.{plain_of, Answers, IsFound, IsSame, TakesMark};
@@ -17,6 +19,7 @@ use ranked_policy::{Asn, Origin, Path};
 use rib_tables::Rib;
 use router_model::laws::linked_routers_are_peers;
 use router_model::{RouterError, Stepped};
+use router_side::SideEnd;
 use snap_marker::{Channel, KeptPath, Part};
 use std::alloc::{AllocError, Global};
 
@@ -150,6 +153,13 @@ fn mark_all(peers: &mut Vec<Peer>, number: u32)
     mark_each(peers.as_mut_slice(), number);
 }
 
+// Whether a marker is heeded: in Established alone, in the incarnation that the end joined.
+fn heeds(end: &SideEnd, epoch: u32) -> bool
+    ensures { result ≡ (is_up (side end.now) && uses (side end.now).link epoch) }
+{
+    end.is_up() && end.uses(epoch)
+}
+
 // What a router is now, as its part of a snapshot.
 fn part_now(
     alloc: Global,
@@ -247,8 +257,7 @@ impl Router<'_> {
         self.records(number, None, stamp)
     }
 
-    // The marker of a peer is taken, at a stamp that is left. It is heeded in Established alone, for the
-    // incarnation that the end joined.
+    // The marker of a peer is taken, at a stamp that is left.
     pub(super) fn take_mark(
         &mut self,
         peer: Asn,
@@ -262,13 +271,15 @@ impl Router<'_> {
         ensures takes { TakesMark result self.old peer epoch number stamp self.new }
         ensures same { IsSame self.old self.new }
     {
-        let end = &self.peers[at].end;
-        if end.is_up() && end.uses(epoch) {
-            if number > self.marks.last() {
-                return self.records(number, Some(peer), stamp);
-            }
-            self.marks.on_mark(peer, number);
+        if !heeds(&self.peers[at].end, epoch) {
+            self.stamp = stamp;
+            return Ok(Stepped::Did);
         }
+        if number > self.marks.last() {
+            return self.records(number, Some(peer), stamp);
+        }
+        linked_routers_are_peers();
+        self.marks.on_mark(peer, number);
         self.stamp = stamp;
         Ok(Stepped::Did)
     }

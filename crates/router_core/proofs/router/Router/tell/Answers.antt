@@ -1,0 +1,142 @@
+use Rattle.std.proofs.Common.{◌≡◌, ℕ, ◌+◌, ◌<◌, ◌≤◌, false, length, arith, rules, refl, ap, sym, subst, ◌∙◌}
+use Rattle.std.specs.Prelude.{nat_lt, Ok, Err}
+use Rattle.std.proofs.lemmas.Bool.Decides.{nat_tests}
+use Rattle.rib_tables.specs.Tables.{path_of}
+use Rattle.router_model.specs.declared.refusal.RouterError.TheVariants as error
+use Rattle.router_model.specs.declared.refusal.Stepped.TheVariants as stepped
+use Rattle.router_model.specs.Settings.{identifier}
+use Rattle.router_model.specs.Sides.{Side, is_up, told}
+use Rattle.router_model.specs.State.{telling}
+use Rattle.router_model.specs.Calls.{greatest_stamp}
+use Rattle.router_side.specs.SideOf.{side}
+use Rattle.router_core.specs.declared.peers.Peer.{Peer}
+use Rattle.router_core.specs.Views.{RouterView, IsAt, MayTell, Tells, sides_of}
+use Rattle.router_core.proofs.Untold.{below, named, named_there, place, here, is_linked, up, number_is}
+use Rattle.router_core.proofs.Tellings.{with_peer_and_tables, sound_still, plain_still, sound_told, plain_told}
+use Rattle.router_core.proofs.router.Router.tell.Goals as goal
+
+pub telling-requires-clause-named : goal.telling-requires-clause-named
+telling-requires-clause-named c =
+    let r : RouterView = record { net = c.self.inside.network.now; number = c.self.inside.number; own_open = c.self.inside.own_open; peers = c.self.inside.peers.items; tables = c.self.inside.tables; marks = c.self.inside.marks; stamp = c.self.inside.stamp } in
+    let q = c.args.prefix.now in
+    let may = subst (λ (x : RouterView). MayTell x c.args.at q) (sym c.self.view_is) c.requires in
+    named r c.self.invariant c.args.at q may
+
+pub index_mut-requires : goal.index_mut-requires
+index_mut-requires c =
+    let r : RouterView = record { net = c.self.inside.network.now; number = c.self.inside.number; own_open = c.self.inside.own_open; peers = c.self.inside.peers.items; tables = c.self.inside.tables; marks = c.self.inside.marks; stamp = c.self.inside.stamp } in
+    let q = c.args.prefix.now in
+    let may = subst (λ (x : RouterView). MayTell x c.args.at q) (sym c.self.view_is) c.requires in
+    let lt : c.args.at < length r.peers = below r c.self.invariant c.args.at q may in
+    search rules
+
+pub invariant_of-self : goal.invariant_of-self
+invariant_of-self c =
+    let r : RouterView = record { net = c.self.inside.network.now; number = c.self.inside.number; own_open = c.self.inside.own_open; peers = c.self.inside.peers.items; tables = c.self.inside.tables; marks = c.self.inside.marks; stamp = c.self.inside.stamp } in
+    let q = c.args.prefix.now in
+    let may = subst (λ (x : RouterView). MayTell x c.args.at q) (sym c.self.view_is) c.requires in
+    let p = c.index_mut.result.now in
+    let is = c.index_mut.ensures.value in
+    let kept : Peer = record { number = p.number; end = c.reserve_telling.new.self } in
+    let still : side kept.end ≡ sides_of r p.number = c.reserve_telling.ensures.side ∙ here r c.self.invariant c.args.at q may p is in
+    sound_still r c.self.invariant p.number c.args.at (place r c.self.invariant c.args.at q may p is) kept refl still
+
+pub returns-in_default-reserve_telling-clause-tells : goal.returns-in_default-reserve_telling-clause-tells
+returns-in_default-reserve_telling-clause-tells c =
+    let r : RouterView = record { net = c.self.inside.network.now; number = c.self.inside.number; own_open = c.self.inside.own_open; peers = c.self.inside.peers.items; tables = c.self.inside.tables; marks = c.self.inside.marks; stamp = c.self.inside.stamp } in
+    let q = c.args.prefix.now in
+    let may = subst (λ (x : RouterView). MayTell x c.args.at q) (sym c.self.view_is) c.requires in
+    let p = c.index_mut.result.now in
+    let is = c.index_mut.ensures.value in
+    let kept : Peer = record { number = p.number; end = c.reserve_telling.new.self } in
+    let still : side kept.end ≡ sides_of r p.number = c.reserve_telling.ensures.side ∙ here r c.self.invariant c.args.at q may p is in
+    let early : nat_lt greatest_stamp (r.stamp + 1) ≡ false = grind (arith, nat_tests, c.if-stamp-gt-GREATEST_STAMP.false) in
+    subst (λ (x : RouterView). (v : ℕ) → IsAt x.peers v c.args.at → Tells (Err error.Memory) x v q (with_peer_and_tables r c.args.at kept r.tables r.stamp)) c.self.view_is (λ v at.
+    rw early (refl, plain_still r c.self.invariant p.number c.args.at (place r c.self.invariant c.args.at q may p is) kept refl still))
+
+pub tell-requires-clause-linked : goal.tell-requires-clause-linked
+tell-requires-clause-linked c =
+    let r : RouterView = record { net = c.self.inside.network.now; number = c.self.inside.number; own_open = c.self.inside.own_open; peers = c.self.inside.peers.items; tables = c.self.inside.tables; marks = c.self.inside.marks; stamp = c.self.inside.stamp } in
+    let q = c.args.prefix.now in
+    let may = subst (λ (x : RouterView). MayTell x c.args.at q) (sym c.self.view_is) c.requires in
+    let p = c.index_mut.result.now in
+    let is = c.index_mut.ensures.value in
+    is_linked r c.self.invariant c.args.at q may p is
+
+pub tell-requires-clause-named : goal.tell-requires-clause-named
+tell-requires-clause-named c =
+    let r : RouterView = record { net = c.self.inside.network.now; number = c.self.inside.number; own_open = c.self.inside.own_open; peers = c.self.inside.peers.items; tables = c.self.inside.tables; marks = c.self.inside.marks; stamp = c.self.inside.stamp } in
+    let q = c.args.prefix.now in
+    let may = subst (λ (x : RouterView). MayTell x c.args.at q) (sym c.self.view_is) c.requires in
+    named_there r c.self.invariant c.args.at q may
+
+pub invariant_of-self-in_default-tell : goal.invariant_of-self-in_default-tell
+invariant_of-self-in_default-tell c =
+    let r : RouterView = record { net = c.self.inside.network.now; number = c.self.inside.number; own_open = c.self.inside.own_open; peers = c.self.inside.peers.items; tables = c.self.inside.tables; marks = c.self.inside.marks; stamp = c.self.inside.stamp } in
+    let q = c.args.prefix.now in
+    let may = subst (λ (x : RouterView). MayTell x c.args.at q) (sym c.self.view_is) c.requires in
+    let p = c.index_mut.result.now in
+    let is = c.index_mut.ensures.value in
+    let kept : Peer = record { number = p.number; end = c.reserve_telling.new.self } in
+    let still : side kept.end ≡ sides_of r p.number = c.reserve_telling.ensures.side ∙ here r c.self.invariant c.args.at q may p is in
+    rw c.in_default-tell.ensures.err (sound_still r c.self.invariant p.number c.args.at (place r c.self.invariant c.args.at q may p is) kept refl still)
+
+pub returns-in_default-tell-clause-tells : goal.returns-in_default-tell-clause-tells
+returns-in_default-tell-clause-tells c =
+    let r : RouterView = record { net = c.self.inside.network.now; number = c.self.inside.number; own_open = c.self.inside.own_open; peers = c.self.inside.peers.items; tables = c.self.inside.tables; marks = c.self.inside.marks; stamp = c.self.inside.stamp } in
+    let q = c.args.prefix.now in
+    let may = subst (λ (x : RouterView). MayTell x c.args.at q) (sym c.self.view_is) c.requires in
+    let p = c.index_mut.result.now in
+    let is = c.index_mut.ensures.value in
+    let kept : Peer = record { number = p.number; end = c.reserve_telling.new.self } in
+    let still : side kept.end ≡ sides_of r p.number = c.reserve_telling.ensures.side ∙ here r c.self.invariant c.args.at q may p is in
+    let early : nat_lt greatest_stamp (r.stamp + 1) ≡ false = grind (arith, nat_tests, c.if-stamp-gt-GREATEST_STAMP.false) in
+    rw c.in_default-tell.ensures.err
+    (subst (λ (x : RouterView). (v : ℕ) → IsAt x.peers v c.args.at → Tells (Err error.Memory) x v q (with_peer_and_tables r c.args.at kept r.tables r.stamp)) c.self.view_is (λ v at.
+    rw early (refl, plain_still r c.self.invariant p.number c.args.at (place r c.self.invariant c.args.at q may p is) kept refl still)))
+
+pub tell-requires-2-clause-up : goal.tell-requires-2-clause-up
+tell-requires-2-clause-up c =
+    let r : RouterView = record { net = c.self.inside.network.now; number = c.self.inside.number; own_open = c.self.inside.own_open; peers = c.self.inside.peers.items; tables = c.self.inside.tables; marks = c.self.inside.marks; stamp = c.self.inside.stamp } in
+    let q = c.args.prefix.now in
+    let may = subst (λ (x : RouterView). MayTell x c.args.at q) (sym c.self.view_is) c.requires in
+    let p = c.index_mut.result.now in
+    let is = c.index_mut.ensures.value in
+    let kept : Peer = record { number = p.number; end = c.reserve_telling.new.self } in
+    let still : side kept.end ≡ sides_of r p.number = c.reserve_telling.ensures.side ∙ here r c.self.invariant c.args.at q may p is in
+    ap is_up still ∙ up r c.self.invariant c.args.at q may p is
+
+pub invariant_of-self-2 : goal.invariant_of-self-2
+invariant_of-self-2 c =
+    let r : RouterView = record { net = c.self.inside.network.now; number = c.self.inside.number; own_open = c.self.inside.own_open; peers = c.self.inside.peers.items; tables = c.self.inside.tables; marks = c.self.inside.marks; stamp = c.self.inside.stamp } in
+    let q = c.args.prefix.now in
+    let may = subst (λ (x : RouterView). MayTell x c.args.at q) (sym c.self.view_is) c.requires in
+    let p = c.index_mut.result.now in
+    let is = c.index_mut.ensures.value in
+    let told_peer : Peer = record { number = p.number; end = c.tell-2.new.self } in
+    let update : c.in-Ok.update ≡ telling (identifier r.net.routers r.number) q (path_of r.tables.kept q) =
+    c.in-Ok.ensures.update ∙ ap (telling (identifier r.net.routers r.number) q) c.path.ensures in
+    let before : side c.reserve_telling.new.self ≡ sides_of r p.number = c.reserve_telling.ensures.side ∙ here r c.self.invariant c.args.at q may p is in
+    let says : side told_peer.end ≡ told (sides_of r p.number) (telling (identifier r.net.routers r.number) q (path_of r.tables.kept q)) =
+    c.tell-2.ensures ∙ ap (λ (s : Side). told s c.in-Ok.update) before ∙ ap (told (sides_of r p.number)) update in
+    let few : r.stamp + 1 ≤ greatest_stamp = omega (arith, c.if-stamp-gt-GREATEST_STAMP.false) in
+    sound_told r c.self.invariant p.number c.args.at (place r c.self.invariant c.args.at q may p is) told_peer refl q (up r c.self.invariant c.args.at q may p is) c.tell.new.self c.in-Ok-tell.ensures.ok says (r.stamp + 1) few
+
+pub returns-clause-tells : goal.returns-clause-tells
+returns-clause-tells c =
+    let r : RouterView = record { net = c.self.inside.network.now; number = c.self.inside.number; own_open = c.self.inside.own_open; peers = c.self.inside.peers.items; tables = c.self.inside.tables; marks = c.self.inside.marks; stamp = c.self.inside.stamp } in
+    let q = c.args.prefix.now in
+    let may = subst (λ (x : RouterView). MayTell x c.args.at q) (sym c.self.view_is) c.requires in
+    let p = c.index_mut.result.now in
+    let is = c.index_mut.ensures.value in
+    let told_peer : Peer = record { number = p.number; end = c.tell-2.new.self } in
+    let update : c.in-Ok.update ≡ telling (identifier r.net.routers r.number) q (path_of r.tables.kept q) =
+    c.in-Ok.ensures.update ∙ ap (telling (identifier r.net.routers r.number) q) c.path.ensures in
+    let before : side c.reserve_telling.new.self ≡ sides_of r p.number = c.reserve_telling.ensures.side ∙ here r c.self.invariant c.args.at q may p is in
+    let says : side told_peer.end ≡ told (sides_of r p.number) (telling (identifier r.net.routers r.number) q (path_of r.tables.kept q)) =
+    c.tell-2.ensures ∙ ap (λ (s : Side). told s c.in-Ok.update) before ∙ ap (told (sides_of r p.number)) update in
+    let early : nat_lt greatest_stamp (r.stamp + 1) ≡ false = grind (arith, nat_tests, c.if-stamp-gt-GREATEST_STAMP.false) in
+    let all : Tells (Ok stepped.Did) r p.number q (with_peer_and_tables r c.args.at told_peer c.tell.new.self (r.stamp + 1)) =
+    rw early (refl, plain_told r c.self.invariant p.number c.args.at (place r c.self.invariant c.args.at q may p is) told_peer refl q (up r c.self.invariant c.args.at q may p is) c.tell.new.self c.in-Ok-tell.ensures.ok says (r.stamp + 1) refl) in
+    subst (λ (x : RouterView). (v : ℕ) → IsAt x.peers v c.args.at → Tells (Ok stepped.Did) x v q (with_peer_and_tables r c.args.at told_peer c.tell.new.self (r.stamp + 1))) c.self.view_is (λ v at.
+    subst (λ (n : ℕ). Tells (Ok stepped.Did) r n q (with_peer_and_tables r c.args.at told_peer c.tell.new.self (r.stamp + 1))) (number_is r c.self.invariant c.args.at q may p is v at) all)
