@@ -1,5 +1,9 @@
 //! What comes to all peers of a router: a second that passes, and a restart.
 
+ghost use Rattle.router_model.specs.declared.command.Command.TheVariants.{Restart};
+ghost use Rattle.router_model.specs.Calls.{Obey};
+ghost use Rattle.router_core.specs.Views.{IsSame, Answers};
+
 use super::carry::{carry, close};
 use super::{GREATEST_STAMP, Router};
 use crate::peers::Peer;
@@ -101,7 +105,10 @@ impl Router<'_> {
     }
 
     // Every session stops, rising; then what is kept and originated is forgotten.
-    pub(super) fn restart(&mut self) -> Result<Stepped, RouterError> {
+    pub(super) fn restart(&mut self) -> Result<Stepped, RouterError>
+        ensures answers { Answers result self.old (Obey Restart) self.new }
+        ensures same { IsSame self.old self.new }
+    {
         let stamp = self.stamp + 1;
         if stamp > GREATEST_STAMP {
             return Err(RouterError::StampEnd);

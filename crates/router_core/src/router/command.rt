@@ -17,7 +17,10 @@ impl Router<'_> {
     /// Refused [`RouterError::NoSuchPeer`], [`RouterError::NotOrigin`], [`RouterError::OldSnapshot`],
     /// [`RouterError::StampEnd`], [`RouterError::EpochEnd`], and [`RouterError::Memory`] where a growth
     /// was; then all is as it was.
-    pub fn command(&mut self, command: Command) -> Result<Stepped, RouterError> {
+    pub fn command(&mut self, command: Command) -> Result<Stepped, RouterError>
+        ensures answers { Answers result self.old (Obey command) self.new }
+        ensures same { IsSame self.old self.new }
+    {
         match command {
             Command::Start(peer) => self.start(peer),
             Command::Stop(peer) => self.stop(peer),
