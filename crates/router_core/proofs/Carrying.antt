@@ -19,7 +19,7 @@ use Rattle.snap_marker.specs.Recordings.{Snapshots, closed}
 use Rattle.snap_marker.specs.Parts.{MarkView, snapshots_of, IsOver, AreOf}
 use Rattle.router_side.specs.Freshness.{IsFresh, KeepsFresh, is_opening, is_away}
 use Rattle.router_core.specs.Following.{Followed, standing}
-use Rattle.router_core.proofs.Following.{Leaves, leaves_same, leaves, paths, follows_there, follows_alike, follows_by}
+use Rattle.router_core.proofs.Following.{Leaves, IsShort, leaves_same, leaves, all_sent, all_heard, follows_there, follows_alike, follows_by}
 use Rattle.router_model.specs.declared.command.Command.TheVariants.{Start, Stop, Reset}
 use Rattle.router_model.specs.declared.refusal.RouterError.{RouterError}
 use Rattle.router_model.specs.declared.refusal.RouterError.TheVariants as error
@@ -81,6 +81,7 @@ pub record Tracks (r : RouterView) (v : ℕ) (q : Peer) (t : RibView) : Type 0 w
   pub follows : Follows r.net.origins t v (side q.end)
   pub fresh : IsFresh (side q.end)
   pub sent : (y : ℕ) (x : PrefixView) → IsPathWord (word_of t.sent y x)
+  pub short : (y : ℕ) (x : PrefixView) → IsShort (word_of t.heard y x)
 
 -- and what is recorded is this router's
 pub record Records (r : RouterView) (m : MarkView) : Type 0 where
@@ -133,8 +134,9 @@ module _ (r : RouterView) (v i : ℕ) (p q : Peer) (c : Changes r v i p q) where
       peers = λ y l. follows_at s k y (y == v) refl l;
       fresh = λ y. fresh_at s k y (y == v) refl;
       sent = k.sent;
+      short = k.short;
       kept = λ x n. ap (λ (ps : Paths). path_of ps x) k.leaves.kept ∙ s.tabled.kept x n;
-      tellable = λ x. subst (λ (ps : Paths). IsTellable r.net (path_of ps x)) (sym k.leaves.kept) (s.tabled.tellable x);
+      tellable = λ x. subst (λ (ps : Paths). IsTellable (path_of ps x)) (sym k.leaves.kept) (s.tabled.tellable x);
       originated = λ x h. s.tabled.originated x (ap (λ (ps : List PrefixView). lists ps x) (sym k.leaves.originated) ∙ h);
     }
 
@@ -199,6 +201,7 @@ module _ (r : RouterView) (v i : ℕ) (p q : Peer) (c : Changes r v i p q) where
     follows = follows_alike r.net.origins r.tables v (side p.end) (side q.end) x l a b (is_followed s);
     fresh = fresh_alike (side p.end) (side q.end) x l a b (is_fresh s);
     sent = s.tabled.sent;
+    short = s.tabled.short;
   }
 
   -- a draft without an UPDATE is carried out, and the tables follow its session
@@ -216,7 +219,8 @@ module _ (r : RouterView) (v i : ℕ) (p q : Peer) (c : Changes r v i p q) where
             (follows_by r.net.origins v (side p.end) z none refl r.tables t (is_up (side p.end)) (is_up z) refl refl h.onward
             (λ up b. let n = h.up up b in (ap (λ (us : ℕ → List Update). us a.link.epoch) none ∙ n.0, n.1)) (is_followed s) on);
         fresh = subst IsFresh (sym is) h.fresh;
-        sent = paths r.tables t v (standing (side p.end)) (standing (side q.end)) f s.tabled.sent;
+        sent = all_sent IsPathWord refl r.tables t v (standing (side p.end)) (standing (side q.end)) f s.tabled.sent;
+        short = all_heard IsShort tt r.tables t v (standing (side p.end)) (standing (side q.end)) f s.tabled.short;
       }
 
 -- ---- a router in a setting of its network

@@ -8,13 +8,13 @@ use Rattle.bgp_codec.specs.declared.update.Update.{Update}
 use Rattle.ranked_policy.specs.declared.network.Origin.{Origin}
 use Rattle.ranked_policy.specs.Plans.{IsNamed}
 use Rattle.rib_tables.specs.declared.word.Word.{Word}
-use Rattle.rib_tables.specs.Words.{nothing}
+use Rattle.rib_tables.specs.Words.{nothing, path_in}
 use Rattle.rib_tables.specs.Tables.{word_of}
 use Rattle.rib_tables.specs.Owners.{RibView, ComesUp, ForgetsPeer, HearsUpdate}
 use Rattle.router_model.specs.Sides.{Side, is_up}
 use Rattle.router_model.specs.State.{heard, last_told, last_word}
 use Rattle.router_side.specs.Freshness.{IsUnsaid}
-use Rattle.router_core.specs.Views.{Follows, IsPathWord, heard_now, told_now}
+use Rattle.router_core.specs.Views.{Follows, AreShort, heard_now, told_now}
 use Rattle.router_core.specs.Following.{Followed, ComesUpAgain}
 
 -- ---- all but one peer is as it was
@@ -96,28 +96,46 @@ leaves old new v None (Some now) c = leaves_up old new v c
 leaves old new v (Some was) None f = leaves_forgotten old new v f
 leaves old new v (Some was) (Some now) h = leaves_again (was == now) old new v h
 
--- ---- words that were sent are paths
+-- ---- each word is what it was, or is gone
 
-paths_again : (b : Bool) (old new : RibView) (v : ℕ) (q : PrefixView) → ComesUpAgain b old new v → IsPathWord (word_of old.sent v q) → IsPathWord (word_of new.sent v q)
-paths_again true old new v q e p = subst (λ (t : RibView). IsPathWord (word_of t.sent v q)) (sym e) p
-paths_again false old new v q h p = subst IsPathWord (sym (ap (λ (t : RibView). word_of t.sent v q) h.2.rest ∙ h.1.sent.gone q)) refl
+abbrev Stays : Word → Word → Type 0
+Stays old new = (new ≡ old) ⊎ (new ≡ nothing)
 
-paths_there : (old new : RibView) (v : ℕ) (q : PrefixView) (was now : Option ℕ) → Followed old new v was now → IsPathWord (word_of old.sent v q) → IsPathWord (word_of new.sent v q)
-paths_there old new v q None None e p = subst (λ (t : RibView). IsPathWord (word_of t.sent v q)) (sym e) p
-paths_there old new v q None (Some now) c p = subst IsPathWord (sym (ap (λ (t : RibView). word_of t.sent v q) c.rest)) p
-paths_there old new v q (Some was) None f p = subst IsPathWord (sym (f.sent.gone q)) refl
-paths_there old new v q (Some was) (Some now) h p = paths_again (was == now) old new v q h p
+stay_again : (b : Bool) (old new : RibView) (v : ℕ) (q : PrefixView) → ComesUpAgain b old new v
+    → Stays (word_of old.heard v q) (word_of new.heard v q) × Stays (word_of old.sent v q) (word_of new.sent v q)
+stay_again true old new v q e = (inl (ap (λ (t : RibView). word_of t.heard v q) e), inl (ap (λ (t : RibView). word_of t.sent v q) e))
+stay_again false old new v q h =
+    (inr (ap (λ (t : RibView). word_of t.heard v q) h.2.rest ∙ h.1.heard.gone q), inr (ap (λ (t : RibView). word_of t.sent v q) h.2.rest ∙ h.1.sent.gone q))
 
-paths_by : (old new : RibView) (v : ℕ) (was now : Option ℕ) → Followed old new v was now → (y : ℕ) (q : PrefixView) (b : Bool) → (y == v) ≡ b → IsPathWord (word_of old.sent y q)
-    → IsPathWord (word_of new.sent y q)
-paths_by old new v was now f y q true e p =
-    let same : y ≡ v = eqb-true y v e in
-    subst (λ n. IsPathWord (word_of new.sent n q)) (sym same) (paths_there old new v q was now f (subst (λ n. IsPathWord (word_of old.sent n q)) same p))
-paths_by old new v was now f y q false e p = subst IsPathWord (sym ((leaves old new v was now f).sent y q (eqb-false y v e))) p
+stay_there : (old new : RibView) (v : ℕ) (q : PrefixView) (was now : Option ℕ) → Followed old new v was now
+    → Stays (word_of old.heard v q) (word_of new.heard v q) × Stays (word_of old.sent v q) (word_of new.sent v q)
+stay_there old new v q None None e = (inl (ap (λ (t : RibView). word_of t.heard v q) e), inl (ap (λ (t : RibView). word_of t.sent v q) e))
+stay_there old new v q None (Some now) c = (inl (ap (λ (t : RibView). word_of t.heard v q) c.rest), inl (ap (λ (t : RibView). word_of t.sent v q) c.rest))
+stay_there old new v q (Some was) None f = (inr (f.heard.gone q), inr (f.sent.gone q))
+stay_there old new v q (Some was) (Some now) h = stay_again (was == now) old new v q h
 
-pub paths : (old new : RibView) (v : ℕ) (was now : Option ℕ) → Followed old new v was now → ((y : ℕ) (q : PrefixView) → IsPathWord (word_of old.sent y q))
-    → (y : ℕ) (q : PrefixView) → IsPathWord (word_of new.sent y q)
-paths old new v was now f p y q = paths_by old new v was now f y q (y == v) refl (p y q)
+stay : (old new : RibView) (v : ℕ) (was now : Option ℕ) → Followed old new v was now → (y : ℕ) (q : PrefixView) (b : Bool) → (y == v) ≡ b
+    → Stays (word_of old.heard y q) (word_of new.heard y q) × Stays (word_of old.sent y q) (word_of new.sent y q)
+stay old new v was now f y q true e =
+    subst (λ n. Stays (word_of old.heard n q) (word_of new.heard n q) × Stays (word_of old.sent n q) (word_of new.sent n q)) (sym (eqb-true y v e)) (stay_there old new v q was now f)
+stay old new v was now f y q false e =
+    let l = leaves old new v was now f in
+    let other = eqb-false y v e in
+    (inl (l.heard y q other), inl (l.sent y q other))
+
+-- so what holds of each word, and of none, holds still
+module _ (Holds : Word → Type 0) (none : Holds nothing) (old new : RibView) (v : ℕ) (was now : Option ℕ) (f : Followed old new v was now) where
+  holds_still : (a b : Word) → Stays a b → Holds a → Holds b
+  holds_still a b d h = elim d [ inl e ↦ subst Holds (sym e) h | inr e ↦ subst Holds (sym e) none ]
+
+  pub all_sent : ((y : ℕ) (q : PrefixView) → Holds (word_of old.sent y q)) → (y : ℕ) (q : PrefixView) → Holds (word_of new.sent y q)
+  all_sent h y q = holds_still (word_of old.sent y q) (word_of new.sent y q) (stay old new v was now f y q (y == v) refl).1 (h y q)
+
+  pub all_heard : ((y : ℕ) (q : PrefixView) → Holds (word_of old.heard y q)) → (y : ℕ) (q : PrefixView) → Holds (word_of new.heard y q)
+  all_heard h y q = holds_still (word_of old.heard y q) (word_of new.heard y q) (stay old new v was now f y q (y == v) refl).0 (h y q)
+
+abbrev pub IsShort : Word → Type 0
+IsShort word = AreShort (path_in word)
 
 -- ---- what the tables have of a peer
 

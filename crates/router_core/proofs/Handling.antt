@@ -1,16 +1,25 @@
 -- A message or a fault that is handled: the tables stay those of the sides.
 use Rattle.std.proofs.Common.{◌≡◌, ℕ, ◌<◌, ◌≤◌, ◌==◌, ◌++◌, ◌∷◌, [], Bool, true, false, cond, List, map, Option, None, Some, refl, sym, ap, ◌∙◌, subst, arith, inl, inr}
-use Rattle.std.specs.Prelude.{nat_eq, ◌⊎◌}
-use Rattle.std.specs.List.{list_any, Contains}
-use Rattle.std.proofs.lemmas.Bool.{eq-eqb}
+use Rattle.std.specs.Prelude.{nat_eq, ◌⊎◌, Result, Ok, Err, IfOk, IfSome}
+use Rattle.std.specs.List.{list_any, Contains, AllByRecursion}
+use Rattle.std.proofs.lemmas.Bool.{eq-eqb, eqb-true, eqb-false}
+use Rattle.std.proofs.lemmas.List.Folds.{Any-from_list_any, list_any-from_Any}
 use Rattle.std.proofs.lemmas.Bool.Decides.{nat_tests}
 use Rattle.prefix_lanes.specs.Bits.{PrefixView}
 use Rattle.bgp_codec.specs.declared.message.Message.{Message}
+use Rattle.bgp_codec.specs.declared.message.Message.TheVariants.{OpenMsg, UpdateMsg, NoticeMsg, AliveMsg}
+use Rattle.bgp_codec.specs.declared.fault.Fault.{Fault}
+use Rattle.bgp_codec.specs.declared.rule.Rule.{Rule}
+use Rattle.bgp_codec.specs.declared.path.Segment.{Segment}
+use Rattle.bgp_codec.specs.declared.path.SegmentKind.{SegmentKind}
+use Rattle.bgp_codec.specs.declared.path.SegmentKind.TheVariants.{AsSet, AsSequence}
+use Rattle.bgp_codec.specs.Updates.{SegmentFits}
+use Rattle.bgp_codec.specs.Spelling.{IsWritable}
 use Rattle.bgp_codec.specs.declared.update.Update.{Update}
 use Rattle.ranked_policy.specs.declared.network.Origin.{Origin}
 use Rattle.ranked_policy.specs.Plans.{Plan, IsNamed}
 use Rattle.rib_tables.specs.declared.word.Word.{Word}
-use Rattle.rib_tables.specs.Words.{nothing}
+use Rattle.rib_tables.specs.Words.{nothing, is_prefix, lists, segment_word, segments_word, path_word, announced_word}
 use Rattle.rib_tables.specs.Tables.{Applies, word_of}
 use Rattle.rib_tables.specs.Owners.{RibView, HearsUpdate}
 use Rattle.rib_tables.specs.Promises.{WordFollows}
@@ -24,11 +33,12 @@ use Rattle.router_model.specs.Step.{seen}
 use Rattle.router_side.specs.Freshness.{IsFresh, IsUnsaid, ComesUpUnsaid, ActsWhereUp, HandlingKeepsFresh}
 use Rattle.router_side.specs.SideOf.{side}
 use Rattle.router_core.specs.declared.peers.Peer.{Peer}
-use Rattle.router_core.specs.Views.{RouterView, IsSound, Follows, IsPathWord, listed, heard_now}
+use Rattle.router_core.specs.Views.{RouterView, IsSound, Follows, IsPathWord, AreShort, listed}
 use Rattle.router_core.specs.Following.{Followed, standing}
 use Rattle.router_core.specs.Handling.{update_acted, seen_where, Hears, HandlesFront}
+use Rattle.router_core.proofs.Naming.{is_prefix-true, is_prefix-from}
 use Rattle.router_core.proofs.PeerLemmas.{listed_any}
-use Rattle.router_core.proofs.Following.{Leaves, leaves_same, leaves_heard, leaves_then, leaves, paths, follows_by}
+use Rattle.router_core.proofs.Following.{Leaves, IsShort, leaves_same, leaves_heard, leaves_then, leaves, all_sent, all_heard, follows_by}
 use Rattle.router_core.proofs.Carrying.{Changes, Tracks, is_followed}
 
 -- ---- the links of what is recorded
@@ -55,6 +65,9 @@ pub link_of : (o : Option Part) (v : ℕ) (ps : List Peer) (vs : List ℕ) → m
 link_of None v ps vs e over l = tt
 link_of (Some p) v ps vs e over l = leads_any v p.channels.items ∙ ap (list_any (nat_eq v)) (over ∙ sym e) ∙ sym (listed_any v ps) ∙ l
 
+clash : true ≡ false → ⊥
+clash e = absurd cc
+
 -- ---- the UPDATE that is acted on
 
 pub seen_is : (b : Bool) (h : AtHand) (v : ℕ) (x : Snapshots) → seen_where v (update_acted b h) x ≡ seen b h v x
@@ -76,6 +89,70 @@ leaves_hearing old new v (Some u) h = leaves_heard old new v u h
 sent_hearing : (old new : RibView) (v : ℕ) (o : Option Update) → Hears old new v o → (y : ℕ) (q : PrefixView) → word_of new.sent y q ≡ word_of old.sent y q
 sent_hearing old new v None e y q = ap (λ (t : RibView). word_of t.sent y q) e
 sent_hearing old new v (Some u) h y q = ap (λ (t : RibView). word_of t.sent y q) h.rest
+
+-- ---- the numbers of what was read are of two octets
+
+abbrev IsShortAt : AtHand → Type 0
+IsShortAt NoMessage = Unit {0}
+IsShortAt (HasFault fault) = Unit {0}
+IsShortAt (HasUpdate u) = IsShort (announced_word u.attrs)
+
+segment_short : (kind : SegmentKind) (numbers : List ℕ) → AreShort numbers → IsShort (segment_word kind numbers)
+segment_short AsSequence numbers h = h
+segment_short AsSet numbers h = tt
+
+segments_short : (ss : List Segment) → AllByRecursion SegmentFits ss → IsShort (segments_word ss)
+segments_short [] h = tt
+segments_short (s ∷ []) h = segment_short s.kind s.numbers h.0.1.1
+segments_short (s ∷ t ∷ rest) h = tt
+
+path_short : (o : Option (List Segment)) → IfSome o (AllByRecursion SegmentFits) → IsShort (path_word o)
+path_short None h = tt
+path_short (Some ss) h = segments_short ss h
+
+short_at : (rule : Rule) (m : Result Message Fault) → IfOk m (IsWritable rule) → IsShortAt (at_hand m)
+short_at rule (Ok (OpenMsg o)) h = tt
+short_at rule (Ok (UpdateMsg u)) h = path_short u.attrs.path h.attrs.path
+short_at rule (Ok (NoticeMsg n)) h = tt
+short_at rule (Ok AliveMsg) h = tt
+short_at rule (Err fault) h = tt
+
+short_after : (b d : Bool) (announced word : Word) → IsShort announced → IsShort word → IsShort (cond b announced (cond d nothing word))
+short_after true d announced word a w = a
+short_after false true announced word a w = tt
+short_after false false announced word a w = w
+
+-- ---- what the network names
+
+abbrev names_it : PrefixView → Origin → Bool
+names_it q o = is_prefix o.prefix q
+
+named_by : (origins : List Origin) (q : PrefixView) (b : Bool) → list_any (names_it q) origins ≡ b → IsNamed origins q ⊎ (IsNamed origins q → ⊥)
+named_by origins q true e = inl (let found = Any-from_list_any (names_it q) origins e in (found.0, found.1, found.2, found.3, is_prefix-true found.1.prefix q found.4))
+named_by origins q false e =
+    inr (λ found. clash (sym (list_any-from_Any (names_it q) origins (found.0, found.1, found.2, found.3, is_prefix-from found.1.prefix q found.4)) ∙ e))
+
+module _ (word_follows : WordFollows) (old new : RibView) (v : ℕ) (u : Update) (h : HearsUpdate old new v u) (announced : IsShort (announced_word u.attrs))
+    (short : (y : ℕ) (q : PrefixView) → IsShort (word_of old.heard y q)) where
+  short_there : (q : PrefixView) → IsShort (word_of new.heard v q)
+  short_there q =
+      elim (named_by old.net.origins q (list_any (names_it q) old.net.origins) refl) [
+        | inl named ↦
+        subst IsShort (sym (word_follows old.net.origins old.heard new.heard v u h.words q named))
+        (short_after (lists u.nlri q) (lists u.withdrawn q) (announced_word u.attrs) (word_of old.heard v q) announced (short v q))
+        | inr other ↦ subst IsShort (sym (h.words.unnamed q other)) (short v q)
+      ]
+
+  short_update : (y : ℕ) (q : PrefixView) (b : Bool) → (y == v) ≡ b → IsShort (word_of new.heard y q)
+  short_update y q true e = subst (λ n. IsShort (word_of new.heard n q)) (sym (eqb-true y v e)) (short_there q)
+  short_update y q false e = subst IsShort (sym (h.words.others y q (eqb-false y v e))) (short y q)
+
+short_hearing : WordFollows → (old new : RibView) (v : ℕ) (b : Bool) (h : AtHand) → Hears old new v (update_acted b h) → IsShortAt h
+    → ((y : ℕ) (q : PrefixView) → IsShort (word_of old.heard y q)) → (y : ℕ) (q : PrefixView) → IsShort (word_of new.heard y q)
+short_hearing law old new v b NoMessage e a short y q = subst (λ (t : RibView). IsShort (word_of t.heard y q)) (sym e) (short y q)
+short_hearing law old new v b (HasFault fault) e a short y q = subst (λ (t : RibView). IsShort (word_of t.heard y q)) (sym e) (short y q)
+short_hearing law old new v true (HasUpdate u) h a short y q = short_update law old new v u h a short y q (y == v) refl
+short_hearing law old new v false (HasUpdate u) e a short y q = subst (λ (t : RibView). IsShort (word_of t.heard y q)) (sym e) (short y q)
 
 module _ (word_follows : WordFollows) (origins : List Origin) (v : ℕ) (s : Side) (e : ℕ) where
   history_on : (u : Update) → e ≡ s.link.epoch → with_update s.acted e u s.link.epoch ≡ s.acted s.link.epoch ++ u ∷ []
@@ -107,9 +184,6 @@ module _ (word_follows : WordFollows) (origins : List Origin) (v : ℕ) (s : Sid
 
 -- ---- a front that is handled
 
-clash : true ≡ false → ⊥
-clash e = absurd cc
-
 module _ (s : Side) (h : AtHand) (a : Draft) (up : ComesUpUnsaid s a) (acts : ActsWhereUp s a) where
   unsaid_by : (b : Bool) → a.acts ≡ b → is_established a.session.state ≡ true → (is_up s ≡ false) ⊎ (s.link.epoch < a.link.epoch)
       → (acted_with b h a.link.epoch s.acted a.link.epoch ≡ []) × (s.sent a.link.epoch ≡ [])
@@ -124,8 +198,8 @@ module _ (s : Side) (h : AtHand) (a : Draft) (up : ComesUpUnsaid s a) (acts : Ac
 module _ (word_follows : WordFollows) (r : RouterView) (v i : ℕ) (p q : Peer) (c : Changes r v i p q) (sound : IsSound r) (t : RibView) (x y : Snapshots) where
   tracks_draft : (h : AtHand) (a : Draft) (between : RibView) → side q.end ≡ carried h (without_front (side p.end)) a → Hears r.tables between v (update_acted a.acts h)
       → Followed between t v (standing (side p.end)) (standing (side q.end)) → IsFresh (carried h (without_front (side p.end)) a) → ComesUpUnsaid (side p.end) a
-      → (side p.end).link.epoch ≤ a.link.epoch → ActsWhereUp (side p.end) a → Tracks r v q t
-  tracks_draft h a between is hears f fresh up onward acts =
+      → (side p.end).link.epoch ≤ a.link.epoch → ActsWhereUp (side p.end) a → IsShortAt h → Tracks r v q t
+  tracks_draft h a between is hears f fresh up onward acts short =
       let s = side p.end in
       let z = carried h (without_front s) a in
       let l : Side = record s { acted = acted_with a.acts h a.link.epoch s.acted } in
@@ -138,7 +212,8 @@ module _ (word_follows : WordFollows) (r : RouterView) (v i : ℕ) (p q : Peer) 
             subst (Follows r.net.origins t v) (sym is)
             (follows_by r.net.origins v l z refl refl between t (is_up l) (is_up z) refl refl onward (λ k d. unsaid_by s h a up acts a.acts refl k d) heard on);
         fresh = subst IsFresh (sym is) fresh;
-        sent = paths between t v (standing s) (standing (side q.end)) f (λ w k. subst IsPathWord (sym (sent_hearing r.tables between v (update_acted a.acts h) hears w k)) (sound.tabled.sent w k));
+        short = all_heard IsShort tt between t v (standing s) (standing (side q.end)) f (short_hearing word_follows r.tables between v a.acts h hears short sound.tabled.short);
+        sent = all_sent IsPathWord refl between t v (standing s) (standing (side q.end)) f (λ w k. subst IsPathWord (sym (sent_hearing r.tables between v (update_acted a.acts h) hears w k)) (sound.tabled.sent w k));
       }
 
   pub tracks_handled : HandlingKeepsFresh r.own_open (front (rule_of v) (side p.end).held) (side p.end) → HandlesFront r.own_open v (side p.end) (side q.end) r.tables t x y → Tracks r v q t
@@ -152,6 +227,7 @@ module _ (word_follows : WordFollows) (r : RouterView) (v i : ℕ) (p q : Peer) 
       (subst (λ (a : Draft). ComesUpUnsaid s a) back k.up)
       (subst (λ (a : Draft). s.link.epoch ≤ a.link.epoch) back k.onward)
       (subst (λ (a : Draft). ActsWhereUp s a) back k.acts)
+      (subst IsShortAt (sym h.hand_is) (short_at (rule_of v) m h.writable))
 
   pub leaves_handled : HandlesFront r.own_open v (side p.end) (side q.end) r.tables t x y → Leaves r.tables t v
   leaves_handled h =

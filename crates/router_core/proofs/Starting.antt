@@ -3,12 +3,11 @@ use Rattle.std.proofs.Common.{◌≡◌, ℕ, ◌≤◌, ◌<◌, Bool, true, fa
 use Rattle.std.specs.List.{AllByRecursion}
 use Rattle.std.proofs.Math.Path.{fun_ext}
 use Rattle.std.proofs.lemmas.Bool.{false_from_ne_true}
-use Rattle.std.proofs.lemmas.List.Elements.{All-nil}
 use Rattle.prefix_lanes.specs.Bits.{PrefixView}
 use Rattle.bgp_codec.specs.declared.message.Message.{Message}
 use Rattle.session_fsm.specs.declared.config.SessionConfig.{SessionConfig}
 use Rattle.ranked_policy.specs.declared.network.Origin.{Origin}
-use Rattle.ranked_policy.specs.Plans.{Plan, IsRouter}
+use Rattle.ranked_policy.specs.Plans.{Plan}
 use Rattle.rib_tables.specs.Words.{lists}
 use Rattle.rib_tables.specs.Tables.{path_of}
 use Rattle.rib_tables.specs.Owners.{RibView, IsNew}
@@ -21,6 +20,7 @@ use Rattle.router_side.specs.Freshness.{IsFresh}
 use Rattle.router_side.specs.SideOf.{side, side_opening}
 use Rattle.router_core.specs.declared.peers.Peer.{Peer}
 use Rattle.router_core.specs.Views.{RouterView, IsTabled, IsMarked, IsTellable, IsPathWord, Follows, side_at, config_of, plain_of}
+use Rattle.router_core.proofs.Following.{IsShort}
 use Rattle.router_core.proofs.Naming.{decides_lists}
 use Rattle.router_core.proofs.PeerLemmas.{all_none}
 
@@ -49,8 +49,9 @@ module _ (net : Plan) (number : ℕ) (own_open : Message) (ps : List Peer) (t : 
     peers = λ v l. subst (Follows net.origins t v) (sym (none v)) (follows_opening v);
     fresh = λ v. subst IsFresh (sym (none v)) (fresh_opening (config_of net));
     sent = λ v q. subst IsPathWord (sym (n.sent v q)) refl;
+    short = λ v q. subst IsShort (sym (n.heard v q)) tt;
     kept = λ q k. n.kept q;
-    tellable = λ q. subst (IsTellable net) (sym (n.kept q)) (record { few = omega arith; routers = All-nil (IsRouter net.routers) });
+    tellable = λ q. subst IsTellable (sym (n.kept q)) (record { few = omega arith; short = tt });
     originated = λ q h. absurd (n.originated q ((decides_lists t.originated q).0 h));
   }
 

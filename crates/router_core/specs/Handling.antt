@@ -1,5 +1,6 @@
 -- A message or a fault that is handled: what becomes of a side, of the tables, and of what is recorded.
-use Rattle.std.specs.Prelude.{ℕ, ◌≡◌, Bool, cond, Option, None, Some}
+use Rattle.std.specs.Prelude.{ℕ, ◌≡◌, Bool, cond, Option, None, Some, IfOk}
+use Rattle.bgp_codec.specs.Spelling.{IsWritable}
 use Rattle.bgp_codec.specs.declared.message.Message.{Message}
 use Rattle.bgp_codec.specs.declared.message.Message.TheVariants.{UpdateMsg}
 use Rattle.bgp_codec.specs.declared.update.Update.{Update}
@@ -43,4 +44,5 @@ pub record HandlesFront (own_open : Message) (v : ℕ) (s z : Side) (old new : R
   pub side : z ≡ carried hand (without_front s) draft
   pub hears : Hears old between v (update_acted draft.acts hand)
   pub follows : Followed between new v (standing s) (standing z)
+  pub writable : IfOk (front (rule_of v) s.held) (IsWritable (rule_of v))
   pub sees : y ≡ seen_where v (update_acted draft.acts hand) (closed (close_at v draft.left) x)

@@ -4,6 +4,7 @@ ghost use Rattle.std.specs.Prelude.{◌≡◌, true, Ok, Err, IfOk};
 ghost use Rattle.bgp_codec.specs.declared.message.Message.TheVariants.{NoticeMsg};
 ghost use Rattle.bgp_codec.specs.Header.{IsFrame};
 ghost use Rattle.bgp_codec.specs.Faults.{reading};
+ghost use Rattle.bgp_codec.specs.Spelling.{IsWritable};
 ghost use Rattle.bgp_framing.specs.Held.{is_waiting};
 ghost use Rattle.session_fsm.specs.Table.{IsGoodEvent};
 ghost use Rattle.router_model.specs.Sides.{front, event_of, at_hand};
@@ -30,6 +31,7 @@ fn read_frame(
     ensures read { IfOk result (λ read. read ≡ reading rule.now frame.now) }
     ensures good { IfOk result (λ read. IsGoodEvent (event_of read)) }
     ensures told { IfOk result (λ read. IsSayableWhere (told_of (at_hand read))) }
+    ensures writable { IfOk result (λ read. IfOk read (IsWritable rule.now)) }
 {
     spelt_is_writable();
     open_has_a_hold_time();
@@ -53,6 +55,7 @@ pub fn read_front(
     ensures read { IfOk result (λ read. read ≡ front rule.now framer.now.octets) }
     ensures good { IfOk result (λ read. IsGoodEvent (event_of read)) }
     ensures told { IfOk result (λ read. IsSayableWhere (told_of (at_hand read))) }
+    ensures writable { IfOk result (λ read. IfOk read (IsWritable rule.now)) }
 {
     header_is_its_front();
     header_fault_is_short();

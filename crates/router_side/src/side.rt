@@ -3,6 +3,7 @@
 ghost use Rattle.std.specs.Prelude.{◌≡◌, ◌≤◌, ◌<◌, true, false, length, Option, vec_len, vec_capacity, IfOk, OnOk, OnErr, is_some, ℕ};
 ghost use Rattle.bgp_codec.specs.declared.message.Message.{Message};
 ghost use Rattle.bgp_codec.specs.Faults.{reading};
+ghost use Rattle.bgp_codec.specs.Spelling.{IsWritable};
 ghost use Rattle.bgp_framing.specs.Held.{is_waiting};
 ghost use Rattle.session_fsm.specs.Table.{IsGoodEvent, IsHoldTime};
 ghost use Rattle.outbox.specs.Items.{next_item, octets_waiting};
@@ -233,6 +234,7 @@ impl SideEnd {
         ensures read { IfOk result (λ read. read ≡ front rule.now (side self.now).held) }
         ensures good { IfOk result (λ read. IsGoodEvent (event_of read)) }
         ensures told { IfOk result (λ read. IsSayableWhere (told_of (at_hand read))) }
+        ensures writable { IfOk result (λ read. IfOk read (IsWritable rule.now)) }
     {
         read_front(alloc, &self.framer, rule)
     }

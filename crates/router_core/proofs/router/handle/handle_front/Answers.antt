@@ -1,5 +1,8 @@
 use Rattle.std.proofs.Common.{◌∙◌, ap, sym, subst}
-use Rattle.snap_marker.specs.Parts.{IsOver, AreOf}
+use Rattle.std.specs.Prelude.{Result, IfOk}
+use Rattle.bgp_codec.specs.declared.message.Message.{Message}
+use Rattle.bgp_codec.specs.declared.fault.Fault.{Fault}
+use Rattle.bgp_codec.specs.Spelling.{IsWritable}
 use Rattle.snap_marker.specs.Recordings.{Snapshots, closed}
 use Rattle.session_fsm.specs.declared.event.FsmEvent.{FsmEvent}
 use Rattle.router_model.specs.Sides.{Side, AtHand, carried, comes, draft_of, at_hand, event_of, front, without_front}
@@ -37,6 +40,7 @@ returns-clause-ok c =
       side = c.carry.ensures.side ∙ ap (λ (z : Side). carried h z a) dropped;
       hears = c.in_ok-hear.ensures.ok;
       follows = subst (λ (z : Side). Followed c.hear.new.tables c.carry.new.tables c.args.peer (standing z) (standing (side c.carry.new.end))) dropped c.carry.ensures.tables;
+      writable = subst (λ (k : Result Message Fault). IfOk k (IsWritable (rule_of c.args.peer))) read c.in_ok-read.ensures.writable;
       sees =
           c.record.ensures.sees (update_acted a.acts h) c.in_ok-copy.ensures.copy
           ∙ ap (λ (x : Snapshots). seen_where c.args.peer (update_acted a.acts h) (closed (close_at c.args.peer a.left) x)) c.copy_for.ensures.state;
