@@ -1,5 +1,5 @@
 -- A draft that is carried out for one peer, as a step of the router.
-use Rattle.std.proofs.Common.{◌≡◌, ℕ, ◌≤◌, Bool, true, false, cond, ◌==◌, List, Option, None, Some, refl, ap, sym, ◌∙◌, subst, get_or, set}
+use Rattle.std.proofs.Common.{◌≡◌, ℕ, ◌≤◌, ◌<◌, Bool, true, false, cond, ◌==◌, List, Option, None, Some, refl, ap, sym, ◌∙◌, subst, get_or, set}
 use Rattle.std.specs.List.{AllByRecursion}
 use Rattle.std.proofs.Math.Path.{fun_ext}
 use Rattle.std.specs.Prelude.{◌+◌, nat_lt, Result, Ok, Err}
@@ -7,34 +7,52 @@ use Rattle.bgp_codec.specs.declared.message.Message.{Message}
 use Rattle.session_fsm.specs.declared.event.FsmEvent.TheVariants.{ManualStart, ManualStop}
 use Rattle.run_model.specs.Network.{alone}
 use Rattle.ranked_policy.specs.Plans.{Plan}
-use Rattle.snap_marker.specs.Recordings.{closed, no_snapshots}
+use Rattle.std.proofs.lemmas.Bool.{eqb-true, eqb-false}
+use Rattle.prefix_lanes.specs.Bits.{PrefixView}
+use Rattle.bgp_codec.specs.declared.update.Update.{Update}
+use Rattle.session_fsm.specs.Table.{SessionView}
+use Rattle.link_epoch.specs.Ends.{LinkView}
+use Rattle.rib_tables.specs.Words.{lists}
+use Rattle.rib_tables.specs.Tables.{Paths, word_of, path_of}
+use Rattle.rib_tables.specs.Owners.{RibView}
+use Rattle.snap_marker.specs.Recordings.{Snapshots, closed}
+use Rattle.snap_marker.specs.Parts.{MarkView, snapshots_of, IsOver, AreOf}
+use Rattle.router_side.specs.Freshness.{IsFresh, KeepsFresh, is_opening, is_away}
+use Rattle.router_core.specs.Following.{Followed, standing}
+use Rattle.router_core.proofs.Following.{Leaves, leaves_same, leaves, paths, follows_there, follows_alike, follows_by}
 use Rattle.router_model.specs.declared.command.Command.TheVariants.{Start, Stop, Reset}
 use Rattle.router_model.specs.declared.refusal.RouterError.{RouterError}
 use Rattle.router_model.specs.declared.refusal.RouterError.TheVariants as error
 use Rattle.router_model.specs.declared.refusal.Stepped.{Stepped}
 use Rattle.router_model.specs.declared.refusal.Stepped.TheVariants as stepped
-use Rattle.router_model.specs.Settings.{Setting, linked}
-use Rattle.router_model.specs.Sides.{Side, AtHand, NoMessage, HasFault, HasUpdate, Draft, carried, without_front, met, reset}
+use Rattle.router_model.specs.Settings.{Setting, linked, peers}
+use Rattle.router_model.specs.Sides.{Side, AtHand, NoMessage, Draft, carried, acted_with, is_up, without_front, met, reset}
 use Rattle.router_model.specs.State.{open_of, new_router}
 use Rattle.router_model.specs.Step.{RouterEvent, Obeys, with_side, moved, seen, close_at}
 use Rattle.router_model.specs.Calls.{Stamped, Call, Obey, Gives, answer, judged, unless, greatest_stamp, stamped_after}
 use Rattle.router_side.specs.SideOf.{side, side_opening}
 use Rattle.router_core.specs.declared.peers.Peer.{Peer}
-use Rattle.router_core.specs.Views.{RouterView, IsSound, side_at, sides_of, listed, IsAt, config_of, plain_of, Ends}
-use Rattle.router_core.proofs.PeerLemmas.{side_here, number_here, listed_set, numbers_set, sides_set, changed, unchanged, all_none}
+use Rattle.router_core.specs.Views.{RouterView, IsSound, IsTabled, IsMarked, IsTellable, IsPathWord, Follows, side_at, sides_of, listed, IsAt, config_of, plain_of, Ends}
+use Rattle.router_core.proofs.PeerLemmas.{side_here, number_here, is_listed, set_here, set_there, listed_set, numbers_set, sides_set, changed, unchanged}
 
-nothing_seen : (b : Bool) (h : AtHand) (v : ℕ) → seen b h v no_snapshots ≡ no_snapshots
-nothing_seen true NoMessage v = refl
-nothing_seen true (HasFault fault) v = refl
-nothing_seen true (HasUpdate update) v = refl
-nothing_seen false h v = refl
+nothing_acted : (b : Bool) (e : ℕ) (us : ℕ → List Update) → acted_with b NoMessage e us ≡ us
+nothing_acted true e us = refl
+nothing_acted false e us = refl
 
-nothing_closed : (v : ℕ) (left : Option ℕ) → closed (close_at v left) no_snapshots ≡ no_snapshots
-nothing_closed v None = refl
-nothing_closed v (Some e) = refl
+pub nothing_seen : (b : Bool) (v : ℕ) (x y : Snapshots) → y ≡ x → y ≡ seen b NoMessage v x
+nothing_seen true v x y e = e
+nothing_seen false v x y e = e
 
-nothing_recorded : (b : Bool) (h : AtHand) (v : ℕ) (left : Option ℕ) → seen b h v (closed (close_at v left) no_snapshots) ≡ no_snapshots
-nothing_recorded b h v left = ap (seen b h v) (nothing_closed v left) ∙ nothing_seen b h v
+pub fresh_alike : (s z : Side) → z.session ≡ s.session → z.link ≡ s.link → z.acted ≡ s.acted → z.sent ≡ s.sent → IsFresh s → IsFresh z
+fresh_alike s z x l a b f =
+    let state = ap (λ (y : SessionView). y.state) x in
+    let epoch = ap (λ (y : LinkView). y.epoch) l in
+    record {
+      later = λ n h. let k = f.later n (subst (λ e. e < n) epoch h) in (ap (λ (us : ℕ → List Update). us n) a ∙ k.0, ap (λ (us : ℕ → List Update). us n) b ∙ k.1);
+      opening = λ h. let k = f.opening (sym (ap is_opening state) ∙ h) in
+          (ap (λ (us : ℕ → List Update). us z.link.epoch) a ∙ ap s.acted epoch ∙ k.0, ap (λ (us : ℕ → List Update). us z.link.epoch) b ∙ ap s.sent epoch ∙ k.1);
+      away = λ h. ap (λ (y : LinkView). y.phase) l ∙ f.away (sym (ap is_away state) ∙ h);
+    }
 
 twice_by : (b : Bool) (s : Side) (h : AtHand) (a : Draft) → cond b (carried h (without_front s) a) s ≡ cond b (carried h (cond b (without_front s) s) a) (cond b (without_front s) s)
 twice_by true s h a = refl
@@ -46,20 +64,10 @@ twice sides v h a = λ y. cond (y == v) (carried h (cond (y == v) (without_front
 twice_changed : (sides : ℕ → Side) (v : ℕ) (h : AtHand) (a : Draft) → changed sides v (λ s. carried h (without_front s) a) ≡ twice sides v h a
 twice_changed sides v h a = fun_ext (λ y. twice_by (y == v) (sides y) h a)
 
--- ---- the router as it is made
+-- ---- the peer at the place of a number changes, the tables, what is recorded, and the stamp
 
-pub opens : (net : Plan) (number : ℕ) (own_open : Message) (ps : List Peer) → AllByRecursion (λ p. side p.end ≡ side_opening (config_of net)) ps → (g : Setting) → g.net ≡ net
-    → plain_of (record { net = net; number = number; own_open = own_open; peers = ps; stamp = 0 }) ≡ record { router = new_router g; stamp = 0 }
-opens net number own_open ps all g e =
-    let opened : (v : ℕ) → side_at (side_opening (config_of net)) ps v ≡ side_opening (config_of g.net) =
-    λ v. all_none (side_opening (config_of net)) ps v all ∙ ap (λ (n : Plan). side_opening (config_of n)) (sym e) in
-    let sides : side_at (side_opening (config_of net)) ps ≡ (λ (v : ℕ). side_opening (config_of g.net)) = fun_ext opened in
-    ap (λ (s : ℕ → Side). record { router = record (new_router g) { sides = s }; stamp = 0 }) sides
-
--- ---- the peer at the place of a number changes, and the stamp
-
-abbrev pub with_peer : RouterView → ℕ → Peer → ℕ → RouterView
-with_peer r i q stamp = record { net = r.net; number = r.number; own_open = r.own_open; peers = set r.peers i q; stamp = stamp }
+abbrev pub with_peer : RouterView → ℕ → Peer → RibView → MarkView → ℕ → RouterView
+with_peer r i q t m stamp = record { net = r.net; number = r.number; own_open = r.own_open; peers = set r.peers i q; tables = t; marks = m; stamp = stamp }
 
 -- the peer at this place is q in place of p
 pub record Changes (r : RouterView) (v i : ℕ) (p q : Peer) : Type 0 where
@@ -67,46 +75,149 @@ pub record Changes (r : RouterView) (v i : ℕ) (p q : Peer) : Type 0 where
   pub here : p ≡ get_or r.peers i p
   pub number : q.number ≡ p.number
 
-module _ (r : RouterView) (v i : ℕ) (p q : Peer) (c : Changes r v i p q) (stamp : ℕ) where
+-- the tables are still those of the sides
+pub record Tracks (r : RouterView) (v : ℕ) (q : Peer) (t : RibView) : Type 0 where
+  pub leaves : Leaves r.tables t v
+  pub follows : Follows r.net.origins t v (side q.end)
+  pub fresh : IsFresh (side q.end)
+  pub sent : (y : ℕ) (x : PrefixView) → IsPathWord (word_of t.sent y x)
+
+-- and what is recorded is this router's
+pub record Records (r : RouterView) (m : MarkView) : Type 0 where
+  pub over : (vs : List ℕ) → IsOver vs r.marks.unfinished → IsOver vs m.unfinished
+  pub router : (u : ℕ) → AreOf u r.marks → AreOf u m
+
+pub records_same : (r : RouterView) → Records r r.marks
+records_same r = record { over = λ vs h. h; router = λ u h. h }
+
+module _ (r : RouterView) (v i : ℕ) (p q : Peer) (c : Changes r v i p q) where
   named : q.number ≡ v
   named = c.number ∙ ap (λ (w : Peer). w.number) c.here ∙ number_here r.peers v i p c.place
 
   pub found : side p.end ≡ sides_of r v
   found = ap (λ (w : Peer). side w.end) c.here ∙ sym (side_here (side_opening (config_of r.net)) r.peers v i p c.place)
 
-  -- it is still what a router of the code is
-  pub stays : IsSound r → stamp ≤ greatest_stamp → IsSound (with_peer r i q stamp)
-  stays s l = record {
-    network = s.network;
-    router = s.router;
-    numbers = numbers_set r.peers v i q c.place named ∙ s.numbers;
-    links = λ w. listed_set r.peers v i q c.place named w ∙ s.links w;
-    own_open = s.own_open;
-    sayable = s.sayable;
-    stamp = l;
+  -- what is known of its side
+  pub is_peer : IsSound r → linked r.net r.number v ≡ true
+  is_peer s = sym (s.links v) ∙ is_listed r.peers v i c.place
+
+  pub is_fresh : IsSound r → IsFresh (side p.end)
+  is_fresh s = subst IsFresh (sym found) (s.tabled.fresh v)
+
+  pub is_followed : IsSound r → Follows r.net.origins r.tables v (side p.end)
+  is_followed s = subst (Follows r.net.origins r.tables v) (sym found) (s.tabled.peers v (is_peer s))
+
+  module _ (t : RibView) (m : MarkView) (stamp : ℕ) where
+    follows_at : IsSound r → Tracks r v q t → (y : ℕ) (b : Bool) → (y == v) ≡ b → linked r.net r.number y ≡ true → Follows r.net.origins t y (sides_of (with_peer r i q t m stamp) y)
+    follows_at s k y true e l =
+        let same : y ≡ v = eqb-true y v e in
+        subst (λ n. Follows r.net.origins t n (side_at (side_opening (config_of r.net)) (set r.peers i q) n)) (sym same)
+        (subst (Follows r.net.origins t v) (sym (set_here (side_opening (config_of r.net)) r.peers v i q c.place named)) k.follows)
+    follows_at s k y false e l =
+        let other = eqb-false y v e in
+        subst (Follows r.net.origins t y) (sym (set_there (side_opening (config_of r.net)) r.peers v i q y c.place named other))
+        (follows_there r.net.origins r.tables t v y (sides_of r y) k.leaves other (s.tabled.peers y l))
+
+    fresh_at : IsSound r → Tracks r v q t → (y : ℕ) (b : Bool) → (y == v) ≡ b → IsFresh (sides_of (with_peer r i q t m stamp) y)
+    fresh_at s k y true e =
+        let same : y ≡ v = eqb-true y v e in
+        subst (λ n. IsFresh (side_at (side_opening (config_of r.net)) (set r.peers i q) n)) (sym same)
+        (subst IsFresh (sym (set_here (side_opening (config_of r.net)) r.peers v i q c.place named)) k.fresh)
+    fresh_at s k y false e =
+        subst IsFresh (sym (set_there (side_opening (config_of r.net)) r.peers v i q y c.place named (eqb-false y v e))) (s.tabled.fresh y)
+
+    tabled : IsSound r → Tracks r v q t → IsTabled (with_peer r i q t m stamp)
+    tabled s k = record {
+      net = k.leaves.net ∙ s.tabled.net;
+      router = k.leaves.router ∙ s.tabled.router;
+      peers = λ y l. follows_at s k y (y == v) refl l;
+      fresh = λ y. fresh_at s k y (y == v) refl;
+      sent = k.sent;
+      kept = λ x n. ap (λ (ps : Paths). path_of ps x) k.leaves.kept ∙ s.tabled.kept x n;
+      tellable = λ x. subst (λ (ps : Paths). IsTellable r.net (path_of ps x)) (sym k.leaves.kept) (s.tabled.tellable x);
+      originated = λ x h. s.tabled.originated x (ap (λ (ps : List PrefixView). lists ps x) (sym k.leaves.originated) ∙ h);
+    }
+
+    marked : IsSound r → Records r m → IsMarked (with_peer r i q t m stamp)
+    marked s k =
+        let own = k.router r.number (record { unfinished = s.marked.unfinished; queue = s.marked.queue }) in
+        record { over = k.over (peers r.net r.number) s.marked.over; unfinished = own.unfinished; queue = own.queue }
+
+    -- it is still what a router of the code is
+    pub stays : IsSound r → stamp ≤ greatest_stamp → Tracks r v q t → Records r m → IsSound (with_peer r i q t m stamp)
+    stays s l k n = record {
+      network = s.network;
+      router = s.router;
+      numbers = numbers_set r.peers v i q c.place named ∙ s.numbers;
+      links = λ w. listed_set r.peers v i q c.place named w ∙ s.links w;
+      own_open = s.own_open;
+      sayable = s.sayable;
+      stamp = l;
+      tabled = tabled s k;
+      marked = marked s n;
+    }
+
+    sides_now : (f : Side → Side) → side q.end ≡ f (side p.end) → sides_of (with_peer r i q t m stamp) ≡ changed (sides_of r) v f
+    sides_now f is = sides_set (side_opening (config_of r.net)) r.peers v i q f c.place named (is ∙ ap f found)
+
+    -- the plain router, by its sides, tables and recording
+    plain_by : (sides : ℕ → Side) (x : Snapshots) → sides_of (with_peer r i q t m stamp) ≡ sides → Leaves r.tables t v → snapshots_of m ≡ x
+        → plain_of (with_peer r i q t m stamp) ≡ record { router = record (plain_of r).router { sides = sides; snapshots = x }; stamp = stamp }
+    plain_by sides x es l ex =
+        ap (λ (y : ℕ → Side). record { router = record { sides = y; kept = path_of t.kept; originated = lists t.originated; snapshots = snapshots_of m }; stamp = stamp }) es
+        ∙ ap (λ (ps : Paths). record { router = record { sides = sides; kept = path_of ps; originated = lists t.originated; snapshots = snapshots_of m }; stamp = stamp }) l.kept
+        ∙ ap (λ (ps : List PrefixView). record { router = record { sides = sides; kept = path_of r.tables.kept; originated = lists ps; snapshots = snapshots_of m }; stamp = stamp }) l.originated
+        ∙ ap (λ (y : Snapshots). record { router = record { sides = sides; kept = path_of r.tables.kept; originated = lists r.tables.originated; snapshots = y }; stamp = stamp }) ex
+
+    -- it carries a draft out
+    pub moves : (h : AtHand) (a : Draft) → side q.end ≡ carried h (side p.end) a → Leaves r.tables t v
+        → snapshots_of m ≡ seen a.acts h v (closed (close_at v a.left) (snapshots_of r.marks))
+        → plain_of (with_peer r i q t m stamp) ≡ record { router = moved (plain_of r).router v h a; stamp = stamp }
+    moves h a is l x = plain_by (changed (sides_of r) v (λ s. carried h s a)) (seen a.acts h v (closed (close_at v a.left) (snapshots_of r.marks))) (sides_now (λ s. carried h s a) is) l x
+
+    -- its front is taken away, and a draft carried out
+    pub fronts : (h : AtHand) (a : Draft) → side q.end ≡ carried h (without_front (side p.end)) a → Leaves r.tables t v
+        → snapshots_of m ≡ seen a.acts h v (closed (close_at v a.left) (snapshots_of r.marks))
+        → plain_of (with_peer r i q t m stamp) ≡ record { router = moved (with_side (plain_of r).router v without_front) v h a; stamp = stamp }
+    fronts h a is l x =
+        plain_by (twice (sides_of r) v h a) (seen a.acts h v (closed (close_at v a.left) (snapshots_of r.marks)))
+        (sides_now (λ s. carried h (without_front s) a) is ∙ twice_changed (sides_of r) v h a) l x
+
+  -- it changes by a function, and all else stays
+  pub becomes : (stamp : ℕ) (f : Side → Side) → side q.end ≡ f (side p.end) → plain_of (with_peer r i q r.tables r.marks stamp) ≡ record { router = with_side (plain_of r).router v f; stamp = stamp }
+  becomes stamp f is = plain_by r.tables r.marks stamp (changed (sides_of r) v f) (snapshots_of r.marks) (sides_now r.tables r.marks stamp f is) (leaves_same r.tables v) refl
+
+  -- it is what it was
+  pub kept : (m : MarkView) → side q.end ≡ side p.end → snapshots_of m ≡ snapshots_of r.marks → plain_of (with_peer r i q r.tables m r.stamp) ≡ plain_of r
+  kept m is x = plain_by r.tables m r.stamp (sides_of r) (snapshots_of r.marks) (sides_now r.tables m r.stamp (λ s. s) is ∙ unchanged (sides_of r) v) (leaves_same r.tables v) x
+
+  -- octets that are held or wait to be put are nothing to the tables
+  pub tracks_alike : IsSound r → (side q.end).session ≡ (side p.end).session → (side q.end).link ≡ (side p.end).link → (side q.end).acted ≡ (side p.end).acted → (side q.end).sent ≡ (side p.end).sent
+      → Tracks r v q r.tables
+  tracks_alike s x l a b = record {
+    leaves = leaves_same r.tables v;
+    follows = follows_alike r.net.origins r.tables v (side p.end) (side q.end) x l a b (is_followed s);
+    fresh = fresh_alike (side p.end) (side q.end) x l a b (is_fresh s);
+    sent = s.tabled.sent;
   }
 
-  sides_now : (f : Side → Side) → side q.end ≡ f (side p.end) → sides_of (with_peer r i q stamp) ≡ changed (sides_of r) v f
-  sides_now f is = sides_set (side_opening (config_of r.net)) r.peers v i q f c.place named (is ∙ ap f found)
-
-  -- it changes to what it was
-  pub kept : side q.end ≡ side p.end → stamp ≡ r.stamp → plain_of (with_peer r i q stamp) ≡ plain_of r
-  kept is now = rw (sides_now (λ s. s) is ∙ unchanged (sides_of r) v, now) refl
-
-  -- it carries a draft out
-  pub moves : (h : AtHand) (a : Draft) → side q.end ≡ carried h (side p.end) a → plain_of (with_peer r i q stamp) ≡ record { router = moved (plain_of r).router v h a; stamp = stamp }
-  moves h a is = rw (sides_now (λ s. carried h s a) is, nothing_recorded a.acts h v a.left) refl
-
-  -- it changes by a function
-  pub becomes : (f : Side → Side) → side q.end ≡ f (side p.end) → plain_of (with_peer r i q stamp) ≡ record { router = with_side (plain_of r).router v f; stamp = stamp }
-  becomes f is = rw (sides_now f is) refl
-
-  -- its front is taken away, and a draft carried out
-  pub fronts : (h : AtHand) (a : Draft) → side q.end ≡ carried h (without_front (side p.end)) a
-      → plain_of (with_peer r i q stamp) ≡ record { router = moved (with_side (plain_of r).router v without_front) v h a; stamp = stamp }
-  fronts h a is =
-      rw (sides_now (λ s. carried h (without_front s) a) is, nothing_recorded a.acts h v a.left)
-      (ap (λ (sides : ℕ → Side). record { router = record (plain_of r).router { sides = sides }; stamp = stamp }) (twice_changed (sides_of r) v h a))
+  -- a draft without an UPDATE is carried out, and the tables follow its session
+  pub tracks_moved : IsSound r → (a : Draft) (t : RibView) → KeepsFresh (sides_of r v) NoMessage a → side q.end ≡ carried NoMessage (side p.end) a
+      → Followed r.tables t v (standing (side p.end)) (standing (side q.end)) → Tracks r v q t
+  tracks_moved s a t k is f =
+      let z = carried NoMessage (side p.end) a in
+      let h = subst (λ (y : Side). KeepsFresh y NoMessage a) (sym found) k in
+      let on : Followed r.tables t v (standing (side p.end)) (standing z) = subst (λ (y : Side). Followed r.tables t v (standing (side p.end)) (standing y)) is f in
+      let none = nothing_acted a.acts a.link.epoch (side p.end).acted in
+      record {
+        leaves = leaves r.tables t v (standing (side p.end)) (standing (side q.end)) f;
+        follows =
+            subst (Follows r.net.origins t v) (sym is)
+            (follows_by r.net.origins v (side p.end) z none refl r.tables t (is_up (side p.end)) (is_up z) refl refl h.onward
+            (λ up b. let n = h.up up b in (ap (λ (us : ℕ → List Update). us a.link.epoch) none ∙ n.0, n.1)) (is_followed s) on);
+        fresh = subst IsFresh (sym is) h.fresh;
+        sent = paths r.tables t v (standing (side p.end)) (standing (side q.end)) f s.tabled.sent;
+      }
 
 -- ---- a router in a setting of its network
 
@@ -141,6 +252,13 @@ pub drafted : (g : Setting) (r : RouterView) (v i : ℕ) (p : Peer) (F : Message
 drafted g r v i p F a of at here made =
     let s : side p.end ≡ sides_of r v = ap (λ (w : Peer). side w.end) here ∙ sym (side_here (side_opening (config_of r.net)) r.peers v i p at) in
     made ∙ ap (λ (m : Message). F m (side p.end)) of.own_open ∙ ap (F (open_of g.net r.number)) s
+
+-- and it keeps histories fresh where the definitions' does
+pub keeps_here : (r : RouterView) (v i : ℕ) (p : Peer) → IsAt r.peers v i → p ≡ get_or r.peers i p → IsSound r → (a b : Draft) → a ≡ b
+    → (IsFresh (side p.end) → KeepsFresh (side p.end) NoMessage b) → KeepsFresh (sides_of r v) NoMessage a
+keeps_here r v i p at here s a b e k =
+    let f : side p.end ≡ sides_of r v = ap (λ (w : Peer). side w.end) here ∙ sym (side_here (side_opening (config_of r.net)) r.peers v i p at) in
+    subst (λ (y : Side). KeepsFresh y NoMessage a) f (subst (KeepsFresh (side p.end) NoMessage) (sym e) (k (subst IsFresh (sym f) (s.tabled.fresh v))))
 
 -- a call whose event is the draft of one side, carried out
 pub one_step : (g : Setting) (r : RouterView) (y : Stamped) (v : ℕ) (h : AtHand) (a b : Draft) (stamp : ℕ) (call : Call) (e : RouterEvent) (res : Result Stepped RouterError) (o : Draft → Bool) → a ≡ b

@@ -1,5 +1,6 @@
 pub mod Beginnings
 pub mod PeerLemmas
+pub mod Following
 pub mod Naming
 pub mod Originations
 pub mod Leasts
@@ -8,6 +9,7 @@ pub mod Awaiting
 pub mod Choosing
 pub mod Deciding
 pub mod Pending
+pub mod Starting
 pub mod Sayable
 pub mod Nexts
 pub mod Tellings
@@ -16,3 +18,8 @@ pub mod Advertising
 pub mod Carrying
 pub mod Serving
 pub mod Taking
+pub mod Handling
+pub mod Marking
+pub mod Recording
+pub mod Snapshots
+pub mod MarkTaking

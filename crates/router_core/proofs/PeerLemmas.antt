@@ -38,7 +38,7 @@ is_below [] v i h = absurd h
 is_below (p ∷ ps) v zero h = omega arith
 is_below (p ∷ ps) v (suc i) h = let l = is_below ps v i h.1 in omega arith
 
-is_listed : (ps : List Peer) (v i : ℕ) → IsAt ps v i → listed v ps ≡ true
+pub is_listed : (ps : List Peer) (v i : ℕ) → IsAt ps v i → listed v ps ≡ true
 is_listed [] v i h = absurd h
 is_listed (p ∷ ps) v zero h = rw (eq-eqb p.number v h) refl
 is_listed (p ∷ ps) v (suc i) h = rw (ne_eqb p.number v h.0) (is_listed ps v i h.1)
@@ -75,12 +75,12 @@ numbers_set (p ∷ ps) v zero q h e = ap (λ (n : ℕ). n ∷ map (λ (w : Peer)
 numbers_set (p ∷ ps) v (suc i) q h e = ap (λ (ns : List ℕ). p.number ∷ ns) (numbers_set ps v i q h.1 e)
 
 -- at the number it is the new side, elsewhere what it was
-set_here : (none : Side) (ps : List Peer) (v i : ℕ) (q : Peer) → IsAt ps v i → q.number ≡ v → side_at none (set ps i q) v ≡ side q.end
+pub set_here : (none : Side) (ps : List Peer) (v i : ℕ) (q : Peer) → IsAt ps v i → q.number ≡ v → side_at none (set ps i q) v ≡ side q.end
 set_here none [] v i q h e = absurd h
 set_here none (p ∷ ps) v zero q h e = rw (eq-eqb q.number v e) refl
 set_here none (p ∷ ps) v (suc i) q h e = rw (ne_eqb p.number v h.0) (set_here none ps v i q h.1 e)
 
-set_there : (none : Side) (ps : List Peer) (v i : ℕ) (q : Peer) (y : ℕ) → IsAt ps v i → q.number ≡ v → (y ≡ v → ⊥) → side_at none (set ps i q) y ≡ side_at none ps y
+pub set_there : (none : Side) (ps : List Peer) (v i : ℕ) (q : Peer) (y : ℕ) → IsAt ps v i → q.number ≡ v → (y ≡ v → ⊥) → side_at none (set ps i q) y ≡ side_at none ps y
 set_there none [] v i q y h e n = absurd h
 set_there none (p ∷ ps) v zero q y h e n = rw (ne_eqb q.number y (λ k. n (sym k ∙ e)), ne_eqb p.number y (λ k. n (sym k ∙ h))) refl
 set_there none (p ∷ ps) v (suc i) q y h e n = ap (λ (s : Side). cond (p.number == y) (side p.end) s) (set_there none ps v i q y h.1 e n)
@@ -138,7 +138,7 @@ or_cond false c = refl
 turned : (a b : ℕ) → (a == b) ≡ nat_eq b a
 turned a b = grind (arith, nat_tests)
 
-listed_any : (v : ℕ) (ps : List Peer) → listed v ps ≡ list_any (nat_eq v) (map (λ p. p.number) ps)
+pub listed_any : (v : ℕ) (ps : List Peer) → listed v ps ≡ list_any (nat_eq v) (map (λ p. p.number) ps)
 listed_any v [] = refl
 listed_any v (p ∷ ps) = rw (turned p.number v, listed_any v ps) (or_cond (nat_eq v p.number) (list_any (nat_eq v) (map (λ q. q.number) ps)))
 

@@ -18,19 +18,18 @@ use Rattle.router_model.specs.declared.refusal.Stepped.TheVariants as stepped
 use Rattle.router_model.specs.Sides.{Side, AtHand, Draft, carried, comes, draft_of, event_of, at_hand, front, without_front, handled}
 use Rattle.router_side.specs.SideOf.{side, put_next}
 use Rattle.router_model.specs.State.{open_of, rule_of}
-use Rattle.router_model.specs.Step.{Handles, put_from}
+use Rattle.rib_tables.specs.Owners.{RibView}
+use Rattle.snap_marker.specs.Recordings.{closed}
+use Rattle.snap_marker.specs.Parts.{MarkView, snapshots_of}
+use Rattle.router_model.specs.Step.{Handles, put_from, moved, seen, close_at, with_side}
+use Rattle.router_core.proofs.Following.{Leaves}
 use Rattle.router_model.specs.Calls.{Stamped, Put, Handle, Gives, answer, judged, unless, if_so, put_event, greatest_stamp, overflows_at}
 use Rattle.router_side.specs.SideOf.{side_opening}
 use Rattle.ranked_policy.specs.Plans.{Plan}
 use Rattle.router_model.specs.Settings.{Setting, linked}
-use Rattle.router_core.specs.Views.{RouterView, sides_of, listed, IsAt, config_of, plain_of, handled_front, IsSound, Shows, HasNext}
+use Rattle.router_core.specs.Views.{RouterView, sides_of, listed, IsAt, config_of, plain_of, IsSound, Shows, HasNext}
 use Rattle.router_core.proofs.PeerLemmas.{side_here}
 use Rattle.router_core.proofs.Carrying.{Changes, IsOf, with_peer, becomes, fronts, drafted, is_linked}
-
--- read, drafted, the front taken away and the draft carried out: that is the front handled
-pub handled_by : (own_open : Message) (rule : Rule) (s dropped done : Side) (h : AtHand) (a : Draft) (e : FsmEvent) (m : Result Message Fault) → done ≡ carried h dropped a
-    → dropped ≡ without_front s → a ≡ comes own_open h (draft_of s.session s.link) e → e ≡ event_of m → h ≡ at_hand m → m ≡ front rule s.held → done ≡ handled_front own_open rule s
-handled_by own_open rule s dropped done h a e m d f made ee eh em = rw (d, f, made, ee, eh, em) refl
 
 some_is : (n : Option What) → is_some n ≡ true → (i : What) × (n ≡ Some i)
 some_is None h = absurd cc
@@ -68,11 +67,11 @@ module _ (g : Setting) (r : RouterView) (v i : ℕ) (p : Peer) (of : IsOf g r) (
 
   pub puts_item : (q : Peer) → Changes r v i p q → side q.end ≡ put_next (side p.end) r.net.settings.cut → is_some (next_item r.net.settings.cut (side p.end).outbox) ≡ true
       → nat_lt greatest_stamp (r.stamp + 1) ≡ false
-      → Gives g r.number (Ok stepped.Did) (answer g r.number (plain_of r) (Put v)) (plain_of r) (Put v) (plain_of (with_peer r i q (r.stamp + 1)))
+      → Gives g r.number (Ok stepped.Did) (answer g r.number (plain_of r) (Put v)) (plain_of r) (Put v) (plain_of (with_peer r i q r.tables r.marks (r.stamp + 1)))
   puts_item q c is h late =
       let n = some_is (next_item r.net.settings.cut (side p.end).outbox) h in
       let put : side q.end ≡ put_from (side p.end) n.0 = is ∙ ap (λ (w : Option What). record (side p.end) { outbox = left_behind w (side p.end).outbox }) n.1 in
-      put_is (Ok stepped.Did) (plain_of (with_peer r i q (r.stamp + 1))) (Some n.0) false n.1 late (refl, becomes r v i p q c (r.stamp + 1) (λ s. put_from s n.0) put)
+      put_is (Ok stepped.Did) (plain_of (with_peer r i q r.tables r.marks (r.stamp + 1))) (Some n.0) false n.1 late (refl, becomes r v i p q c (r.stamp + 1) (λ s. put_from s n.0) put)
 
   -- ---- a front that is handled
 
@@ -97,17 +96,21 @@ module _ (g : Setting) (r : RouterView) (v i : ℕ) (p : Peer) (of : IsOf g r) (
       → Gives g r.number (Err error.Memory) (answer g r.number (plain_of r) (Handle v)) (plain_of r) (Handle v) y
   hands_refused y same h late = hand_is (Err error.Memory) y true false h late (refl, same)
 
-  pub hands_front : (q : Peer) → Changes r v i p q → side q.end ≡ handled_front r.own_open (rule_of v) (side p.end) → is_waiting (side p.end).held ≡ true
-      → nat_lt greatest_stamp (r.stamp + 1) ≡ false
-      → Gives g r.number (Ok stepped.Did) (answer g r.number (plain_of r) (Handle v)) (plain_of r) (Handle v) (plain_of (with_peer r i q (r.stamp + 1)))
-  hands_front q c is h late =
-      let m = front (rule_of v) (sides_of r v).held in
-      let a = handled (open_of g.net r.number) m (sides_of r v) in
-      let same = drafted g r v i p (λ o s. handled o (front (rule_of v) s.held) s) (handled r.own_open (front (rule_of v) (side p.end).held) (side p.end)) of at here refl in
-      let done : side q.end ≡ carried (at_hand m) (without_front (side p.end)) a =
-      is ∙ ap (λ (w : Draft). carried (at_hand (front (rule_of v) (side p.end).held)) (without_front (side p.end)) w) same
-      ∙ ap (λ (s : Side). carried (at_hand (front (rule_of v) s.held)) (without_front (side p.end)) a) (sym stands) in
-      hand_is (Ok stepped.Did) (plain_of (with_peer r i q (r.stamp + 1))) true false h late (refl, fronts r v i p q c (r.stamp + 1) (at_hand m) a done)
+  pub hands_front : (q : Peer) (c : Changes r v i p q) (t : RibView) (m : MarkView) (h : AtHand) (a : Draft) → h ≡ at_hand (front (rule_of v) (side p.end).held)
+      → a ≡ handled r.own_open (front (rule_of v) (side p.end).held) (side p.end) → side q.end ≡ carried h (without_front (side p.end)) a → Leaves r.tables t v
+      → snapshots_of m ≡ seen a.acts h v (closed (close_at v a.left) (snapshots_of r.marks)) → is_waiting (side p.end).held ≡ true → nat_lt greatest_stamp (r.stamp + 1) ≡ false
+      → Gives g r.number (Ok stepped.Did) (answer g r.number (plain_of r) (Handle v)) (plain_of r) (Handle v) (plain_of (with_peer r i q t m (r.stamp + 1)))
+  hands_front q c t m h a eh ea is l x w late =
+      let n = front (rule_of v) (sides_of r v).held in
+      let b = handled (open_of g.net r.number) n (sides_of r v) in
+      let same : a ≡ b = drafted g r v i p (λ o s. handled o (front (rule_of v) s.held) s) a of at here ea in
+      let hand : h ≡ at_hand n = eh ∙ ap (λ (s : Side). at_hand (front (rule_of v) s.held)) (sym stands) in
+      let done = fronts r v i p q c t m (r.stamp + 1) h a is l x in
+      hand_is (Ok stepped.Did) (plain_of (with_peer r i q t m (r.stamp + 1))) true false w late (
+        refl,
+        done ∙ ap (λ (k : AtHand). record { router = moved (with_side (plain_of r).router v without_front) v k a; stamp = r.stamp + 1 }) hand
+            ∙ ap (λ (d : Draft). record { router = moved (with_side (plain_of r).router v without_front) v (at_hand n) d; stamp = r.stamp + 1 }) same,
+      )
 
 -- ---- what is put next, shown
 

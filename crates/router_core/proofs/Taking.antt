@@ -1,6 +1,14 @@
 -- An item that is taken, as a step of the router.
-use Rattle.std.proofs.Common.{◌≡◌, ℕ, ◌+◌, Bool, true, false, not, List, None, Some, refl, ap, sym, ◌∙◌, subst, get_or}
-use Rattle.std.specs.Prelude.{nat_lt, max, Result, Ok, Err}
+use Rattle.std.proofs.Common.{◌≡◌, ℕ, ◌+◌, ◌==◌, ◌&&◌, ◌++◌, Bool, true, false, not, cond, List, None, Some, refl, ap, sym, ◌∙◌, subst, get_or}
+use Rattle.std.specs.Prelude.{nat_lt, max, Result, Ok, Err, MatchResult}
+use Rattle.bgp_codec.specs.declared.message.Message.{Message}
+use Rattle.link_epoch.specs.Ends.{LinkView, heard_by, meaning_of_shut}
+use Rattle.link_epoch.specs.declared.link_end.Phase.{Phase}
+use Rattle.link_epoch.specs.declared.link_end.Phase.TheVariants.{Shut, Offered, Joined}
+use Rattle.session_fsm.specs.Table.{SessionView}
+use Rattle.session_fsm.specs.declared.state.State.{State}
+use Rattle.session_fsm.specs.declared.state.State.TheVariants.{Idle, Connect, Active, OpenSent, OpenConfirm, Established}
+use Rattle.session_fsm.specs.declared.event.FsmEvent.TheVariants as event
 use Rattle.bgp_framing.specs.Held.{is_waiting}
 use Rattle.link_epoch.specs.declared.link_end.Sign.TheVariants as sign
 use Rattle.run_model.specs.Network.{takes}
@@ -11,16 +19,56 @@ use Rattle.router_model.specs.declared.refusal.RouterError.{RouterError}
 use Rattle.router_model.specs.declared.refusal.RouterError.TheVariants as error
 use Rattle.router_model.specs.declared.refusal.Stepped.{Stepped}
 use Rattle.router_model.specs.declared.refusal.Stepped.TheVariants as stepped
-use Rattle.router_model.specs.Sides.{Side, Draft, NoMessage, signed, fed}
+use Rattle.router_model.specs.Sides.{Side, Draft, NoMessage, signed, fed, uses, answers, comes, obeys, draft_of}
 use Rattle.router_side.specs.SideOf.{side}
 use Rattle.router_model.specs.State.{open_of}
-use Rattle.router_model.specs.Step.{moved}
+use Rattle.router_model.specs.Step.{moved, taken}
 use Rattle.router_model.specs.Calls.{Stamped, Take, Gives, answer, judged, unless, first_of, greatest_stamp, overflows_at}
 use Rattle.router_side.specs.SideOf.{side_opening}
 use Rattle.router_model.specs.Settings.{Setting}
 use Rattle.router_core.specs.Views.{RouterView, sides_of, listed, IsAt, config_of, plain_of, Ends}
 use Rattle.router_core.proofs.PeerLemmas.{side_here}
 use Rattle.router_core.proofs.Carrying.{Changes, IsOf, with_peer, becomes, one_step, drafted, is_linked}
+
+-- ---- a Shut dials nothing
+
+closed_fits : (o : Message) (x : SessionView) (l : LinkView) (c : State) (h : Phase) → x.state ≡ c → l.phase ≡ h → (comes o NoMessage (draft_of x l) event.TcpConnectionFails).overflows ≡ false
+unfolding comes obeys
+closed_fits o x l Idle h e p = rw e refl
+closed_fits o x l Connect Shut e p = rw (e, p) refl
+closed_fits o x l Connect Offered e p = rw (e, p) refl
+closed_fits o x l Connect Joined e p = rw (e, p) refl
+closed_fits o x l Active Shut e p = rw (e, p) refl
+closed_fits o x l Active Offered e p = rw (e, p) refl
+closed_fits o x l Active Joined e p = rw (e, p) refl
+closed_fits o x l OpenSent Shut e p = rw (e, p) refl
+closed_fits o x l OpenSent Offered e p = rw (e, p) refl
+closed_fits o x l OpenSent Joined e p = rw (e, p) refl
+closed_fits o x l OpenConfirm Shut e p = rw (e, p) refl
+closed_fits o x l OpenConfirm Offered e p = rw (e, p) refl
+closed_fits o x l OpenConfirm Joined e p = rw (e, p) refl
+closed_fits o x l Established Shut e p = rw (e, p) refl
+closed_fits o x l Established Offered e p = rw (e, p) refl
+closed_fits o x l Established Joined e p = rw (e, p) refl
+
+shut_by : (o : Message) (x : SessionView) (l : LinkView) (h : Phase) (b : Bool) → (answers o (draft_of x l) (meaning_of_shut h b)).overflows ≡ false
+unfolding answers
+shut_by o x l Shut b = refl
+shut_by o x l Offered b = refl
+shut_by o x l Joined true = closed_fits o x l x.state l.phase refl refl
+shut_by o x l Joined false = refl
+
+pub shut_fits : (o : Message) (s : Side) (e : ℕ) → (signed o s (sign.Shut e)).overflows ≡ false
+shut_fits o s e = shut_by o s.session (heard_by s.link (sign.Shut e)) s.link.phase ((e == s.link.heard) && (e == s.link.epoch))
+
+-- ---- octets
+
+fed_by : (b : Bool) (s : Side) (octets : List ℕ) → cond b (record s { held = octets }) s ≡ record s { held = cond b octets s.held }
+fed_by true s octets = refl
+fed_by false s octets = refl
+
+pub fed_is : (s : Side) (e : ℕ) (octets : List ℕ) → fed s e octets ≡ record s { held = cond (uses s.link e) (s.held ++ octets) s.held }
+fed_is s e octets = fed_by (uses s.link e) s (s.held ++ octets)
 
 module _ (g : Setting) (r : RouterView) (v i : ℕ) (p : Peer) (of : IsOf g r) (at : IsAt r.peers v i) (here : p ≡ get_or r.peers i p) (l : listed v r.peers ≡ true)
     (stamp : ℕ) where
@@ -75,6 +123,11 @@ module _ (g : Setting) (r : RouterView) (v i : ℕ) (p : Peer) (of : IsOf g r) (
 
   pub takes_piece : (e : ℕ) (octets : List ℕ) (q : Peer) → Changes r v i p q → side q.end ≡ fed (side p.end) e octets → is_waiting (side p.end).held ≡ false
       → nat_lt greatest_stamp next ≡ false
-      → Gives g r.number (Ok stepped.Did) (answer g r.number (plain_of r) (Take v stamp (item.Piece e octets))) (plain_of r) (Take v stamp (item.Piece e octets)) (plain_of (with_peer r i q next))
+      → Gives g r.number (Ok stepped.Did) (answer g r.number (plain_of r) (Take v stamp (item.Piece e octets))) (plain_of r) (Take v stamp (item.Piece e octets)) (plain_of (with_peer r i q r.tables r.marks next))
   takes_piece e octets q c is free late =
-      late_is (item.Piece e octets) (Ok stepped.Did) (plain_of (with_peer r i q next)) false free late (refl, becomes r v i p q c next (λ s. fed s e octets) is)
+      late_is (item.Piece e octets) (Ok stepped.Did) (plain_of (with_peer r i q r.tables r.marks next)) false free late (refl, becomes r v i p q c next (λ s. fed s e octets) is)
+
+  pub takes_mark : (res : Result Stepped RouterError) (y : Stamped) (e n : ℕ) → is_waiting (side p.end).held ≡ false → nat_lt greatest_stamp next ≡ false
+      → MatchResult res (λ did. (did ≡ stepped.Did) × (y ≡ record { router = taken g r.number (plain_of r).router v (item.Mark e n); stamp = next })) (λ why. (why ≡ error.Memory) × (y ≡ plain_of r))
+      → Gives g r.number res (answer g r.number (plain_of r) (Take v stamp (item.Mark e n))) (plain_of r) (Take v stamp (item.Mark e n)) y
+  takes_mark res y e n free late h = late_is (item.Mark e n) res y false free late h

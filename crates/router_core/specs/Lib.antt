@@ -1,1 +1,4 @@
 pub mod Views
+pub mod Following
+pub mod Handling
+pub mod Recorded

@@ -26,10 +26,11 @@ use Rattle.snap_marker.specs.Parts.{MarkView, snapshots_of, IsOver, IsOf, offer_
 use Rattle.router_model.specs.Settings.{Setting, ChoosesByRank, linked, peers, identifier}
 use Rattle.bgp_codec.specs.declared.rule.Rule.{Rule}
 use Rattle.outbox.specs.declared.item.Item.{Item}
+use Rattle.outbox.specs.declared.item.What.TheVariants as item
 use Rattle.run_model.specs.Network.{alone, puts, takes, offers}
 use Rattle.router_model.specs.Sides.{Side, AtHand, Draft, carried, at_hand, front, without_front, handled, is_up, told}
 use Rattle.router_model.specs.State.{open_of, new_router, heard, last_told, telling, untold, is_waiting_peer}
-use Rattle.router_model.specs.Step.{moved, next_offer, with_side}
+use Rattle.router_model.specs.Step.{moved, taken, next_offer, with_side}
 use Rattle.router_model.specs.Calls.{Stamped, Call, Put, Answer, Steps, Idle, Refuses, greatest_stamp, answer, Gives, has_room}
 use Rattle.router_core.specs.declared.peers.Peer.{Peer}
 use Rattle.router_core.specs.declared.router.choose.Next.{Next}
@@ -185,6 +186,13 @@ Ends false false r x z y = MatchResult r (λ s. (s ≡ stepped.Did) × (y ≡ z)
 abbrev pub Carries : Result Stepped RouterError → RouterView → ℕ → AtHand → Draft → Bool → ℕ → RouterView → Type 0
 Carries r x v h a overflows stamp y =
     Ends (nat_lt greatest_stamp stamp) overflows r (plain_of x) (record { router = moved (plain_of x).router v h a; stamp = stamp }) (plain_of y)
+
+-- a marker of a peer is taken at this stamp, or memory was wanting
+abbrev pub TakesMark : Result Stepped RouterError → RouterView → ℕ → ℕ → ℕ → ℕ → RouterView → Type 0
+TakesMark r x v e s stamp y =
+    (g : Setting) → g.net ≡ x.net → ChoosesByRank g → MatchResult r
+    (λ did. (did ≡ stepped.Did) × (plain_of y ≡ record { router = taken g x.number (plain_of x).router v (item.Mark e s); stamp = stamp }))
+    (λ why. (why ≡ error.Memory) × (plain_of y ≡ plain_of x))
 
 -- ---- offers
 

@@ -139,7 +139,7 @@ number_awaited : (l : LinkView) (b c : Bool) → nat_lt l.epoch l.heard ≡ b �
 number_awaited l true c e h = grind (arith, nat_tests, e)
 number_awaited l false c e h = absurd cc
 
-number_by : (l : LinkView) (w : Bool) → is_awaited l ≡ w → l.epoch < cond w l.heard (max l.epoch l.heard + 1)
+pub number_by : (l : LinkView) (w : Bool) → is_awaited l ≡ w → l.epoch < cond w l.heard (max l.epoch l.heard + 1)
 number_by l true e = number_awaited l (nat_lt l.epoch l.heard) l.heard_is_shut refl e
 number_by l false e = omega arith
 
@@ -165,7 +165,7 @@ pub record Moves (c : State) (l : LinkView) (a : Draft) : Type 0 where
   pub onward : (l.epoch < a.link.epoch) ⊎ ((a.link.epoch ≡ l.epoch) × (rank a.session.state ≤ rank c))
   pub away : is_away a.session.state ≡ true → a.link.phase ≡ Shut
 
-moves_dialled : (c : State) (l : LinkView) (a : Draft) → Dialled l a → Moves c l a
+pub moves_dialled : (c : State) (l : LinkView) (a : Draft) → Dialled l a → Moves c l a
 moves_dialled c l a d = record { onward = inl d.epoch; away = λ h. (let k = sym d.away ∙ h in absurd cc) }
 
 one_dial : (o : Message) (g : AtHand) (b : Draft) (xs : List Action) → xs ≡ action.Dial ∷ [] → b.session.state ≡ Connect → (obeys_all o g b xs).overflows ≡ false → Dialled b.link (obeys_all o g b xs)
@@ -225,17 +225,17 @@ rank_opening c d l h = grind arith
 rank_up : (c d : State) → rank c ≤ rank d → is_established c ≡ true → is_established d ≡ false → is_opening d ≡ true
 rank_up c d l h k = grind arith
 
-not_onward : (s : Side) (a : Draft) → Moves s.session.state s.link a → s.link.epoch ≤ a.link.epoch
+pub not_onward : (s : Side) (a : Draft) → Moves s.session.state s.link a → s.link.epoch ≤ a.link.epoch
 not_onward s a m = elim m.onward [ inl t ↦ omega (arith, t) | inr t ↦ omega (arith, t.0) ]
 
-unsaid_on : (s : Side) (a : Draft) → IsFresh s → Moves s.session.state s.link a → is_opening a.session.state ≡ true → IsUnsaid s a.link.epoch
+pub unsaid_on : (s : Side) (a : Draft) → IsFresh s → Moves s.session.state s.link a → is_opening a.session.state ≡ true → IsUnsaid s a.link.epoch
 unsaid_on s a f m o =
     elim m.onward [
       | inl t ↦ f.later a.link.epoch t
       | inr t ↦ subst (IsUnsaid s) (sym t.0) (f.opening (rank_opening a.session.state s.session.state t.1 o))
     ]
 
-unsaid_up : (s : Side) (a : Draft) → IsFresh s → Moves s.session.state s.link a → is_established a.session.state ≡ true → (is_up s ≡ false) ⊎ (s.link.epoch < a.link.epoch) → IsUnsaid s a.link.epoch
+pub unsaid_up : (s : Side) (a : Draft) → IsFresh s → Moves s.session.state s.link a → is_established a.session.state ≡ true → (is_up s ≡ false) ⊎ (s.link.epoch < a.link.epoch) → IsUnsaid s a.link.epoch
 unsaid_up s a f m u w =
     elim m.onward [
       | inl t ↦ f.later a.link.epoch t

@@ -2,3 +2,4 @@ pub mod Said
 pub mod Sizes
 pub mod FrontLemmas
 pub mod Fresh
+pub mod Coming

@@ -5,7 +5,10 @@ use Rattle.link_epoch.specs.declared.link_end.Phase.TheVariants.{Shut}
 use Rattle.session_fsm.specs.declared.state.State.{State}
 use Rattle.session_fsm.specs.declared.state.State.TheVariants.{Idle, Connect, Active, OpenSent, OpenConfirm, Established}
 use Rattle.session_fsm.specs.declared.event.FsmEvent.TheVariants.{ManualStart, ManualStop}
-use Rattle.router_model.specs.Sides.{Side, Draft, AtHand, NoMessage, met, reset, second, carried, is_up}
+use Rattle.std.specs.Prelude.{Result}
+use Rattle.bgp_codec.specs.declared.fault.Fault.{Fault}
+use Rattle.link_epoch.specs.declared.link_end.Sign.{Sign}
+use Rattle.router_model.specs.Sides.{Side, Draft, AtHand, NoMessage, met, reset, second, signed, handled, at_hand, without_front, carried, is_established, is_up}
 
 -- the session is on its way to Established
 abbrev pub is_opening : State → Bool
@@ -54,3 +57,23 @@ pub record EventsKeepFresh (own_open : Message) (s : Side) : Type 0 where
 
 abbrev pub SessionsKeepFresh : Type 0
 SessionsKeepFresh = (own_open : Message) (s : Side) → IsFresh s → EventsKeepFresh own_open s
+
+-- a Dial or a Shut of the peer that is taken keeps it, where no dial passes the greatest incarnation
+abbrev pub SignsKeepFresh : Type 0
+SignsKeepFresh =
+    (own_open : Message) (s : Side) (x : Sign) → IsFresh s → (signed own_open s x).overflows ≡ false → KeepsFresh s NoMessage (signed own_open s x)
+
+-- a draft that acts on an UPDATE begins and ends in Established, in one incarnation
+abbrev pub ActsWhereUp : Side → Draft → Type 0
+ActsWhereUp s a = a.acts ≡ true → (is_up s ≡ true) × (is_established a.session.state ≡ true) × (a.link.epoch ≡ s.link.epoch)
+
+-- a message or a fault that is handled keeps it, and dials nothing
+pub record HandlingKeepsFresh (own_open : Message) (m : Result Message Fault) (s : Side) : Type 0 where
+  pub fits : (handled own_open m s).overflows ≡ false
+  pub fresh : IsFresh (carried (at_hand m) (without_front s) (handled own_open m s))
+  pub up : ComesUpUnsaid s (handled own_open m s)
+  pub onward : s.link.epoch ≤ (handled own_open m s).link.epoch
+  pub acts : ActsWhereUp s (handled own_open m s)
+
+abbrev pub MessagesKeepFresh : Type 0
+MessagesKeepFresh = (own_open : Message) (m : Result Message Fault) (s : Side) → IsFresh s → HandlingKeepsFresh own_open m s

@@ -1,10 +1,9 @@
 -- A copy of a part says the same.
-use Rattle.std.proofs.Common.{◌≡◌, ℕ, ◌==◌, Bool, true, false, cond, List, [], ◌∷◌, refl, ap, sym, ◌∙◌, map}
+use Rattle.std.proofs.Common.{◌≡◌, ℕ, ◌==◌, cond, List, [], ◌∷◌, refl, ap, sym, ◌∙◌, map}
 use Rattle.std.proofs.Math.Path.{fun_ext}
 use Rattle.run_model.specs.Offers.{Finished}
 use Rattle.snap_marker.specs.declared.part.Channel.{Channel}
 use Rattle.snap_marker.specs.declared.part.Part.{Part}
-use Rattle.snap_marker.specs.Recordings.{RouterPart, RouterOffer}
 use Rattle.snap_marker.specs.Parts.{Seen, seen, link_has, epoch_in, channel_in, messages, kept_in, originated_in, part_of, IsCopy}
 
 module _ {A : Type 0} (none : A) (what : Seen → A) where

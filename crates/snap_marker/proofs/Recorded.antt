@@ -4,13 +4,15 @@ use Rattle.bgp_codec.specs.declared.message.Message.{Message}
 use Rattle.bgp_codec.specs.declared.message.Message.TheVariants.{UpdateMsg}
 use Rattle.bgp_codec.specs.declared.update.Update.{Update}
 use Rattle.snap_marker.specs.declared.part.Part.{Part}
+use Rattle.snap_marker.specs.declared.part.Offer.{Offer}
 use Rattle.std.proofs.lemmas.Bool.{eqb-true}
 use Rattle.std.proofs.lemmas.Option.{none-some}
+use Rattle.std.specs.List.{AllByRecursion}
 use Rattle.std.specs.Option.{unwrap_or}
 use Rattle.std.proofs.Math.Path.{fun_ext}
 use Rattle.snap_marker.specs.Recordings.{Recording, joins_channel}
 use Rattle.snap_marker.proofs.Places.{heard_is, heard_as}
-use Rattle.snap_marker.specs.Parts.{is_heard, is_heard_in, IsLink, copy_for, with_link, recording_in, recording_of, waits_in, epoch_in, channel_in, kept_in, originated_in}
+use Rattle.snap_marker.specs.Parts.{router_of, is_heard, is_heard_in, IsLink, copy_for, with_link, recording_in, recording_of, waits_in, epoch_in, channel_in, kept_in, originated_in}
 
 -- a recording whose links have these incarnations, channels and missing markers
 abbrev pub with_links : Part → (ℕ → ℕ) → (ℕ → List Message) → (ℕ → Bool) → Recording
@@ -70,3 +72,9 @@ pub ended : (p q : Part) (v : ℕ)
     → waits_in q.channels.items ≡ with_link v false (waits_in p.channels.items)
     → recording_of q ≡ record (recording_of p) { waits = λ y. cond (y == v) false (waits_in p.channels.items y) }
 ended p q v is es cs ws = is ∙ links_alike p _ _ _ _ _ _ es cs ws
+
+-- ---- an offer that is queued
+
+pub all_of : (u : ℕ) (os : List Offer) (o : Offer) → AllByRecursion (λ w. router_of w ≡ u) os → router_of o ≡ u → AllByRecursion (λ w. router_of w ≡ u) (os ++ o ∷ [])
+all_of u [] o h e = (e, tt)
+all_of u (x ∷ xs) o h e = (h.0, all_of u xs o h.1 e)

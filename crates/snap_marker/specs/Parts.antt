@@ -1,6 +1,6 @@
 -- Parts and offers as they are kept, read as what a router recorded and what it offers.
 use Rattle.std.specs.Prelude.{ℕ, zero, suc, ◌≡◌, ◌≢◌, ◌==◌, ◌&&◌, ◌-◌, ◌≤◌, Bool, true, false, cond, List, [], ◌∷◌, map, vec_len, vec_capacity, Option, None, Some}
-use Rattle.std.specs.List.{list_any}
+use Rattle.std.specs.List.{list_any, AllByRecursion}
 use Rattle.prefix_lanes.specs.Bits.{PrefixView}
 use Rattle.bgp_codec.specs.declared.message.Message.{Message}
 use Rattle.bgp_codec.specs.declared.message.Message.TheVariants.{UpdateMsg}
@@ -142,6 +142,11 @@ IsOver peers (Some p) = peers_of p.channels.items ≡ peers
 abbrev pub IsOf : ℕ → Option Part → Type 0
 IsOf router None = Unit {0}
 IsOf router (Some p) = p.router ≡ router
+
+-- all that a router recorded and offers is its own
+pub record AreOf (router : ℕ) (x : MarkView) : Type 0 where
+  pub unfinished : IsOf router x.unfinished
+  pub queue : AllByRecursion (λ o. router_of o ≡ router) x.queue
 
 -- the first link to a peer stands at this place
 abbrev pub IsAt : List Channel → ℕ → ℕ → Type 0

@@ -4,7 +4,7 @@ ghost use Rattle.std.specs.Prelude.{ℕ, List, ◌↔◌, IsTrue, [], ◌∷◌,
 ghost use Rattle.bgp_codec.specs.declared.message.Message.TheVariants.{UpdateMsg};
 ghost use Rattle.bgp_codec.specs.declared.update.Update as update;
 ghost use Rattle.snap_marker.specs.Recordings.{no_snapshots, begun_at, superseding, goes_on, ends_channel, closed, acted_on, without_first};
-ghost use Rattle.snap_marker.specs.Parts.{MarkView, snapshots_of, recording_of, peers_of, offers_owed, copy_for, is_heard, IsLink, IsOver, HasRoom};
+ghost use Rattle.snap_marker.specs.Parts.{MarkView, snapshots_of, recording_of, peers_of, offers_owed, copy_for, is_heard, router_of, IsLink, IsOver, AreOf, HasRoom};
 
 use crate::links::{
     close_channel, copy_update, epoch_in, first_waiting, is_open, leads_to, push_update, waits_in,
@@ -41,7 +41,9 @@ impl Model for MarkState {
 impl MarkState {
     /// Nothing is recorded yet. It takes no memory.
     pub fn new(alloc: Global) -> MarkState
-        ensures { snapshots_of result ≡ no_snapshots }
+        ensures none { snapshots_of result ≡ no_snapshots }
+        ensures router { (u : ℕ) → AreOf u result }
+        ensures over { (peers : List ℕ) → IsOver peers result.unfinished }
     {
         MarkState {
             last: 0,
@@ -75,6 +77,7 @@ impl MarkState {
     pub fn offer_made(&mut self)
         ensures made { snapshots_of self.new ≡ without_first (snapshots_of self.old) }
         ensures unfinished { self.new.unfinished ≡ self.old.unfinished }
+        ensures router { (u : ℕ) → AreOf u self.old → AreOf u self.new }
     {
         self.queue.pop_front();
     }
@@ -104,6 +107,7 @@ impl MarkState {
         requires room { 1 ≤ self.old.room }
         ensures goes_on { snapshots_of self.new ≡ goes_on (peers_of part.channels.items) (recording_of part) (snapshots_of self.old) }
         ensures over { IsOver (peers_of part.channels.items) self.new.unfinished }
+        ensures router { (u : ℕ) → part.router ≡ u → AreOf u self.old → AreOf u self.new }
     {
         if is_open(&part.channels) {
             self.unfinished = Some(part);
@@ -118,6 +122,7 @@ impl MarkState {
         ensures superseded { snapshots_of self.new ≡ superseding (recording_of part.now) (peers_of part.now.channels.items) (snapshots_of self.old) }
         ensures none { self.new.unfinished ≡ None }
         ensures room { 1 ≤ self.new.room }
+        ensures router { (u : ℕ) → AreOf u self.old → AreOf u self.new }
     {
         self.last = part.number;
         if let Some(old) = self.unfinished.take() {
@@ -143,6 +148,8 @@ impl MarkState {
         ensures over { OnOk result (IsOver (peers_of part.channels.items) self.new.unfinished) }
         ensures err { OnErr result (snapshots_of self.new ≡ snapshots_of self.old) }
         ensures same { OnErr result (self.new.unfinished ≡ self.old.unfinished) }
+        ensures router { OnOk result ((u : ℕ) → part.router ≡ u → AreOf u self.old → AreOf u self.new) }
+        ensures queue { OnErr result (self.new.queue ≡ self.old.queue) }
     {
         self.queue.try_reserve(2)?;
         self.supersede(&part);
@@ -165,6 +172,7 @@ impl MarkState {
         requires link { IsLink self.old.unfinished peer }
         ensures ends { (peers : List ℕ) → IsOver peers self.old.unfinished → snapshots_of self.new ≡ ends_channel peers peer number (snapshots_of self.old).unfinished (snapshots_of self.old) }
         ensures over { (peers : List ℕ) → IsOver peers self.old.unfinished → IsOver peers self.new.unfinished }
+        ensures router { (u : ℕ) → AreOf u self.old → AreOf u self.new }
     {
         let Some(mut part) = self.unfinished.take() else {
             return;
@@ -182,6 +190,7 @@ impl MarkState {
     pub fn on_close(&mut self, peer: Asn, epoch: u32)
         ensures closed { snapshots_of self.new ≡ closed (Some (peer, epoch)) (snapshots_of self.old) }
         ensures none { self.new.unfinished ≡ None }
+        ensures router { (u : ℕ) → AreOf u self.old → AreOf u self.new }
     {
         if let Some(part) = self.unfinished.take() {
             self.queue(Offer::Lost(Lost {
@@ -206,6 +215,7 @@ impl MarkState {
         ensures room { OnOk result (HasRoom self.new.unfinished peer) }
         ensures state { snapshots_of self.new ≡ snapshots_of self.old }
         ensures over { (peers : List ℕ) → IsOver peers self.old.unfinished → IsOver peers self.new.unfinished }
+        ensures router { (u : ℕ) → AreOf u self.old → AreOf u self.new }
     {
         let Some(mut part) = self.unfinished.take() else {
             return Ok(None);
@@ -220,9 +230,11 @@ impl MarkState {
     pub fn on_update(&mut self, peer: Asn, copy: Option<Update>)
         requires link { IsLink self.old.unfinished peer }
         requires copy { IfSome copy (λ _. is_heard self.old.unfinished peer ≡ true) }
-        requires room { HasRoom self.old.unfinished peer }
+        requires room { IfSome copy (λ _. HasRoom self.old.unfinished peer) }
+        ensures none { copy ≡ None → self.new ≡ self.old }
         ensures acted_on { (u : update.Update) → copy ≡ copy_for self.old.unfinished peer u → snapshots_of self.new ≡ acted_on peer (UpdateMsg u) (snapshots_of self.old) }
         ensures over { (peers : List ℕ) → IsOver peers self.old.unfinished → IsOver peers self.new.unfinished }
+        ensures router { (u : ℕ) → AreOf u self.old → AreOf u self.new }
     {
         let Some(update) = copy else {
             return;

@@ -1,5 +1,18 @@
 //! Drafts that are carried out.
 
+ghost use Rattle.std.specs.Prelude.{◌≡◌, false, ℕ, List};
+ghost use Rattle.ranked_policy.specs.Plans.{Linked};
+ghost use Rattle.snap_marker.specs.Recordings.{closed};
+ghost use Rattle.snap_marker.specs.Parts.{snapshots_of, IsOver, AreOf};
+ghost use Rattle.router_model.specs.Sides.{carried, NoMessage};
+ghost use Rattle.router_model.specs.Step.{close_at};
+ghost use Rattle.router_side.specs.Sayings.{told_of, IsSayable, IsSayableWhere};
+ghost use Rattle.router_side.specs.Drafts.{draft, hand};
+ghost use Rattle.router_side.specs.Freshness.{KeepsFresh};
+ghost use Rattle.router_side.specs.SideOf.{side, HasRoom};
+ghost use Rattle.router_core.specs.Views.{sides_of, IsFound, IsSame, Carries};
+ghost use Rattle.router_core.specs.Following.{standing, Followed};
+
 use super::{GREATEST_STAMP, Router};
 use crate::tables::follow;
 use bgp_codec::Message;
@@ -11,7 +24,9 @@ use snap_marker::MarkState;
 use std::alloc::Global;
 
 /// The incarnation in which the session is Established, where it is.
-fn standing(end: &SideEnd) -> Option<u32> {
+fn standing(end: &SideEnd) -> Option<u32>
+    ensures { result ≡ standing (side end.now) }
+{
     if end.is_up() { Some(end.epoch()) } else { None }
 }
 
@@ -25,7 +40,14 @@ pub(super) fn carry(
     own_open: &Message,
     given: Given,
     made: &Sketch,
-) {
+)
+    requires linked { Linked tables.old.net.links tables.old.router peer }
+    requires own { IsSayable own_open.now }
+    requires told { IsSayableWhere (told_of (hand given)) }
+    requires room { HasRoom own_open.now (told_of (hand given)) made.now end.old }
+    ensures side { side end.new ≡ carried (hand given) (side end.old) (draft own_open.now (hand given) made.now) }
+    ensures tables { Followed tables.old tables.new peer (standing (side end.old)) (standing (side end.new)) }
+{
     let was = standing(end);
     end.commit(alloc, own_open, given, made);
     let now = standing(end);
@@ -34,7 +56,11 @@ pub(super) fn carry(
 
 /// A session that leaves Established in an incarnation loses the unfinished recording. It takes no
 /// memory.
-pub(super) fn close(marks: &mut MarkState, peer: Asn, left: Option<u32>) {
+pub(super) fn close(marks: &mut MarkState, peer: Asn, left: Option<u32>)
+    ensures closed { snapshots_of marks.new ≡ closed (close_at peer left) (snapshots_of marks.old) }
+    ensures over { (peers : List ℕ) → IsOver peers marks.old.unfinished → IsOver peers marks.new.unfinished }
+    ensures router { (u : ℕ) → AreOf u marks.old → AreOf u marks.new }
+{
     if let Some(epoch) = left {
         marks.on_close(peer, epoch);
     }
@@ -49,7 +75,12 @@ impl Router<'_> {
         made: &Sketch,
         overflows: bool,
         stamp: u64,
-    ) -> Result<Stepped, RouterError> {
+    ) -> Result<Stepped, RouterError>
+        requires place { IsFound self.old.peers peer at }
+        requires fresh { overflows ≡ false → KeepsFresh (sides_of self.old peer) NoMessage (draft self.old.own_open NoMessage made.now) }
+        ensures carries { Carries result self.old peer NoMessage (draft self.old.own_open NoMessage made.now) overflows stamp self.new }
+        ensures same { IsSame self.old self.new }
+    {
         if stamp > GREATEST_STAMP {
             return Err(RouterError::StampEnd);
         }

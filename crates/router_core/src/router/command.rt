@@ -1,13 +1,14 @@
 //! Commands to a router.
 
 ghost use Rattle.router_model.specs.Calls.{Obey};
-ghost use Rattle.router_model.specs.declared.command.Command.TheVariants.{Originate, Withdraw};
+ghost use Rattle.router_model.specs.declared.command.Command.TheVariants.{Start, Stop, Reset, Originate, Withdraw};
 ghost use Rattle.router_core.specs.Views.{IsSame, Answers};
 
 use super::{GREATEST_STAMP, Router};
 use prefix_lanes::Prefix;
 use ranked_policy::Asn;
 use router_model::{Command, RouterError, Stepped};
+use router_side::laws::sessions_keep_fresh;
 use session_fsm::FsmEvent;
 
 impl Router<'_> {
@@ -29,7 +30,11 @@ impl Router<'_> {
     }
 
     // The session with a peer starts.
-    fn start(&mut self, peer: Asn) -> Result<Stepped, RouterError> {
+    fn start(&mut self, peer: Asn) -> Result<Stepped, RouterError>
+        ensures answers { Answers result self.old (Obey (Start peer)) self.new }
+        ensures same { IsSame self.old self.new }
+    {
+        sessions_keep_fresh();
         let Some(at) = self.find(peer) else {
             return Err(RouterError::NoSuchPeer);
         };
@@ -41,7 +46,11 @@ impl Router<'_> {
     }
 
     // It stops.
-    fn stop(&mut self, peer: Asn) -> Result<Stepped, RouterError> {
+    fn stop(&mut self, peer: Asn) -> Result<Stepped, RouterError>
+        ensures answers { Answers result self.old (Obey (Stop peer)) self.new }
+        ensures same { IsSame self.old self.new }
+    {
+        sessions_keep_fresh();
         let Some(at) = self.find(peer) else {
             return Err(RouterError::NoSuchPeer);
         };
@@ -53,7 +62,11 @@ impl Router<'_> {
     }
 
     // It stops, and starts again.
-    fn reset(&mut self, peer: Asn) -> Result<Stepped, RouterError> {
+    fn reset(&mut self, peer: Asn) -> Result<Stepped, RouterError>
+        ensures answers { Answers result self.old (Obey (Reset peer)) self.new }
+        ensures same { IsSame self.old self.new }
+    {
+        sessions_keep_fresh();
         let Some(at) = self.find(peer) else {
             return Err(RouterError::NoSuchPeer);
         };

@@ -1,56 +1,125 @@
 //! Messages and faults that a router handles.
 
+ghost use Rattle.std.specs.Prelude.{◌≡◌, true, IfOk, IfSome, OnOk, OnErr, ℕ, List, Option};
+ghost use Rattle.bgp_codec.specs.declared.update.Update as update;
+ghost use Rattle.bgp_framing.specs.Held.{is_waiting};
+ghost use Rattle.ranked_policy.specs.Plans.{Linked};
+ghost use Rattle.snap_marker.specs.Recordings.{closed};
+ghost use Rattle.snap_marker.specs.Parts.{snapshots_of, is_heard, HasRoom, IsLink, IsOver, AreOf};
+ghost use Rattle.router_model.specs.Step.{close_at};
+ghost use Rattle.router_model.specs.Calls.{Handle};
+ghost use Rattle.router_side.specs.Drafts.{hand};
+ghost use Rattle.router_side.specs.Sayings.{IsSayable};
+ghost use Rattle.router_side.specs.SideOf.{side};
+ghost use Rattle.router_core.specs.Views.{IsSame, Answers};
+ghost use Rattle.router_core.specs.Handling.{update_acted, copy_where, seen_where, Hears, HandlesFront};
+
 use super::carry::{carry, close};
 use super::{GREATEST_STAMP, Router};
-use bgp_codec::{Rule, Update, Width};
+use bgp_codec::{Message, Rule, Update, Width};
 use ranked_policy::Asn;
 use rib_tables::Rib;
+use rib_tables::laws::the_word_follows;
 use router_model::{RouterError, Stepped};
-use router_side::{Given, Sketch, opened};
+use router_side::laws::what_comes_keeps_fresh;
+use router_side::{Given, SideEnd, opened};
 use snap_marker::MarkState;
 use std::alloc::{AllocError, Global};
 
-// The UPDATE that a draft acts on, where it does.
-fn acted_on<'g>(given: &'g Given, made: &Sketch) -> Option<&'g Update> {
-    match given {
-        Given::Update(update) => if made.acts { Some(update) } else { None },
-        Given::Nothing | Given::Fault(_) => None,
-    }
-}
-
-// A copy of it for the channel that is being recorded.
+// A copy of the UPDATE that is acted on, for the channel of its peer where that is being recorded.
 fn copy_for(
     alloc: Global,
     marks: &mut MarkState,
     peer: Asn,
-    acted: Option<&Update>,
-) -> Result<Option<Update>, AllocError> {
-    match acted {
-        None => Ok(None),
-        Some(update) => match marks.copy_update(alloc, peer, update) {
+    acts: bool,
+    given: &Given,
+) -> Result<Option<Update>, AllocError>
+    ensures copy { IfOk result (λ copy. copy ≡ copy_where marks.new.unfinished peer (update_acted acts (hand given.now))) }
+    ensures heard { IfOk result (λ copy. IfSome copy (λ _. is_heard marks.new.unfinished peer ≡ true)) }
+    ensures room { IfOk result (λ copy. IfSome copy (λ _. HasRoom marks.new.unfinished peer)) }
+    ensures state { snapshots_of marks.new ≡ snapshots_of marks.old }
+    ensures over { (peers : List ℕ) → IsOver peers marks.old.unfinished → IsOver peers marks.new.unfinished }
+    ensures router { (u : ℕ) → AreOf u marks.old → AreOf u marks.new }
+{
+    if !acts {
+        return Ok(None);
+    }
+    match given {
+        Given::Update(update) => match marks.copy_update(alloc, peer, update) {
             Ok(copy) => Ok(copy),
             Err(_) => Err(AllocError),
         },
+        Given::Nothing | Given::Fault(_) => Ok(None),
     }
 }
 
-// The tables take it.
-fn hear(tables: &mut Rib<'_>, peer: Asn, acted: Option<&Update>) -> Result<(), AllocError> {
-    match acted {
-        None => Ok(()),
-        Some(update) => match tables.hear(peer, update) {
+// The tables take the UPDATE that is acted on.
+fn hear(tables: &mut Rib<'_>, peer: Asn, acts: bool, given: &Given) -> Result<(), AllocError>
+    requires { Linked tables.old.net.links tables.old.router peer }
+    ensures ok { OnOk result (Hears tables.old tables.new peer (update_acted acts (hand given.now))) }
+    ensures err { OnErr result (tables.new ≡ tables.old) }
+{
+    if !acts {
+        return Ok(());
+    }
+    match given {
+        Given::Update(update) => match tables.hear(peer, update) {
             Ok(()) => Ok(()),
             Err(_) => Err(AllocError),
         },
+        Given::Nothing | Given::Fault(_) => Ok(()),
     }
 }
 
-// What the recording sees of it: a session that leaves Established, or the UPDATE.
-fn record(marks: &mut MarkState, peer: Asn, left: Option<u32>, copy: Option<Update>) {
+// What is recorded sees a session that leaves Established, or else the UPDATE.
+fn record(marks: &mut MarkState, peer: Asn, left: Option<u32>, copy: Option<Update>)
+    requires link { IsLink marks.old.unfinished peer }
+    requires copy { IfSome copy (λ _. is_heard marks.old.unfinished peer ≡ true) }
+    requires room { IfSome copy (λ _. HasRoom marks.old.unfinished peer) }
+    ensures sees { (acted : Option update.Update) → copy ≡ copy_where marks.old.unfinished peer acted → snapshots_of marks.new ≡ seen_where peer acted (closed (close_at peer left) (snapshots_of marks.old)) }
+    ensures over { (peers : List ℕ) → IsOver peers marks.old.unfinished → IsOver peers marks.new.unfinished }
+    ensures router { (u : ℕ) → AreOf u marks.old → AreOf u marks.new }
+{
     match left {
         Some(_) => close(marks, peer, left),
         None => marks.on_update(peer, copy),
     }
+}
+
+// The message or fault in front of a side is handled. A refusal leaves all as it was.
+fn handle_front(
+    alloc: Global,
+    end: &mut SideEnd,
+    tables: &mut Rib<'_>,
+    marks: &mut MarkState,
+    own_open: &Message,
+    peer: Asn,
+) -> Result<(), AllocError>
+    requires linked { Linked tables.old.net.links tables.old.router peer }
+    requires own { IsSayable own_open.now }
+    requires waits { is_waiting (side end.old).held ≡ true }
+    requires link { IsLink marks.old.unfinished peer }
+    ensures ok { OnOk result (HandlesFront own_open.now peer (side end.old) (side end.new) tables.old tables.new (snapshots_of marks.old) (snapshots_of marks.new)) }
+    ensures end { OnErr result (side end.new ≡ side end.old) }
+    ensures tables { OnErr result (tables.new ≡ tables.old) }
+    ensures marks { OnErr result (snapshots_of marks.new ≡ snapshots_of marks.old) }
+    ensures over { (peers : List ℕ) → IsOver peers marks.old.unfinished → IsOver peers marks.new.unfinished }
+    ensures router { (u : ℕ) → AreOf u marks.old → AreOf u marks.new }
+{
+    let rule = Rule {
+        width: Width::Two,
+        peer: Some(peer),
+    };
+    let read = end.front(alloc, &rule)?;
+    let (event, given) = opened(read);
+    let made = end.handle(own_open, &given, event);
+    end.reserve(own_open, &given, &made)?;
+    let copy = copy_for(alloc, marks, peer, made.acts, &given)?;
+    hear(tables, peer, made.acts, &given)?;
+    end.drop_front();
+    record(marks, peer, made.left, copy);
+    carry(alloc, end, tables, peer, own_open, given, &made);
+    Ok(())
 }
 
 impl Router<'_> {
@@ -61,7 +130,12 @@ impl Router<'_> {
     ///
     /// Refused [`RouterError::NoSuchPeer`], [`RouterError::StampEnd`], and [`RouterError::Memory`]
     /// where a growth was; then all is as it was.
-    pub fn handle(&mut self, peer: Asn) -> Result<Stepped, RouterError> {
+    pub fn handle(&mut self, peer: Asn) -> Result<Stepped, RouterError>
+        ensures answers { Answers result self.old (Handle peer) self.new }
+        ensures same { IsSame self.old self.new }
+    {
+        what_comes_keeps_fresh();
+        the_word_follows();
         let Some(at) = self.find(peer) else {
             return Err(RouterError::NoSuchPeer);
         };
@@ -73,40 +147,20 @@ impl Router<'_> {
             return Err(RouterError::StampEnd);
         }
         let alloc = *self.peers.allocator();
-        match self.handle_front(alloc, peer, at) {
+        let end = &mut self.peers[at].end;
+        match handle_front(
+            alloc,
+            end,
+            &mut self.tables,
+            &mut self.marks,
+            &self.own_open,
+            peer,
+        ) {
             Ok(()) => {
                 self.stamp = stamp;
                 Ok(Stepped::Did)
             }
             Err(_) => Err(RouterError::Memory),
         }
-    }
-
-    // The message or fault in front is handled. A refusal leaves the router as it was.
-    fn handle_front(&mut self, alloc: Global, peer: Asn, at: usize) -> Result<(), AllocError> {
-        let rule = Rule {
-            width: Width::Two,
-            peer: Some(peer),
-        };
-        let end = &mut self.peers[at].end;
-        let read = end.front(alloc, &rule)?;
-        let (event, given) = opened(read);
-        let made = end.handle(&self.own_open, &given, event);
-        end.reserve(&self.own_open, &given, &made)?;
-        let acted = acted_on(&given, &made);
-        let copy = copy_for(alloc, &mut self.marks, peer, acted)?;
-        hear(&mut self.tables, peer, acted)?;
-        end.drop_front();
-        carry(
-            alloc,
-            end,
-            &mut self.tables,
-            peer,
-            &self.own_open,
-            given,
-            &made,
-        );
-        record(&mut self.marks, peer, made.left, copy);
-        Ok(())
     }
 }

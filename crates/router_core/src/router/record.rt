@@ -1,11 +1,25 @@
 //! What a router records of a snapshot (Chandy and Lamport 1985).
 
+ghost use Rattle.std.specs.Prelude.{◌≡◌, ◌&&◌, [], ◌∷◌, ◌≤◌, map, MatchResult, IfOk, OnOk, OnErr};
+ghost use Rattle.rib_tables.specs.Words.{lists};
+ghost use Rattle.snap_marker.specs.Parts.{seen};
+ghost use Rattle.router_model.specs.declared.command.Command.TheVariants.{Snapshot};
+ghost use Rattle.router_model.specs.Sides.{is_up, uses};
+ghost use Rattle.router_side.specs.SideOf.{side};
+ghost use Rattle.router_model.specs.Step.{awaits};
+ghost use Rattle.router_model.specs.Calls.{Obey, greatest_stamp};
+ghost use Rattle.router_core.specs.Views.{plain_of, Answers, IsFound, IsSame, TakesMark};
+ghost use Rattle.router_core.specs.Recorded.{paths_of, own_of, channels_of, down_in, Become, HaveRoomToMark, marked_if_up, IsPart, IsPeer, Records, RecordsAt};
+
 use super::{GREATEST_STAMP, Router};
+use crate::choices::the_best_is_the_route;
 use crate::peers::Peer;
 use prefix_lanes::Prefix;
 use ranked_policy::{Asn, Origin, Path};
 use rib_tables::Rib;
+use router_model::laws::linked_routers_are_peers;
 use router_model::{RouterError, Stepped};
+use router_side::SideEnd;
 use snap_marker::{Channel, KeptPath, Part};
 use std::alloc::{AllocError, Global};
 
@@ -14,7 +28,9 @@ fn kept_paths(
     alloc: Global,
     origins: &[Origin],
     tables: &Rib<'_>,
-) -> Result<Vec<KeptPath>, AllocError> {
+) -> Result<Vec<KeptPath>, AllocError>
+    ensures { IfOk result (λ kept. kept.items ≡ paths_of origins.now tables.now.kept) }
+{
     let mut kept = Vec::new(alloc);
     kept.reserve(origins.len())?;
     for origin in origins {
@@ -27,38 +43,61 @@ fn kept_paths(
     Ok(kept)
 }
 
-// The prefixes that are originated.
+// Whether a prefix is originated.
+fn is_own(tables: &Rib<'_>, prefix: &Prefix) -> bool
+    ensures { result ≡ lists tables.now.originated prefix.now }
+{
+    tables.is_originated(prefix)
+}
+
+// The prefixes of the network that are originated.
 fn originated(
     alloc: Global,
     origins: &[Origin],
     tables: &Rib<'_>,
-) -> Result<Vec<Prefix>, AllocError> {
+) -> Result<Vec<Prefix>, AllocError>
+    ensures { IfOk result (λ own. own.items ≡ own_of origins.now tables.now.originated) }
+{
     let mut own = Vec::new(alloc);
     for origin in origins {
-        if tables.is_originated(&origin.prefix) {
+        if is_own(tables, &origin.prefix) {
             own.push(origin.prefix)?;
         }
     }
     Ok(own)
 }
 
+// Whether the marker of a peer is still to come, where that of the first came.
+fn awaits(first: Option<Asn>, peer: Asn) -> bool
+    ensures { result ≡ awaits first peer }
+{
+    match first {
+        None => true,
+        Some(first) => peer != first,
+    }
+}
+
 // A channel for each peer, open but for the one whose marker came.
-fn channels(alloc: Global, peers: &[Peer], first: Option<Asn>) -> Result<Vec<Channel>, AllocError> {
-    let mut links = Vec::new(alloc);
-    links.reserve(peers.len())?;
+fn channels(alloc: Global, peers: &[Peer], first: Option<Asn>) -> Result<Vec<Channel>, AllocError>
+    ensures { IfOk result (λ made. map seen made.items ≡ channels_of first peers.now) }
+{
+    let mut made = Vec::new(alloc);
+    made.reserve(peers.len())?;
     for peer in peers {
-        links.push(Channel {
+        made.push(Channel {
             peer: peer.number,
             epoch: peer.end.epoch(),
-            is_open: first != Some(peer.number),
+            is_open: awaits(first, peer.number),
             updates: Vec::new(alloc),
         })?;
     }
-    Ok(links)
+    Ok(made)
 }
 
 // The least peer whose session is not Established.
-fn first_down(peers: &[Peer]) -> Option<Asn> {
+fn first_down(peers: &[Peer]) -> Option<Asn>
+    ensures { result ≡ down_in peers.now }
+{
     for peer in peers {
         if !peer.end.is_up() {
             return Some(peer.number);
@@ -67,53 +106,117 @@ fn first_down(peers: &[Peer]) -> Option<Asn> {
     None
 }
 
-// Makes room for a marker to each peer.
-fn reserve_markers(peers: &mut Vec<Peer>) -> Result<(), AllocError> {
-    for at in 0..peers.len() {
-        peers[at].end.reserve_marker()?;
+// Makes room for a marker to each of these.
+fn reserve_each(peers: &mut [Peer]) -> Result<(), AllocError>
+    ensures same { Become (λ s. s) peers.old peers.new }
+    ensures room { OnOk result (HaveRoomToMark peers.new) }
+{
+    for peer in peers.iter_mut() {
+        peer.end.reserve_marker()?;
     }
     Ok(())
 }
 
-// The marker of a snapshot goes to each Established peer, behind all that waits.
-fn mark_all(peers: &mut Vec<Peer>, number: u32) {
-    for at in 0..peers.len() {
-        let end = &mut peers[at].end;
-        if end.is_up() {
-            end.mark(number);
-        }
+// Makes room for a marker to each peer.
+fn reserve_markers(peers: &mut Vec<Peer>) -> Result<(), AllocError>
+    ensures same { Become (λ s. s) peers.old.items peers.new.items }
+    ensures room { OnOk result (HaveRoomToMark peers.new.items) }
+{
+    reserve_each(peers.as_mut_slice())
+}
+
+// The marker of a snapshot goes to a peer in Established, behind all that waits.
+fn mark(peer: &mut Peer, number: u32)
+    requires { HaveRoomToMark (peer.old ∷ []) }
+    ensures { Become (marked_if_up number) (peer.old ∷ []) (peer.new ∷ []) }
+{
+    if peer.end.is_up() {
+        peer.end.mark(number);
     }
 }
 
-impl Router<'_> {
-    // What the router is now, as a part of a snapshot.
-    fn part_now(
-        &mut self,
-        alloc: Global,
-        number: u32,
-        first: Option<Asn>,
-    ) -> Result<Part, AllocError> {
-        let origins = self.network.origins();
-        Ok(Part {
-            router: self.number,
-            number,
-            kept: kept_paths(alloc, origins, &self.tables)?,
-            originated: originated(alloc, origins, &self.tables)?,
-            pending: self.tables.is_pending(),
-            channels: channels(alloc, self.peers.as_slice(), first)?,
-        })
+// It goes to each of these.
+fn mark_each(peers: &mut [Peer], number: u32)
+    requires { HaveRoomToMark peers.old }
+    ensures { Become (marked_if_up number) peers.old peers.new }
+{
+    for peer in peers.iter_mut() {
+        mark(peer, number);
     }
+}
 
+// It goes to each peer.
+fn mark_all(peers: &mut Vec<Peer>, number: u32)
+    requires { HaveRoomToMark peers.old.items }
+    ensures { Become (marked_if_up number) peers.old.items peers.new.items }
+{
+    mark_each(peers.as_mut_slice(), number);
+}
+
+// Whether a marker is heeded: in Established alone, in the incarnation that the end joined.
+fn heeds(end: &SideEnd, epoch: u32) -> bool
+    ensures { result ≡ (is_up (side end.now) && uses (side end.now).link epoch) }
+{
+    end.is_up() && end.uses(epoch)
+}
+
+// What a router is now, as its part of a snapshot.
+fn part_now(
+    alloc: Global,
+    number: Asn,
+    origins: &[Origin],
+    tables: &mut Rib<'_>,
+    peers: &[Peer],
+    snapshot: u32,
+    first: Option<Asn>,
+) -> Result<Part, AllocError>
+    ensures part { IfOk result (IsPart origins.now tables.old peers.now number snapshot first) }
+    ensures same { tables.new ≡ tables.old }
+{
+    let kept = kept_paths(alloc, origins, tables)?;
+    let originated = originated(alloc, origins, tables)?;
+    let channels = channels(alloc, peers, first)?;
+    Ok(Part {
+        router: number,
+        number: snapshot,
+        kept,
+        originated,
+        pending: tables.is_pending(),
+        channels,
+    })
+}
+
+impl Router<'_> {
     // The snapshot is recorded, and its markers go out. A refusal leaves the router as it was.
-    fn begin(&mut self, alloc: Global, number: u32, first: Option<Asn>) -> Result<(), AllocError> {
-        let part = self.part_now(alloc, number, first)?;
-        reserve_markers(&mut self.peers)?;
+    fn begin(&mut self, alloc: Global, number: u32, first: Option<Asn>) -> Result<(), AllocError>
+        requires first { IsPeer self.old.peers first }
+        ensures ok { OnOk result (Records self.old number first self.new) }
+        ensures err { OnErr result (plain_of self.new ≡ plain_of self.old) }
+        ensures stamp { self.new.stamp ≡ self.old.stamp }
+        ensures same { IsSame self.old self.new }
+    {
+        linked_routers_are_peers();
+        the_best_is_the_route(&self.tables);
+        let origins = self.network.origins();
+        let peers = self.peers.as_slice();
+        let part = part_now(
+            alloc,
+            self.number,
+            origins,
+            &mut self.tables,
+            peers,
+            number,
+            first,
+        )?;
         let down = first_down(self.peers.as_slice());
-        if self.marks.begin(part, down).is_err() {
-            return Err(AllocError);
+        reserve_markers(&mut self.peers)?;
+        match self.marks.begin(part, down) {
+            Err(_) => Err(AllocError),
+            Ok(()) => {
+                mark_all(&mut self.peers, number);
+                Ok(())
+            }
         }
-        mark_all(&mut self.peers, number);
-        Ok(())
     }
 
     // Records a snapshot at a stamp that is left, by a command or by the marker of a first peer.
@@ -122,7 +225,12 @@ impl Router<'_> {
         number: u32,
         first: Option<Asn>,
         stamp: u64,
-    ) -> Result<Stepped, RouterError> {
+    ) -> Result<Stepped, RouterError>
+        requires first { IsPeer self.old.peers first }
+        requires few { stamp ≤ greatest_stamp }
+        ensures records { RecordsAt result self.old number first stamp self.new }
+        ensures same { IsSame self.old self.new }
+    {
         let alloc = *self.peers.allocator();
         match self.begin(alloc, number, first) {
             Ok(()) => {
@@ -134,7 +242,10 @@ impl Router<'_> {
     }
 
     // The command to record a snapshot.
-    pub(super) fn snapshot(&mut self, number: u32) -> Result<Stepped, RouterError> {
+    pub(super) fn snapshot(&mut self, number: u32) -> Result<Stepped, RouterError>
+        ensures answers { Answers result self.old (Obey (Snapshot number)) self.new }
+        ensures same { IsSame self.old self.new }
+    {
         let last = self.marks.last();
         if number <= last {
             return Err(RouterError::OldSnapshot { last });
@@ -146,8 +257,7 @@ impl Router<'_> {
         self.records(number, None, stamp)
     }
 
-    // The marker of a peer is taken, at a stamp that is left. It is heeded in Established alone, for the
-    // incarnation that the end joined.
+    // The marker of a peer is taken, at a stamp that is left.
     pub(super) fn take_mark(
         &mut self,
         peer: Asn,
@@ -155,14 +265,21 @@ impl Router<'_> {
         epoch: u32,
         number: u32,
         stamp: u64,
-    ) -> Result<Stepped, RouterError> {
-        let end = &self.peers[at].end;
-        if end.is_up() && end.uses(epoch) {
-            if number > self.marks.last() {
-                return self.records(number, Some(peer), stamp);
-            }
-            self.marks.on_mark(peer, number);
+    ) -> Result<Stepped, RouterError>
+        requires place { IsFound self.old.peers peer at }
+        requires stamp { stamp ≤ greatest_stamp }
+        ensures takes { TakesMark result self.old peer epoch number stamp self.new }
+        ensures same { IsSame self.old self.new }
+    {
+        if !heeds(&self.peers[at].end, epoch) {
+            self.stamp = stamp;
+            return Ok(Stepped::Did);
         }
+        if number > self.marks.last() {
+            return self.records(number, Some(peer), stamp);
+        }
+        linked_routers_are_peers();
+        self.marks.on_mark(peer, number);
         self.stamp = stamp;
         Ok(Stepped::Did)
     }

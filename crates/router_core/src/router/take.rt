@@ -9,6 +9,7 @@ use link_epoch::Sign;
 use outbox::{Item, What};
 use ranked_policy::Asn;
 use router_model::{RouterError, Stepped};
+use router_side::laws::what_comes_keeps_fresh;
 
 impl Router<'_> {
     /// Takes the next item of a peer, whatever it is: a Dial or a Shut, a piece of octets, or a marker.
@@ -22,6 +23,7 @@ impl Router<'_> {
         ensures answers { Answers result self.old (Take peer item.now.stamp item.now.what) self.new }
         ensures same { IsSame self.old self.new }
     {
+        what_comes_keeps_fresh();
         let Some(at) = self.find(peer) else {
             return Err(RouterError::NoSuchPeer);
         };

@@ -1,4 +1,4 @@
-use Rattle.std.proofs.Common.{◌≡◌, take, map}
+use Rattle.std.proofs.Common.{◌≡◌, take}
 use Rattle.snap_marker.proofs.copying.copied_paths.Given as goal
 
 -- what is passed is copied

@@ -1,58 +1,89 @@
 use Rattle.std.proofs.Common.{◌≡◌, ◌∙◌, ◌≤◌, ap, sym, refl, subst, false, arith}
 use Rattle.std.specs.Prelude.{nat_lt, Ok, Err}
 use Rattle.std.proofs.lemmas.Bool.Decides.{nat_tests}
+use Rattle.ranked_policy.specs.Plans.{Linked}
+use Rattle.rib_tables.specs.Owners.{RibView}
 use Rattle.router_model.specs.declared.refusal.RouterError.TheVariants.{Memory}
 use Rattle.router_model.specs.declared.refusal.Stepped.TheVariants.{Did}
-use Rattle.router_model.specs.Sides.{Side, carried}
+use Rattle.router_model.specs.Sides.{Side, NoMessage, carried}
 use Rattle.router_model.specs.Step.{moved}
 use Rattle.router_model.specs.Calls.{greatest_stamp}
-use Rattle.router_side.specs.Drafts.{draft, hand}
+use Rattle.snap_marker.specs.Parts.{snapshots_of}
+use Rattle.router_side.specs.Drafts.{draft}
+use Rattle.router_side.specs.Freshness.{KeepsFresh}
+use Rattle.router_side.specs.SideOf.{side}
 use Rattle.router_core.specs.declared.peers.Peer.{Peer}
-use Rattle.router_core.specs.Views.{RouterView, IsAt, Carries, plain_of}
-use Rattle.router_core.proofs.Carrying.{Changes, with_peer, stays, kept, moves, ends_did, ends_memory}
+use Rattle.router_core.specs.Views.{RouterView, IsFound, Carries, sides_of, plain_of}
+use Rattle.router_core.specs.Following.{Followed, standing}
+use Rattle.router_core.proofs.Beginnings.{linked_to}
+use Rattle.router_core.proofs.Carrying.{Changes, with_peer, stays, kept, moves, tracks_alike, tracks_moved, records_same, nothing_seen, is_peer, ends_did, ends_memory}
+use Rattle.router_core.proofs.Following.{leaves}
 use Rattle.router_core.proofs.router.Router.carry_out.Goals as goal
 
 -- room was wanting: the peer is as it was
 pub invariant_of-self : goal.invariant_of-self
 invariant_of-self c =
-    let r : RouterView = record { net = c.self.inside.network.now; number = c.self.inside.number; own_open = c.self.inside.own_open; peers = c.self.inside.peers.items; stamp = c.self.inside.stamp } in
+    let r : RouterView = record { net = c.self.inside.network.now; number = c.self.inside.number; own_open = c.self.inside.own_open; peers = c.self.inside.peers.items; tables = c.self.inside.tables; marks = c.self.inside.marks; stamp = c.self.inside.stamp } in
+    let v = c.args.peer in
     let p = c.index_mut.result.now in
     let q : Peer = record { number = p.number; end = c.reserve.new.self } in
-    let ch : Changes r c.args.peer c.args.at p q = record { place = subst (λ (x : RouterView). IsAt x.peers c.args.peer c.args.at) (sym c.self.view_is) c.requires.place; here = c.index_mut.ensures.value; number = refl } in
-    stays r c.args.peer c.args.at p q ch r.stamp c.self.invariant c.self.invariant.stamp
+    let place = subst (λ (x : RouterView). IsFound x.peers v c.args.at) (sym c.self.view_is) c.requires.place in
+    let ch : Changes r v c.args.at p q = record { place = place.2; here = c.index_mut.ensures.value; number = refl } in
+    let same = c.reserve.ensures.side in
+    let tracks = tracks_alike r v c.args.at p q ch c.self.invariant (ap (λ (s : Side). s.session) same) (ap (λ (s : Side). s.link) same) (ap (λ (s : Side). s.acted) same) (ap (λ (s : Side). s.sent) same) in
+    stays r v c.args.at p q ch r.tables r.marks r.stamp c.self.invariant c.self.invariant.stamp tracks (records_same r)
 
 pub returns-then-is_err-clause-carries : goal.returns-then-is_err-clause-carries
 returns-then-is_err-clause-carries c =
-    let r : RouterView = record { net = c.self.inside.network.now; number = c.self.inside.number; own_open = c.self.inside.own_open; peers = c.self.inside.peers.items; stamp = c.self.inside.stamp } in
+    let r : RouterView = record { net = c.self.inside.network.now; number = c.self.inside.number; own_open = c.self.inside.own_open; peers = c.self.inside.peers.items; tables = c.self.inside.tables; marks = c.self.inside.marks; stamp = c.self.inside.stamp } in
+    let v = c.args.peer in
     let p = c.index_mut.result.now in
     let q : Peer = record { number = p.number; end = c.reserve.new.self } in
-    let ch : Changes r c.args.peer c.args.at p q = record { place = subst (λ (x : RouterView). IsAt x.peers c.args.peer c.args.at) (sym c.self.view_is) c.requires.place; here = c.index_mut.ensures.value; number = refl } in
-    let h = hand c.args.given in
+    let place = subst (λ (x : RouterView). IsFound x.peers v c.args.at) (sym c.self.view_is) c.requires.place in
+    let ch : Changes r v c.args.at p q = record { place = place.2; here = c.index_mut.ensures.value; number = refl } in
     let early : nat_lt greatest_stamp c.args.stamp ≡ false = grind (arith, nat_tests, c.if-stamp-gt-GREATEST_STAMP.false) in
-    subst (λ (x : RouterView). Carries (Err Memory) x c.args.peer h (draft x.own_open h c.args.made.now) c.args.overflows c.args.stamp (with_peer r c.args.at q r.stamp)) c.self.view_is
-    (ends_memory (nat_lt greatest_stamp c.args.stamp) c.args.overflows (plain_of r) (record { router = moved (plain_of r).router c.args.peer h (draft r.own_open h c.args.made.now); stamp = c.args.stamp })
-    (plain_of (with_peer r c.args.at q r.stamp)) early c.if-overflows.false (kept r c.args.peer c.args.at p q ch r.stamp c.reserve.ensures.side refl))
+    subst (λ (x : RouterView). Carries (Err Memory) x v NoMessage (draft x.own_open NoMessage c.args.made.now) c.args.overflows c.args.stamp (with_peer r c.args.at q r.tables r.marks r.stamp)) c.self.view_is
+    (ends_memory (nat_lt greatest_stamp c.args.stamp) c.args.overflows (plain_of r) (record { router = moved (plain_of r).router v NoMessage (draft r.own_open NoMessage c.args.made.now); stamp = c.args.stamp })
+    (plain_of (with_peer r c.args.at q r.tables r.marks r.stamp)) early c.if-overflows.false (kept r v c.args.at p q ch r.marks c.reserve.ensures.side refl))
 
 -- it is carried out
+pub carry-requires-clause-linked : goal.carry-requires-clause-linked
+carry-requires-clause-linked c =
+    let r : RouterView = record { net = c.self.inside.network.now; number = c.self.inside.number; own_open = c.self.inside.own_open; peers = c.self.inside.peers.items; tables = c.self.inside.tables; marks = c.self.inside.marks; stamp = c.self.inside.stamp } in
+    let v = c.args.peer in
+    let place = subst (λ (x : RouterView). IsFound x.peers v c.args.at) (sym c.self.view_is) c.requires.place in
+    let t = c.self.invariant.tabled in
+    rw (t.net, t.router) (linked_to r.net r.number v (sym (c.self.invariant.links v) ∙ place.1))
+
 pub invariant_of-self-2 : goal.invariant_of-self-2
 invariant_of-self-2 c =
-    let r : RouterView = record { net = c.self.inside.network.now; number = c.self.inside.number; own_open = c.self.inside.own_open; peers = c.self.inside.peers.items; stamp = c.self.inside.stamp } in
+    let r : RouterView = record { net = c.self.inside.network.now; number = c.self.inside.number; own_open = c.self.inside.own_open; peers = c.self.inside.peers.items; tables = c.self.inside.tables; marks = c.self.inside.marks; stamp = c.self.inside.stamp } in
+    let v = c.args.peer in
     let p = c.index_mut.result.now in
-    let q : Peer = record { number = p.number; end = c.commit.new.self } in
-    let ch : Changes r c.args.peer c.args.at p q = record { place = subst (λ (x : RouterView). IsAt x.peers c.args.peer c.args.at) (sym c.self.view_is) c.requires.place; here = c.index_mut.ensures.value; number = refl } in
+    let q : Peer = record { number = p.number; end = c.carry.new.end } in
+    let place = subst (λ (x : RouterView). IsFound x.peers v c.args.at) (sym c.self.view_is) c.requires.place in
+    let ch : Changes r v c.args.at p q = record { place = place.2; here = c.index_mut.ensures.value; number = refl } in
+    let a = draft r.own_open NoMessage c.args.made.now in
+    let fresh = subst (λ (x : RouterView). KeepsFresh (sides_of x v) NoMessage (draft x.own_open NoMessage c.args.made.now)) (sym c.self.view_is) (c.requires.fresh c.if-overflows.false) in
+    let is = c.carry.ensures.side ∙ ap (λ (s : Side). carried NoMessage s a) c.reserve.ensures.side in
+    let on = subst (λ (s : Side). Followed r.tables c.carry.new.tables v (standing s) (standing (side c.carry.new.end))) c.reserve.ensures.side c.carry.ensures.tables in
     let few : c.args.stamp ≤ greatest_stamp = omega (arith, c.if-stamp-gt-GREATEST_STAMP.false) in
-    stays r c.args.peer c.args.at p q ch c.args.stamp c.self.invariant few
+    stays r v c.args.at p q ch c.carry.new.tables c.close.new.marks c.args.stamp c.self.invariant few
+    (tracks_moved r v c.args.at p q ch c.self.invariant a c.carry.new.tables fresh is on) (record { over = c.close.ensures.over; router = c.close.ensures.router })
 
 pub returns-clause-carries : goal.returns-clause-carries
 returns-clause-carries c =
-    let r : RouterView = record { net = c.self.inside.network.now; number = c.self.inside.number; own_open = c.self.inside.own_open; peers = c.self.inside.peers.items; stamp = c.self.inside.stamp } in
+    let r : RouterView = record { net = c.self.inside.network.now; number = c.self.inside.number; own_open = c.self.inside.own_open; peers = c.self.inside.peers.items; tables = c.self.inside.tables; marks = c.self.inside.marks; stamp = c.self.inside.stamp } in
+    let v = c.args.peer in
     let p = c.index_mut.result.now in
-    let q : Peer = record { number = p.number; end = c.commit.new.self } in
-    let ch : Changes r c.args.peer c.args.at p q = record { place = subst (λ (x : RouterView). IsAt x.peers c.args.peer c.args.at) (sym c.self.view_is) c.requires.place; here = c.index_mut.ensures.value; number = refl } in
-    let h = hand c.args.given in
-    let a = draft r.own_open h c.args.made.now in
-    let is = c.commit.ensures ∙ ap (λ (s : Side). carried h s a) c.reserve.ensures.side in
+    let q : Peer = record { number = p.number; end = c.carry.new.end } in
+    let place = subst (λ (x : RouterView). IsFound x.peers v c.args.at) (sym c.self.view_is) c.requires.place in
+    let ch : Changes r v c.args.at p q = record { place = place.2; here = c.index_mut.ensures.value; number = refl } in
+    let a = draft r.own_open NoMessage c.args.made.now in
+    let is = c.carry.ensures.side ∙ ap (λ (s : Side). carried NoMessage s a) c.reserve.ensures.side in
+    let on = leaves r.tables c.carry.new.tables v (standing (side c.reserve.new.self)) (standing (side c.carry.new.end)) c.carry.ensures.tables in
     let early : nat_lt greatest_stamp c.args.stamp ≡ false = grind (arith, nat_tests, c.if-stamp-gt-GREATEST_STAMP.false) in
-    subst (λ (x : RouterView). Carries (Ok Did) x c.args.peer h (draft x.own_open h c.args.made.now) c.args.overflows c.args.stamp (with_peer r c.args.at q c.args.stamp)) c.self.view_is
-    (ends_did (nat_lt greatest_stamp c.args.stamp) c.args.overflows (plain_of r) (record { router = moved (plain_of r).router c.args.peer h a; stamp = c.args.stamp })
-    (plain_of (with_peer r c.args.at q c.args.stamp)) early c.if-overflows.false (moves r c.args.peer c.args.at p q ch c.args.stamp h a is))
+    subst (λ (x : RouterView). Carries (Ok Did) x v NoMessage (draft x.own_open NoMessage c.args.made.now) c.args.overflows c.args.stamp (with_peer r c.args.at q c.carry.new.tables c.close.new.marks c.args.stamp)) c.self.view_is
+    (ends_did (nat_lt greatest_stamp c.args.stamp) c.args.overflows (plain_of r) (record { router = moved (plain_of r).router v NoMessage a; stamp = c.args.stamp })
+    (plain_of (with_peer r c.args.at q c.carry.new.tables c.close.new.marks c.args.stamp)) early c.if-overflows.false
+    (moves r v c.args.at p q ch c.carry.new.tables c.close.new.marks c.args.stamp NoMessage a is on (nothing_seen a.acts v _ (snapshots_of c.close.new.marks) c.close.ensures.closed)))

@@ -9,67 +9,114 @@ use Rattle.router_side.specs.SideOf.{side}
 use Rattle.router_core.specs.declared.peers.Peer.{Peer}
 use Rattle.router_core.specs.Views.{RouterView, IsFound, Answers, plain_of}
 use Rattle.router_core.proofs.PeerLemmas.{here_same}
-use Rattle.router_core.proofs.Carrying.{Changes, with_peer, of_sound, stays, kept}
+use Rattle.router_core.proofs.Carrying.{Changes, Tracks, with_peer, of_sound, stays, kept, is_fresh, tracks_alike}
+use Rattle.router_core.proofs.Handling.{link_of, seen_is, tracks_handled, leaves_handled}
+use Rattle.router_core.proofs.Beginnings.{linked_to}
+use Rattle.rib_tables.specs.Owners.{RibView}
+use Rattle.snap_marker.specs.Parts.{snapshots_of}
+use Rattle.snap_marker.specs.Recordings.{closed}
+use Rattle.router_model.specs.Settings.{peers}
+use Rattle.router_model.specs.Sides.{Side, front}
+use Rattle.router_model.specs.State.{rule_of}
+use Rattle.router_model.specs.Step.{close_at}
 use Rattle.router_core.proofs.Serving.{hands_nothing, hands_late, hands_refused, hands_front}
 use Rattle.router_core.proofs.router.Router.handle.Goals as goal
 
 pub returns-then-not-is_waiting-clause-answers : goal.returns-then-not-is_waiting-clause-answers
 returns-then-not-is_waiting-clause-answers c =
-    let r : RouterView = record { net = c.self.inside.network.now; number = c.self.inside.number; own_open = c.self.inside.own_open; peers = c.self.inside.peers.items; stamp = c.self.inside.stamp } in
+    let r : RouterView = record { net = c.self.inside.network.now; number = c.self.inside.number; own_open = c.self.inside.own_open; peers = c.self.inside.peers.items; tables = c.self.inside.tables; marks = c.self.inside.marks; stamp = c.self.inside.stamp } in
     let found = subst (λ (x : RouterView). IsFound x.peers c.args.peer c.in-Some.at) (sym c.self.view_is) c.in-Some.ensures.place in
     subst (λ (x : RouterView). Answers (Ok stepped.Nothing) x (Handle c.args.peer) x) c.self.view_is (λ g e ranks.
     hands_nothing g r c.args.peer c.in-Some.at c.index.result.now (of_sound g r c.self.invariant e) found.2 c.index.ensures found.1 (sym c.is_waiting.ensures ∙ c.if-not-is_waiting.true))
 
 pub returns-then-stamp-gt-GREATEST_STAMP-clause-answers : goal.returns-then-stamp-gt-GREATEST_STAMP-clause-answers
 returns-then-stamp-gt-GREATEST_STAMP-clause-answers c =
-    let r : RouterView = record { net = c.self.inside.network.now; number = c.self.inside.number; own_open = c.self.inside.own_open; peers = c.self.inside.peers.items; stamp = c.self.inside.stamp } in
+    let r : RouterView = record { net = c.self.inside.network.now; number = c.self.inside.number; own_open = c.self.inside.own_open; peers = c.self.inside.peers.items; tables = c.self.inside.tables; marks = c.self.inside.marks; stamp = c.self.inside.stamp } in
     let found = subst (λ (x : RouterView). IsFound x.peers c.args.peer c.in-Some.at) (sym c.self.view_is) c.in-Some.ensures.place in
     let late : nat_lt greatest_stamp (r.stamp + 1) ≡ true = grind (arith, nat_tests, c.if-stamp-gt-GREATEST_STAMP.true) in
     subst (λ (x : RouterView). Answers (Err error.StampEnd) x (Handle c.args.peer) x) c.self.view_is (λ g e ranks.
     hands_late g r c.args.peer c.in-Some.at c.index.result.now (of_sound g r c.self.invariant e) found.2 c.index.ensures found.1 (sym c.is_waiting.ensures ∙ c.if-not-is_waiting.false) late)
 
+-- the peer is linked, and what is recorded has its link
+pub handle_front-requires-clause-linked : goal.handle_front-requires-clause-linked
+handle_front-requires-clause-linked c =
+    let r : RouterView = record { net = c.self.inside.network.now; number = c.self.inside.number; own_open = c.self.inside.own_open; peers = c.self.inside.peers.items; tables = c.self.inside.tables; marks = c.self.inside.marks; stamp = c.self.inside.stamp } in
+    let v = c.args.peer in
+    let found = subst (λ (x : RouterView). IsFound x.peers c.args.peer c.in-Some.at) (sym c.self.view_is) c.in-Some.ensures.place in
+    let t = c.self.invariant.tabled in
+    rw (t.net, t.router) (linked_to r.net r.number v (sym (c.self.invariant.links v) ∙ found.1))
+
+pub handle_front-requires-clause-link : goal.handle_front-requires-clause-link
+handle_front-requires-clause-link c =
+    let r : RouterView = record { net = c.self.inside.network.now; number = c.self.inside.number; own_open = c.self.inside.own_open; peers = c.self.inside.peers.items; tables = c.self.inside.tables; marks = c.self.inside.marks; stamp = c.self.inside.stamp } in
+    let v = c.args.peer in
+    let found = subst (λ (x : RouterView). IsFound x.peers c.args.peer c.in-Some.at) (sym c.self.view_is) c.in-Some.ensures.place in
+    link_of r.marks.unfinished v r.peers (peers r.net r.number) c.self.invariant.numbers c.self.invariant.marked.over found.1
+
+-- it is handled
 pub invariant_of-self : goal.invariant_of-self
 invariant_of-self c =
-    let r : RouterView = record { net = c.self.inside.network.now; number = c.self.inside.number; own_open = c.self.inside.own_open; peers = c.self.inside.peers.items; stamp = c.self.inside.stamp } in
+    let r : RouterView = record { net = c.self.inside.network.now; number = c.self.inside.number; own_open = c.self.inside.own_open; peers = c.self.inside.peers.items; tables = c.self.inside.tables; marks = c.self.inside.marks; stamp = c.self.inside.stamp } in
+    let v = c.args.peer in
     let found = subst (λ (x : RouterView). IsFound x.peers c.args.peer c.in-Some.at) (sym c.self.view_is) c.in-Some.ensures.place in
     let p = c.index_mut.result.now in
     let q : Peer = record { number = p.number; end = c.handle_front.new.end } in
-    let ch : Changes r c.args.peer c.in-Some.at p q = record { place = found.2; here = c.index_mut.ensures.value; number = refl } in
+    let ch : Changes r v c.in-Some.at p q = record { place = found.2; here = c.index_mut.ensures.value; number = refl } in
+    let t = c.handle_front.new.tables in
+    let m = c.handle_front.new.marks in
     let few : r.stamp + 1 ≤ greatest_stamp = omega (arith, c.if-stamp-gt-GREATEST_STAMP.false) in
-    stays r c.args.peer c.in-Some.at p q ch (r.stamp + 1) c.self.invariant few
-
-pub invariant_of-self-in-Err : goal.invariant_of-self-in-Err
-invariant_of-self-in-Err c =
-    let r : RouterView = record { net = c.self.inside.network.now; number = c.self.inside.number; own_open = c.self.inside.own_open; peers = c.self.inside.peers.items; stamp = c.self.inside.stamp } in
-    let found = subst (λ (x : RouterView). IsFound x.peers c.args.peer c.in-Some.at) (sym c.self.view_is) c.in-Some.ensures.place in
-    let p = c.index_mut.result.now in
-    let q : Peer = record { number = p.number; end = c.handle_front.new.end } in
-    let ch : Changes r c.args.peer c.in-Some.at p q = record { place = found.2; here = c.index_mut.ensures.value; number = refl } in
-    stays r c.args.peer c.in-Some.at p q ch r.stamp c.self.invariant c.self.invariant.stamp
+    let keeps = c.what_comes_keeps_fresh.ensures.messages r.own_open (front (rule_of v) (side p.end).held) (side p.end) (is_fresh r v c.in-Some.at p q ch c.self.invariant) in
+    let tracks = tracks_handled c.the_word_follows.ensures r v c.in-Some.at p q ch c.self.invariant t (snapshots_of r.marks) (snapshots_of m) keeps c.in-Ok.ensures.ok in
+    stays r v c.in-Some.at p q ch t m (r.stamp + 1) c.self.invariant few tracks (record { over = c.handle_front.ensures.over; router = c.handle_front.ensures.router })
 
 pub returns-in-Ok-clause-answers : goal.returns-in-Ok-clause-answers
 returns-in-Ok-clause-answers c =
-    let r : RouterView = record { net = c.self.inside.network.now; number = c.self.inside.number; own_open = c.self.inside.own_open; peers = c.self.inside.peers.items; stamp = c.self.inside.stamp } in
+    let r : RouterView = record { net = c.self.inside.network.now; number = c.self.inside.number; own_open = c.self.inside.own_open; peers = c.self.inside.peers.items; tables = c.self.inside.tables; marks = c.self.inside.marks; stamp = c.self.inside.stamp } in
+    let v = c.args.peer in
     let found = subst (λ (x : RouterView). IsFound x.peers c.args.peer c.in-Some.at) (sym c.self.view_is) c.in-Some.ensures.place in
     let p = c.index_mut.result.now in
     let q : Peer = record { number = p.number; end = c.handle_front.new.end } in
-    let ch : Changes r c.args.peer c.in-Some.at p q = record { place = found.2; here = c.index_mut.ensures.value; number = refl } in
-    let same : p ≡ c.index.result.now = c.index_mut.ensures.value ∙ here_same r.peers c.args.peer c.in-Some.at p c.index.result.now found.2 ∙ sym c.index.ensures in
+    let ch : Changes r v c.in-Some.at p q = record { place = found.2; here = c.index_mut.ensures.value; number = refl } in
+    let t = c.handle_front.new.tables in
+    let m = c.handle_front.new.marks in
+    let same : p ≡ c.index.result.now = c.index_mut.ensures.value ∙ here_same r.peers v c.in-Some.at p c.index.result.now found.2 ∙ sym c.index.ensures in
+    let waits = ap (λ (w : Peer). is_waiting (side w.end).held) same ∙ sym c.is_waiting.ensures ∙ c.if-not-is_waiting.false in
     let late : nat_lt greatest_stamp (r.stamp + 1) ≡ false = grind (arith, nat_tests, c.if-stamp-gt-GREATEST_STAMP.false) in
-    subst (λ (x : RouterView). Answers (Ok stepped.Did) x (Handle c.args.peer) (with_peer r c.in-Some.at q (r.stamp + 1))) c.self.view_is (λ g e ranks.
-    hands_front g r c.args.peer c.in-Some.at p (of_sound g r c.self.invariant e) found.2 c.index_mut.ensures.value found.1 q ch c.in-Ok.ensures.ok
-    (ap (λ (w : Peer). is_waiting (side w.end).held) same ∙ sym c.is_waiting.ensures ∙ c.if-not-is_waiting.false) late)
+    let h = c.in-Ok.ensures.ok in
+    let leaves = leaves_handled c.the_word_follows.ensures r v c.in-Some.at p q ch c.self.invariant t (snapshots_of r.marks) (snapshots_of m) h in
+    let sees = h.sees ∙ seen_is h.draft.acts h.hand v (closed (close_at v h.draft.left) (snapshots_of r.marks)) in
+    subst (λ (x : RouterView). Answers (Ok stepped.Did) x (Handle v) (with_peer r c.in-Some.at q t m (r.stamp + 1))) c.self.view_is (λ g e ranks.
+    hands_front g r v c.in-Some.at p (of_sound g r c.self.invariant e) found.2 c.index_mut.ensures.value found.1 q ch t m h.hand h.draft h.hand_is h.draft_is h.side leaves sees waits late)
+
+-- memory was wanting: all is as it was
+pub invariant_of-self-in-Err : goal.invariant_of-self-in-Err
+invariant_of-self-in-Err c =
+    let r : RouterView = record { net = c.self.inside.network.now; number = c.self.inside.number; own_open = c.self.inside.own_open; peers = c.self.inside.peers.items; tables = c.self.inside.tables; marks = c.self.inside.marks; stamp = c.self.inside.stamp } in
+    let v = c.args.peer in
+    let found = subst (λ (x : RouterView). IsFound x.peers c.args.peer c.in-Some.at) (sym c.self.view_is) c.in-Some.ensures.place in
+    let p = c.index_mut.result.now in
+    let q : Peer = record { number = p.number; end = c.handle_front.new.end } in
+    let ch : Changes r v c.in-Some.at p q = record { place = found.2; here = c.index_mut.ensures.value; number = refl } in
+    let t = c.handle_front.new.tables in
+    let m = c.handle_front.new.marks in
+    let is = c.in-Err.ensures.end in
+    let alike = tracks_alike r v c.in-Some.at p q ch c.self.invariant (ap (λ (s : Side). s.session) is) (ap (λ (s : Side). s.link) is) (ap (λ (s : Side). s.acted) is) (ap (λ (s : Side). s.sent) is) in
+    stays r v c.in-Some.at p q ch t m r.stamp c.self.invariant c.self.invariant.stamp (subst (Tracks r v q) (sym c.in-Err.ensures.tables) alike)
+    (record { over = c.handle_front.ensures.over; router = c.handle_front.ensures.router })
 
 pub returns-in-Err-clause-answers : goal.returns-in-Err-clause-answers
 returns-in-Err-clause-answers c =
-    let r : RouterView = record { net = c.self.inside.network.now; number = c.self.inside.number; own_open = c.self.inside.own_open; peers = c.self.inside.peers.items; stamp = c.self.inside.stamp } in
+    let r : RouterView = record { net = c.self.inside.network.now; number = c.self.inside.number; own_open = c.self.inside.own_open; peers = c.self.inside.peers.items; tables = c.self.inside.tables; marks = c.self.inside.marks; stamp = c.self.inside.stamp } in
+    let v = c.args.peer in
     let found = subst (λ (x : RouterView). IsFound x.peers c.args.peer c.in-Some.at) (sym c.self.view_is) c.in-Some.ensures.place in
     let p = c.index_mut.result.now in
     let q : Peer = record { number = p.number; end = c.handle_front.new.end } in
-    let ch : Changes r c.args.peer c.in-Some.at p q = record { place = found.2; here = c.index_mut.ensures.value; number = refl } in
-    let same : p ≡ c.index.result.now = c.index_mut.ensures.value ∙ here_same r.peers c.args.peer c.in-Some.at p c.index.result.now found.2 ∙ sym c.index.ensures in
+    let ch : Changes r v c.in-Some.at p q = record { place = found.2; here = c.index_mut.ensures.value; number = refl } in
+    let t = c.handle_front.new.tables in
+    let m = c.handle_front.new.marks in
+    let same : p ≡ c.index.result.now = c.index_mut.ensures.value ∙ here_same r.peers v c.in-Some.at p c.index.result.now found.2 ∙ sym c.index.ensures in
+    let waits = ap (λ (w : Peer). is_waiting (side w.end).held) same ∙ sym c.is_waiting.ensures ∙ c.if-not-is_waiting.false in
     let late : nat_lt greatest_stamp (r.stamp + 1) ≡ false = grind (arith, nat_tests, c.if-stamp-gt-GREATEST_STAMP.false) in
-    subst (λ (x : RouterView). Answers (Err error.Memory) x (Handle c.args.peer) (with_peer r c.in-Some.at q r.stamp)) c.self.view_is (λ g e ranks.
-    hands_refused g r c.args.peer c.in-Some.at p (of_sound g r c.self.invariant e) found.2 c.index_mut.ensures.value found.1 (plain_of (with_peer r c.in-Some.at q r.stamp))
-    (kept r c.args.peer c.in-Some.at p q ch r.stamp c.in-Err.ensures.err refl)
-    (ap (λ (w : Peer). is_waiting (side w.end).held) same ∙ sym c.is_waiting.ensures ∙ c.if-not-is_waiting.false) late)
+    let as_it_was = subst (λ (w : RibView). plain_of (with_peer r c.in-Some.at q w m r.stamp) ≡ plain_of r) (sym c.in-Err.ensures.tables) (kept r v c.in-Some.at p q ch m c.in-Err.ensures.end c.in-Err.ensures.marks) in
+    subst (λ (x : RouterView). Answers (Err error.Memory) x (Handle v) (with_peer r c.in-Some.at q t m r.stamp)) c.self.view_is (λ g e ranks.
+    hands_refused g r v c.in-Some.at p (of_sound g r c.self.invariant e) found.2 c.index_mut.ensures.value found.1 (plain_of (with_peer r c.in-Some.at q t m r.stamp)) as_it_was waits late)

@@ -1,11 +1,15 @@
-use Rattle.std.proofs.Common.{sym, refl, arith}
+use Rattle.std.proofs.Common.{◌≡◌, sym, refl, arith}
+use Rattle.std.specs.List.{AllByRecursion}
+use Rattle.router_side.specs.SideOf.{side, side_opening}
+use Rattle.router_core.specs.Views.{config_of}
 use Rattle.router_core.proofs.PeerLemmas.{listed_is}
-use Rattle.router_core.proofs.Carrying.{opens}
+use Rattle.router_core.proofs.Starting.{tabled_opening, marked_opening, opens}
 use Rattle.router_core.proofs.router.Router.new.Goals as goal
 
 pub invariant_of-result : goal.invariant_of-result
 invariant_of-result c =
     let net = c.settings-settings.ensures.network in
+    let sides : AllByRecursion (λ p. side p.end ≡ side_opening (config_of c.args.network.now)) c.in-Ok.peers.items = rw (sym c.settings-settings.ensures.value) c.in-Ok.ensures.sides in
     record {
       network = net;
       router = c.requires;
@@ -14,7 +18,14 @@ invariant_of-result c =
       own_open = c.own_open.ensures.open;
       sayable = c.own_open.ensures.sayable;
       stamp = omega arith;
+      tabled = tabled_opening c.args.network.now c.args.number c.own_open.result c.in-Ok.peers.items c.in-Ok-new.tables c.new-2.result sides c.in-Ok-new.ensures;
+      marked = marked_opening c.args.network.now c.args.number c.own_open.result c.in-Ok.peers.items c.in-Ok-new.tables c.new-2.result sides c.in-Ok-new.ensures c.new-2.ensures.over c.new-2.ensures.router;
     }
 
 pub returns : goal.returns
-returns c = (refl, refl, λ g e. opens c.args.network.now c.args.number c.own_open.result c.in-Ok.peers.items (rw (sym c.settings-settings.ensures.value) c.in-Ok.ensures.sides) g e)
+returns c = (
+  refl,
+  refl,
+  λ g e.
+      opens c.args.network.now c.args.number c.own_open.result c.in-Ok.peers.items c.in-Ok-new.tables c.new-2.result (rw (sym c.settings-settings.ensures.value) c.in-Ok.ensures.sides) c.in-Ok-new.ensures c.new-2.ensures.none g e,
+)

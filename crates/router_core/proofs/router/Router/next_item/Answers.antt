@@ -16,7 +16,7 @@ returns-in_default c = λ g e. shows_no_peer g c.args.self.now c.args.peer e c.i
 
 pub returns-then-not-has_item : goal.returns-then-not-has_item
 returns-then-not-has_item c =
-    let r : RouterView = record { net = c.self.inside.network.now; number = c.self.inside.number; own_open = c.self.inside.own_open; peers = c.self.inside.peers.items; stamp = c.self.inside.stamp } in
+    let r : RouterView = record { net = c.self.inside.network.now; number = c.self.inside.number; own_open = c.self.inside.own_open; peers = c.self.inside.peers.items; tables = c.self.inside.tables; marks = c.self.inside.marks; stamp = c.self.inside.stamp } in
     let found = subst (λ (x : RouterView). IsFound x.peers c.args.peer c.in-Some.at) (sym c.self.view_is) c.in-Some.ensures.place in
     subst (λ (x : RouterView). ShowsNext (Ok None) x c.args.peer) c.self.view_is (λ g e.
     shows_nothing g r c.args.peer (of_sound g r c.self.invariant e) c.in-Some.at c.index.result.now found.2 c.index.ensures found.1
@@ -24,7 +24,7 @@ returns-then-not-has_item c =
 
 pub returns-then-stamp-gt-GREATEST_STAMP : goal.returns-then-stamp-gt-GREATEST_STAMP
 returns-then-stamp-gt-GREATEST_STAMP c =
-    let r : RouterView = record { net = c.self.inside.network.now; number = c.self.inside.number; own_open = c.self.inside.own_open; peers = c.self.inside.peers.items; stamp = c.self.inside.stamp } in
+    let r : RouterView = record { net = c.self.inside.network.now; number = c.self.inside.number; own_open = c.self.inside.own_open; peers = c.self.inside.peers.items; tables = c.self.inside.tables; marks = c.self.inside.marks; stamp = c.self.inside.stamp } in
     let found = subst (λ (x : RouterView). IsFound x.peers c.args.peer c.in-Some.at) (sym c.self.view_is) c.in-Some.ensures.place in
     let late : nat_lt greatest_stamp (r.stamp + 1) ≡ true = grind (arith, nat_tests, c.if-stamp-gt-GREATEST_STAMP.true) in
     subst (λ (x : RouterView). ShowsNext (Err error.StampEnd) x c.args.peer) c.self.view_is (λ g e.
@@ -33,7 +33,7 @@ returns-then-stamp-gt-GREATEST_STAMP c =
 
 pub returns-in-Ok-Some : goal.returns-in-Ok-Some
 returns-in-Ok-Some c =
-    let r : RouterView = record { net = c.self.inside.network.now; number = c.self.inside.number; own_open = c.self.inside.own_open; peers = c.self.inside.peers.items; stamp = c.self.inside.stamp } in
+    let r : RouterView = record { net = c.self.inside.network.now; number = c.self.inside.number; own_open = c.self.inside.own_open; peers = c.self.inside.peers.items; tables = c.self.inside.tables; marks = c.self.inside.marks; stamp = c.self.inside.stamp } in
     let found = subst (λ (x : RouterView). IsFound x.peers c.args.peer c.in-Some.at) (sym c.self.view_is) c.in-Some.ensures.place in
     let late : nat_lt greatest_stamp (r.stamp + 1) ≡ false = grind (arith, nat_tests, c.if-stamp-gt-GREATEST_STAMP.false) in
     let item = sym c.in-Ok-Some.field-0-is ∙ c.in-Ok-Some.ensures ∙ ap (λ (s : Settings). next_item s.cut (side c.index-2.result.now.end).outbox) c.settings-cut.ensures.value in
@@ -42,7 +42,7 @@ returns-in-Ok-Some c =
 
 pub returns-in-Err : goal.returns-in-Err
 returns-in-Err c =
-    let r : RouterView = record { net = c.self.inside.network.now; number = c.self.inside.number; own_open = c.self.inside.own_open; peers = c.self.inside.peers.items; stamp = c.self.inside.stamp } in
+    let r : RouterView = record { net = c.self.inside.network.now; number = c.self.inside.number; own_open = c.self.inside.own_open; peers = c.self.inside.peers.items; tables = c.self.inside.tables; marks = c.self.inside.marks; stamp = c.self.inside.stamp } in
     let found = subst (λ (x : RouterView). IsFound x.peers c.args.peer c.in-Some.at) (sym c.self.view_is) c.in-Some.ensures.place in
     let late : nat_lt greatest_stamp (r.stamp + 1) ≡ false = grind (arith, nat_tests, c.if-stamp-gt-GREATEST_STAMP.false) in
     subst (λ (x : RouterView). ShowsNext (Err error.Memory) x c.args.peer) c.self.view_is (λ g e.

@@ -1,0 +1,158 @@
+-- A message or a fault that is handled: the tables stay those of the sides.
+use Rattle.std.proofs.Common.{◌≡◌, ℕ, ◌<◌, ◌≤◌, ◌==◌, ◌++◌, ◌∷◌, [], Bool, true, false, cond, List, map, Option, None, Some, refl, sym, ap, ◌∙◌, subst, arith, inl, inr}
+use Rattle.std.specs.Prelude.{nat_eq, ◌⊎◌}
+use Rattle.std.specs.List.{list_any, Contains}
+use Rattle.std.proofs.lemmas.Bool.{eq-eqb}
+use Rattle.std.proofs.lemmas.Bool.Decides.{nat_tests}
+use Rattle.prefix_lanes.specs.Bits.{PrefixView}
+use Rattle.bgp_codec.specs.declared.message.Message.{Message}
+use Rattle.bgp_codec.specs.declared.update.Update.{Update}
+use Rattle.ranked_policy.specs.declared.network.Origin.{Origin}
+use Rattle.ranked_policy.specs.Plans.{Plan, IsNamed}
+use Rattle.rib_tables.specs.declared.word.Word.{Word}
+use Rattle.rib_tables.specs.Words.{nothing}
+use Rattle.rib_tables.specs.Tables.{Applies, word_of}
+use Rattle.rib_tables.specs.Owners.{RibView, HearsUpdate}
+use Rattle.rib_tables.specs.Promises.{WordFollows}
+use Rattle.snap_marker.specs.declared.part.Part.{Part}
+use Rattle.snap_marker.specs.declared.part.Channel.{Channel}
+use Rattle.snap_marker.specs.Parts.{IsOver, IsLink, leads_to, peers_of}
+use Rattle.snap_marker.specs.Recordings.{Snapshots}
+use Rattle.router_model.specs.Sides.{Side, AtHand, NoMessage, HasFault, HasUpdate, Draft, acted_with, with_update, carried, at_hand, front, without_front, handled, is_up, is_established}
+use Rattle.router_model.specs.State.{last_word, word_after, rule_of}
+use Rattle.router_model.specs.Step.{seen}
+use Rattle.router_side.specs.Freshness.{IsFresh, IsUnsaid, ComesUpUnsaid, ActsWhereUp, HandlingKeepsFresh}
+use Rattle.router_side.specs.SideOf.{side}
+use Rattle.router_core.specs.declared.peers.Peer.{Peer}
+use Rattle.router_core.specs.Views.{RouterView, IsSound, Follows, IsPathWord, listed, heard_now}
+use Rattle.router_core.specs.Following.{Followed, standing}
+use Rattle.router_core.specs.Handling.{update_acted, seen_where, Hears, HandlesFront}
+use Rattle.router_core.proofs.PeerLemmas.{listed_any}
+use Rattle.router_core.proofs.Following.{Leaves, leaves_same, leaves_heard, leaves_then, leaves, paths, follows_by}
+use Rattle.router_core.proofs.Carrying.{Changes, Tracks, is_followed}
+
+-- ---- the links of what is recorded
+
+equal_is : (a b : ℕ) → (a == b) ≡ nat_eq a b
+equal_is a b = grind (arith, nat_tests)
+
+leads_any : (v : ℕ) (cs : List Channel) → leads_to v cs ≡ list_any (nat_eq v) (peers_of cs)
+leads_any v [] = refl
+leads_any v (c ∷ cs) = rw (equal_is v c.peer, leads_any v cs) refl
+
+self_first : (v : ℕ) → list_any (nat_eq v) (v ∷ []) ≡ true
+self_first v = (let same : nat_eq v v ≡ true = grind (arith, nat_tests) in rw same refl)
+
+-- what is over the same peers has a link to the same
+pub link_on : (o n : Option Part) (v : ℕ) → ((vs : List ℕ) → IsOver vs o → IsOver vs n) → IsLink o v → IsLink n v
+link_on o None v over l = tt
+link_on None (Some q) v over l = leads_any v q.channels.items ∙ ap (list_any (nat_eq v)) (over (v ∷ []) tt) ∙ self_first v
+link_on (Some p) (Some q) v over l =
+    leads_any v q.channels.items ∙ ap (list_any (nat_eq v)) (over (peers_of p.channels.items) refl) ∙ sym (leads_any v p.channels.items) ∙ l
+
+-- what is over the peers of a router has a link to each
+pub link_of : (o : Option Part) (v : ℕ) (ps : List Peer) (vs : List ℕ) → map (λ p. p.number) ps ≡ vs → IsOver vs o → listed v ps ≡ true → IsLink o v
+link_of None v ps vs e over l = tt
+link_of (Some p) v ps vs e over l = leads_any v p.channels.items ∙ ap (list_any (nat_eq v)) (over ∙ sym e) ∙ sym (listed_any v ps) ∙ l
+
+-- ---- the UPDATE that is acted on
+
+pub seen_is : (b : Bool) (h : AtHand) (v : ℕ) (x : Snapshots) → seen_where v (update_acted b h) x ≡ seen b h v x
+seen_is true NoMessage v x = refl
+seen_is true (HasFault fault) v x = refl
+seen_is true (HasUpdate u) v x = refl
+seen_is false NoMessage v x = refl
+seen_is false (HasFault fault) v x = refl
+seen_is false (HasUpdate u) v x = refl
+
+last_on : (w : Word) (us : List Update) (u : Update) (q : PrefixView) → last_word w (us ++ u ∷ []) q ≡ word_after (last_word w us q) u q
+last_on w [] u q = refl
+last_on w (x ∷ us) u q = last_on (word_after w x q) us u q
+
+leaves_hearing : (old new : RibView) (v : ℕ) (o : Option Update) → Hears old new v o → Leaves old new v
+leaves_hearing old new v None e = subst (λ (t : RibView). Leaves old t v) (sym e) (leaves_same old v)
+leaves_hearing old new v (Some u) h = leaves_heard old new v u h
+
+sent_hearing : (old new : RibView) (v : ℕ) (o : Option Update) → Hears old new v o → (y : ℕ) (q : PrefixView) → word_of new.sent y q ≡ word_of old.sent y q
+sent_hearing old new v None e y q = ap (λ (t : RibView). word_of t.sent y q) e
+sent_hearing old new v (Some u) h y q = ap (λ (t : RibView). word_of t.sent y q) h.rest
+
+module _ (word_follows : WordFollows) (origins : List Origin) (v : ℕ) (s : Side) (e : ℕ) where
+  history_on : (u : Update) → e ≡ s.link.epoch → with_update s.acted e u s.link.epoch ≡ s.acted s.link.epoch ++ u ∷ []
+  history_on u same = rw (eq-eqb s.link.epoch e (sym same)) refl
+
+  follows_update : (old new : RibView) (u : Update) → is_up s ≡ true → e ≡ s.link.epoch → old.net.origins ≡ origins → HearsUpdate old new v u → Follows origins old v s
+      → Follows origins new v (record s { acted = with_update s.acted e u })
+  follows_update old new u up same net h f =
+      let applies = subst (λ (os : List Origin). Applies os old.heard new.heard v u) net h.words in
+      record {
+        up = ((λ k. f.up.0 (subst (λ (t : RibView). Contains t.established v) h.rest k)), (λ k. subst (λ (t : RibView). Contains t.established v) (sym h.rest) (f.up.1 k)));
+        heard = λ q k.
+        word_follows origins old.heard new.heard v u applies q k ∙ ap (λ w. word_after w u q) (f.heard q k)
+        ∙ rw up (sym (last_on nothing (s.acted s.link.epoch) u q) ∙ ap (λ us. last_word nothing us q) (sym (history_on u same)));
+        told = λ q k. ap (λ (t : RibView). word_of t.sent v q) h.rest ∙ f.told q k;
+      }
+
+  follows_as : (old new : RibView) → new ≡ old → Follows origins old v s → Follows origins new v s
+  follows_as old new same f = subst (λ (t : RibView). Follows origins t v s) (sym same) f
+
+  follows_hearing : (old new : RibView) (b : Bool) (h : AtHand) → (b ≡ true → (is_up s ≡ true) × (e ≡ s.link.epoch)) → old.net.origins ≡ origins → Hears old new v (update_acted b h)
+      → Follows origins old v s → Follows origins new v (record s { acted = acted_with b h e s.acted })
+  follows_hearing old new true NoMessage up net k f = follows_as old new k f
+  follows_hearing old new true (HasFault fault) up net k f = follows_as old new k f
+  follows_hearing old new true (HasUpdate u) up net k f = follows_update old new u (up refl).0 (up refl).1 net k f
+  follows_hearing old new false NoMessage up net k f = follows_as old new k f
+  follows_hearing old new false (HasFault fault) up net k f = follows_as old new k f
+  follows_hearing old new false (HasUpdate u) up net k f = follows_as old new k f
+
+-- ---- a front that is handled
+
+clash : true ≡ false → ⊥
+clash e = absurd cc
+
+module _ (s : Side) (h : AtHand) (a : Draft) (up : ComesUpUnsaid s a) (acts : ActsWhereUp s a) where
+  unsaid_by : (b : Bool) → a.acts ≡ b → is_established a.session.state ≡ true → (is_up s ≡ false) ⊎ (s.link.epoch < a.link.epoch)
+      → (acted_with b h a.link.epoch s.acted a.link.epoch ≡ []) × (s.sent a.link.epoch ≡ [])
+  unsaid_by true e t d =
+      let k = acts e in
+      elim d [
+        | inl n ↦ absurd (clash (sym k.0 ∙ n))
+        | inr l ↦ absurd (omega (arith, l, k.2))
+      ]
+  unsaid_by false e t d = up t d
+
+module _ (word_follows : WordFollows) (r : RouterView) (v i : ℕ) (p q : Peer) (c : Changes r v i p q) (sound : IsSound r) (t : RibView) (x y : Snapshots) where
+  tracks_draft : (h : AtHand) (a : Draft) (between : RibView) → side q.end ≡ carried h (without_front (side p.end)) a → Hears r.tables between v (update_acted a.acts h)
+      → Followed between t v (standing (side p.end)) (standing (side q.end)) → IsFresh (carried h (without_front (side p.end)) a) → ComesUpUnsaid (side p.end) a
+      → (side p.end).link.epoch ≤ a.link.epoch → ActsWhereUp (side p.end) a → Tracks r v q t
+  tracks_draft h a between is hears f fresh up onward acts =
+      let s = side p.end in
+      let z = carried h (without_front s) a in
+      let l : Side = record s { acted = acted_with a.acts h a.link.epoch s.acted } in
+      let on : Followed between t v (standing s) (standing z) = subst (λ (w : Side). Followed between t v (standing s) (standing w)) is f in
+      let before = leaves_hearing r.tables between v (update_acted a.acts h) hears in
+      let heard = follows_hearing word_follows r.net.origins v s a.link.epoch r.tables between a.acts h (λ k. let w = acts k in (w.0, w.2)) (ap (λ (n : Plan). n.origins) sound.tabled.net) hears (is_followed r v i p q c sound) in
+      record {
+        leaves = leaves_then r.tables between t v before (leaves between t v (standing s) (standing (side q.end)) f);
+        follows =
+        subst (Follows r.net.origins t v) (sym is)
+        (follows_by r.net.origins v l z refl refl between t (is_up l) (is_up z) refl refl onward (λ k d. unsaid_by s h a up acts a.acts refl k d) heard on);
+        fresh = subst IsFresh (sym is) fresh;
+        sent = paths between t v (standing s) (standing (side q.end)) f (λ w k. subst IsPathWord (sym (sent_hearing r.tables between v (update_acted a.acts h) hears w k)) (sound.tabled.sent w k));
+      }
+
+  pub tracks_handled : HandlingKeepsFresh r.own_open (front (rule_of v) (side p.end).held) (side p.end) → HandlesFront r.own_open v (side p.end) (side q.end) r.tables t x y → Tracks r v q t
+  tracks_handled k h =
+      let s = side p.end in
+      let m = front (rule_of v) s.held in
+      let d = handled r.own_open m s in
+      let back : d ≡ h.draft = sym h.draft_is in
+      tracks_draft h.hand h.draft h.between h.side h.hears h.follows
+      (subst (λ (w : AtHand). IsFresh (carried w (without_front s) h.draft)) (sym h.hand_is) (subst (λ (a : Draft). IsFresh (carried (at_hand m) (without_front s) a)) back k.fresh))
+      (subst (λ (a : Draft). ComesUpUnsaid s a) back k.up)
+      (subst (λ (a : Draft). s.link.epoch ≤ a.link.epoch) back k.onward)
+      (subst (λ (a : Draft). ActsWhereUp s a) back k.acts)
+
+  pub leaves_handled : HandlesFront r.own_open v (side p.end) (side q.end) r.tables t x y → Leaves r.tables t v
+  leaves_handled h =
+      leaves_then r.tables h.between t v (leaves_hearing r.tables h.between v (update_acted h.draft.acts h.hand) h.hears) (leaves h.between t v (standing (side p.end)) (standing (side q.end)) h.follows)

@@ -1,0 +1,46 @@
+-- A message or a fault that is handled: what becomes of a side, of the tables, and of what is recorded.
+use Rattle.std.specs.Prelude.{ℕ, ◌≡◌, Bool, cond, Option, None, Some}
+use Rattle.bgp_codec.specs.declared.message.Message.{Message}
+use Rattle.bgp_codec.specs.declared.message.Message.TheVariants.{UpdateMsg}
+use Rattle.bgp_codec.specs.declared.update.Update.{Update}
+use Rattle.rib_tables.specs.Owners.{RibView, HearsUpdate}
+use Rattle.snap_marker.specs.declared.part.Part.{Part}
+use Rattle.snap_marker.specs.Parts.{copy_for}
+use Rattle.snap_marker.specs.Recordings.{Snapshots, acted_on, closed}
+use Rattle.router_model.specs.Sides.{Side, AtHand, NoMessage, HasFault, HasUpdate, Draft, carried, at_hand, front, without_front, handled}
+use Rattle.router_model.specs.State.{rule_of}
+use Rattle.router_model.specs.Step.{close_at}
+use Rattle.router_core.specs.Following.{standing, Followed}
+
+-- the UPDATE at hand, where it is acted on
+abbrev pub update_acted : Bool → AtHand → Option Update
+update_acted acts NoMessage = None
+update_acted acts (HasFault fault) = None
+update_acted acts (HasUpdate update) = cond acts (Some update) None
+
+-- a copy of it, where its channel is being recorded
+abbrev pub copy_where : Option Part → ℕ → Option Update → Option Update
+copy_where unfinished v None = None
+copy_where unfinished v (Some u) = copy_for unfinished v u
+
+-- the tables take it
+abbrev pub Hears : RibView → RibView → ℕ → Option Update → Type 0
+Hears old new v None = new ≡ old
+Hears old new v (Some u) = HearsUpdate old new v u
+
+-- and it joins the channel
+abbrev pub seen_where : ℕ → Option Update → Snapshots → Snapshots
+seen_where v None x = x
+seen_where v (Some u) x = acted_on v (UpdateMsg u) x
+
+-- the front of a side is handled: its draft is carried out, the tables take the UPDATE and follow the session, and what is recorded sees both
+pub record HandlesFront (own_open : Message) (v : ℕ) (s z : Side) (old new : RibView) (x y : Snapshots) : Type 0 where
+  pub hand : AtHand
+  pub draft : Draft
+  pub between : RibView
+  pub hand_is : hand ≡ at_hand (front (rule_of v) s.held)
+  pub draft_is : draft ≡ handled own_open (front (rule_of v) s.held) s
+  pub side : z ≡ carried hand (without_front s) draft
+  pub hears : Hears old between v (update_acted draft.acts hand)
+  pub follows : Followed between new v (standing s) (standing z)
+  pub sees : y ≡ seen_where v (update_acted draft.acts hand) (closed (close_at v draft.left) x)

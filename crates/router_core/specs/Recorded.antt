@@ -1,0 +1,80 @@
+-- What a router is as a snapshot is recorded, as the code has it: lists by prefix and by peer.
+use Rattle.std.specs.Prelude.{ℕ, ◌≡◌, Bool, true, false, not, cond, List, [], ◌∷◌, map, filter, Option, None, Some, Result, MatchResult}
+use Rattle.prefix_lanes.specs.Bits.{PrefixView}
+use Rattle.ranked_policy.specs.declared.network.Origin.{Origin}
+use Rattle.rib_tables.specs.Words.{lists}
+use Rattle.rib_tables.specs.Tables.{Paths, path_of}
+use Rattle.snap_marker.specs.declared.part.KeptPath.{KeptPath}
+use Rattle.rib_tables.specs.Least.{HoldsOfAll}
+use Rattle.rib_tables.specs.Owners.{RibView, IsSettled, AllServed, IsPending}
+use Rattle.snap_marker.specs.declared.part.Part.{Part}
+use Rattle.snap_marker.specs.Parts.{Seen, seen}
+use Rattle.router_model.specs.declared.refusal.RouterError.{RouterError}
+use Rattle.router_model.specs.declared.refusal.RouterError.TheVariants as error
+use Rattle.router_model.specs.declared.refusal.Stepped.{Stepped}
+use Rattle.router_model.specs.declared.refusal.Stepped.TheVariants as stepped
+use Rattle.router_model.specs.Settings.{Setting, ChoosesByRank}
+use Rattle.router_model.specs.Sides.{Side, marked, is_up}
+use Rattle.router_model.specs.Step.{awaits, records}
+use Rattle.router_side.specs.SideOf.{side, HasRoomToMark}
+use Rattle.router_core.specs.declared.peers.Peer.{Peer}
+use Rattle.router_core.specs.Views.{RouterView, plain_of, listed}
+
+-- the path kept for each prefix that the network names
+abbrev pub paths_of : List Origin → Paths → List KeptPath
+paths_of origins kept = map (λ o. record { prefix = o.prefix; path = path_of kept o.prefix }) origins
+
+-- the prefixes that the network names and the router originates
+abbrev pub own_of : List Origin → List PrefixView → List PrefixView
+own_of origins originated = filter (lists originated) (map (λ o. o.prefix) origins)
+
+-- a channel for each peer, open but for the one whose marker came
+abbrev pub channels_of : Option ℕ → List Peer → List Seen
+channels_of first ps = map (λ p. record { peer = p.number; epoch = (side p.end).link.epoch; is_open = awaits first p.number; updates = [] }) ps
+
+-- the first peer whose session is not Established
+abbrev pub down_in : List Peer → Option ℕ
+down_in [] = None
+down_in (p ∷ ps) = cond (is_up (side p.end)) (down_in ps) (Some p.number)
+
+-- each peer is the same, and its side becomes this
+abbrev pub Become : (Side → Side) → List Peer → List Peer → Type 0
+Become f [] [] = Unit {0}
+Become f (p ∷ ps) (q ∷ qs) = (q.number ≡ p.number) × (side q.end ≡ f (side p.end)) × Become f ps qs
+Become f [] (q ∷ qs) = ⊥
+Become f (p ∷ ps) [] = ⊥
+
+-- each side has room for a marker
+abbrev pub HaveRoomToMark : List Peer → Type 0
+HaveRoomToMark [] = Unit {0}
+HaveRoomToMark (p ∷ ps) = HasRoomToMark p.end × HaveRoomToMark ps
+
+-- the marker goes to a peer whose session is Established
+abbrev pub marked_if_up : ℕ → Side → Side
+marked_if_up s x = cond (is_up x) (marked s x) x
+
+-- what a router with these tables and peers is now, as its part of a snapshot
+pub record IsPart (origins : List Origin) (t : RibView) (ps : List Peer) (u s : ℕ) (first : Option ℕ) (p : Part) : Type 0 where
+  pub router : p.router ≡ u
+  pub number : p.number ≡ s
+  pub kept : p.kept.items ≡ paths_of origins t.kept
+  pub originated : p.originated.items ≡ own_of origins t.originated
+  pub channels : map seen p.channels.items ≡ channels_of first ps
+  pub some : p.pending ≡ true → IsPending t
+  pub none : p.pending ≡ false → HoldsOfAll t.net.origins (IsSettled t) × AllServed t
+
+-- the marker came from a peer, or a command
+abbrev pub IsPeer : List Peer → Option ℕ → Type 0
+IsPeer ps None = Unit {0}
+IsPeer ps (Some v) = listed v ps ≡ true
+
+-- a snapshot is recorded, at the stamp that the router then has, in every setting of its network that chooses by rank
+abbrev pub Records : RouterView → ℕ → Option ℕ → RouterView → Type 0
+Records x s first y = (g : Setting) → g.net ≡ x.net → ChoosesByRank g → plain_of y ≡ record { router = records g x.number (plain_of x).router s first; stamp = y.stamp }
+
+-- a snapshot is recorded at this stamp, or memory was wanting
+abbrev pub RecordsAt : Result Stepped RouterError → RouterView → ℕ → Option ℕ → ℕ → RouterView → Type 0
+RecordsAt r x s first stamp y =
+    (g : Setting) → g.net ≡ x.net → ChoosesByRank g → MatchResult r
+    (λ did. (did ≡ stepped.Did) × (plain_of y ≡ record { router = records g x.number (plain_of x).router s first; stamp = stamp }))
+    (λ why. (why ≡ error.Memory) × (plain_of y ≡ plain_of x))
