@@ -165,8 +165,8 @@ module _ (word_follows : WordFollows) (origins : List Origin) (v : ℕ) (s : Sid
       record {
         up = ((λ k. f.up.0 (subst (λ (t : RibView). Contains t.established v) h.rest k)), (λ k. subst (λ (t : RibView). Contains t.established v) (sym h.rest) (f.up.1 k)));
         heard = λ q k.
-        word_follows origins old.heard new.heard v u applies q k ∙ ap (λ w. word_after w u q) (f.heard q k)
-        ∙ rw up (sym (last_on nothing (s.acted s.link.epoch) u q) ∙ ap (λ us. last_word nothing us q) (sym (history_on u same)));
+            word_follows origins old.heard new.heard v u applies q k ∙ ap (λ w. word_after w u q) (f.heard q k)
+            ∙ rw up (sym (last_on nothing (s.acted s.link.epoch) u q) ∙ ap (λ us. last_word nothing us q) (sym (history_on u same)));
         told = λ q k. ap (λ (t : RibView). word_of t.sent v q) h.rest ∙ f.told q k;
       }
 
@@ -209,8 +209,8 @@ module _ (word_follows : WordFollows) (r : RouterView) (v i : ℕ) (p q : Peer) 
       record {
         leaves = leaves_then r.tables between t v before (leaves between t v (standing s) (standing (side q.end)) f);
         follows =
-        subst (Follows r.net.origins t v) (sym is)
-        (follows_by r.net.origins v l z refl refl between t (is_up l) (is_up z) refl refl onward (λ k d. unsaid_by s h a up acts a.acts refl k d) heard on);
+            subst (Follows r.net.origins t v) (sym is)
+            (follows_by r.net.origins v l z refl refl between t (is_up l) (is_up z) refl refl onward (λ k d. unsaid_by s h a up acts a.acts refl k d) heard on);
         fresh = subst IsFresh (sym is) fresh;
         short = all_heard IsShort tt between t v (standing s) (standing (side q.end)) f (short_hearing word_follows r.tables between v a.acts h hears short sound.tabled.short);
         sent = all_sent IsPathWord refl between t v (standing s) (standing (side q.end)) f (λ w k. subst IsPathWord (sym (sent_hearing r.tables between v (update_acted a.acts h) hears w k)) (sound.tabled.sent w k));

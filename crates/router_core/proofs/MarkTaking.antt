@@ -17,9 +17,10 @@ use Rattle.router_model.specs.Laws.{LinkedRoutersArePeers}
 use Rattle.router_model.specs.Settings.{Setting, ChoosesByRank, linked, peers}
 use Rattle.router_model.specs.Sides.{is_up, uses}
 use Rattle.router_model.specs.State.{Router}
-use Rattle.router_model.specs.Step.{records, marked_by}
-use Rattle.router_model.specs.Calls.{Stamped, Obey, Gives, answer, greatest_stamp}
-use Rattle.router_core.specs.Views.{RouterView, IsSound, sides_of, plain_of, TakesMark}
+use Rattle.run_model.specs.Network.{alone}
+use Rattle.router_model.specs.Step.{Obeys, records, marked_by}
+use Rattle.router_model.specs.Calls.{Stamped, Obey, Gives, answer, judged, unless, greatest_stamp}
+use Rattle.router_core.specs.Views.{RouterView, IsSound, sides_of, plain_of, Answers, TakesMark}
 use Rattle.router_core.specs.Recorded.{RecordsAt}
 
 abbrev pub at_stamp : RouterView → MarkView → ℕ → RouterView
@@ -47,11 +48,12 @@ module _ (r : RouterView) (v e s stamp : ℕ) where
   -- any other may end a channel
   pub takes_old : (m : MarkView) → heeded ≡ true → nat_lt r.marks.last s ≡ false
       → snapshots_of m ≡ ends_channel (peers r.net r.number) v s (snapshots_of r.marks).unfinished (snapshots_of r.marks) → TakesMark (Ok stepped.Did) r v e s stamp (at_stamp r m stamp)
-  takes_old m h l is = λ g q ranks.
-      (refl,
-      subst (λ (b : Bool). plain_of (at_stamp r m stamp) ≡ record { router = cond b (marked_by g r.number x v s) x; stamp = stamp }) (sym h)
-      (subst (λ (b : Bool). plain_of (at_stamp r m stamp) ≡ record { router = cond b (records g r.number x s (Some v)) (record x { snapshots = ends_channel (peers g.net r.number) v s x.snapshots.unfinished x.snapshots }); stamp = stamp }) (sym l)
-      (ap (λ (y : Snapshots). record { router = record x { snapshots = y }; stamp = stamp }) (is ∙ ap (λ (n : Plan). ends_channel (peers n r.number) v s x.snapshots.unfinished x.snapshots) (sym q)))))
+  takes_old m h l is = λ g q ranks. (
+    refl,
+    subst (λ (b : Bool). plain_of (at_stamp r m stamp) ≡ record { router = cond b (marked_by g r.number x v s) x; stamp = stamp }) (sym h)
+        (subst (λ (b : Bool). plain_of (at_stamp r m stamp) ≡ record { router = cond b (records g r.number x s (Some v)) (record x { snapshots = ends_channel (peers g.net r.number) v s x.snapshots.unfinished x.snapshots }); stamp = stamp }) (sym l)
+        (ap (λ (y : Snapshots). record { router = record x { snapshots = y }; stamp = stamp }) (is ∙ ap (λ (n : Plan). ends_channel (peers n r.number) v s x.snapshots.unfinished x.snapshots) (sym q)))),
+  )
 
 -- ---- the links of a recording
 
@@ -68,3 +70,25 @@ over_link (Some p) vs v o h = any_same v p.channels.items ∙ ap (list_any (nat_
 -- a link leads to each peer
 pub is_link : LinkedRoutersArePeers → (r : RouterView) → IsSound r → (v : ℕ) → linked r.net r.number v ≡ true → IsLink r.marks.unfinished v
 is_link law r s v l = over_link r.marks.unfinished (peers r.net r.number) v s.marked.over (law r.net s.network r.number v l).peer
+
+-- ---- the command to record
+
+module _ (r : RouterView) (s : ℕ) where
+  abbrev Snaps : Setting → Result Stepped RouterError → Stamped → Bool → Bool → Type 0
+  Snaps g res y greater late =
+      Gives g r.number res (judged (unless greater (error.OldSnapshot r.marks.last)) (Some (alone (Obeys (Snapshot s)))) late false) (plain_of r) (Obey (Snapshot s)) y
+
+  snap_is : (g : Setting) (res : Result Stepped RouterError) (y : Stamped) (greater late : Bool) → nat_lt r.marks.last s ≡ greater → nat_lt greatest_stamp (r.stamp + 1) ≡ late → Snaps g res y greater late
+      → Gives g r.number res (answer g r.number (plain_of r) (Obey (Snapshot s))) (plain_of r) (Obey (Snapshot s)) y
+  snap_is g res y greater late e f h =
+      subst (λ (b : Bool). Snaps g res y b (nat_lt greatest_stamp (r.stamp + 1))) (sym e) (subst (λ (b : Bool). Snaps g res y greater b) (sym f) h)
+
+  pub snaps_old : nat_lt r.marks.last s ≡ false → Answers (Err (error.OldSnapshot r.marks.last)) r (Obey (Snapshot s)) r
+  snaps_old l = λ g q ranks. snap_is g (Err (error.OldSnapshot r.marks.last)) (plain_of r) false (nat_lt greatest_stamp (r.stamp + 1)) l refl (refl, refl)
+
+  pub snaps_late : nat_lt r.marks.last s ≡ true → nat_lt greatest_stamp (r.stamp + 1) ≡ true → Answers (Err error.StampEnd) r (Obey (Snapshot s)) r
+  snaps_late l t = λ g q ranks. snap_is g (Err error.StampEnd) (plain_of r) true true l t (refl, refl)
+
+  pub snaps : (res : Result Stepped RouterError) (y : RouterView) → nat_lt r.marks.last s ≡ true → nat_lt greatest_stamp (r.stamp + 1) ≡ false → RecordsAt res r s None (r.stamp + 1) y
+      → Answers res r (Obey (Snapshot s)) y
+  snaps res y l t k = λ g q ranks. snap_is g res (plain_of y) true false l t (k g q ranks)

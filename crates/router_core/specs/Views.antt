@@ -196,10 +196,9 @@ TakesMark r x v e s stamp y =
 
 -- ---- offers
 
--- the offer that waits in front, as the router's
-abbrev pub ShowsOffer : Option Offer → RouterView → Type 0
-ShowsOffer r x =
-    MatchOption r (next_offer (plain_of x).router ≡ None) (λ o. (next_offer (plain_of x).router ≡ Some (offer_of o)) × (router_of o ≡ x.number))
+-- this offer of the router waits in front
+abbrev pub IsOffered : RouterView → Offer → Type 0
+IsOffered x o = (next_offer (plain_of x).router ≡ Some (offer_of o)) × (router_of o ≡ x.number)
 
 -- an offer waits
 abbrev pub HasOffer : RouterView → Type 0

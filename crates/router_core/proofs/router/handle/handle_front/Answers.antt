@@ -35,15 +35,15 @@ returns-clause-ok c =
       between = c.hear.new.tables;
       hand_is = hand_is;
       draft_is =
-      c.handle-made.ensures ∙ ap (λ (k : AtHand). comes o k (draft_of s.session s.link) c.opened-event.result.0) hand_is
-      ∙ ap (λ (e : FsmEvent). comes o (at_hand m) (draft_of s.session s.link) e) event_is;
+          c.handle-made.ensures ∙ ap (λ (k : AtHand). comes o k (draft_of s.session s.link) c.opened-event.result.0) hand_is
+          ∙ ap (λ (e : FsmEvent). comes o (at_hand m) (draft_of s.session s.link) e) event_is;
       side = c.carry.ensures.side ∙ ap (λ (z : Side). carried h z a) dropped;
       hears = c.in_ok-hear.ensures.ok;
       follows = subst (λ (z : Side). Followed c.hear.new.tables c.carry.new.tables c.args.peer (standing z) (standing (side c.carry.new.end))) dropped c.carry.ensures.tables;
       writable = subst (λ (k : Result Message Fault). IfOk k (IsWritable (rule_of c.args.peer))) read c.in_ok-read.ensures.writable;
       sees =
-      c.record.ensures.sees (update_acted a.acts h) c.in_ok-copy.ensures.copy
-      ∙ ap (λ (x : Snapshots). seen_where c.args.peer (update_acted a.acts h) (closed (close_at c.args.peer a.left) x)) c.copy_for.ensures.state;
+          c.record.ensures.sees (update_acted a.acts h) c.in_ok-copy.ensures.copy
+          ∙ ap (λ (x : Snapshots). seen_where c.args.peer (update_acted a.acts h) (closed (close_at c.args.peer a.left) x)) c.copy_for.ensures.state;
     }
 
 pub returns-clause-over : goal.returns-clause-over
