@@ -23,3 +23,4 @@ pub mod Marking
 pub mod Recording
 pub mod Snapshots
 pub mod MarkTaking
+pub mod Moving

@@ -2,3 +2,4 @@ pub mod Views
 pub mod Following
 pub mod Handling
 pub mod Recorded
+pub mod Whole

@@ -1,18 +1,25 @@
 //! What comes to all peers of a router: a second that passes, and a restart.
 
+ghost use Rattle.std.specs.Prelude.{◌≡◌, ◌<◌, ℕ, false, length, get_or, IfOk};
+ghost use Rattle.router_model.specs.Sides.{NoMessage};
 ghost use Rattle.router_model.specs.declared.command.Command.TheVariants.{Restart};
-ghost use Rattle.router_model.specs.Calls.{Obey};
+ghost use Rattle.router_model.specs.Calls.{Tick, Obey};
+ghost use Rattle.router_side.specs.Sayings.{IsSayable};
+ghost use Rattle.router_side.specs.Drafts.{draft};
+ghost use Rattle.router_side.specs.SideOf.{side};
+ghost use Rattle.router_core.specs.declared.peers.Peer as peer;
 ghost use Rattle.router_core.specs.Views.{IsSame, Answers};
+ghost use Rattle.router_core.specs.Recorded.{Become};
+ghost use Rattle.router_core.specs.Whole.{draft_by, overflow_in, IsReady, AreReady, MovesSide, MovesAll};
 
 use super::carry::{carry, close};
 use super::{GREATEST_STAMP, Router};
 use crate::peers::Peer;
 use bgp_codec::Message;
-use rib_tables::Rib;
 use router_model::{RouterError, Stepped};
+use router_side::laws::sessions_keep_fresh;
 use router_side::{Given, SideEnd, Sketch};
 use session_fsm::FsmEvent;
-use snap_marker::MarkState;
 use std::alloc::{AllocError, Global};
 
 // What comes to each peer's side.
@@ -25,7 +32,9 @@ enum Whole {
 }
 
 // What it will make of a side.
-fn drafted(whole: Whole, end: &SideEnd, own_open: &Message) -> Sketch {
+fn drafted(whole: Whole, end: &SideEnd, own_open: &Message) -> Sketch
+    ensures { draft own_open.now NoMessage result ≡ draft_by whole own_open.now (side end.now) }
+{
     match whole {
         Whole::Second => end.second(own_open),
         Whole::Stop => end.meet(own_open, FsmEvent::ManualStop),
@@ -33,7 +42,9 @@ fn drafted(whole: Whole, end: &SideEnd, own_open: &Message) -> Sketch {
 }
 
 // Whether a dial of some side would pass the greatest incarnation.
-fn overflows(whole: Whole, peers: &[Peer], own_open: &Message) -> bool {
+fn overflows(whole: Whole, peers: &[Peer], own_open: &Message) -> bool
+    ensures { result ≡ overflow_in (draft_by whole own_open.now) peers.now }
+{
     for peer in peers {
         if drafted(whole, &peer.end, own_open).overflows {
             return true;
@@ -42,53 +53,83 @@ fn overflows(whole: Whole, peers: &[Peer], own_open: &Message) -> bool {
     false
 }
 
-// Makes room for all that it makes of the sides.
-fn reserve_all(whole: Whole, peers: &mut Vec<Peer>, own_open: &Message) -> Result<(), AllocError> {
-    let nothing = Given::Nothing;
-    for at in 0..peers.len() {
-        let end = &mut peers[at].end;
-        let made = drafted(whole, end, own_open);
-        end.reserve(own_open, &nothing, &made)?;
+// The drafts of these sides, with room for each. A refusal leaves the sides as they were.
+fn prepare_each(
+    alloc: Global,
+    whole: Whole,
+    peers: &mut [Peer],
+    own_open: &Message,
+) -> Result<Vec<Sketch>, AllocError>
+    requires { IsSayable own_open.now }
+    ensures same { Become (λ s. s) peers.old peers.new }
+    ensures ready { IfOk result (λ made. AreReady own_open.now (draft_by whole own_open.now) peers.new made.items) }
+{
+    let mut drafts = Vec::new(alloc);
+    for peer in peers.iter_mut() {
+        let made = drafted(whole, &peer.end, own_open);
+        peer.end.reserve(own_open, &Given::Nothing, &made)?;
+        drafts.push(made)?;
     }
-    Ok(())
+    Ok(drafts)
 }
 
-// What it makes of the sides is carried out, for which there is room.
-fn commit_all(
+// The same of all peers.
+fn prepare(
     alloc: Global,
     whole: Whole,
     peers: &mut Vec<Peer>,
-    tables: &mut Rib<'_>,
-    marks: &mut MarkState,
     own_open: &Message,
-) {
-    for at in 0..peers.len() {
-        let Peer { number, end } = &mut peers[at];
-        let made = drafted(whole, end, own_open);
-        carry(alloc, end, tables, *number, own_open, Given::Nothing, &made);
-        close(marks, *number, made.left);
-    }
+) -> Result<Vec<Sketch>, AllocError>
+    requires { IsSayable own_open.now }
+    ensures same { Become (λ s. s) peers.old.items peers.new.items }
+    ensures ready { IfOk result (λ made. AreReady own_open.now (draft_by whole own_open.now) peers.new.items made.items) }
+{
+    prepare_each(alloc, whole, peers.as_mut_slice(), own_open)
 }
 
 impl Router<'_> {
-    // All sides change at once.
-    fn change_all(&mut self, whole: Whole) {
+    // The draft of the side at a place is carried out, for which there is room. The stamp stays.
+    fn move_side(&mut self, whole: Whole, at: usize, made: &Sketch)
+        requires below { at < length self.old.peers }
+        requires ready { (d : peer.Peer) → IsReady self.old.own_open (draft_by whole self.old.own_open) (get_or self.old.peers at d) made.now }
+        requires fits { (d : peer.Peer) → (draft_by whole self.old.own_open (side (get_or self.old.peers at d).end)).overflows ≡ false }
+        ensures { MovesSide self.old at (draft_by whole self.old.own_open) self.new }
+    {
+        sessions_keep_fresh();
         let alloc = *self.peers.allocator();
-        commit_all(
+        let peer = self.peers[at].number;
+        let end = &mut self.peers[at].end;
+        carry(
             alloc,
-            whole,
-            &mut self.peers,
+            end,
             &mut self.tables,
-            &mut self.marks,
+            peer,
             &self.own_open,
+            Given::Nothing,
+            made,
         );
+        close(&mut self.marks, peer, made.left);
+    }
+
+    // The drafts of all sides are carried out, peers rising.
+    fn move_all(&mut self, whole: Whole, made: &[Sketch])
+        requires ready { AreReady self.old.own_open (draft_by whole self.old.own_open) self.old.peers made.now }
+        requires fits { overflow_in (draft_by whole self.old.own_open) self.old.peers ≡ false }
+        ensures { MovesAll self.old (draft_by whole self.old.own_open) self.new }
+    {
+        for at in 0..made.len() {
+            self.move_side(whole, at, &made[at]);
+        }
     }
 
     /// A second passes: at most one timer of each session runs out, peers rising (RFC 4271 section 8).
     ///
     /// Refused [`RouterError::StampEnd`], [`RouterError::EpochEnd`], and [`RouterError::Memory`] where a
     /// growth was; then all is as it was.
-    pub fn tick(&mut self) -> Result<Stepped, RouterError> {
+    pub fn tick(&mut self) -> Result<Stepped, RouterError>
+        ensures answers { Answers result self.old Tick self.new }
+        ensures same { IsSame self.old self.new }
+    {
         let stamp = self.stamp + 1;
         if stamp > GREATEST_STAMP {
             return Err(RouterError::StampEnd);
@@ -96,10 +137,11 @@ impl Router<'_> {
         if overflows(Whole::Second, self.peers.as_slice(), &self.own_open) {
             return Err(RouterError::EpochEnd);
         }
-        if reserve_all(Whole::Second, &mut self.peers, &self.own_open).is_err() {
+        let alloc = *self.peers.allocator();
+        let Ok(made) = prepare(alloc, Whole::Second, &mut self.peers, &self.own_open) else {
             return Err(RouterError::Memory);
-        }
-        self.change_all(Whole::Second);
+        };
+        self.move_all(Whole::Second, made.as_slice());
         self.stamp = stamp;
         Ok(Stepped::Did)
     }
@@ -113,10 +155,11 @@ impl Router<'_> {
         if stamp > GREATEST_STAMP {
             return Err(RouterError::StampEnd);
         }
-        if reserve_all(Whole::Stop, &mut self.peers, &self.own_open).is_err() {
+        let alloc = *self.peers.allocator();
+        let Ok(made) = prepare(alloc, Whole::Stop, &mut self.peers, &self.own_open) else {
             return Err(RouterError::Memory);
-        }
-        self.change_all(Whole::Stop);
+        };
+        self.move_all(Whole::Stop, made.as_slice());
         self.tables.clear();
         self.stamp = stamp;
         Ok(Stepped::Did)
