@@ -24,3 +24,4 @@ pub mod Recording
 pub mod Snapshots
 pub mod MarkTaking
 pub mod Moving
+pub mod Ticking
