@@ -138,8 +138,8 @@ module _ (word_follows : WordFollows) (old new : RibView) (v : ℕ) (u : Update)
   short_there q =
       elim (named_by old.net.origins q (list_any (names_it q) old.net.origins) refl) [
         | inl named ↦
-        subst IsShort (sym (word_follows old.net.origins old.heard new.heard v u h.words q named))
-        (short_after (lists u.nlri q) (lists u.withdrawn q) (announced_word u.attrs) (word_of old.heard v q) announced (short v q))
+            subst IsShort (sym (word_follows old.net.origins old.heard new.heard v u h.words q named))
+            (short_after (lists u.nlri q) (lists u.withdrawn q) (announced_word u.attrs) (word_of old.heard v q) announced (short v q))
         | inr other ↦ subst IsShort (sym (h.words.unnamed q other)) (short v q)
       ]
 

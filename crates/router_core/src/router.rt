@@ -10,6 +10,7 @@ mod carry;
 mod choose;
 mod command;
 mod handle;
+mod history;
 mod offer;
 mod put;
 mod record;

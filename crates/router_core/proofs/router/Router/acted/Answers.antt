@@ -1,0 +1,16 @@
+use Rattle.std.proofs.Common.{◌≡◌, ◌∙◌, ◌&&◌, not, sym, ap, subst}
+use Rattle.router_model.specs.Sides.{Side}
+use Rattle.router_side.specs.SideOf.{side, side_opening}
+use Rattle.router_core.specs.declared.peers.Peer.{Peer}
+use Rattle.router_core.specs.Views.{RouterView, IsFound, sides_of, config_of}
+use Rattle.router_core.proofs.PeerLemmas.{side_here}
+use Rattle.router_core.proofs.router.Router.acted.Goals as goal
+
+pub returns : goal.returns
+returns c =
+    let r : RouterView = record { net = c.self.inside.network.now; number = c.self.inside.number; own_open = c.self.inside.own_open; peers = c.self.inside.peers.items; tables = c.self.inside.tables; marks = c.self.inside.marks; stamp = c.self.inside.stamp } in
+    let v = c.args.peer in
+    let place = subst (λ (x : RouterView). IsFound x.peers v c.in_ok-at.at) (sym c.self.view_is) c.in_ok-at.ensures.place in
+    let stands : sides_of r v ≡ side c.index.result.now.end =
+    side_here (side_opening (config_of r.net)) r.peers v c.in_ok-at.at c.index.result.now place.2 ∙ ap (λ (w : Peer). side w.end) (sym c.index.ensures) in
+    c.acted.ensures ∙ ap (λ (s : Side). s.acted) (sym stands) ∙ ap (λ (x : RouterView). (sides_of x v).acted) c.self.view_is

@@ -1,0 +1,42 @@
+//! What a router acted on and sent.
+
+ghost use Rattle.std.specs.Prelude.{◌≡◌, ◌&&◌, false, not, MatchOption};
+ghost use Rattle.bgp_framing.specs.Held.{is_waiting};
+ghost use Rattle.router_side.specs.SideOf.{history};
+ghost use Rattle.router_model.specs.Settings.{linked};
+ghost use Rattle.router_core.specs.Views.{plain_of, sides_of};
+
+use super::Router;
+use ranked_policy::Asn;
+use router_side::Told;
+
+impl Router<'_> {
+    /// The UPDATEs of a peer that were acted on, in their order, each once with its incarnation (RFC 4271
+    /// section 9). None where no link leads to the peer.
+    pub fn acted(&self, peer: Asn) -> Option<&[Told]>
+        ensures { MatchOption result (linked self.now.net self.now.number peer ≡ false) (λ told. history told.now ≡ (sides_of self.now peer).acted) }
+    {
+        let at = self.find(peer)?;
+        Some(self.peers[at].end.acted())
+    }
+
+    /// The UPDATEs that were sent to a peer, in their order, each once with its incarnation. None where
+    /// no link leads to the peer.
+    pub fn sent(&self, peer: Asn) -> Option<&[Told]>
+        ensures { MatchOption result (linked self.now.net self.now.number peer ≡ false) (λ told. history told.now ≡ (sides_of self.now peer).sent) }
+    {
+        let at = self.find(peer)?;
+        Some(self.peers[at].end.sent())
+    }
+
+    /// Whether an item of a peer may be taken: a link leads to it, and no whole message and no fault of
+    /// it waits to be handled.
+    pub fn may_take(&self, peer: Asn) -> bool
+        ensures { result ≡ (linked self.now.net self.now.number peer && not (is_waiting (sides_of self.now peer).held)) }
+    {
+        match self.find(peer) {
+            Some(at) => !self.peers[at].end.is_waiting(),
+            None => false,
+        }
+    }
+}
