@@ -1,6 +1,5 @@
 -- A draft that is carried out for one peer, as a step of the router.
-use Rattle.std.proofs.Common.{◌≡◌, ℕ, ◌≤◌, ◌<◌, Bool, true, false, cond, ◌==◌, List, Option, None, Some, refl, ap, sym, ◌∙◌, subst, get_or, set}
-use Rattle.std.specs.List.{AllByRecursion}
+use Rattle.std.proofs.Common.{◌≡◌, ℕ, ◌≤◌, ◌<◌, Bool, true, false, cond, ◌==◌, List, None, Some, refl, ap, sym, ◌∙◌, subst, get_or, set}
 use Rattle.std.proofs.Math.Path.{fun_ext}
 use Rattle.std.specs.Prelude.{◌+◌, nat_lt, Result, Ok, Err}
 use Rattle.bgp_codec.specs.declared.message.Message.{Message}
@@ -27,7 +26,7 @@ use Rattle.router_model.specs.declared.refusal.Stepped.{Stepped}
 use Rattle.router_model.specs.declared.refusal.Stepped.TheVariants as stepped
 use Rattle.router_model.specs.Settings.{Setting, linked, peers}
 use Rattle.router_model.specs.Sides.{Side, AtHand, NoMessage, Draft, carried, acted_with, is_up, without_front, met, reset}
-use Rattle.router_model.specs.State.{open_of, new_router}
+use Rattle.router_model.specs.State.{open_of}
 use Rattle.router_model.specs.Step.{RouterEvent, Obeys, with_side, moved, seen, close_at}
 use Rattle.router_model.specs.Calls.{Stamped, Call, Obey, Gives, answer, judged, unless, greatest_stamp, stamped_after}
 use Rattle.router_side.specs.SideOf.{side, side_opening}

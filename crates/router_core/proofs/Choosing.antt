@@ -1,29 +1,25 @@
 -- What a router chooses and whom it tells, by its tables and by the definitions.
-use Rattle.std.proofs.Common.{◌≡◌, ℕ, Bool, true, false, List, [], map, Option, None, Some, refl, sym, ap, subst, ◌∙◌, inl, inr}
-use Rattle.std.specs.Prelude.{MatchOption, is_some, ◌↔◌, ◌⊎◌}
+use Rattle.std.proofs.Common.{◌≡◌, ℕ, Bool, true, false, List, [], Option, refl, sym, ap, subst, ◌∙◌, inl, inr}
+use Rattle.std.specs.Prelude.{MatchOption, ◌↔◌, ◌⊎◌}
 use Rattle.std.specs.Bool.{Decides}
-use Rattle.std.specs.List.{AllPairs, Contains, find}
+use Rattle.std.specs.List.{Contains}
 use Rattle.std.proofs.lemmas.Bool.{true≢false}
-use Rattle.std.proofs.lemmas.Slice.Eq.{bytes_eq-Decides}
 use Rattle.prefix_lanes.specs.Bits.{PrefixView}
-use Rattle.ranked_policy.specs.Plans.{Plan, IsNetwork, IsRouter, IsNamed, IsBefore, Linked}
+use Rattle.ranked_policy.specs.Plans.{Plan, IsNetwork, IsRouter, IsNamed, Linked}
 use Rattle.ranked_policy.specs.Policies.{Table, IsTableOf}
-use Rattle.rib_tables.specs.declared.word.Word.{Word}
-use Rattle.rib_tables.specs.declared.word.Word.TheVariants.{Sequence}
 use Rattle.rib_tables.specs.Words.{path_in, lists}
 use Rattle.rib_tables.specs.Tables.{word_of, path_of}
 use Rattle.rib_tables.specs.Least.{HoldsOfAll, IsLeastWithout}
 use Rattle.rib_tables.specs.Choices as tables
-use Rattle.rib_tables.specs.Owners.{sources_of, IsSettled, IsServed}
+use Rattle.rib_tables.specs.Owners.{sources_of, IsSettled}
 use Rattle.rib_tables.specs.Promises.{BestOverWords, HearsWords, HasPathOf}
 use Rattle.stable_paths.specs.Stable.{IsBest}
 use Rattle.stable_paths.specs.Promises.{OneBest}
-use Rattle.router_model.specs.Settings.{Setting, ChoosesByRank, linked, prefixes}
+use Rattle.router_model.specs.Settings.{Setting, ChoosesByRank, linked}
 use Rattle.router_model.specs.Sides.{is_up}
-use Rattle.router_model.specs.State.{Router, heard, last_told, same_path, path_from, route, is_undecided, undecided, is_untold, untold, is_waiting_peer}
-use Rattle.router_core.specs.Views.{RouterView, IsSound, IsTabled, Follows, sides_of, plain_of}
-use Rattle.router_core.proofs.Naming.{decides_linked}
-use Rattle.router_core.proofs.Leasts.{least_is, any_is_found}
+use Rattle.router_model.specs.State.{Router, heard, same_path, path_from, route, is_undecided, undecided}
+use Rattle.router_core.specs.Views.{RouterView, IsSound, IsTabled, sides_of, plain_of}
+use Rattle.router_core.proofs.Leasts.{least_is}
 use Rattle.router_core.proofs.Awaiting.{path_decides, link_is, rising, found_in, prefixes_are}
 use Rattle.router_core.proofs.BestLemmas.{problem, best_to, best_from}
 

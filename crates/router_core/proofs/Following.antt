@@ -1,12 +1,11 @@
 -- Tables that follow a session have of its peer what its side says, and of every other peer what they had.
-use Rattle.std.proofs.Common.{◌≡◌, ℕ, ◌==◌, ◌<◌, ◌≤◌, ◌++◌, ◌∷◌, [], Bool, true, false, cond, List, Option, None, Some, refl, sym, ap, ◌∙◌, subst, arith, inl, inr}
+use Rattle.std.proofs.Common.{◌≡◌, ℕ, ◌==◌, ◌<◌, ◌≤◌, [], Bool, true, false, cond, List, Option, None, Some, refl, sym, ap, ◌∙◌, subst, arith, inl, inr}
 use Rattle.std.specs.Prelude.{◌≢◌, ◌↔◌, ◌⊎◌}
 use Rattle.std.specs.List.{Contains}
 use Rattle.std.proofs.lemmas.Bool.{eqb-true, eqb-false}
 use Rattle.prefix_lanes.specs.Bits.{PrefixView}
 use Rattle.bgp_codec.specs.declared.update.Update.{Update}
 use Rattle.ranked_policy.specs.declared.network.Origin.{Origin}
-use Rattle.ranked_policy.specs.Plans.{IsNamed}
 use Rattle.rib_tables.specs.declared.word.Word.{Word}
 use Rattle.rib_tables.specs.Words.{nothing, path_in}
 use Rattle.rib_tables.specs.Tables.{word_of}
@@ -14,7 +13,7 @@ use Rattle.rib_tables.specs.Owners.{RibView, ComesUp, ForgetsPeer, HearsUpdate}
 use Rattle.router_model.specs.Sides.{Side, is_up}
 use Rattle.router_model.specs.State.{heard, last_told, last_word}
 use Rattle.router_side.specs.Freshness.{IsUnsaid}
-use Rattle.router_core.specs.Views.{Follows, AreShort, heard_now, told_now}
+use Rattle.router_core.specs.Views.{Follows, AreShort}
 use Rattle.router_core.specs.Following.{Followed, ComesUpAgain}
 
 -- ---- all but one peer is as it was

@@ -30,7 +30,7 @@ use Rattle.snap_marker.specs.Recordings.{Snapshots}
 use Rattle.router_model.specs.Sides.{Side, AtHand, NoMessage, HasFault, HasUpdate, Draft, acted_with, with_update, carried, at_hand, front, without_front, handled, is_up, is_established}
 use Rattle.router_model.specs.State.{last_word, word_after, rule_of}
 use Rattle.router_model.specs.Step.{seen}
-use Rattle.router_side.specs.Freshness.{IsFresh, IsUnsaid, ComesUpUnsaid, ActsWhereUp, HandlingKeepsFresh}
+use Rattle.router_side.specs.Freshness.{IsFresh, ComesUpUnsaid, ActsWhereUp, HandlingKeepsFresh}
 use Rattle.router_side.specs.SideOf.{side}
 use Rattle.router_core.specs.declared.peers.Peer.{Peer}
 use Rattle.router_core.specs.Views.{RouterView, IsSound, Follows, IsPathWord, AreShort, listed}

@@ -1,11 +1,11 @@
 -- Drafts of all peers, made one after the other and then carried out one after the other.
-use Rattle.std.proofs.Common.{◌≡◌, ℕ, zero, suc, ◌+◌, ◌<◌, ◌≤◌, ◌==◌, ◌++◌, Bool, true, false, cond, ◌||◌, List, [], ◌∷◌, length, map, Option, None, Some, refl, sym, ap, ◌∙◌, subst, arith, get_or, set, drop}
+use Rattle.std.proofs.Common.{◌≡◌, ℕ, zero, suc, ◌+◌, ◌<◌, ◌≤◌, ◌++◌, Bool, true, false, ◌||◌, List, [], ◌∷◌, length, map, Option, None, Some, refl, sym, ap, ◌∙◌, subst, arith, get_or, set}
 use Rattle.std.specs.List.{list_any}
 use Rattle.std.proofs.lemmas.Bool.{eq-eqb, ne_eqb}
 use Rattle.std.proofs.lemmas.List.{length-map}
 use Rattle.bgp_codec.specs.declared.message.Message.{Message}
 use Rattle.snap_marker.specs.Recordings.{RouterOffer, Snapshots, closed}
-use Rattle.router_model.specs.Sides.{Side, Draft, NoMessage, carried}
+use Rattle.router_model.specs.Sides.{Side, Draft, NoMessage}
 use Rattle.router_model.specs.Step.{close_at, or_first, first_close}
 use Rattle.router_side.specs.declared.draft.Sketch.{Sketch}
 use Rattle.router_side.specs.Freshness.{IsFresh, KeepsFresh, SessionsKeepFresh}

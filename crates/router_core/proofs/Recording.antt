@@ -1,22 +1,18 @@
 -- The lists of a part as what the definitions record, and the peers that are marked.
-use Rattle.std.proofs.Common.{◌≡◌, ℕ, zero, suc, ◌<◌, ◌≤◌, ◌==◌, Bool, true, false, not, cond, ◌&&◌, ◌||◌, List, [], ◌∷◌, map, filter, length, Option, None, Some, refl, sym, ap, subst, ◌∙◌, arith, get_or, drop, inl, inr}
-use Rattle.std.specs.Prelude.{nat_eq, IsTrue}
-use Rattle.std.specs.List.{find, list_any, AllPairs, All}
+use Rattle.std.proofs.Common.{◌≡◌, ℕ, suc, ◌<◌, ◌==◌, Bool, true, false, not, cond, ◌&&◌, ◌||◌, List, [], ◌∷◌, map, length, Option, Some, refl, sym, ap, subst, ◌∙◌, arith, get_or, drop}
+use Rattle.std.specs.List.{find, AllPairs}
 use Rattle.std.proofs.Math.Path.{fun_ext}
 use Rattle.std.proofs.lemmas.Bool.{eqb-true, eq-eqb, ne_eqb, eqb-false}
 use Rattle.std.proofs.lemmas.List.Kept.{AllPairs-filter}
 use Rattle.std.proofs.lemmas.List.Folds.{Any-from_list_any, list_any-from_Any}
-use Rattle.bgp_codec.specs.declared.message.Message.{Message}
-use Rattle.bgp_codec.specs.declared.message.Message.TheVariants.{UpdateMsg}
 use Rattle.prefix_lanes.specs.Bits.{PrefixView}
 use Rattle.ranked_policy.specs.declared.network.Origin.{Origin}
 use Rattle.ranked_policy.specs.Plans.{Plan, IsNetwork, IsNamed, numbers}
 use Rattle.rib_tables.specs.Words.{is_prefix, lists}
 use Rattle.rib_tables.specs.Tables.{Paths, path_of}
 use Rattle.snap_marker.specs.declared.part.Channel.{Channel}
-use Rattle.snap_marker.specs.declared.part.Part.{Part}
-use Rattle.snap_marker.specs.Parts.{Seen, seen, peers_of, epoch_in, channel_in, waits_in, kept_in, originated_in, messages, part_of, recording_of}
-use Rattle.router_model.specs.Settings.{Setting, names, linked, peers}
+use Rattle.snap_marker.specs.Parts.{Seen, seen, peers_of, epoch_in, channel_in, waits_in, kept_in, originated_in, messages}
+use Rattle.router_model.specs.Settings.{names, linked, peers}
 use Rattle.router_model.specs.Sides.{Side, marked, is_up}
 use Rattle.router_model.specs.Step.{awaits}
 use Rattle.router_side.specs.SideOf.{side}

@@ -1,11 +1,7 @@
 -- A put, and a front that is handled, as steps of the router.
 use Rattle.std.proofs.Common.{◌≡◌, ℕ, ◌+◌, Bool, true, false, [], Option, None, Some, refl, ap, sym, ◌∙◌, subst, get_or}
 use Rattle.std.specs.Prelude.{nat_lt, is_some, Result, Ok, Err}
-use Rattle.bgp_codec.specs.declared.message.Message.{Message}
-use Rattle.bgp_codec.specs.declared.fault.Fault.{Fault}
-use Rattle.bgp_codec.specs.declared.rule.Rule.{Rule}
 use Rattle.bgp_framing.specs.Held.{is_waiting}
-use Rattle.session_fsm.specs.declared.event.FsmEvent.{FsmEvent}
 use Rattle.run_model.specs.Network.{alone}
 use Rattle.outbox.specs.declared.item.What.{What}
 use Rattle.outbox.specs.declared.item.Item.{Item}
@@ -15,7 +11,7 @@ use Rattle.router_model.specs.declared.refusal.RouterError.{RouterError}
 use Rattle.router_model.specs.declared.refusal.RouterError.TheVariants as error
 use Rattle.router_model.specs.declared.refusal.Stepped.{Stepped}
 use Rattle.router_model.specs.declared.refusal.Stepped.TheVariants as stepped
-use Rattle.router_model.specs.Sides.{Side, AtHand, Draft, carried, comes, draft_of, event_of, at_hand, front, without_front, handled}
+use Rattle.router_model.specs.Sides.{Side, AtHand, Draft, carried, at_hand, front, without_front, handled}
 use Rattle.router_side.specs.SideOf.{side, put_next}
 use Rattle.router_model.specs.State.{open_of, rule_of}
 use Rattle.rib_tables.specs.Owners.{RibView}

@@ -1,5 +1,5 @@
 -- A snapshot that is recorded, as a step of the router.
-use Rattle.std.proofs.Common.{◌≡◌, ℕ, ◌+◌, ◌≤◌, ◌<◌, ◌==◌, Bool, true, false, not, cond, ◌&&◌, List, [], ◌∷◌, map, Option, None, Some, refl, sym, ap, subst, ◌∙◌}
+use Rattle.std.proofs.Common.{◌≡◌, ℕ, ◌≤◌, ◌==◌, Bool, true, false, not, cond, ◌&&◌, List, [], ◌∷◌, Option, None, Some, refl, sym, ap, ◌∙◌}
 use Rattle.std.proofs.lemmas.Bool.{eqb-true}
 use Rattle.std.specs.Prelude.{Result, Ok, Err, OnErr}
 use Rattle.std.specs.List.{find}
@@ -7,8 +7,6 @@ use Rattle.std.proofs.Math.Path.{fun_ext}
 use Rattle.bgp_codec.specs.declared.message.Message.{Message}
 use Rattle.prefix_lanes.specs.Bits.{PrefixView}
 use Rattle.ranked_policy.specs.Plans.{Plan}
-use Rattle.rib_tables.specs.Words.{lists}
-use Rattle.rib_tables.specs.Tables.{path_of}
 use Rattle.rib_tables.specs.Promises.{BestOverWords}
 use Rattle.stable_paths.specs.Promises.{OneBest}
 use Rattle.snap_marker.specs.declared.part.Part.{Part}
@@ -16,15 +14,15 @@ use Rattle.snap_marker.specs.Parts.{MarkView, snapshots_of, peers_of, epoch_in, 
 use Rattle.snap_marker.specs.Parts as parts
 use Rattle.snap_marker.specs.Recordings.{RouterPart, Recording, Snapshots, begun_at, begun}
 use Rattle.router_model.specs.Laws.{LinkedRoutersArePeers}
-use Rattle.router_model.specs.Settings.{Setting, ChoosesByRank, linked, peers}
+use Rattle.router_model.specs.Settings.{Setting, linked, peers}
 use Rattle.router_model.specs.Sides.{Side, marked, is_up}
 use Rattle.router_model.specs.State.{Router, is_pending}
 use Rattle.router_model.specs.Step.{awaits, recorded_part, recording_of, records}
-use Rattle.router_model.specs.Calls.{Stamped, greatest_stamp}
-use Rattle.router_side.specs.SideOf.{side, side_opening}
+use Rattle.router_model.specs.Calls.{greatest_stamp}
+use Rattle.router_side.specs.SideOf.{side_opening}
 use Rattle.router_core.specs.declared.peers.Peer.{Peer}
-use Rattle.router_core.specs.Views.{RouterView, IsSound, IsTabled, IsMarked, Follows, side_at, sides_of, listed, config_of, plain_of}
-use Rattle.router_core.specs.Recorded.{Become, marked_if_up, IsPart, IsPeer, down_in, channels_of}
+use Rattle.router_core.specs.Views.{RouterView, IsSound, side_at, sides_of, listed, config_of, plain_of}
+use Rattle.router_core.specs.Recorded.{Become, marked_if_up, IsPart, IsPeer, down_in}
 use Rattle.router_core.proofs.Carrying.{fresh_alike}
 use Rattle.router_core.proofs.Following.{follows_alike}
 use Rattle.router_core.proofs.Choosing.{Chooses}

@@ -1,6 +1,6 @@
 -- A second that passes and a restart, as steps of the router.
-use Rattle.std.proofs.Common.{◌≡◌, ℕ, ◌+◌, ◌≤◌, ◌||◌, Bool, true, false, cond, List, [], ◌∷◌, map, Option, None, Some, refl, sym, ap, subst, ◌∙◌, arith}
-use Rattle.std.specs.Prelude.{nat_lt, Result, Ok, Err}
+use Rattle.std.proofs.Common.{◌≡◌, ℕ, ◌+◌, ◌≤◌, ◌||◌, Bool, true, false, cond, List, [], ◌∷◌, None, Some, refl, sym, ap, subst, ◌∙◌, arith}
+use Rattle.std.specs.Prelude.{nat_lt, Result, Err}
 use Rattle.std.specs.List.{list_any, Contains}
 use Rattle.std.proofs.Math.Path.{fun_ext}
 use Rattle.std.proofs.lemmas.Bool.{false_from_ne_true}
@@ -31,7 +31,7 @@ use Rattle.router_model.specs.Step.{Obeys, Ticks, all_moved, forgetting, first_c
 use Rattle.router_model.specs.Calls.{Stamped, Tick, Obey, Gives, answer, judged, greatest_stamp}
 use Rattle.router_side.specs.SideOf.{side, side_opening}
 use Rattle.router_core.specs.declared.peers.Peer.{Peer}
-use Rattle.router_core.specs.Views.{RouterView, IsSound, IsTabled, IsTellable, IsPathWord, Follows, side_at, sides_of, config_of, plain_of, Ends}
+use Rattle.router_core.specs.Views.{RouterView, IsSound, IsTellable, IsPathWord, side_at, sides_of, config_of, plain_of, Ends}
 use Rattle.router_core.specs.Recorded.{Become}
 use Rattle.router_core.specs.Whole.{overflow_in, first_left, MovesAll}
 use Rattle.router_core.proofs.Snapshots.{with_peers, same_alike, stays_sound, same_plain}
@@ -86,12 +86,12 @@ cleared_sound x t stamp s few c =
         net = ap (λ (k : RibView). k.net) c.rest ∙ h.net;
         router = ap (λ (k : RibView). k.router) c.rest ∙ h.router;
         peers = λ v l.
-        let f = h.peers v l in
-        record {
-          up = ((λ k. f.up.0 (subst (λ (w : RibView). Contains w.established v) c.rest k)), (λ k. subst (λ (w : RibView). Contains w.established v) (sym c.rest) (f.up.1 k)));
-          heard = λ q n. ap (λ (k : RibView). word_of k.heard v q) c.rest ∙ f.heard q n;
-          told = λ q n. ap (λ (k : RibView). word_of k.sent v q) c.rest ∙ f.told q n;
-        };
+            let f = h.peers v l in
+            record {
+              up = ((λ k. f.up.0 (subst (λ (w : RibView). Contains w.established v) c.rest k)), (λ k. subst (λ (w : RibView). Contains w.established v) (sym c.rest) (f.up.1 k)));
+              heard = λ q n. ap (λ (k : RibView). word_of k.heard v q) c.rest ∙ f.heard q n;
+              told = λ q n. ap (λ (k : RibView). word_of k.sent v q) c.rest ∙ f.told q n;
+            };
         fresh = h.fresh;
         short = λ v q. subst IsShort (sym (ap (λ (k : RibView). word_of k.heard v q) c.rest)) (h.short v q);
         sent = λ v q. subst IsPathWord (sym (ap (λ (k : RibView). word_of k.sent v q) c.rest)) (h.sent v q);

@@ -1,5 +1,5 @@
 -- What a router is as a snapshot is recorded, as the code has it: lists by prefix and by peer.
-use Rattle.std.specs.Prelude.{ℕ, ◌≡◌, Bool, true, false, not, cond, List, [], ◌∷◌, map, filter, Option, None, Some, Result, MatchResult}
+use Rattle.std.specs.Prelude.{ℕ, ◌≡◌, true, false, cond, List, [], ◌∷◌, map, filter, Option, None, Some, Result, MatchResult}
 use Rattle.prefix_lanes.specs.Bits.{PrefixView}
 use Rattle.ranked_policy.specs.declared.network.Origin.{Origin}
 use Rattle.rib_tables.specs.Words.{lists}

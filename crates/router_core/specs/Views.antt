@@ -11,7 +11,7 @@ use Rattle.router_model.specs.declared.refusal.Stepped.{Stepped}
 use Rattle.router_model.specs.declared.refusal.Stepped.TheVariants as stepped
 use Rattle.std.specs.Prelude.{◌↔◌}
 use Rattle.std.specs.List.{Contains, AllByRecursion, find}
-use Rattle.std.specs.Prelude.{is_some, MatchOption}
+use Rattle.std.specs.Prelude.{is_some}
 use Rattle.router_side.specs.Freshness.{IsFresh}
 use Rattle.prefix_lanes.specs.Bits.{PrefixView}
 use Rattle.ranked_policy.specs.Plans.{IsNamed}

@@ -1,5 +1,5 @@
 -- What comes to all peers of a router at once.
-use Rattle.std.specs.Prelude.{ℕ, ◌≡◌, ◌||◌, Bool, false, true, List, [], ◌∷◌, Option, None, get_or, set}
+use Rattle.std.specs.Prelude.{ℕ, ◌≡◌, ◌||◌, Bool, false, List, [], ◌∷◌, Option, None, get_or, set}
 use Rattle.bgp_codec.specs.declared.message.Message.{Message}
 use Rattle.session_fsm.specs.declared.event.FsmEvent.TheVariants.{ManualStop}
 use Rattle.snap_marker.specs.Recordings.{closed}

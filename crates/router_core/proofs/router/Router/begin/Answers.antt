@@ -1,6 +1,5 @@
 use Rattle.std.proofs.Common.{◌≡◌, ◌∙◌, ℕ, sym, refl, ap, subst, List}
-use Rattle.std.specs.Prelude.{Ok, OnOk}
-use Rattle.snap_marker.specs.Parts.{MarkView, snapshots_of, IsOver, AreOf, IsOf, router_of}
+use Rattle.snap_marker.specs.Parts.{IsOver, IsOf, router_of}
 use Rattle.std.specs.List.{AllByRecursion}
 use Rattle.ranked_policy.specs.declared.network.Origin.{Origin}
 use Rattle.snap_marker.specs.declared.part.Offer.{Offer}
@@ -8,7 +7,6 @@ use Rattle.router_model.specs.Settings.{peers}
 use Rattle.router_core.specs.declared.peers.Peer.{Peer}
 use Rattle.router_core.specs.Views.{RouterView, plain_of}
 use Rattle.router_core.specs.Recorded.{IsPeer, Records, IsPart, marked_if_up, down_in}
-use Rattle.router_core.proofs.Choosing.{Chooses}
 use Rattle.router_core.proofs.Recording.{peers_as}
 use Rattle.router_core.proofs.Snapshots.{with_peers, Marks, same_alike, marked_alike, stays_sound, same_plain, marked_then, recorded, on_err}
 use Rattle.router_core.proofs.router.Router.begin.Goals as goal

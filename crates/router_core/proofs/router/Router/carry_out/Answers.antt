@@ -1,8 +1,6 @@
 use Rattle.std.proofs.Common.{◌≡◌, ◌∙◌, ◌≤◌, ap, sym, refl, subst, false, arith}
 use Rattle.std.specs.Prelude.{nat_lt, Ok, Err}
 use Rattle.std.proofs.lemmas.Bool.Decides.{nat_tests}
-use Rattle.ranked_policy.specs.Plans.{Linked}
-use Rattle.rib_tables.specs.Owners.{RibView}
 use Rattle.router_model.specs.declared.refusal.RouterError.TheVariants.{Memory}
 use Rattle.router_model.specs.declared.refusal.Stepped.TheVariants.{Did}
 use Rattle.router_model.specs.Sides.{Side, NoMessage, carried}
@@ -16,7 +14,7 @@ use Rattle.router_core.specs.declared.peers.Peer.{Peer}
 use Rattle.router_core.specs.Views.{RouterView, IsFound, Carries, sides_of, plain_of}
 use Rattle.router_core.specs.Following.{Followed, standing}
 use Rattle.router_core.proofs.Beginnings.{linked_to}
-use Rattle.router_core.proofs.Carrying.{Changes, with_peer, stays, kept, moves, tracks_alike, tracks_moved, records_same, nothing_seen, is_peer, ends_did, ends_memory}
+use Rattle.router_core.proofs.Carrying.{Changes, with_peer, stays, kept, moves, tracks_alike, tracks_moved, records_same, nothing_seen, ends_did, ends_memory}
 use Rattle.router_core.proofs.Following.{leaves}
 use Rattle.router_core.proofs.router.Router.carry_out.Goals as goal
 

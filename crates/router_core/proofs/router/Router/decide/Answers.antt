@@ -1,4 +1,3 @@
-use Rattle.router_core.proofs.Pending.{pending_is}
 use Rattle.std.proofs.Common.{◌≡◌, ◌+◌, ◌≤◌, true, false, arith, subst, ◌∙◌}
 use Rattle.std.specs.Prelude.{nat_lt, Ok, Err, MatchOption}
 use Rattle.std.proofs.lemmas.Bool.Decides.{nat_tests}

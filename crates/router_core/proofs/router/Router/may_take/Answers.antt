@@ -1,4 +1,4 @@
-use Rattle.std.proofs.Common.{◌≡◌, ◌∙◌, ◌&&◌, not, sym, ap, subst}
+use Rattle.std.proofs.Common.{◌≡◌, ◌∙◌, sym, ap, subst}
 use Rattle.std.proofs.Common.{refl}
 use Rattle.bgp_framing.specs.Held.{is_waiting}
 use Rattle.router_model.specs.Sides.{Side}

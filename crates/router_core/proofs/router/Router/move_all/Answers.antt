@@ -73,8 +73,8 @@ loop-at-preserved c =
     record {
       peers = subst (Passed f (l.at + 1) x.peers) (sym m.peers) (passed_next f l.at x.peers l.self.peers d m.peer l.invariant.peers now (m.number d) (m.moved d));
       marks =
-      closed_next D l.at x.peers d (snapshots_of x.marks) (snapshots_of l.self.marks) (snapshots_of y.marks) here l.invariant.marks
-      (subst (λ (p : Peer). snapshots_of y.marks ≡ closed (close_at p.number (D (side p.end)).left) (snapshots_of l.self.marks)) (passed_here f l.at x.peers l.self.peers d l.invariant.peers) (m.marks d));
+          closed_next D l.at x.peers d (snapshots_of x.marks) (snapshots_of l.self.marks) (snapshots_of y.marks) here l.invariant.marks
+          (subst (λ (p : Peer). snapshots_of y.marks ≡ closed (close_at p.number (D (side p.end)).left) (snapshots_of l.self.marks)) (passed_here f l.at x.peers l.self.peers d l.invariant.peers) (m.marks d));
       rest = rest_then x l.self y l.invariant.rest m.rest;
     }
 

@@ -71,11 +71,11 @@ returns c =
       peers = refl;
       number = λ d. ap (λ (w : Peer). w.number) (c.index_mut.ensures.value ∙ get_same r.peers at p d below);
       moved = λ d.
-      c.carry.ensures.side ∙ ap (λ (k : Draft). carried NoMessage (side p.end) k) made
-      ∙ ap (λ (w : Peer). carried NoMessage (side w.end) (D (side w.end))) (c.index_mut.ensures.value ∙ get_same r.peers at p d below);
+          c.carry.ensures.side ∙ ap (λ (k : Draft). carried NoMessage (side p.end) k) made
+          ∙ ap (λ (w : Peer). carried NoMessage (side w.end) (D (side w.end))) (c.index_mut.ensures.value ∙ get_same r.peers at p d below);
       marks = λ d.
-      c.close.ensures.closed ∙ ap (λ (k : Draft). closed (close_at v k.left) (snapshots_of r.marks)) made
-      ∙ ap (λ (w : Peer). closed (close_at w.number (D (side p.end)).left) (snapshots_of r.marks)) one
-      ∙ ap (λ (w : Peer). closed (close_at w.number (D (side w.end)).left) (snapshots_of r.marks)) (c.index_mut.ensures.value ∙ get_same r.peers at p d below);
+          c.close.ensures.closed ∙ ap (λ (k : Draft). closed (close_at v k.left) (snapshots_of r.marks)) made
+          ∙ ap (λ (w : Peer). closed (close_at w.number (D (side p.end)).left) (snapshots_of r.marks)) one
+          ∙ ap (λ (w : Peer). closed (close_at w.number (D (side w.end)).left) (snapshots_of r.marks)) (c.index_mut.ensures.value ∙ get_same r.peers at p d below);
       rest = record { net = refl; number = refl; own_open = refl; kept = on.kept; originated = on.originated; stamp = refl };
     })

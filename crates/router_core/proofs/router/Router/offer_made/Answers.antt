@@ -1,4 +1,4 @@
-use Rattle.std.proofs.Common.{◌≡◌, sym, subst}
+use Rattle.std.proofs.Common.{sym, subst}
 use Rattle.router_model.specs.Settings.{peers}
 use Rattle.snap_marker.specs.declared.part.Part.{Part}
 use Rattle.std.specs.Prelude.{Option}

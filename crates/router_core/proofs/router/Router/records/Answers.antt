@@ -1,4 +1,4 @@
-use Rattle.std.proofs.Common.{◌≡◌, ◌∙◌, refl, ap}
+use Rattle.std.proofs.Common.{◌∙◌, refl, ap}
 use Rattle.router_model.specs.Calls.{Stamped}
 use Rattle.router_core.specs.Views.{plain_of}
 use Rattle.router_core.proofs.router.Router.records.Goals as goal

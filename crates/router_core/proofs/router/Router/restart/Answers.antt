@@ -1,4 +1,4 @@
-use Rattle.std.proofs.Common.{◌≡◌, ◌∙◌, ◌+◌, ◌≤◌, Bool, true, false, List, ap, sym, refl, subst, arith}
+use Rattle.std.proofs.Common.{◌≡◌, ◌∙◌, ◌+◌, ◌≤◌, false, ap, refl, subst, arith}
 use Rattle.std.specs.Prelude.{nat_lt, Ok, Err}
 use Rattle.std.proofs.lemmas.Bool.Decides.{nat_tests}
 use Rattle.router_model.specs.declared.refusal.RouterError.TheVariants as error
@@ -8,11 +8,10 @@ use Rattle.router_model.specs.declared.command.Command.TheVariants.{Restart}
 use Rattle.router_model.specs.Sides.{met}
 use Rattle.router_model.specs.Step.{forgetting}
 use Rattle.router_model.specs.Calls.{Stamped, Obey, greatest_stamp}
-use Rattle.router_core.specs.Views.{RouterView, IsSound, Answers, plain_of}
-use Rattle.router_core.specs.declared.peers.Peer.{Peer}
+use Rattle.router_core.specs.Views.{RouterView, Answers, plain_of}
 use Rattle.router_core.proofs.Snapshots.{with_peers, same_plain}
 use Rattle.router_core.proofs.Carrying.{ends_did, ends_memory}
-use Rattle.router_core.proofs.Ticking.{at_stamp, restarts, restarted, cleared, cleared_sound, prepared_sound, overflow_alike, stops_fit, all_done}
+use Rattle.router_core.proofs.Ticking.{at_stamp, restarts, restarted, cleared, cleared_sound, prepared_sound, stops_fit, all_done}
 use Rattle.router_core.proofs.router.Router.restart.Goals as goal
 
 pub invariant_of-self : goal.invariant_of-self

@@ -1,12 +1,11 @@
-use Rattle.std.proofs.Common.{◌≡◌, ◌+◌, ◌≤◌, true, false, None, sym, subst, arith}
-use Rattle.std.specs.Prelude.{nat_lt, Err}
+use Rattle.std.proofs.Common.{◌≡◌, ◌+◌, true, false, None, sym, subst, arith}
+use Rattle.std.specs.Prelude.{nat_lt}
 use Rattle.std.proofs.lemmas.Bool.Decides.{nat_tests}
 use Rattle.router_model.specs.declared.command.Command.TheVariants.{Snapshot}
-use Rattle.router_model.specs.declared.refusal.RouterError.TheVariants as error
 use Rattle.router_model.specs.Calls.{Obey, greatest_stamp}
 use Rattle.router_core.specs.Views.{RouterView, Answers}
 use Rattle.router_core.specs.Recorded.{RecordsAt}
-use Rattle.router_core.proofs.MarkTaking.{snaps_old, snaps_late, snaps}
+use Rattle.router_core.proofs.MarkTaking.{snaps}
 use Rattle.router_core.proofs.router.Router.snapshot.Goals as goal
 
 pub returns-clause-answers : goal.returns-clause-answers

@@ -1,6 +1,6 @@
 use Rattle.std.proofs.Common.{◌≡◌, ◌∙◌, ◌+◌, ap, sym, subst, get_or, false}
 use Rattle.session_fsm.specs.declared.event.FsmEvent.TheVariants.{ManualStop}
-use Rattle.router_model.specs.Sides.{Draft, NoMessage, met}
+use Rattle.router_model.specs.Sides.{NoMessage, met}
 use Rattle.router_side.specs.Drafts.{draft}
 use Rattle.router_side.specs.Freshness.{KeepsFresh}
 use Rattle.router_side.specs.SideOf.{side}

@@ -1,12 +1,11 @@
-use Rattle.std.proofs.Common.{◌≡◌, ◌∙◌, ◌+◌, ◌≤◌, Bool, true, false, List, ap, sym, refl, subst, arith}
+use Rattle.std.proofs.Common.{◌≡◌, ◌∙◌, ◌+◌, false, ap, sym, refl, subst, arith}
 use Rattle.std.specs.Prelude.{nat_lt, Ok, Err}
 use Rattle.std.proofs.lemmas.Bool.Decides.{nat_tests}
 use Rattle.router_model.specs.declared.refusal.RouterError.TheVariants as error
 use Rattle.router_model.specs.declared.refusal.Stepped.TheVariants as stepped
 use Rattle.router_model.specs.Sides.{second}
-use Rattle.router_model.specs.Calls.{Stamped, Tick, greatest_stamp}
-use Rattle.router_core.specs.Views.{RouterView, IsSound, Answers, plain_of}
-use Rattle.router_core.specs.declared.peers.Peer.{Peer}
+use Rattle.router_model.specs.Calls.{Tick, greatest_stamp}
+use Rattle.router_core.specs.Views.{RouterView, Answers, plain_of}
 use Rattle.router_core.proofs.Snapshots.{with_peers, same_plain}
 use Rattle.router_core.specs.Whole.{overflow_in}
 use Rattle.router_core.proofs.Carrying.{ends_did, ends_memory}

@@ -1,6 +1,5 @@
-use Rattle.std.proofs.Common.{◌+◌, ◌<◌, ◌≤◌, ◌∙◌, ◌∷◌, [], ◌++◌, List, ap, sym, refl, subst, arith, get_or, set}
+use Rattle.std.proofs.Common.{◌+◌, ◌∙◌, List, ap, sym, refl, subst, arith, get_or, set}
 use Rattle.router_side.specs.declared.draft.Sketch.{Sketch}
-use Rattle.router_side.specs.SideOf.{side}
 use Rattle.router_core.specs.declared.peers.Peer.{Peer}
 use Rattle.router_core.specs.Whole.{draft_by}
 use Rattle.router_core.proofs.Marking.{passed_next, passed_same}
@@ -33,9 +32,9 @@ loop-peer-preserved c =
     record {
       same = passed_next (λ s. s) l.peer-index c.args.peers.now l.peers p q l.invariant.same (omega (arith, c.loop-peer-test.true)) refl c.reserve.ensures.side;
       ready =
-      subst (λ (ms : List Sketch). ReadyBelow c.args.own_open.now D (l.peer-index + 1) (set l.peers l.peer-index q) ms) (sym c.in_ok-push.ensures.items)
-      (ready_next c.args.own_open.now D l.peer-index l.peers l.drafts.items q made l.invariant.ready (omega (arith, c.loop-peer-test.true))
-      (c.drafted-made.ensures ∙ ap D (sym c.reserve.ensures.side), c.in_ok-reserve.ensures.room));
+          subst (λ (ms : List Sketch). ReadyBelow c.args.own_open.now D (l.peer-index + 1) (set l.peers l.peer-index q) ms) (sym c.in_ok-push.ensures.items)
+          (ready_next c.args.own_open.now D l.peer-index l.peers l.drafts.items q made l.invariant.ready (omega (arith, c.loop-peer-test.true))
+          (c.drafted-made.ensures ∙ ap D (sym c.reserve.ensures.side), c.in_ok-reserve.ensures.room));
     }
 
 pub returns-clause-same : goal.returns-clause-same

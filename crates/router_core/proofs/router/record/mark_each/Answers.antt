@@ -1,6 +1,4 @@
-use Rattle.std.proofs.Common.{◌<◌, ◌≤◌, ◌∙◌, sym, subst, ap, refl, arith, length}
-use Rattle.router_side.specs.SideOf.{side, HasRoomToMark}
-use Rattle.router_core.specs.declared.peers.Peer.{Peer}
+use Rattle.std.proofs.Common.{arith}
 use Rattle.router_core.specs.Recorded.{marked_if_up}
 use Rattle.router_core.proofs.Marking.{passed_next, passed_all, room_here, room_left}
 use Rattle.router_core.proofs.router.record.mark_each.Goals as goal

@@ -1,5 +1,4 @@
-use Rattle.std.proofs.Common.{◌<◌, ◌≤◌, ◌+◌, ◌∙◌, sym, ap, refl, arith, length, get_or}
-use Rattle.router_side.specs.SideOf.{side}
+use Rattle.std.proofs.Common.{◌+◌, refl, arith, get_or}
 use Rattle.router_core.specs.declared.peers.Peer.{Peer}
 use Rattle.router_core.proofs.Marking.{passed_next, passed_same, room_next, room_all}
 use Rattle.router_core.proofs.router.record.reserve_each.Goals as goal
