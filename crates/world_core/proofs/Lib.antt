@@ -1,5 +1,10 @@
-pub mod CarryLemmas
-pub mod UpdateLemmas
 pub mod Playing
 pub mod Stilling
 pub mod Keeping
+pub mod RouterAnswers
+pub mod Places
+pub mod Stepping
+pub mod Linking
+pub mod Moving
+pub mod Worlds
+pub mod Obeying

@@ -1,12 +1,14 @@
 -- What is played is a run.
 use Rattle.std.proofs.Common.{◌≡◌, ℕ, ◌+◌, ◌==◌, nat_eq, Bool, true, false, ◌&&◌, cond, List, [], ◌∷◌, ◌++◌, refl, ap, sym, ◌∙◌, arith, append_assoc, subst, Option, None, Some}
-use Rattle.std.specs.Prelude.{if◌then◌else◌, nat_lt, map, drop, slice_get, max, Ok}
+use Rattle.std.specs.Prelude.{if◌then◌else◌, nat_lt, map, drop, slice_get, filter, max, Ok}
 use Rattle.std.proofs.lemmas.List.{append-nil}
+use Rattle.std.proofs.lemmas.List.Elements.{filter-append}
 use Rattle.std.proofs.lemmas.Map.Views.{Contains-from_any}
 use Rattle.std.proofs.lemmas.Bool.Decides.{nat_tests}
 use Rattle.ranked_policy.specs.Plans.{IsNetwork, IsRouter, numbers}
 use Rattle.run_model.specs.Network as runs
 use Rattle.run_model.specs.Network.{NetworkEvent, alone, puts, takes, offers}
+use Rattle.outbox.specs.declared.item.Item.{Item}
 use Rattle.outbox.specs.declared.item.What.{What}
 use Rattle.router_model.specs.declared.refusal.RouterError.{RouterError}
 use Rattle.router_model.specs.declared.refusal.RouterError.TheVariants as error
@@ -20,7 +22,7 @@ use Rattle.router_model.specs.Settings.{is_router}
 use Rattle.world_core.specs.declared.schedule.Event.{Event}
 use Rattle.world_core.specs.declared.schedule.Event.TheVariants as schedule
 use Rattle.world_core.specs.declared.schedule.StepFault.TheVariants.{NoSuchRouter, NoSuchLink}
-use Rattle.world_core.specs.World.{World, PipedItem, new_world, WorldAnswer, Does, Nothing, Stops, refused_by, of_answer, of_offer, called, taking_of, world_answer, piped, world_after, world_of, onward, played, name_of, named, AgreesWith}
+use Rattle.world_core.specs.World.{World, new_world, WorldAnswer, Does, Nothing, Stops, refused_by, of_answer, of_offer, called, taking_of, world_answer, piped, is_for, world_after, world_of, onward, played, name_of, named, AgreesWith}
 use Rattle.world_core.specs.Keeping.{WhatIsPlayedIsARun}
 use Rattle.router_model.specs.Laws.{AnswersAreSteps}
 
@@ -53,7 +55,7 @@ answered k at (Refuses why) u e stamp h = absurd (not_refused why u e stamp h)
 
 -- a take has the next item of its pipe
 abbrev pub TakesNext : World → ℕ → RouterEvent → Type 0
-TakesNext w u (takes v i) = (p : PipedItem) × (rest : List PipedItem) × (w.pipes v u ≡ p ∷ rest) × (p.what ≡ i)
+TakesNext w u (takes v i) = (p : Item) × (rest : List Item) × (w.pipes v u ≡ p ∷ rest) × (p.what ≡ i)
 TakesNext w u (alone e) = Unit {0}
 TakesNext w u (puts v i) = Unit {0}
 TakesNext w u (offers o) = Unit {0}
@@ -83,7 +85,7 @@ module _ (answers_are_steps : AnswersAreSteps) where
       let d : offers (record { router = k; offer = o }) ≡ e = cc in
       subst (λ j. Doing g w (schedule.Offer k) j e) same (subst (λ f. Doing g w (schedule.Offer k) k f) d (record { known = there; does = record { may = (refl, is); numbers = refl; leaves = refl }; name = refl; next = tt }))
 
-  by_item : (g : Setting) → IsNetwork g.net → (w : World) (k v : ℕ) (items : List PipedItem) (u : ℕ) (e : RouterEvent) (stamp : ℕ) → is_router g k ≡ true
+  by_item : (g : Setting) → IsNetwork g.net → (w : World) (k v : ℕ) (items : List Item) (u : ℕ) (e : RouterEvent) (stamp : ℕ) → is_router g k ≡ true
       → w.pipes v k ≡ items → taking_of g w k v (slice_get items 0) ≡ Does u e stamp → Doing g w (schedule.Take k v) u e
   by_item g net w k v [] u e stamp there is h = absurd cc
   by_item g net w k v (p ∷ rest) u e stamp there is h =
@@ -139,26 +141,26 @@ module _ (answers_are_steps : AnswersAreSteps) where
   flat_if true false xs = refl
   flat_if false r xs = refl
 
-  whats : List PipedItem → List What
+  whats : List Item → List What
   whats items = map (λ i. i.what) items
 
-  whats_more : (items : List PipedItem) (x : PipedItem) → map (λ i. i.what) (items ++ x ∷ []) ≡ map (λ i. i.what) items ++ x.what ∷ []
+  whats_more : (items : List Item) (x : Item) → map (λ i. i.what) (items ++ x ∷ []) ≡ map (λ i. i.what) items ++ x.what ∷ []
   whats_more [] x = refl
   whats_more (p ∷ items) x = ap (λ ws. p.what ∷ ws) (whats_more items x)
 
   -- what stands in a pipe when nothing moves, when an item is put, and when one is taken
-  still : (put taken p q : List What) (items : List PipedItem) → put ≡ taken ++ map (λ i. i.what) items → p ≡ [] → q ≡ [] → put ++ p ≡ (taken ++ q) ++ map (λ i. i.what) items
+  still : (put taken p q : List What) (items : List Item) → put ≡ taken ++ map (λ i. i.what) items → p ≡ [] → q ≡ [] → put ++ p ≡ (taken ++ q) ++ map (λ i. i.what) items
   still put taken p q items h e f =
       ap (λ k. put ++ k) e ∙ append-nil put ∙ h ∙ ap (λ t. t ++ map (λ i. i.what) items) (sym (ap (λ k. taken ++ k) f ∙ append-nil taken))
 
-  put_in : (b : Bool) (put taken p q : List What) (items : List PipedItem) (x : PipedItem) → put ≡ taken ++ map (λ i. i.what) items → p ≡ cond b (x.what ∷ []) [] → q ≡ []
+  put_in : (b : Bool) (put taken p q : List What) (items : List Item) (x : Item) → put ≡ taken ++ map (λ i. i.what) items → p ≡ cond b (x.what ∷ []) [] → q ≡ []
       → put ++ p ≡ (taken ++ q) ++ map (λ i. i.what) (cond b (items ++ x ∷ []) items)
   put_in true put taken p q items x h e f =
       ap (λ k. put ++ k) e ∙ ap (λ k. k ++ x.what ∷ []) h ∙ append_assoc taken (map (λ i. i.what) items) (x.what ∷ [])
       ∙ ap (λ k. taken ++ k) (sym (whats_more items x)) ∙ ap (λ t. t ++ map (λ i. i.what) (items ++ x ∷ [])) (sym (ap (λ k. taken ++ k) f ∙ append-nil taken))
   put_in false put taken p q items x h e f = still put taken p q items h e f
 
-  take_out : (b : Bool) (put taken p q : List What) (items rest : List PipedItem) (x : PipedItem) → put ≡ taken ++ map (λ i. i.what) items → (b ≡ true → items ≡ x ∷ rest) → p ≡ [] → q ≡ cond b (x.what ∷ []) []
+  take_out : (b : Bool) (put taken p q : List What) (items rest : List Item) (x : Item) → put ≡ taken ++ map (λ i. i.what) items → (b ≡ true → items ≡ x ∷ rest) → p ≡ [] → q ≡ cond b (x.what ∷ []) []
       → put ++ p ≡ (taken ++ q) ++ map (λ i. i.what) (cond b (drop 1 items) items)
   take_out true put taken p q items rest x h is e f =
       let here = is refl in
@@ -217,7 +219,7 @@ module _ (answers_are_steps : AnswersAreSteps) where
         agrees = record {
           routers = λ y ky. router_alike (y == u) (u == y) (record { router = after g u (w.routers u).router e; stamp = stamp }) (w.routers y) own (state.routers y) (swapped y u) (ap (λ x. after g u x e) same) (agrees.routers y ky);
           pipes = λ a b. pipes_alike w state u stamp e a b d.next (agrees.pipes a b);
-          offers_made = ap (λ o. o ++ runs.offered_by e) agrees.offers_made;
+          offers_made = λ s. ap (λ o. o ++ filter (is_for s) (runs.offered_by e)) (agrees.offers_made s) ∙ sym (filter-append (is_for s) state.offered (runs.offered_by e));
         };
       }
 
@@ -256,6 +258,6 @@ module _ (answers_are_steps : AnswersAreSteps) where
 
   pub what_is_played_is_a_run : WhatIsPlayedIsARun
   what_is_played_is_a_run g setting events w h =
-      let first : AgreesWith g (new_world g) (runs.opening (λ u. new_logged g)) = record { routers = λ u k. refl; pipes = λ a b. refl; offers_made = refl } in
+      let first : AgreesWith g (new_world g) (runs.opening (λ u. new_logged g)) = record { routers = λ u k. refl; pipes = λ a b. refl; offers_made = λ s. refl } in
       let r = reached g setting.network events (new_world g) w (runs.opening (λ u. new_logged g)) 0 first h in
       record { order = r.order; state = r.last; run = r.run; events = sym r.events; agrees = r.agrees }

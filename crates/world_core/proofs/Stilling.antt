@@ -9,6 +9,7 @@ use Rattle.run_model.specs.Network as runs
 use Rattle.run_model.specs.Network.{NetworkEvent, alone, puts, takes, offers}
 use Rattle.router_model.specs.declared.command.Command.{Command}
 use Rattle.router_model.specs.declared.command.Command.TheVariants as command
+use Rattle.outbox.specs.declared.item.Item.{Item}
 use Rattle.outbox.specs.declared.item.What.{What}
 use Rattle.router_model.specs.declared.refusal.RouterError.{RouterError}
 use Rattle.router_model.specs.declared.refusal.RouterError.TheVariants as error
@@ -24,7 +25,7 @@ use Rattle.router_model.specs.Settings.{is_router}
 use Rattle.world_core.specs.declared.schedule.Event.{Event}
 use Rattle.world_core.specs.declared.schedule.Event.TheVariants as schedule
 use Rattle.world_core.specs.declared.schedule.StepFault.TheVariants.{NoSuchRouter, NoSuchLink}
-use Rattle.world_core.specs.World.{World, PipedItem, WorldAnswer, Does, Nothing, Stops, refused_by, of_answer, of_offer, called, taking_of, name_of, AgreesWith}
+use Rattle.world_core.specs.World.{World, WorldAnswer, Does, Nothing, Stops, refused_by, of_answer, of_offer, called, taking_of, name_of, AgreesWith}
 use Rattle.world_core.specs.Keeping.{IsBlocked, NothingWhereNoStepIs}
 use Rattle.router_model.specs.Laws.{IdleWhereNothingMayCome}
 
@@ -234,7 +235,7 @@ module _ (idle_where_nothing_may_come : IdleWhereNothingMayCome) where
   by_telling g net w state agrees k (IsHeld v h) = absurd (not_held _ _ v (bar_of g k (w.routers k) Advertise (error.Held v) h (λ e. absurd cc) (λ e. absurd cc)))
 
   -- a take, where an item is there
-  by_taking : (g : Setting) → IsNetwork g.net → (w : World) (state : RunState) → AgreesWith g w state → (k v : ℕ) (p : PipedItem) → Quiet (answer g k (w.routers k) (Take v p.stamp p.what)) → NoStep g state (schedule.Take k v)
+  by_taking : (g : Setting) → IsNetwork g.net → (w : World) (state : RunState) → AgreesWith g w state → (k v : ℕ) (p : Item) → Quiet (answer g k (w.routers k) (Take v p.stamp p.what)) → NoStep g state (schedule.Take k v)
   by_taking g net w state agrees k v p (IsIdle h) d new named s =
       let i = takes_ d.router d.event k v named in
       let may = subst (λ e. May g k (w.routers k).router e) i.1.1 (may_in g w state agrees d new k i.0 s) in
@@ -272,7 +273,7 @@ module _ (idle_where_nothing_may_come : IdleWhereNothingMayCome) where
       let l = ap length prefix.1 in
       absurd (omega (arith, t, p, pipe, l, length-append (state.taken v k) (runs.taken_between v k d), length-append (state.put v k) (runs.put_between v k d), length-append (state.taken v k) [], length-append (state.taken v k ++ runs.taken_between v k d) prefix.0))
 
-  by_pipe : (g : Setting) → IsNetwork g.net → (w : World) (state : RunState) → AgreesWith g w state → (k v : ℕ) (items : List PipedItem) → w.pipes v k ≡ items
+  by_pipe : (g : Setting) → IsNetwork g.net → (w : World) (state : RunState) → AgreesWith g w state → (k v : ℕ) (items : List Item) → w.pipes v k ≡ items
       → taking_of g w k v (slice_get items 0) ≡ Nothing → NoStep g state (schedule.Take k v)
   by_pipe g net w state agrees k v [] is h = from_empty g w state agrees k v is
   by_pipe g net w state agrees k v (p ∷ rest) is h =

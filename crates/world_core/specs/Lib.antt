@@ -1,6 +1,6 @@
-pub mod Duo
-pub mod SentAndActed
 pub mod World
 pub mod Orders
 pub mod Keeping
 pub mod Schedules
+pub mod Views
+pub mod Steps

@@ -66,33 +66,36 @@ abbrev pub all_said : List MadeOffer → List Said
 all_said [] = []
 all_said (m ∷ ms) = said_of m.router m.offer ∷ all_said ms
 
-abbrev pub offered_by : Played → List Said
-offered_by (Err fault) = []
-offered_by (Ok w) = all_said w.made
+-- for one snapshot
+abbrev pub offered_by : ℕ → Played → List Said
+offered_by s (Err fault) = []
+offered_by s (Ok w) = all_said (w.made s)
 
-abbrev pub offers_of : List Event → List Said
-offers_of events = offered_by (played setting (new_world setting) 0 events)
+abbrev pub offers_of : ℕ → List Event → List Said
+offers_of s events = offered_by s (played setting (new_world setting) 0 events)
 
 -- a snapshot at rest: both parts, nothing pending, nothing in flight
 abbrev pub RestIsRecorded : Type 0
 RestIsRecorded =
     (play (schedule_a ++ schedule.Command 1 (command.Snapshot 1) ∷ rounds 10) ≡ routed 36)
-    × (offers_of (schedule_a ++ schedule.Command 1 (command.Snapshot 1) ∷ rounds 10)
+    × (offers_of 1 (schedule_a ++ schedule.Command 1 (command.Snapshot 1) ∷ rounds 10)
     ≡ WasWhole 2 1 false 0 ∷ WasWhole 1 1 false 0 ∷ [])
 
 -- a withdrawal in flight as both record
 abbrev pub FlightIsRecorded : Type 0
 FlightIsRecorded =
-    offers_of (schedule_a ++ schedule.Command 1 (command.Withdraw p) ∷ schedule.Decide 1 ∷ schedule.Advertise 1 ∷ schedule.Command 1 (command.Snapshot 1) ∷ schedule.Command 2 (command.Snapshot 1) ∷ rounds 10)
+    offers_of 1 (schedule_a ++ schedule.Command 1 (command.Withdraw p) ∷ schedule.Decide 1 ∷ schedule.Advertise 1 ∷ schedule.Command 1 (command.Snapshot 1) ∷ schedule.Command 2 (command.Snapshot 1) ∷ rounds 10)
     ≡ WasWhole 1 1 false 0 ∷ WasWhole 2 1 false 1 ∷ []
 
 -- a reset in the window, and a greater number
 abbrev pub CloseIsRecorded : Type 0
 CloseIsRecorded =
-    offers_of (schedule_a ++ schedule.Command 1 (command.Snapshot 1) ∷ schedule.Command 2 (command.Reset 1) ∷ rounds 5)
+    offers_of 1 (schedule_a ++ schedule.Command 1 (command.Snapshot 1) ∷ schedule.Command 2 (command.Reset 1) ∷ rounds 5)
     ≡ WasLost 1 1 2 1 Closed ∷ []
 
 abbrev pub GreaterSupersedes : Type 0
 GreaterSupersedes =
-    offers_of (schedule_a ++ schedule.Command 1 (command.Snapshot 1) ∷ schedule.Command 1 (command.Snapshot 2) ∷ rounds 10)
-    ≡ WasLost 1 1 2 1 Superseded ∷ WasWhole 2 1 false 0 ∷ WasWhole 2 2 false 0 ∷ WasWhole 1 2 false 0 ∷ []
+    (offers_of 1 (schedule_a ++ schedule.Command 1 (command.Snapshot 1) ∷ schedule.Command 1 (command.Snapshot 2) ∷ rounds 10)
+    ≡ WasLost 1 1 2 1 Superseded ∷ WasWhole 2 1 false 0 ∷ [])
+    × (offers_of 2 (schedule_a ++ schedule.Command 1 (command.Snapshot 1) ∷ schedule.Command 1 (command.Snapshot 2) ∷ rounds 10)
+    ≡ WasWhole 2 2 false 0 ∷ WasWhole 1 2 false 0 ∷ [])

@@ -1,9 +1,11 @@
 -- The routers of a network with the pipes between them and the offers that they made: what each event of a schedule answers and
 -- leaves, and what holds of every world that was played.
-use Rattle.std.specs.Prelude.{ℕ, ◌+◌, ◌≡◌, ◌==◌, max, nat_lt, ◌&&◌, cond, List, [], ◌∷◌, ◌++◌, map, drop, Option, None, Some, Result, Ok, Err, MatchResult, slice_get}
+use Rattle.std.specs.Prelude.{ℕ, ◌+◌, ◌≡◌, ◌==◌, max, nat_lt, Bool, ◌&&◌, cond, List, [], ◌∷◌, ◌++◌, map, drop, filter, Option, None, Some, Result, Ok, Err, MatchResult, slice_get}
 use Rattle.ranked_policy.specs.Plans.{IsRouter}
 use Rattle.run_model.specs.Network as runs
 use Rattle.run_model.specs.Network.{NetworkEvent, alone, puts, takes, offers}
+use Rattle.run_model.specs.Offers.{number_of}
+use Rattle.outbox.specs.declared.item.Item.{Item}
 use Rattle.outbox.specs.declared.item.What.{What}
 use Rattle.snap_marker.specs.Recordings.{RouterOffer, MadeOffer}
 use Rattle.router_model.specs.declared.refusal.RouterError.{RouterError}
@@ -23,15 +25,10 @@ use Rattle.world_core.specs.declared.schedule.StepFault.{StepFault}
 use Rattle.world_core.specs.declared.schedule.StepFault.TheVariants.{NoSuchRouter, NoSuchLink, Refused, Memory}
 use Rattle.world_core.specs.declared.schedule.PlayFault.{PlayFault}
 
--- an item that was put and is not taken, with the stamp of its put
-pub record PipedItem : Type 0 where
-  pub stamp : ℕ
-  pub what : What
-
 pub record World : Type 0 where
   pub routers : ℕ → Stamped
-  pub pipes : ℕ → ℕ → List PipedItem  -- from one router towards another
-  pub made : List MadeOffer  -- the offers made, in their order
+  pub pipes : ℕ → ℕ → List Item  -- put by one router towards another and not taken, each with the stamp of its put
+  pub made : ℕ → List MadeOffer  -- the offers made for a snapshot, in their order
   pub board : ℕ  -- the stamp of the last
   pub run : List Event  -- the events that were done
 
@@ -40,7 +37,7 @@ abbrev pub new_world : Setting → World
 new_world g = record {
   routers = λ u. record { router = new_router g; stamp = 0 };
   pipes = λ u v. [];
-  made = [];
+  made = λ s. [];
   board = 0;
   run = [];
 }
@@ -76,11 +73,18 @@ of_offer u stamp (Some o) =
     cond (nat_lt greatest_stamp stamp) (Stops (Refused error.StampEnd)) (Does u (offers (record { router = u; offer = o })) stamp)
 
 -- the pipe from a to b after an event of router u
-abbrev pub piped : ℕ → ℕ → RouterEvent → ℕ → ℕ → List PipedItem → List PipedItem
+abbrev pub piped : ℕ → ℕ → RouterEvent → ℕ → ℕ → List Item → List Item
 piped u stamp (puts v i) a b items = cond ((a == u) && (b == v)) (items ++ record { stamp = stamp; what = i } ∷ []) items
 piped u stamp (takes v i) a b items = cond ((a == v) && (b == u)) (drop 1 items) items
 piped u stamp (alone e) a b items = items
 piped u stamp (offers made) a b items = items
+
+-- offers join those for the same snapshot
+abbrev pub is_for : ℕ → MadeOffer → Bool
+is_for s m = number_of m.offer == s
+
+abbrev pub joined : (ℕ → List MadeOffer) → List MadeOffer → ℕ → List MadeOffer
+joined made more s = made s ++ filter (is_for s) more
 
 -- the stamp of the last offer after an event
 abbrev pub board_after : ℕ → RouterEvent → ℕ → ℕ
@@ -95,7 +99,7 @@ module _ (g : Setting) where
   called w u call = of_answer u (stamp_of g u (w.routers u) call) (answer g u (w.routers u) call)
 
   -- a take needs an item in the pipe
-  abbrev pub taking_of : World → ℕ → ℕ → Option PipedItem → WorldAnswer
+  abbrev pub taking_of : World → ℕ → ℕ → Option Item → WorldAnswer
   taking_of w u v None = Nothing
   taking_of w u v (Some i) = called w u (Take v i.stamp i.what)
 
@@ -122,7 +126,7 @@ module _ (g : Setting) where
   world_after w event u e stamp = record {
     routers = λ y. cond (y == u) (record { router = after g u (w.routers u).router e; stamp = stamp }) (w.routers y);
     pipes = λ a b. piped u stamp e a b (w.pipes a b);
-    made = w.made ++ runs.offered_by e;
+    made = joined w.made (runs.offered_by e);
     board = board_after stamp e w.board;
     run = w.run ++ event ∷ [];
   }
@@ -167,7 +171,7 @@ named order = map (λ d. name_of d.router d.event) order
 pub record AgreesWith (g : Setting) (w : World) (state : RunState) : Type 0 where
   pub routers : (u : ℕ) → IsRouter g.net.routers u → (w.routers u).router ≡ (state.routers u).router
   pub pipes : (u v : ℕ) → state.put u v ≡ state.taken u v ++ map (λ i. i.what) (w.pipes u v)
-  pub offers_made : w.made ≡ state.offered
+  pub offers_made : (s : ℕ) → w.made s ≡ filter (is_for s) state.offered
 
 -- the events that were done are a run, and its last state agrees with all that the world holds
 pub record IsRunOfWorld (g : Setting) (w : World) : Type 0 where

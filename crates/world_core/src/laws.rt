@@ -1,35 +1,11 @@
-//! The laws of two ends and of a world of routers, over every list of events.
+//! The laws of a world of routers, over every list of events.
 
 ghost use Rattle.world_core.specs.Keeping.{WhatIsPlayedIsARun, WhatIsPlayedIsReplayed, StepsAreReplayed, PlayedWorldsKeepTheirPromises, NothingWhereNoStepIs};
-ghost use Rattle.world_core.specs.SentAndActed.{AlwaysInOrder, NoFaultWaits};
 
-use bgp_codec::laws::header_is_its_front;
-use bgp_framing::laws::{splits_in_pieces, splits_into_nothing, splits_once};
 use router_model::laws::{
     answers_are_steps, idle_where_nothing_may_come, linked_routers_are_peers,
 };
 use router_runs::updates_pass_in_order;
-
-/// After every list of events, what a side acted on is a beginning of what the other sent: whole
-/// frames, in order, once each, however the octets were cut. It says nothing of when they arrive.
-pub fn always_in_order()
-    ensures { AlwaysInOrder }
-{
-    header_is_its_front();
-    splits_once();
-    splits_in_pieces();
-    splits_into_nothing();
-}
-
-/// After every list of events, what waits in front of a framer is a whole message and no fault.
-pub fn no_fault_waits()
-    ensures { NoFaultWaits }
-{
-    header_is_its_front();
-    splits_once();
-    splits_in_pieces();
-    splits_into_nothing();
-}
 
 /// The events that a schedule did are a run of the network's routers, and the last state of the run has all that the world
 /// holds: routers, pipes and offers.

@@ -1,7 +1,10 @@
 //! The events of a schedule, the orders that stand for many of them, and why one is refused.
 
+ghost use Rattle.std.specs.Prelude.{◌≡◌, ◌<◌, ◌++◌, ◌∷◌, [], vec_len, vec_capacity};
+
 use ranked_policy::Asn;
 use router_model::{Command, RouterError};
+use std::alloc::AllocError;
 use thiserror::Error;
 
 /// An event of a schedule: it names a router, and a peer where it needs one.
@@ -54,6 +57,17 @@ pub enum StepFault {
     Memory,
 }
 
+impl From<AllocError> for StepFault {
+    ghost use Rattle.std.specs.Prelude.{◌≡◌};
+    ghost use Rattle.world_core.specs.declared.schedule.StepFault.TheVariants.{Memory};
+
+    ghost from_gives = { λ _ fault. fault ≡ Memory };
+
+    fn from(_error: AllocError) -> StepFault {
+        StepFault::Memory
+    }
+}
+
 /// Why a schedule was not played to its end.
 #[derive(Clone, Copy, Debug, PartialEq, Eq)]
 pub struct PlayFault {
@@ -61,4 +75,12 @@ pub struct PlayFault {
     pub at: usize,
     /// Why it was refused.
     pub why: StepFault,
+}
+
+/// An event joins a run that has room for it.
+pub(crate) fn join(run: &mut Vec<Event>, event: &Event)
+    requires { vec_len run.old < vec_capacity run.old }
+    ensures { run.new.items ≡ run.old.items ++ event.now ∷ [] }
+{
+    run.extend_from_slice(&[*event]).unwrap();
 }

@@ -1,104 +1,97 @@
 use super::*;
-use bgp_codec::Octets;
+use prefix_lanes::Prefix;
+use ranked_policy::{Asn, NetBuilder, Network, Settings};
+use router_model::{Command, RouterError};
 use std::alloc::{AllocError, Global};
 use std::test::Fail;
 
-// An UPDATE that says nothing: Marker, length 23, type 2, no withdrawn prefixes, no attributes.
-const UPDATE: [u8; 23] = [
-    0xff, 0xff, 0xff, 0xff, 0xff, 0xff, 0xff, 0xff, 0xff, 0xff, 0xff, 0xff, 0xff, 0xff, 0xff, 0xff,
-    0, 23, 2, 0, 0, 0, 0,
-];
-
-fn sends(alloc: Global, side: Side) -> Result<DuoEvent, AllocError> {
-    Ok(DuoEvent::Send(side, Octets::from_slice(alloc, &UPDATE)?))
+// Routers 1 and 2 of one link, router 1 the origin of 10.1.0.0/16.
+fn two_routers(alloc: Global, prefix: Prefix) -> Result<Network, Fail> {
+    let settings = Settings {
+        hold: 90,
+        restart: 0,
+        cut: 4096,
+        pipe: 64,
+    };
+    let mut net = NetBuilder::new(alloc, settings)?;
+    net.push_router(1, 0x0a00_0001)?;
+    net.push_router(2, 0x0a00_0002)?;
+    net.push_link(1, 2)?;
+    net.push_origin(1, prefix)?;
+    match net.finish() {
+        Ok(net) => Ok(net),
+        Err((_, error)) => Err(error.into()),
+    }
 }
 
-// Pieces of ten octets carry an UPDATE of 23 in three; it is whole after the third.
-#[test]
-fn three_pieces_carry_an_update(rt: HostRuntime) -> Result<(), Fail> {
-    let alloc = rt.alloc();
-    let mut duo = Duo::new(alloc, 10)?;
-    let events = [
-        (sends(alloc, Side::Left)?, Stepped::Did),
-        (DuoEvent::Put(Side::Left), Stepped::Did),
-        (DuoEvent::Put(Side::Left), Stepped::Did),
-        (DuoEvent::Put(Side::Left), Stepped::Did),
-        (DuoEvent::Put(Side::Left), Stepped::Nothing),
-        (DuoEvent::Take(Side::Left), Stepped::Nothing),
-        (DuoEvent::Take(Side::Right), Stepped::Did),
-        (DuoEvent::Take(Side::Right), Stepped::Did),
-        (DuoEvent::Handle(Side::Right), Stepped::Nothing),
-        (DuoEvent::Take(Side::Right), Stepped::Did),
-        (DuoEvent::Take(Side::Right), Stepped::Nothing),
-        (DuoEvent::Handle(Side::Right), Stepped::Did),
-        (DuoEvent::Handle(Side::Right), Stepped::Nothing),
-    ];
-    for (event, wanted) in &events {
-        assert!(rt; duo.step(alloc, event) == Ok(*wanted), "{event:?}");
-    }
-    assert_eq!(rt; duo.sent(Side::Left).len(), 1);
-    assert_eq!(rt; duo.acted(Side::Right).len(), 1);
-    assert!(rt; duo.sent(Side::Right).is_empty());
-    for frame in duo.acted(Side::Right) {
-        assert_eq!(rt; frame.as_slice(), UPDATE.as_slice());
-    }
-    Ok(())
+// What a router with one peer tries in a turn.
+fn turn(events: &mut Vec<Event>, number: Asn, peer: Asn) -> Result<(), AllocError> {
+    events.extend_from_slice(&[
+        Event::Put(number, peer),
+        Event::Take(number, peer),
+        Event::Handle(number, peer),
+        Event::Decide(number),
+        Event::Advertise(number),
+        Event::Offer(number),
+    ])
 }
 
-// Three UPDATEs sent, and enough puts, takes and handlings to carry them by single octets.
-fn three_updates(alloc: Global) -> Result<Vec<DuoEvent>, AllocError> {
+// Both start and router 1 originates, then forty rounds.
+fn schedule(alloc: Global, prefix: Prefix) -> Result<Vec<Event>, AllocError> {
     let mut events = Vec::new(alloc);
-    for _ in 0..3u8 {
-        events.push(sends(alloc, Side::Right)?)?;
-    }
-    for _ in 0..69u8 {
-        events.push(DuoEvent::Put(Side::Right))?;
-        events.push(DuoEvent::Take(Side::Left))?;
-        events.push(DuoEvent::Handle(Side::Left))?;
+    events.extend_from_slice(&[
+        Event::Command(1, Command::Start(2)),
+        Event::Command(2, Command::Start(1)),
+        Event::Command(1, Command::Originate(prefix)),
+    ])?;
+    for _ in 0..40u8 {
+        turn(&mut events, 1, 2)?;
+        turn(&mut events, 2, 1)?;
     }
     Ok(events)
 }
 
-#[test]
-fn every_cut_carries_all(rt: HostRuntime) -> Result<(), Fail> {
-    let events = three_updates(rt.alloc())?;
-    for cut in [1usize, 10, 22, 23, 24, 46, 4096] {
-        let duo = Duo::play(rt.alloc(), cut, events.as_slice())?;
-        assert_eq!(rt; duo.acted(Side::Left).len(), 3, "cut {cut}");
-        for frame in duo.acted(Side::Left) {
-            assert_eq!(rt; frame.as_slice(), UPDATE.as_slice());
-        }
+// Whether a router of the world keeps this path.
+fn keeps(world: &World<'_>, number: Asn, prefix: &Prefix, path: &[Asn]) -> bool {
+    match world.router(number) {
+        Some(router) => router.kept(prefix) == path,
+        None => false,
     }
+}
+
+#[test]
+fn routes_arrive_after_29_events(rt: HostRuntime) -> Result<(), Fail> {
+    let prefix = Prefix::new(0x0a01_0000, 16).ok_or("a prefix")?;
+    let net = two_routers(rt.alloc(), prefix)?;
+    let events = schedule(rt.alloc(), prefix)?;
+    let Ok(world) = play(rt.alloc(), &net, events.as_slice()) else {
+        return Err("the schedule is played".into());
+    };
+    assert_eq!(rt; world.run().len(), 29);
+    assert!(rt; keeps(&world, 1, &prefix, &[1]));
+    assert!(rt; keeps(&world, 2, &prefix, &[2, 1]));
     Ok(())
 }
 
 #[test]
-fn cuts_out_of_range(rt: HostRuntime) {
-    for cut in [0usize, 4097] {
-        assert!(rt; matches!(Duo::new(rt.alloc(), cut), Err(DuoFault::BadCut)));
-    }
-}
-
-// A KEEPALIVE, an UPDATE cut short, one with an octet more, and none.
-#[test]
-fn only_one_update_is_sent(rt: HostRuntime) -> Result<(), Fail> {
-    let alloc = rt.alloc();
-    let mut duo = Duo::new(alloc, 10)?;
-    let mut keepalive = UPDATE;
-    keepalive[17] = 19;
-    keepalive[18] = 4;
-    let mut longer = [0u8; 24];
-    longer[..23].copy_from_slice(&UPDATE);
-    for octets in [&keepalive[..19], &UPDATE[..22], longer.as_slice(), &[]] {
-        let event = DuoEvent::Send(Side::Left, Octets::from_slice(alloc, octets)?);
-        assert!(rt; duo.step(alloc, &event) == Err(DuoFault::NotUpdate));
-    }
-    assert!(rt; duo.sent(Side::Left).is_empty());
+fn who_is_not_there_is_refused(rt: HostRuntime) -> Result<(), Fail> {
+    let prefix = Prefix::new(0x0a01_0000, 16).ok_or("a prefix")?;
+    let net = two_routers(rt.alloc(), prefix)?;
+    let mut world = World::new(rt.alloc(), &net)?;
+    assert!(rt; world.step(&Event::Tick(3)) == Err(StepFault::NoSuchRouter));
+    assert!(rt; world.step(&Event::Put(1, 3)) == Err(StepFault::NoSuchRouter));
+    assert!(rt; world.step(&Event::Put(1, 1)) == Err(StepFault::NoSuchLink));
     Ok(())
 }
 
 #[test]
-fn laws_are_called(_rt: HostRuntime) {
-    laws::always_in_order();
-    laws::no_fault_waits();
+fn an_old_snapshot_is_refused(rt: HostRuntime) -> Result<(), Fail> {
+    let prefix = Prefix::new(0x0a01_0000, 16).ok_or("a prefix")?;
+    let net = two_routers(rt.alloc(), prefix)?;
+    let mut world = World::new(rt.alloc(), &net)?;
+    let event = Event::Command(1, Command::Snapshot(1));
+    assert!(rt; world.step(&event).is_ok());
+    assert!(rt; world.step(&event) == Err(StepFault::Refused(RouterError::OldSnapshot { last: 1 })));
+    assert_eq!(rt; world.run().len(), 1);
+    Ok(())
 }

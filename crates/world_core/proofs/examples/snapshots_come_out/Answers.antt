@@ -12,4 +12,4 @@ use Rattle.world_core.proofs.examples.snapshots_come_out.Goals as goal
 
 pub returns : goal.returns
 unfolding comes meets obeys answers header_of framed header_fault begins_with_marker reading open_reading all_in update_reading attrs_in lanes.marker
-returns c = record { rest = (refl, refl); flight = refl; close = refl; greater = refl }
+returns c = record { rest = (refl, refl); flight = refl; close = refl; greater = (refl, refl) }

@@ -1,0 +1,124 @@
+-- What a router gave, as what a world gives.
+use Rattle.std.proofs.Common.{◌≡◌, ℕ, ◌+◌, ◌<◌, length, get_or, arith, ◌==◌, Bool, true, false, List, [], ◌∷◌, ◌++◌, refl, ap, sym, ◌∙◌, subst, Option, None, Some}
+use Rattle.std.specs.Prelude.{Result, Ok, Err, nat_lt, max, slice_get, drop}
+use Rattle.std.proofs.lemmas.Bool.{eq-eqb}
+use Rattle.run_model.specs.Network.{alone, puts, takes, offers}
+use Rattle.outbox.specs.declared.item.What.{What}
+use Rattle.outbox.specs.Items.{next_item}
+use Rattle.run_model.specs.Offers.{made_of}
+use Rattle.snap_marker.specs.Recordings.{RouterOffer}
+use Rattle.snap_collector.specs.Collector.{CollectorView, made_for}
+use Rattle.outbox.specs.declared.item.Item.{Item}
+use Rattle.router_model.specs.declared.refusal.RouterError.{RouterError}
+use Rattle.router_model.specs.declared.refusal.RouterError.TheVariants as error
+use Rattle.router_model.specs.declared.refusal.Stepped.{Stepped}
+use Rattle.router_model.specs.declared.refusal.Stepped.TheVariants as stepped
+use Rattle.router_model.specs.Settings.{Setting}
+use Rattle.router_model.specs.Step.{RouterEvent, next_offer}
+use Rattle.router_model.specs.Calls.{Stamped, Call, Put, Take, Answer, Steps, Idle, Refuses, answer, stamped_after, Gives, judged, put_event, bars, event_of, overflows_at, greatest_stamp, offer_made}
+use Rattle.router_core.specs.Views.{RouterView, plain_of, Shows}
+use Rattle.router_core.specs.Judging.{judged_as}
+use Rattle.world_core.specs.declared.schedule.StepFault.{StepFault}
+use Rattle.world_core.specs.declared.schedule.StepFault.TheVariants.{Memory}
+use Rattle.world_core.specs.declared.schedule.Event.{Event}
+use Rattle.world_core.specs.World.{piped, joined}
+use Rattle.world_core.specs.Views.{refusal, without_room, DoneOr, Entered, EntersOffer}
+
+-- ---- what was done, what was nothing, and what was refused
+
+pub did : (g : Setting) (u : ℕ) (a : Answer) (x y : Stamped) (call : Call) (R S : Type 0) → Gives g u (Ok stepped.Did) a x call y → R
+    → Entered (Ok stepped.Did) a (λ e. (y ≡ stamped_after g u x call e) × R) S
+did g u (Steps e) x y call R S h r = (refl, (h.1, r))
+did g u Idle x y call R S h r = (let k = h.0 in absurd cc)
+did g u (Refuses why) x y call R S h r = (let k = h.0 in absurd cc)
+
+pub nothing : (g : Setting) (u : ℕ) (a : Answer) (x y : Stamped) (call : Call) (done : RouterEvent → Type 0) (R : Type 0) → Gives g u (Ok stepped.Nothing) a x call y → R
+    → Entered (Ok stepped.Nothing) a done ((y ≡ x) × R)
+nothing g u (Steps e) x y call done R h r = (let k = h.0 in absurd cc)
+nothing g u Idle x y call done R h r = (refl, (h.1, r))
+nothing g u (Refuses why) x y call done R h r = (let k = h.0 in absurd cc)
+
+pub refused : (g : Setting) (u : ℕ) (a : Answer) (x y : Stamped) (call : Call) (error : RouterError) (done : RouterEvent → Type 0) (R : Type 0) → Gives g u (Err error) a x call y → R
+    → Entered (refusal error) a done ((y ≡ x) × R)
+refused g u (Steps e) x y call error done R h r =
+    subst (λ k. DoneOr (refusal k) (done e) ((y ≡ x) × R)) (sym h.0) (refl, (h.1, r))
+refused g u Idle x y call error done R h r = (let k = h.0 in absurd cc)
+refused g u (Refuses why) x y call error done R h r = (let k : error ≡ why = (let q = h.0 in cc) in ap refusal k, (h.1, r))
+
+-- ---- where the run has no room
+
+no_room : (a : Answer) (done : RouterEvent → Type 0) (still : Type 0) → still → Entered (without_room (judged_as a)) a done still
+no_room (Steps e) done still k = (refl, k)
+no_room Idle done still k = (refl, k)
+no_room (Refuses why) done still k = (refl, k)
+
+pub wants_room : (a : Answer) (judged : Result Stepped RouterError) (done : RouterEvent → Type 0) (still : Type 0) → judged ≡ judged_as a → still → Entered (without_room judged) a done still
+wants_room a judged done still is k = subst (λ j. Entered (without_room j) a done still) (sym is) (no_room a done still k)
+
+-- ---- a put
+
+put_is : (v : ℕ) (bars : Option RouterError) (o : Option What) (late overflows : Bool) (e : RouterEvent) → judged bars (put_event v o) late overflows ≡ Steps e → (i : What) × (e ≡ puts v i)
+put_is v (Some why) o late overflows e h = absurd cc
+put_is v None None late overflows e h = absurd cc
+put_is v None (Some i) true overflows e h = absurd cc
+put_is v None (Some i) false true e h = absurd cc
+put_is v None (Some i) false false e h = (i, (let k : puts v i ≡ e = cc in sym k))
+
+put_by : (g : Setting) (u v stamp : ℕ) (a : Answer) (x y : Stamped) (items : List Item) (item : Item) (R S : Type 0) → Gives g u (Ok stepped.Did) a x (Put v) y → Shows stamp (Ok (Some item)) a
+    → ((e : RouterEvent) → a ≡ Steps e → (i : What) × (e ≡ puts v i)) → R
+    → Entered (Ok stepped.Did) a (λ e. (y ≡ stamped_after g u x (Put v) e) × R × (items ++ item ∷ [] ≡ piped u stamp e u v items)) S
+put_by g u v stamp (Steps (puts w i)) x y items item R S h shows is r =
+    let p = is (puts w i) refl in
+    let same : v ≡ w = (let q = p.1 in cc) in
+    let next : item ≡ record { stamp = stamp; what = i } = (let q = shows in cc) in
+    (refl, (h.1, r, rw (eq-eqb u u refl, eq-eqb v w same) (ap (λ (k : Item). items ++ k ∷ []) next)))
+put_by g u v stamp (Steps (alone e)) x y items item R S h shows is r = absurd shows
+put_by g u v stamp (Steps (takes w i)) x y items item R S h shows is r = absurd shows
+put_by g u v stamp (Steps (offers made)) x y items item R S h shows is r = absurd shows
+put_by g u v stamp Idle x y items item R S h shows is r = (let k = h.0 in absurd cc)
+put_by g u v stamp (Refuses why) x y items item R S h shows is r = (let k = h.0 in absurd cc)
+
+pub puts_in : (g : Setting) (u v stamp : ℕ) (x y : Stamped) (items items_after : List Item) (item : Item) (R S : Type 0) → Gives g u (Ok stepped.Did) (answer g u x (Put v)) x (Put v) y
+    → Shows stamp (Ok (Some item)) (answer g u x (Put v)) → R → items_after ≡ items ++ item ∷ []
+    → Entered (Ok stepped.Did) (answer g u x (Put v)) (λ e. (y ≡ stamped_after g u x (Put v) e) × R × (items_after ≡ piped u stamp e u v items)) S
+puts_in g u v stamp x y items items_after item R S h shows r is =
+    rw is
+    (put_by g u v stamp (answer g u x (Put v)) x y items item R S h shows
+    (put_is v (bars g u x.router (Put v)) (next_item g.net.settings.cut (x.router.sides v).outbox) (nat_lt greatest_stamp (x.stamp + 1)) (overflows_at g u x.router (event_of g u x.router (Put v)))) r)
+
+-- ---- an offer
+
+pub makes_offer : (x y : RouterView) (run run_after : List Event) (kept kept_after : CollectorView) (board stamp : ℕ) (event : Event) (o : RouterOffer)
+    → next_offer (plain_of x).router ≡ Some o → stamp ≡ max x.stamp board + 1 → nat_lt greatest_stamp stamp ≡ false → plain_of y ≡ offer_made (plain_of x) stamp
+    → run_after ≡ run ++ event ∷ [] → made_for kept_after ≡ joined (made_for kept) (record { router = x.number; offer = o } ∷ [])
+    → EntersOffer (Ok stepped.Did) x run kept board event y run_after kept_after stamp
+makes_offer x y run run_after kept kept_after board stamp event o is at late p q k =
+    rw (is, sym at, late) (refl, (p, q, k, refl))
+
+pub same_offer : (u v w : ℕ) (o p : RouterOffer) → u ≡ v → v ≡ w → o ≡ p → made_of u o ≡ made_of w p
+same_offer u v w o p e f h = ap (λ (k : ℕ). made_of k o) (e ∙ f) ∙ ap (λ (q : RouterOffer). made_of w q) h
+
+-- ---- a take
+
+pub front_is : (items : List Item) (i : Item) → 0 < length items → i ≡ get_or items 0 i → slice_get items 0 ≡ Some i
+front_is [] i some is = absurd (omega arith)
+front_is (x ∷ xs) i some is = ap Some (sym is)
+
+pub did_all : (g : Setting) (u : ℕ) (a : Answer) (x y : Stamped) (call : Call) (R U S : Type 0) → Gives g u (Ok stepped.Did) a x call y → R → U
+    → Entered (Ok stepped.Did) a (λ e. (y ≡ stamped_after g u x call e) × R × U) S
+did_all g u (Steps e) x y call R U S h r k = (refl, (h.1, r, k))
+did_all g u Idle x y call R U S h r k = (let q = h.0 in absurd cc)
+did_all g u (Refuses why) x y call R U S h r k = (let q = h.0 in absurd cc)
+
+pub nothing_all : (g : Setting) (u : ℕ) (a : Answer) (x y : Stamped) (call : Call) (done : RouterEvent → Type 0) (R U : Type 0) → Gives g u (Ok stepped.Nothing) a x call y → R → U
+    → Entered (Ok stepped.Nothing) a done ((y ≡ x) × R × U)
+nothing_all g u (Steps e) x y call done R U h r k = (let q = h.0 in absurd cc)
+nothing_all g u Idle x y call done R U h r k = (refl, (h.1, r, k))
+nothing_all g u (Refuses why) x y call done R U h r k = (let q = h.0 in absurd cc)
+
+pub refused_all : (g : Setting) (u : ℕ) (a : Answer) (x y : Stamped) (call : Call) (error : RouterError) (done : RouterEvent → Type 0) (R U : Type 0) → Gives g u (Err error) a x call y → R → U
+    → Entered (refusal error) a done ((y ≡ x) × R × U)
+refused_all g u (Steps e) x y call error done R U h r k =
+    subst (λ j. DoneOr (refusal j) (done e) ((y ≡ x) × R × U)) (sym h.0) (refl, (h.1, r, k))
+refused_all g u Idle x y call error done R U h r k = (let q = h.0 in absurd cc)
+refused_all g u (Refuses why) x y call error done R U h r k = (let j : error ≡ why = (let q = h.0 in cc) in ap refusal j, (h.1, r, k))

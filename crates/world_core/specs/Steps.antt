@@ -1,0 +1,64 @@
+-- What the parts of a step find and leave.
+use Rattle.std.specs.Prelude.{ℕ, ◌≡◌, ◌<◌, ◌&&◌, true, false, length, get_or, Result, Ok, Err, MatchResult}
+use Rattle.router_model.specs.declared.refusal.Stepped.{Stepped}
+use Rattle.router_model.specs.Settings.{Setting, ChoosesByRank, linked, is_router}
+use Rattle.router_model.specs.Calls.{Call, Obey, Tick, Put, Take, Handle, Decide, Advertise}
+use Rattle.world_core.specs.declared.inbox.Pipe.{Pipe}
+use Rattle.world_core.specs.declared.inbox.Inbox.{Inbox}
+use Rattle.world_core.specs.declared.schedule.Event.{Event}
+use Rattle.world_core.specs.declared.schedule.StepFault.{StepFault}
+use Rattle.world_core.specs.declared.schedule.StepFault.TheVariants.{NoSuchRouter, NoSuchLink}
+use Rattle.world_core.specs.declared.state.State.{State}
+use Rattle.world_core.specs.World.{WorldAnswer, Stops, Gives, called, where_router, where_linked}
+use Rattle.world_core.specs.Views.{WorldView, plain_world, pipes_to, IsAt}
+
+abbrev pub view_of : State → WorldView
+view_of s = record {
+  net = s.network.now;
+  routers = s.routers.items;
+  inboxes = s.inboxes.items;
+  collector = s.collector;
+  board = s.board;
+  run = s.run.items;
+}
+
+abbrev pub IsSameNet : WorldView → WorldView → Type 0
+IsSameNet x y = y.net ≡ x.net
+
+-- a call that touches no pipe
+abbrev pub IsOwn : Call → Type 0
+IsOwn (Obey c) = Unit {0}
+IsOwn Tick = Unit {0}
+IsOwn (Put v) = ⊥
+IsOwn (Take v stamp what) = ⊥
+IsOwn (Handle v) = Unit {0}
+IsOwn Decide = Unit {0}
+IsOwn Advertise = Unit {0}
+
+abbrev pub Asks : Result Stepped StepFault → WorldView → ℕ → Event → Call → WorldView → Type 0
+Asks r x u event call y =
+    (g : Setting) → g.net ≡ x.net → ChoosesByRank g → Gives g r (where_router g u (called g (plain_world x) u call)) (plain_world x) event (plain_world y)
+
+-- the router and the pipes to it stand there
+pub record StandsAt (x : WorldView) (u i : ℕ) : Type 0 where
+  pub router : IsAt (λ r. r.number) x.routers u i
+  pub inbox : IsAt (λ b. b.router) x.inboxes u i
+  pub known : (g : Setting) → g.net ≡ x.net → is_router g u ≡ true
+
+abbrev pub IsPlaceOf : Result ℕ StepFault → WorldView → ℕ → Type 0
+IsPlaceOf r x u =
+    MatchResult r (StandsAt x u) (λ why. (why ≡ NoSuchRouter) × ((g : Setting) → g.net ≡ x.net → is_router g u ≡ false))
+
+-- so does the pipe from a peer that a link joins to it
+pub record LinkAt (x : WorldView) (u v i k : ℕ) : Type 0 where
+  pub here : StandsAt x u i
+  pub pipe : (b : Inbox) → IsAt (λ p. p.peer) (get_or x.inboxes i b).pipes.items v k
+  pub linked : (g : Setting) → g.net ≡ x.net → (a : WorldAnswer) → where_linked g u v a ≡ a
+
+abbrev pub FindsLink : Result (ℕ × ℕ) StepFault → WorldView → ℕ → ℕ → Type 0
+FindsLink r x u v =
+    MatchResult r (λ p. LinkAt x u v p.0 p.1) (λ why. (g : Setting) → g.net ≡ x.net → (a : WorldAnswer) → where_linked g u v a ≡ Stops why)
+
+abbrev pub FindsLinkTo : Result (ℕ × ℕ) StepFault → WorldView → ℕ → ℕ → Type 0
+FindsLinkTo r x u v =
+    MatchResult r (λ p. LinkAt x v u p.0 p.1) (λ why. (g : Setting) → g.net ≡ x.net → (a : WorldAnswer) → where_linked g u v a ≡ Stops why)

@@ -1,0 +1,160 @@
+//! Events of one router, which join the run where they are done.
+
+ghost use Rattle.std.specs.Prelude.{◌≡◌};
+ghost use Rattle.router_core.specs.Judging.{call_of};
+ghost use Rattle.router_core.specs.Views.{Answers, IsSame};
+ghost use Rattle.world_core.specs.Views.{refusal, without_room, Enters, EntersPut, EntersTake, EntersOffer};
+
+use crate::schedule::{Event, StepFault, join};
+use outbox::Item;
+use ranked_policy::Asn;
+use router_core::{Call, Router};
+use router_model::{RouterError, Stepped};
+use snap_collector::Collector;
+use std::collections::VecDeque;
+
+/// The greatest stamp, 2^62.
+const GREATEST_STAMP: u64 = 0x4000_0000_0000_0000;
+
+// Does what a router is asked to do.
+fn perform(router: &mut Router<'_>, call: &Call) -> Result<Stepped, RouterError>
+    ensures answers { Answers result router.old (call_of call.now) router.new }
+    ensures same { IsSame router.old router.new }
+{
+    match call {
+        Call::Obey(command) => router.command(*command),
+        Call::Tick => router.tick(),
+        Call::Handle(peer) => router.handle(*peer),
+        Call::Decide => router.decide(),
+        Call::Advertise => router.advertise(),
+    }
+}
+
+// What a refusal of a router is in a world: that its outboxes are full, or that a message waits to be
+// handled, is nothing to do.
+fn refusal(error: RouterError) -> Result<Stepped, StepFault>
+    ensures { result ≡ refusal error }
+{
+    match error {
+        RouterError::Blocked { .. } | RouterError::Held { .. } => Ok(Stepped::Nothing),
+        RouterError::Memory => Err(StepFault::Memory),
+        RouterError::NoSuchPeer
+        | RouterError::NotOrigin
+        | RouterError::OldSnapshot { .. }
+        | RouterError::StampEnd
+        | RouterError::EpochEnd => Err(StepFault::Refused(error)),
+    }
+}
+
+// What a call is where the run has no room for its event: a step wants memory.
+fn without_room(judged: Result<Stepped, RouterError>) -> Result<Stepped, StepFault>
+    ensures { result ≡ without_room judged }
+{
+    match judged {
+        Ok(Stepped::Did) => Err(StepFault::Memory),
+        Ok(Stepped::Nothing) => Ok(Stepped::Nothing),
+        Err(error) => refusal(error),
+    }
+}
+
+/// Does what a router is asked to do.
+pub(crate) fn enter(
+    router: &mut Router<'_>,
+    run: &mut Vec<Event>,
+    event: &Event,
+    call: &Call,
+) -> Result<Stepped, StepFault>
+    ensures enters { Enters result router.old run.old.items event.now (call_of call.now) router.new run.new.items }
+    ensures same { IsSame router.old router.new }
+{
+    if run.reserve(1).is_err() {
+        return without_room(router.judge(call));
+    }
+    match perform(router, call) {
+        Ok(Stepped::Did) => {
+            join(run, event);
+            Ok(Stepped::Did)
+        }
+        Ok(Stepped::Nothing) => Ok(Stepped::Nothing),
+        Err(error) => refusal(error),
+    }
+}
+
+/// A router puts the next item towards a peer into the pipe that leads to it.
+pub(crate) fn enter_put(
+    router: &mut Router<'_>,
+    run: &mut Vec<Event>,
+    pipe: &mut VecDeque<Item>,
+    event: &Event,
+    peer: Asn,
+) -> Result<Stepped, StepFault>
+    ensures enters { EntersPut result router.old run.old.items pipe.old.items event.now peer router.new run.new.items pipe.new.items }
+    ensures same { IsSame router.old router.new }
+{
+    let item = match router.next_item(peer) {
+        Ok(Some(item)) => item,
+        Ok(None) => return Ok(Stepped::Nothing),
+        Err(error) => return refusal(error),
+    };
+    run.reserve(1)?;
+    pipe.reserve(1)?;
+    router.item_put(peer);
+    pipe.push_back(item).unwrap();
+    join(run, event);
+    Ok(Stepped::Did)
+}
+
+/// A router takes the next item of the pipe from a peer.
+pub(crate) fn enter_take(
+    router: &mut Router<'_>,
+    run: &mut Vec<Event>,
+    pipe: &mut VecDeque<Item>,
+    event: &Event,
+    peer: Asn,
+) -> Result<Stepped, StepFault>
+    ensures enters { EntersTake result router.old run.old.items pipe.old.items event.now peer router.new run.new.items pipe.new.items }
+    ensures same { IsSame router.old router.new }
+{
+    let Some(item) = pipe.front() else {
+        return Ok(Stepped::Nothing);
+    };
+    if run.reserve(1).is_err() {
+        return without_room(router.judge_take(peer, item));
+    }
+    match router.take_item(peer, item) {
+        Ok(Stepped::Did) => {
+            join(run, event);
+            pipe.pop_front();
+            Ok(Stepped::Did)
+        }
+        Ok(Stepped::Nothing) => Ok(Stepped::Nothing),
+        Err(error) => refusal(error),
+    }
+}
+
+/// A router makes the offer that waits in front, with a stamp above its last and that of the last offer.
+pub(crate) fn enter_offer(
+    router: &mut Router<'_>,
+    run: &mut Vec<Event>,
+    collector: &mut Collector,
+    board: &mut u64,
+    event: &Event,
+) -> Result<Stepped, StepFault>
+    ensures enters { EntersOffer result router.old run.old.items collector.old board.old event.now router.new run.new.items collector.new board.new }
+    ensures same { IsSame router.old router.new }
+{
+    let Some(offer) = router.next_offer() else {
+        return Ok(Stepped::Nothing);
+    };
+    let stamp = router.stamp().max(*board).saturating_add(1);
+    if stamp > GREATEST_STAMP {
+        return Err(StepFault::Refused(RouterError::StampEnd));
+    }
+    run.reserve(1)?;
+    let offer = offer.copied(*run.allocator())?;
+    collector.record(offer)?;
+    router.offer_made(stamp);
+    *board = stamp;
+    join(run, event);
+    Ok(Stepped::Did)
+}

@@ -1,0 +1,102 @@
+//! What a world holds before anything was done.
+
+ghost use Rattle.std.specs.Prelude.{◌≡◌, [], map, IfOk};
+ghost use Rattle.std.specs.List.{AllByRecursion};
+ghost use Rattle.ranked_policy.specs.Plans.{IsRouter, numbers};
+ghost use Rattle.router_model.specs.Settings.{linked, peers};
+ghost use Rattle.world_core.specs.Views.{IsWhole, Opens, IsNewRouter};
+ghost use Rattle.world_core.specs.Steps.{view_of};
+
+use crate::inbox::{Inbox, Pipe};
+use crate::state::State;
+use ranked_policy::{Asn, Network};
+use router_core::Router;
+use snap_collector::Collector;
+use std::alloc::{AllocError, Global};
+use std::collections::VecDeque;
+
+// A router of the network, as it starts.
+fn new_router<'a>(
+    alloc: Global,
+    network: &'a Network,
+    number: Asn,
+) -> Result<Router<'a>, AllocError>
+    requires { IsRouter network.now.routers number }
+    ensures new { IfOk result (IsNewRouter network.now) }
+    ensures number { IfOk result (λ router. router.number ≡ number) }
+{
+    match Router::new(alloc, network, number) {
+        Ok(router) => Ok(router),
+        Err(_) => Err(AllocError),
+    }
+}
+
+// Every router of the network, as it starts.
+fn new_routers<'a>(alloc: Global, network: &'a Network) -> Result<Vec<Router<'a>>, AllocError>
+    ensures numbers { IfOk result (λ made. map (λ r. r.number) made.items ≡ numbers network.now.routers) }
+    ensures new { IfOk result (λ made. AllByRecursion (IsNewRouter network.now) made.items) }
+{
+    let mut made = Vec::new(alloc);
+    for router in network.routers() {
+        made.push(new_router(alloc, network, router.asn)?)?;
+    }
+    Ok(made)
+}
+
+// Whether a link joins two routers.
+fn is_peer(network: &Network, number: Asn, other: Asn) -> bool
+    ensures { result ≡ linked network.now number other }
+{
+    network.linked(number, other)
+}
+
+// The empty pipes that lead to a router.
+fn new_pipes(alloc: Global, network: &Network, number: Asn) -> Result<Vec<Pipe>, AllocError>
+    ensures peers { IfOk result (λ made. map (λ p. p.peer) made.items ≡ peers network.now number) }
+    ensures empty { IfOk result (λ made. AllByRecursion (λ p. p.items.items ≡ []) made.items) }
+{
+    let mut made = Vec::new(alloc);
+    for router in network.routers() {
+        if !is_peer(network, number, router.asn) {
+            continue;
+        }
+        made.push(Pipe {
+            peer: router.asn,
+            items: VecDeque::new(alloc),
+        })?;
+    }
+    Ok(made)
+}
+
+// Those of every router.
+fn new_inboxes(alloc: Global, network: &Network) -> Result<Vec<Inbox>, AllocError>
+    ensures routers { IfOk result (λ made. map (λ i. i.router) made.items ≡ numbers network.now.routers) }
+    ensures peers { IfOk result (λ made. AllByRecursion (λ i. map (λ p. p.peer) i.pipes.items ≡ peers network.now i.router) made.items) }
+    ensures empty { IfOk result (λ made. AllByRecursion (λ i. AllByRecursion (λ p. p.items.items ≡ []) i.pipes.items) made.items) }
+{
+    let mut made = Vec::new(alloc);
+    for router in network.routers() {
+        let pipes = new_pipes(alloc, network, router.asn)?;
+        made.push(Inbox {
+            router: router.asn,
+            pipes,
+        })?;
+    }
+    Ok(made)
+}
+
+/// What a world holds before anything was done. It is refused only where memory was.
+pub(crate) fn opening<'a>(alloc: Global, network: &'a Network) -> Result<State<'a>, AllocError>
+    ensures whole { IfOk result (λ state. IsWhole (view_of state)) }
+    ensures opens { IfOk result (λ state. Opens network.now (view_of state)) }
+{
+    let _ = network.built();
+    Ok(State {
+        network,
+        routers: new_routers(alloc, network)?,
+        inboxes: new_inboxes(alloc, network)?,
+        collector: Collector::new(alloc, network)?,
+        board: 0,
+        run: Vec::new(alloc),
+    })
+}

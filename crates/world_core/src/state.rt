@@ -1,0 +1,165 @@
+//! What a world holds, and what each event does to it.
+
+ghost use Rattle.std.specs.Prelude.{◌≡◌, ◌<◌, length, MatchResult, MatchOption, IfOk, true, false};
+ghost use Rattle.world_core.specs.declared.schedule.Event.TheVariants.{Put, Take, Handle, Offer};
+ghost use Rattle.router_core.specs.Judging.{call_of};
+ghost use Rattle.world_core.specs.Views.{IsWhole, Answers, IsNoRouter, IsRouterOf};
+ghost use Rattle.world_core.specs.Steps.{view_of, IsSameNet, Asks, IsPlaceOf, FindsLink, FindsLinkTo};
+
+use crate::entering::{enter, enter_offer, enter_put, enter_take};
+use crate::inbox::{Inbox, Pipe, place_of};
+use crate::schedule::{Event, StepFault};
+use ranked_policy::{Asn, Network};
+use router_core::{Call, Router};
+use router_model::Stepped;
+use router_model::laws::{answers_are_steps, linked_routers_are_peers};
+use snap_collector::Collector;
+
+/// What a world holds.
+#[derive(Drop)]
+pub(crate) struct State<'a> {
+    pub network: &'a Network,
+    // By rising number.
+    pub routers: Vec<Router<'a>>,
+    // By rising number of the router that they lead to.
+    pub inboxes: Vec<Inbox>,
+    pub collector: Collector,
+    // The stamp of the last offer.
+    pub board: u64,
+    pub run: Vec<Event>,
+}
+
+impl<'a> State<'a> {
+    // The place of a router.
+    fn place(&self, number: Asn) -> Result<usize, StepFault>
+        requires { IsWhole (view_of self.now) }
+        ensures { IsPlaceOf result (view_of self.now) number }
+    {
+        match self.network.place(number) {
+            Some(at) => Ok(at),
+            None => Err(StepFault::NoSuchRouter),
+        }
+    }
+
+    // A router is asked to do what touches no pipe.
+    fn ask(&mut self, event: &Event, number: Asn, call: &Call) -> Result<Stepped, StepFault>
+        requires whole { IsWhole (view_of self.old) }
+        ensures asks { Asks result (view_of self.old) number event.now (call_of call.now) (view_of self.new) }
+        ensures whole { IsWhole (view_of self.new) }
+        ensures same { IsSameNet (view_of self.old) (view_of self.new) }
+    {
+        answers_are_steps();
+        let at = self.place(number)?;
+        enter(&mut self.routers[at], &mut self.run, event, call)
+    }
+
+    // The place of a router, and that of the pipe from a peer among those that lead to it.
+    fn link(&self, number: Asn, peer: Asn) -> Result<(usize, usize), StepFault>
+        requires { IsWhole (view_of self.now) }
+        ensures { FindsLink result (view_of self.now) number peer }
+    {
+        linked_routers_are_peers();
+        let at = self.place(number)?;
+        self.place(peer)?;
+        match place_of(self.inboxes[at].pipes.as_slice(), peer) {
+            Some(pipe) => Ok((at, pipe)),
+            None => Err(StepFault::NoSuchLink),
+        }
+    }
+
+    // The place of a peer, and that of the pipe from a router among those that lead to it.
+    fn link_to(&self, number: Asn, peer: Asn) -> Result<(usize, usize), StepFault>
+        requires { IsWhole (view_of self.now) }
+        ensures { FindsLinkTo result (view_of self.now) number peer }
+    {
+        self.link(peer, number)
+    }
+
+    // A router handles the message of a peer.
+    fn handle(&mut self, number: Asn, peer: Asn) -> Result<Stepped, StepFault>
+        requires whole { IsWhole (view_of self.old) }
+        ensures answers { Answers result (view_of self.old) (Handle number peer) (view_of self.new) }
+        ensures whole { IsWhole (view_of self.new) }
+        ensures same { IsSameNet (view_of self.old) (view_of self.new) }
+    {
+        self.link(number, peer)?;
+        self.ask(&Event::Handle(number, peer), number, &Call::Handle(peer))
+    }
+
+    // A router puts its next item into the pipe to a peer.
+    fn put(&mut self, number: Asn, peer: Asn) -> Result<Stepped, StepFault>
+        requires whole { IsWhole (view_of self.old) }
+        ensures answers { Answers result (view_of self.old) (Put number peer) (view_of self.new) }
+        ensures whole { IsWhole (view_of self.new) }
+        ensures same { IsSameNet (view_of self.old) (view_of self.new) }
+    {
+        answers_are_steps();
+        let (to, pipe) = self.link_to(number, peer)?;
+        let from = self.place(number)?;
+        let items = &mut self.inboxes[to].pipes[pipe].items;
+        let event = Event::Put(number, peer);
+        enter_put(&mut self.routers[from], &mut self.run, items, &event, peer)
+    }
+
+    // A router takes the next item of the pipe from a peer.
+    fn take(&mut self, number: Asn, peer: Asn) -> Result<Stepped, StepFault>
+        requires whole { IsWhole (view_of self.old) }
+        ensures answers { Answers result (view_of self.old) (Take number peer) (view_of self.new) }
+        ensures whole { IsWhole (view_of self.new) }
+        ensures same { IsSameNet (view_of self.old) (view_of self.new) }
+    {
+        answers_are_steps();
+        let (at, pipe) = self.link(number, peer)?;
+        let items = &mut self.inboxes[at].pipes[pipe].items;
+        let event = Event::Take(number, peer);
+        enter_take(&mut self.routers[at], &mut self.run, items, &event, peer)
+    }
+
+    // A router makes the offer that waits in front.
+    fn offer(&mut self, number: Asn) -> Result<Stepped, StepFault>
+        requires whole { IsWhole (view_of self.old) }
+        ensures answers { Answers result (view_of self.old) (Offer number) (view_of self.new) }
+        ensures whole { IsWhole (view_of self.new) }
+        ensures same { IsSameNet (view_of self.old) (view_of self.new) }
+    {
+        let at = self.place(number)?;
+        let event = Event::Offer(number);
+        enter_offer(
+            &mut self.routers[at],
+            &mut self.run,
+            &mut self.collector,
+            &mut self.board,
+            &event,
+        )
+    }
+
+    /// Does one event.
+    pub fn step(&mut self, event: &Event) -> Result<Stepped, StepFault>
+        requires whole { IsWhole (view_of self.old) }
+        ensures answers { Answers result (view_of self.old) event.now (view_of self.new) }
+        ensures whole { IsWhole (view_of self.new) }
+        ensures same { IsSameNet (view_of self.old) (view_of self.new) }
+    {
+        match *event {
+            Event::Command(number, command) => self.ask(event, number, &Call::Obey(command)),
+            Event::Tick(number) => self.ask(event, number, &Call::Tick),
+            Event::Put(number, peer) => self.put(number, peer),
+            Event::Take(number, peer) => self.take(number, peer),
+            Event::Handle(number, peer) => self.handle(number, peer),
+            Event::Decide(number) => self.ask(event, number, &Call::Decide),
+            Event::Advertise(number) => self.ask(event, number, &Call::Advertise),
+            Event::Offer(number) => self.offer(number),
+        }
+    }
+
+    /// A router, where the network has one of that number.
+    pub fn router(&self, number: Asn) -> Option<&Router<'a>>
+        requires { IsWhole (view_of self.now) }
+        ensures { MatchOption result (IsNoRouter (view_of self.now) number) (λ router. IsRouterOf (view_of self.now) number router.now) }
+    {
+        match self.place(number) {
+            Ok(at) => Some(&self.routers[at]),
+            Err(_) => None,
+        }
+    }
+}

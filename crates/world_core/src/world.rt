@@ -1,0 +1,93 @@
+//! A world: a network of routers that does what a schedule names.
+
+ghost use Rattle.std.specs.Prelude.{◌≡◌, IfOk, IfErr, MatchOption};
+ghost use Rattle.world_core.specs.declared.schedule.StepFault.TheVariants.{Memory};
+ghost use Rattle.world_core.specs.Views.{Opens, Answers, KeepsPromises, IsNoRouter, IsRouterOf};
+
+use crate::laws::{played_worlds_keep_their_promises, steps_are_replayed};
+use crate::opening::opening;
+use crate::schedule::{Event, StepFault};
+use crate::state::State;
+use ranked_policy::{Asn, Network};
+use router_core::Router;
+use router_model::Stepped;
+use snap_collector::Collector;
+use std::alloc::Global;
+use std::marker::Model;
+
+/// A network of routers that does what a schedule names, with the pipes between its routers and the
+/// offers that they made.
+#[derive(Drop)]
+pub struct World<'a> {
+    state: State<'a>,
+}
+
+impl<'a> Model for World<'a> {
+    ghost use Rattle.world_core.specs.Views.{WorldView, IsWhole, ComesOut};
+    ghost use Rattle.world_core.specs.Steps.{view_of};
+
+    ghost Value = { WorldView };
+
+    ghost view = { λ w. view_of w.state };
+
+    ghost invariant = { λ w. IsWhole (view_of w.state) × ComesOut (view_of w.state) };
+}
+
+impl<'a> World<'a> {
+    /// A world in which nothing was done. It is refused [`StepFault::Memory`] alone.
+    pub fn new(alloc: Global, network: &'a Network) -> Result<World<'a>, StepFault>
+        ensures opens { IfOk result (Opens network.now) }
+        ensures promises { IfOk result KeepsPromises }
+        ensures only { IfErr result (λ why. why ≡ Memory) }
+    {
+        played_worlds_keep_their_promises();
+        let state = opening(alloc, network)?;
+        Ok(World { state })
+    }
+
+    /// Does one event. Nothing where its router had nothing to do: an empty outbox or pipe, nothing to
+    /// handle, decide, tell or offer; and where all outboxes that wait are full
+    /// ([`RouterError::Blocked`](router_model::RouterError::Blocked)), or a message waits to be handled
+    /// before the next item is taken ([`RouterError::Held`](router_model::RouterError::Held)).
+    ///
+    /// Refused [`StepFault::NoSuchRouter`], [`StepFault::NoSuchLink`], [`StepFault::Refused`] with any
+    /// other refusal of the router, and [`StepFault::Memory`] where a growth was refused; then the world
+    /// is as it was.
+    pub fn step(&mut self, event: &Event) -> Result<Stepped, StepFault>
+        ensures answers { Answers result self.old event.now self.new }
+        ensures same { self.new.net ≡ self.old.net }
+        ensures promises { KeepsPromises self.new }
+    {
+        steps_are_replayed();
+        played_worlds_keep_their_promises();
+        self.state.step(event)
+    }
+
+    /// A router, where the network has one of that number.
+    pub fn router(&self, number: Asn) -> Option<&Router<'a>>
+        ensures { MatchOption result (IsNoRouter self.now number) (λ router. IsRouterOf self.now number router.now) }
+    {
+        self.state.router(number)
+    }
+
+    /// The network.
+    pub fn network(&self) -> &'a Network
+        ensures { result.now ≡ self.now.net }
+    {
+        self.state.network
+    }
+
+    /// The events that were done, the first first.
+    pub fn run(&self) -> &[Event]
+        ensures { result.now ≡ self.now.run }
+    {
+        self.state.run.as_slice()
+    }
+
+    /// The offers that were made.
+    pub fn collector(&self) -> &Collector
+        ensures { result.now ≡ self.now.collector }
+    {
+        &self.state.collector
+    }
+}
