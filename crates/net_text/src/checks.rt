@@ -10,8 +10,9 @@ use crate::updates::put_numbers;
 use ranked_policy::Asn;
 use std::alloc::AllocError;
 
-// Appends a path: its numbers with a dash between them, or that there is none.
-fn put_path(out: &mut Tail, numbers: &[Asn]) -> Result<(), AllocError>
+/// Appends a path: its numbers with a dash between them, or that there is none. It is refused only
+/// where memory was.
+pub fn put_path(out: &mut Tail, numbers: &[Asn]) -> Result<(), AllocError>
     ensures text { OnOk result (out.new.text ≡ out.old.text ++ numbers_text numbers.now) }
     ensures front { out.new.front ≡ out.old.front }
 {

@@ -29,8 +29,8 @@ fn chomp(line: &[u8]) -> &[u8]
     front
 }
 
-// The first line, and the lines behind it.
-pub(crate) fn next_line(text: &[u8]) -> (&[u8], &[u8])
+/// The first line, without its end, and the lines behind it.
+pub fn next_line(text: &[u8]) -> (&[u8], &[u8])
     requires { 0 < length text.now }
     ensures lines { lines_of text.now ≡ result.0.now ∷ lines_of result.1.now }
     ensures shorter { length result.1.now < length text.now }
@@ -83,8 +83,8 @@ fn word_len(line: &[u8]) -> usize
     line.len()
 }
 
-// The first word of a line, and what is behind it.
-pub(crate) fn next_word(line: &[u8]) -> Option<(&[u8], &[u8])>
+/// The first word of a line, and what is behind it.
+pub fn next_word(line: &[u8]) -> Option<(&[u8], &[u8])>
     ensures none { IfNone result (words_of line.now ≡ []) }
     ensures some { IfSome result (λ p. words_of line.now ≡ p.0.now ∷ words_of p.1.now) }
     ensures shorter { IfSome result (λ p. length p.1.now < length line.now) }
@@ -96,8 +96,8 @@ pub(crate) fn next_word(line: &[u8]) -> Option<(&[u8], &[u8])>
     Some(left.split_at(word_len(left)))
 }
 
-// Whether the line has no word, or its first word begins a comment.
-pub(crate) fn is_skipped(line: &[u8]) -> bool
+/// Whether the line has no word, or its first word begins a comment.
+pub fn is_skipped(line: &[u8]) -> bool
     ensures { result ≡ is_skipped line.now }
 {
     match next_word(line) {
@@ -107,14 +107,15 @@ pub(crate) fn is_skipped(line: &[u8]) -> bool
     }
 }
 
-pub(crate) fn is_ascii(line: &[u8]) -> bool
+/// Whether each octet of the line is one of ASCII.
+pub fn is_ascii(line: &[u8]) -> bool
     ensures { result ≡ is_ascii line.now }
 {
     line.iter().all(|x| *x < 128)
 }
 
-// Whether two words are one.
-pub(crate) fn same(word: &[u8], other: &[u8]) -> bool
+/// Whether two words are one.
+pub fn same(word: &[u8], other: &[u8]) -> bool
     ensures { result ≡ same word.now other.now }
 {
     word == other

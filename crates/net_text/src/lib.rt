@@ -15,6 +15,9 @@
 //! `Assignments` (whole texts), `Printing` (lines of messages and of checks). The laws that tie the
 //! texts together are the public functions of [`laws`].
 //!
+//! Readers of other texts stand on the same [`lexing`] and [`words`], and writers of other lines on
+//! [`Tail`].
+//!
 //! Left out: schedules, reports of runs, and every use of a network.
 #![tactic(auto)]
 
@@ -24,7 +27,7 @@ mod code;
 mod draft;
 mod entries;
 pub mod laws;
-mod lexing;
+pub mod lexing;
 mod lines;
 mod messages;
 mod network_lines;
@@ -34,15 +37,17 @@ mod settings;
 mod tail;
 mod texts;
 mod updates;
-mod words;
+pub mod words;
 
 pub use assignment::{Entry, read_assignment};
+pub use checks::put_path;
 pub use code::{Code, Refused};
 pub use draft::read_network;
 pub use lines::{
     fault_lines, message_line, refused_line, stable_line, truncated_line, unstable_line,
 };
 pub use sections::{Split, split_at_section};
+pub use tail::Tail;
 
 #[cfg(test)]
 mod tests;

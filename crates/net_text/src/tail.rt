@@ -13,7 +13,7 @@ use std::mem;
 
 /// A buffer that keeps what it had in front, while text is written behind it.
 #[derive(Drop)]
-pub(crate) struct Tail {
+pub struct Tail {
     octets: Vec<u8>,
     start: usize,
 }
@@ -31,7 +31,7 @@ impl Model for Tail {
 
 impl Tail {
     /// The buffer, which is empty until it is given back.
-    pub(crate) fn behind(out: &mut Vec<u8>) -> Tail
+    pub fn behind(out: &mut Vec<u8>) -> Tail
         ensures { result ≡ record { front = out.old.items; text = [] } }
     {
         let alloc = *out.allocator();
@@ -43,7 +43,7 @@ impl Tail {
     }
 
     /// The buffer, with what was written or without it.
-    pub(crate) fn finish(self, keep: bool) -> Vec<u8>
+    pub fn finish(self, keep: bool) -> Vec<u8>
         ensures { result.items ≡ (if keep then self.front ++ self.text else self.front) }
     {
         let Tail { mut octets, start } = self;
@@ -54,7 +54,7 @@ impl Tail {
     }
 
     /// Writes octets as they are.
-    pub(crate) fn put_text(&mut self, octets: &[u8]) -> Result<(), AllocError>
+    pub fn put_text(&mut self, octets: &[u8]) -> Result<(), AllocError>
         ensures text { self.new.text ≡ (if is_ok result then self.old.text ++ octets.now else self.old.text) }
         ensures front { self.new.front ≡ self.old.front }
     {
@@ -62,7 +62,7 @@ impl Tail {
     }
 
     /// Writes a number in decimal digits.
-    pub(crate) fn put_decimal(&mut self, number: u32) -> Result<(), AllocError>
+    pub fn put_decimal(&mut self, number: u32) -> Result<(), AllocError>
         ensures text { OnOk result (self.new.text ≡ self.old.text ++ decimal number) }
         ensures front { self.new.front ≡ self.old.front }
     {
@@ -102,7 +102,7 @@ impl Tail {
     }
 
     /// Writes prefixes, a space before each.
-    pub(crate) fn put_prefixes(&mut self, prefixes: &[Prefix]) -> Result<(), AllocError>
+    pub fn put_prefixes(&mut self, prefixes: &[Prefix]) -> Result<(), AllocError>
         ensures text { OnOk result (self.new.text ≡ self.old.text ++ prefixes_text prefixes.now) }
         ensures front { self.new.front ≡ self.old.front }
     {

@@ -21,16 +21,16 @@ fn are_digits(word: &[u8]) -> bool
     word.iter().all(|x| is_digit(*x))
 }
 
-// Whether the word is digits, however many, and not empty.
-pub(crate) fn is_number(word: &[u8]) -> bool
+/// Whether the word is digits, however many, and not empty.
+pub fn is_number(word: &[u8]) -> bool
     ensures { result ≡ is_number word.now }
 {
     !word.is_empty() && are_digits(word)
 }
 
-// The number that digits are. One that 64 bits do not hold is answered as the greatest that they
-// hold, which is above each limit too.
-pub(crate) fn value_of(word: &[u8]) -> u64
+/// The number that digits are. One that 64 bits do not hold is answered as the greatest that they
+/// hold, which is above each limit too.
+pub fn value_of(word: &[u8]) -> u64
     ensures { result ≡ value_of word.now }
 {
     let mut value = 0u64;
@@ -68,8 +68,8 @@ pub(crate) fn is_router(routers: &[Router], number: u64) -> bool
     routers.iter().any(|router| u64::from(router.asn) == number)
 }
 
-// The number of a router.
-pub(crate) fn router_word(routers: &[Router], word: &[u8]) -> Result<Asn, Code>
+/// The number of a router: `Unreadable`, then `OutOfLimit`, then `UnknownRouter` where it is none.
+pub fn router_word(routers: &[Router], word: &[u8]) -> Result<Asn, Code>
     ensures { result ≡ router_word routers.now word.now }
 {
     let asn = asn_word(word)?;
@@ -152,8 +152,8 @@ pub(crate) fn is_named(origins: &[Origin], prefix: &Prefix) -> bool
         .any(|origin| is_prefix(&origin.prefix, prefix))
 }
 
-// A prefix that a router originates.
-pub(crate) fn origin_word(origins: &[Origin], word: &[u8]) -> Result<Prefix, Code>
+/// A prefix that a router originates: `BadPrefix` where it cannot be read or has no origin.
+pub fn origin_word(origins: &[Origin], word: &[u8]) -> Result<Prefix, Code>
     ensures { result ≡ origin_word origins.now word.now }
 {
     let prefix = prefix_word(word)?;

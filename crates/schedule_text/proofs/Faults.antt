@@ -1,0 +1,142 @@
+-- Want of memory is no line's fault.
+use Rattle.std.proofs.Common.{◌≡◌, ℕ, Bool, true, false, cond, List, [], ◌∷◌, Option, None, Some, Result, Ok, Err, ap, sym, not}
+use Rattle.prefix_lanes.specs.Bits.{PrefixView}
+use Rattle.ranked_policy.specs.Plans.{Plan}
+use Rattle.ranked_policy.specs.declared.network.Router.{Router}
+use Rattle.ranked_policy.specs.declared.network.Origin.{Origin}
+use Rattle.net_text.specs.declared.code.Code.{Code}
+use Rattle.net_text.specs.declared.code.Code.TheVariants as codes
+use Rattle.net_text.specs.Lexing.{Text, is_skipped, is_ascii, words_of}
+use Rattle.net_text.specs.Words.{◌>>=◌, number_word, is_asn, is_router, asn_word, router_word, prefix_of, prefix_or_fault, is_named, origin_word}
+use Rattle.schedule_text.specs.declared.keyword.Keyword.{Keyword}
+use Rattle.schedule_text.specs.declared.keyword.Keyword.TheVariants as keyword
+use Rattle.schedule_text.specs.Schedules.{is_within, router_operand, peer_operands, prefix_operands, number_operands, count_operand, ordered, keyword_of, keyword_order, words_order, line_order, IsFaulty}
+
+abbrev NoMemory : {A : Type 0} → Result A Code → Type 0
+NoMemory {A} r = let memory : Result A Code = Err codes.Memory in r ≡ memory → ⊥
+
+good : {A : Type 0} (x : A) → NoMemory {A = A} (Ok x)
+good x e = cc
+
+bad_form : {A : Type 0} → NoMemory {A = A} (Err codes.BadForm)
+bad_form e = cc
+
+unreadable : {A : Type 0} → NoMemory {A = A} (Err codes.Unreadable)
+unreadable e = cc
+
+out_of_limit : {A : Type 0} → NoMemory {A = A} (Err codes.OutOfLimit)
+out_of_limit e = cc
+
+unknown : {A : Type 0} → NoMemory {A = A} (Err codes.UnknownRouter)
+unknown e = cc
+
+bad_prefix : {A : Type 0} → NoMemory {A = A} (Err codes.BadPrefix)
+bad_prefix e = cc
+
+either : {A : Type 0} (b : Bool) (x y : Result A Code) → NoMemory x → NoMemory y → NoMemory (cond b x y)
+either true x y h k = h
+either false x y h k = k
+
+onward : {A B : Type 0} (r : Result A Code) (f : A → Result B Code) → NoMemory r → ((x : A) → NoMemory (f x)) → NoMemory (r >>= f)
+onward (Ok x) f h k e = k x e
+onward (Err code) f h k e = h (let same : code ≡ codes.Memory = cc in ap Err same)
+
+with_good : {A B : Type 0} (r : Result A Code) (f : A → B) → NoMemory r → NoMemory (r >>= λ x. Ok (f x))
+with_good r f h = onward r (λ x. Ok (f x)) h (λ x. good (f x))
+
+-- ---- words
+
+number : (test : ℕ → Bool) (word : Text) → NoMemory (number_word test word)
+number test word = either _ _ _ unreadable (either _ _ _ out_of_limit (good _))
+
+router : (routers : List Router) (word : Text) → NoMemory (router_word routers word)
+router routers word =
+    onward (asn_word word) (λ u. cond (not (is_router routers u)) (Err codes.UnknownRouter) (Ok u)) (number is_asn word) (λ u. either _ _ _ unknown (good u))
+
+prefix : (q : Option PrefixView) → NoMemory (prefix_or_fault q)
+prefix None = bad_prefix
+prefix (Some q) = good q
+
+origin : (origins : List Origin) (word : Text) → NoMemory (origin_word origins word)
+origin origins word =
+    onward (prefix_or_fault (prefix_of word)) (λ q. cond (not (is_named origins q)) (Err codes.BadPrefix) (Ok q)) (prefix (prefix_of word)) (λ q. either _ _ _ bad_prefix (good q))
+
+-- ---- operands
+
+module _ (net : Plan) where
+  of_router : (words : List Text) → NoMemory (router_operand net words)
+  of_router [] = bad_form
+  of_router (a ∷ []) = router net.routers a
+  of_router (a ∷ b ∷ words) = bad_form
+
+  abbrev both : {A : Type 0} → ℕ → A → ℕ × A
+  both u x = (u, x)
+
+  of_two : {A : Type 0} (a b : Text) (second : Text → Result A Code) → NoMemory (second b) → NoMemory (router_word net.routers a >>= λ u. second b >>= λ x. Ok (both u x))
+  of_two a b second h = onward (router_word net.routers a) (λ u. second b >>= λ x. Ok (both u x)) (router net.routers a) (λ u. with_good (second b) (both u) h)
+
+  of_peers : (words : List Text) → NoMemory (peer_operands net words)
+  of_peers [] = bad_form
+  of_peers (a ∷ []) = bad_form
+  of_peers (a ∷ b ∷ []) = of_two a b (router_word net.routers) (router net.routers b)
+  of_peers (a ∷ b ∷ c ∷ words) = bad_form
+
+  of_prefix : (words : List Text) → NoMemory (prefix_operands net words)
+  of_prefix [] = bad_form
+  of_prefix (a ∷ []) = bad_form
+  of_prefix (a ∷ b ∷ []) = of_two a b (origin_word net.origins) (origin net.origins b)
+  of_prefix (a ∷ b ∷ c ∷ words) = bad_form
+
+  of_number : (words : List Text) → NoMemory (number_operands net words)
+  of_number [] = bad_form
+  of_number (a ∷ []) = bad_form
+  of_number (a ∷ b ∷ []) = of_two a b (number_word (is_within 4294967295)) (number (is_within 4294967295) b)
+  of_number (a ∷ b ∷ c ∷ words) = bad_form
+
+  of_count : (words : List Text) → NoMemory (count_operand words)
+  of_count [] = bad_form
+  of_count (a ∷ []) = number (is_within 1000000) a
+  of_count (a ∷ b ∷ words) = bad_form
+
+  -- ---- lines
+
+  of_keyword : (k : Keyword) (words : List Text) → NoMemory (ordered net k words)
+  of_keyword keyword.Start words = with_good (peer_operands net words) _ (of_peers words)
+  of_keyword keyword.Stop words = with_good (peer_operands net words) _ (of_peers words)
+  of_keyword keyword.Reset words = with_good (peer_operands net words) _ (of_peers words)
+  of_keyword keyword.Originate words = with_good (prefix_operands net words) _ (of_prefix words)
+  of_keyword keyword.Withdraw words = with_good (prefix_operands net words) _ (of_prefix words)
+  of_keyword keyword.Snapshot words = with_good (number_operands net words) _ (of_number words)
+  of_keyword keyword.Restart words = with_good (router_operand net words) _ (of_router words)
+  of_keyword keyword.Tick words = with_good (router_operand net words) _ (of_router words)
+  of_keyword keyword.Put words = with_good (peer_operands net words) _ (of_peers words)
+  of_keyword keyword.Take words = with_good (peer_operands net words) _ (of_peers words)
+  of_keyword keyword.Handle words = with_good (peer_operands net words) _ (of_peers words)
+  of_keyword keyword.Decide words = with_good (router_operand net words) _ (of_router words)
+  of_keyword keyword.Advertise words = with_good (router_operand net words) _ (of_router words)
+  of_keyword keyword.Offer words = with_good (router_operand net words) _ (of_router words)
+  of_keyword keyword.Rounds words = with_good (count_operand words) _ (of_count words)
+  of_keyword keyword.Ticks words = with_good (count_operand words) _ (of_count words)
+
+  of_found : (k : Option Keyword) (words : List Text) → NoMemory (keyword_order net k words)
+  of_found None words = bad_form
+  of_found (Some k) words = with_good (ordered net k words) _ (of_keyword k words)
+
+  of_words : (words : List Text) → NoMemory (words_order net words)
+  of_words [] = good None
+  of_words (name ∷ words) = of_found (keyword_of name) words
+
+  of_line : (text : Text) → NoMemory (line_order net text)
+  of_line text = either (is_skipped text) _ _ (good None) (either (not (is_ascii text)) _ _ bad_form (of_words (words_of text)))
+
+  -- the fault of a line
+  pub is_faulty : (text : Text) (code : Code) → Err code ≡ line_order net text → IsFaulty net text code
+  is_faulty text codes.Memory e = absurd (of_line text (sym e))
+  is_faulty text codes.BadForm e = sym e
+  is_faulty text codes.Unreadable e = sym e
+  is_faulty text codes.UnknownRouter e = sym e
+  is_faulty text codes.Repeated e = sym e
+  is_faulty text codes.NotConnected e = sym e
+  is_faulty text codes.OutOfLimit e = sym e
+  is_faulty text codes.NotSimple e = sym e
+  is_faulty text codes.BadPrefix e = sym e

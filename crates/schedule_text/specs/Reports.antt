@@ -1,0 +1,76 @@
+-- The lines that a run is reported by.
+use Rattle.std.specs.Prelude.{ℕ, List, [], ◌++◌, codes, decimal}
+use Rattle.prefix_lanes.specs.Bits.{PrefixView}
+use Rattle.net_text.specs.Printing.{line, prefix_text, numbers_text, refused_line}
+use Rattle.router_model.specs.declared.refusal.RouterError.{RouterError}
+use Rattle.router_model.specs.declared.refusal.RouterError.TheVariants as error
+use Rattle.snap_marker.specs.declared.part.Cause.{Cause}
+use Rattle.snap_marker.specs.declared.part.Cause.TheVariants as cause
+use Rattle.snap_collector.specs.declared.outcome.Why.{Why}
+use Rattle.snap_collector.specs.declared.outcome.Why.TheVariants as why
+use Rattle.snap_collector.specs.declared.outcome.Outcome.{Outcome}
+use Rattle.snap_collector.specs.declared.outcome.Outcome.TheVariants as outcome
+use Rattle.world_core.specs.declared.schedule.StepFault.{StepFault}
+use Rattle.world_core.specs.declared.schedule.StepFault.TheVariants as fault
+
+-- ---- snapshots
+
+abbrev pub why_text : Why → List ℕ
+why_text why.Pending = codes "pending"
+why_text (why.InFlight v) = codes "inflight " ++ decimal v
+why_text (why.Mismatch v) = codes "mismatch " ++ decimal v
+
+abbrev pub cause_text : Cause → List ℕ
+cause_text cause.NotUp = codes "notup"
+cause_text cause.Closed = codes "closed"
+cause_text cause.Superseded = codes "superseded"
+
+-- how it came out: the router that is moving, and why; or the router and the peer by which it was abandoned, and why
+abbrev pub outcome_text : Outcome → List ℕ
+outcome_text outcome.Waiting = []
+outcome_text (outcome.Abandoned lost) =
+    codes "abandoned " ++ (decimal lost.router ++ (codes " " ++ (decimal lost.peer ++ (codes " " ++ cause_text lost.cause))))
+outcome_text (outcome.Moving u w) = codes "moving " ++ (decimal u ++ (codes " " ++ why_text w))
+outcome_text outcome.Settled = codes "settled"
+
+unfoldable pub snapshot_text : ℕ → Outcome → List ℕ
+snapshot_text s o = line (codes "snapshot " ++ (decimal s ++ (codes " " ++ outcome_text o)))
+
+-- one that is undecided has no line
+abbrev pub snapshot_line : ℕ → Outcome → List ℕ
+snapshot_line s outcome.Waiting = []
+snapshot_line s (outcome.Abandoned lost) = snapshot_text s (outcome.Abandoned lost)
+snapshot_line s (outcome.Moving u w) = snapshot_text s (outcome.Moving u w)
+snapshot_line s outcome.Settled = snapshot_text s outcome.Settled
+
+-- ---- routes
+
+-- the path of a router for a prefix
+unfoldable pub route_line : ℕ → PrefixView → List ℕ → List ℕ
+route_line u q path = line (codes "route " ++ (decimal u ++ (prefix_text q ++ (codes " " ++ numbers_text path))))
+
+-- before the routes at the end
+abbrev pub now_line : List ℕ
+now_line = line (codes "now")
+
+-- ---- refusals
+
+abbrev pub router_code : RouterError → List ℕ
+router_code error.NoSuchPeer = codes "E1"
+router_code error.NotOrigin = codes "E2"
+router_code (error.OldSnapshot last) = codes "E3"
+router_code (error.Blocked v) = codes "E4"
+router_code (error.Held v) = codes "E5"
+router_code error.StampEnd = codes "E6"
+router_code error.Memory = codes "E7"
+router_code error.EpochEnd = codes "E8"
+
+abbrev pub fault_code : StepFault → List ℕ
+fault_code fault.NoSuchRouter = codes "V1"
+fault_code fault.NoSuchLink = codes "V2"
+fault_code (fault.Refused e) = router_code e
+fault_code fault.Memory = codes "V4"
+
+-- the order of a line was refused
+abbrev pub stop_line : ℕ → StepFault → List ℕ
+stop_line at why = refused_line at (fault_code why)

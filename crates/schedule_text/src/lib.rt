@@ -1,0 +1,26 @@
+//! Texts of schedules, and the lines that a run is reported by.
+//!
+//! A schedule text has a line for each [`world_core::Order`]: an event of a router, or so many
+//! rounds or ticks of all of them. [`read_schedule`] answers the orders that it spells, each with
+//! its line, or the first faulty line with its [`net_text::Code`].
+//!
+//! [`snapshot_line`] appends how a snapshot came out, [`now_line`] the heading of the routes at the
+//! end, [`route_line`] a router's path for a prefix, [`stop_line`] that a run refused the order of a
+//! line. A refused call leaves the buffer's octets as they were.
+//!
+//! The definitions stand in `specs/`: `Schedules` (keywords, their operands, whole texts),
+//! `Reports` (lines of a run).
+//!
+//! Left out: what orders do.
+#![tactic(auto)]
+
+mod keyword;
+mod operands;
+mod report;
+mod schedule;
+
+pub use report::{now_line, route_line, snapshot_line, stop_line};
+pub use schedule::{ScheduledOrder, read_schedule};
+
+#[cfg(test)]
+mod tests;

@@ -1,0 +1,177 @@
+//! The lines that a run is reported by. Each call appends a whole line, with its end; a refused call
+//! changes nothing.
+
+ghost use Rattle.std.specs.Prelude.{◌≡◌, ◌++◌, OnOk, OnErr};
+ghost use Rattle.schedule_text.specs.Reports.{why_text, cause_text, outcome_text, snapshot_text, snapshot_line, route_line, now_line, stop_line, router_code, fault_code};
+
+use net_text::{Tail, put_path, refused_line};
+use prefix_lanes::Prefix;
+use ranked_policy::Asn;
+use router_model::RouterError;
+use snap_collector::{Outcome, Why};
+use snap_marker::{Cause, Lost};
+use std::alloc::AllocError;
+use world_core::StepFault;
+
+// Writes why a snapshot is moving.
+fn put_why(out: &mut Tail, why: Why) -> Result<(), AllocError>
+    ensures text { OnOk result (out.new.text ≡ out.old.text ++ why_text why) }
+    ensures front { out.new.front ≡ out.old.front }
+{
+    match why {
+        Why::Pending => out.put_text(b"pending"),
+        Why::InFlight(peer) => {
+            out.put_text(b"inflight ")?;
+            out.put_decimal(peer)
+        }
+        Why::Mismatch(peer) => {
+            out.put_text(b"mismatch ")?;
+            out.put_decimal(peer)
+        }
+    }
+}
+
+// Why a recording was lost.
+fn cause_text(cause: Cause) -> &'static [u8]
+    ensures { result.now ≡ cause_text cause }
+{
+    match cause {
+        Cause::NotUp => b"notup",
+        Cause::Closed => b"closed",
+        Cause::Superseded => b"superseded",
+    }
+}
+
+// Writes how a snapshot was abandoned.
+fn put_lost(out: &mut Tail, lost: &Lost) -> Result<(), AllocError>
+    ensures text { OnOk result (out.new.text ≡ out.old.text ++ outcome_text (Outcome.Abandoned lost.now)) }
+    ensures front { out.new.front ≡ out.old.front }
+{
+    out.put_text(b"abandoned ")?;
+    out.put_decimal(lost.router)?;
+    out.put_text(b" ")?;
+    out.put_decimal(lost.peer)?;
+    out.put_text(b" ")?;
+    out.put_text(cause_text(lost.cause))
+}
+
+// Writes how a snapshot came out.
+fn put_outcome(out: &mut Tail, outcome: &Outcome) -> Result<(), AllocError>
+    ensures text { OnOk result (out.new.text ≡ out.old.text ++ outcome_text outcome.now) }
+    ensures front { out.new.front ≡ out.old.front }
+{
+    match outcome {
+        Outcome::Waiting => Ok(()),
+        Outcome::Abandoned(lost) => put_lost(out, lost),
+        Outcome::Moving { router, why } => {
+            out.put_text(b"moving ")?;
+            out.put_decimal(*router)?;
+            out.put_text(b" ")?;
+            put_why(out, *why)
+        }
+        Outcome::Settled => out.put_text(b"settled"),
+    }
+}
+
+#[tactic(auto, unfolding(crate::specs::Reports::snapshot_text))]
+fn put_snapshot(out: &mut Tail, number: u32, outcome: &Outcome) -> Result<(), AllocError>
+    ensures text { OnOk result (out.new.text ≡ out.old.text ++ snapshot_text number outcome.now) }
+    ensures front { out.new.front ≡ out.old.front }
+{
+    out.put_text(b"snapshot ")?;
+    out.put_decimal(number)?;
+    out.put_text(b" ")?;
+    put_outcome(out, outcome)?;
+    out.put_text(b"\n")
+}
+
+#[tactic(auto, unfolding(crate::specs::Reports::route_line))]
+fn put_route(out: &mut Tail, router: Asn, prefix: &Prefix, path: &[Asn]) -> Result<(), AllocError>
+    ensures text { OnOk result (out.new.text ≡ out.old.text ++ route_line router prefix.now path.now) }
+    ensures front { out.new.front ≡ out.old.front }
+{
+    out.put_text(b"route ")?;
+    out.put_decimal(router)?;
+    out.put_prefixes(&[*prefix])?;
+    out.put_text(b" ")?;
+    put_path(out, path)?;
+    out.put_text(b"\n")
+}
+
+/// Appends how a snapshot came out; nothing where it is undecided. It is refused only where memory
+/// was, and then changes nothing.
+pub fn snapshot_line(number: u32, outcome: &Outcome, out: &mut Vec<u8>) -> Result<(), AllocError>
+    ensures ok { OnOk result (out.new.items ≡ out.old.items ++ snapshot_line number outcome.now) }
+    ensures err { OnErr result (out.new.items ≡ out.old.items) }
+{
+    if *outcome == Outcome::Waiting {
+        return Ok(());
+    }
+    let mut tail = Tail::behind(out);
+    let result = put_snapshot(&mut tail, number, outcome);
+    *out = tail.finish(result.is_ok());
+    result
+}
+
+/// Appends the path of a router for a prefix, `none` where it is empty. It is refused only where
+/// memory was, and then changes nothing.
+pub fn route_line(
+    router: Asn,
+    prefix: &Prefix,
+    path: &[Asn],
+    out: &mut Vec<u8>,
+) -> Result<(), AllocError>
+    ensures ok { OnOk result (out.new.items ≡ out.old.items ++ route_line router prefix.now path.now) }
+    ensures err { OnErr result (out.new.items ≡ out.old.items) }
+{
+    let mut tail = Tail::behind(out);
+    let result = put_route(&mut tail, router, prefix, path);
+    *out = tail.finish(result.is_ok());
+    result
+}
+
+/// Appends the line that stands before the routes at the end of a run. It is refused only where
+/// memory was, and then changes nothing.
+pub fn now_line(out: &mut Vec<u8>) -> Result<(), AllocError>
+    ensures ok { OnOk result (out.new.items ≡ out.old.items ++ now_line) }
+    ensures err { OnErr result (out.new.items ≡ out.old.items) }
+{
+    out.extend_from_slice(b"now\n")
+}
+
+// The code of a router's refusal.
+fn router_code(error: RouterError) -> &'static [u8]
+    ensures { result.now ≡ router_code error }
+{
+    match error {
+        RouterError::NoSuchPeer => b"E1",
+        RouterError::NotOrigin => b"E2",
+        RouterError::OldSnapshot { .. } => b"E3",
+        RouterError::Blocked { .. } => b"E4",
+        RouterError::Held { .. } => b"E5",
+        RouterError::StampEnd => b"E6",
+        RouterError::Memory => b"E7",
+        RouterError::EpochEnd => b"E8",
+    }
+}
+
+// The code of a refusal of a run, which is the router's own where a router refused.
+fn fault_code(fault: StepFault) -> &'static [u8]
+    ensures { result.now ≡ fault_code fault }
+{
+    match fault {
+        StepFault::NoSuchRouter => b"V1",
+        StepFault::NoSuchLink => b"V2",
+        StepFault::Refused(error) => router_code(error),
+        StepFault::Memory => b"V4",
+    }
+}
+
+/// Appends that a run refused the order of a line, with the code of why. It is refused only where
+/// memory was, and then changes nothing.
+pub fn stop_line(line: usize, fault: StepFault, out: &mut Vec<u8>) -> Result<(), AllocError>
+    ensures ok { OnOk result (out.new.items ≡ out.old.items ++ stop_line line fault) }
+    ensures err { OnErr result (out.new.items ≡ out.old.items) }
+{
+    refused_line(line, fault_code(fault), out)
+}
