@@ -203,13 +203,13 @@ fn the_example_of_the_help(rt: HostRuntime) -> Result<(), Fail> {
     let mut wanted = String::new(alloc);
     for line in PLAY_HELP.lines() {
         if let Some(line) = line.strip_prefix("    ") {
-            let text = if line == "now" || line.starts_with("route ") {
-                &mut wanted
+            if line == "now" || line.starts_with("route ") {
+                wanted.push_str(line)?;
+                wanted.push_str("\n")?;
             } else {
-                &mut input
-            };
-            text.push_str(line)?;
-            text.push_str("\n")?;
+                input.push_str(line)?;
+                input.push_str("\n")?;
+            }
         }
     }
     let (text, status) = answer(alloc, &["play"], input.as_bytes())?;
