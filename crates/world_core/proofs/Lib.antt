@@ -7,4 +7,4 @@ pub mod Stepping
 pub mod Linking
 pub mod Moving
 pub mod Worlds
-pub mod Obeying
+pub mod Orders

@@ -5,6 +5,7 @@ mod entering;
 pub mod examples;
 mod inbox;
 pub mod laws;
+mod obeying;
 mod opening;
 mod player;
 mod schedule;

@@ -1,7 +1,8 @@
 //! What a world holds, and what each event does to it.
 
-ghost use Rattle.std.specs.Prelude.{◌≡◌, ◌<◌, length, MatchResult, MatchOption, IfOk, true, false};
+ghost use Rattle.std.specs.Prelude.{◌≡◌, ◌<◌, length, map, MatchResult, MatchOption, IfOk, true, false};
 ghost use Rattle.world_core.specs.declared.schedule.Event.TheVariants.{Put, Take, Handle, Offer};
+ghost use Rattle.router_model.specs.Settings.{peers};
 ghost use Rattle.router_core.specs.Judging.{call_of};
 ghost use Rattle.world_core.specs.Views.{IsWhole, Answers, IsNoRouter, IsRouterOf};
 ghost use Rattle.world_core.specs.Steps.{view_of, IsSameNet, Asks, IsPlaceOf, FindsLink, FindsLinkTo};
@@ -131,6 +132,18 @@ impl<'a> State<'a> {
             &mut self.board,
             &event,
         )
+    }
+
+    /// The pipes that lead to a router, by rising peer.
+    pub fn pipes_to(&self, number: Asn) -> &[Pipe]
+        requires { IsWhole (view_of self.now) }
+        ensures { map (λ p. p.peer) result.now ≡ peers (view_of self.now).net number }
+    {
+        linked_routers_are_peers();
+        match self.place(number) {
+            Ok(at) => self.inboxes[at].pipes.as_slice(),
+            Err(_) => &[],
+        }
     }
 
     /// Does one event.

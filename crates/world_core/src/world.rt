@@ -19,7 +19,7 @@ use std::marker::Model;
 /// offers that they made.
 #[derive(Drop)]
 pub struct World<'a> {
-    state: State<'a>,
+    pub(crate) state: State<'a>,
 }
 
 impl<'a> Model for World<'a> {
