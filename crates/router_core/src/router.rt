@@ -10,11 +10,14 @@ mod carry;
 mod choose;
 mod command;
 mod handle;
+mod judge;
 mod history;
 mod offer;
 mod put;
 mod record;
 mod take;
+
+pub use judge::Call;
 
 use crate::opening::{new_peers, own_open};
 use crate::peers::{Peer, place_of};
