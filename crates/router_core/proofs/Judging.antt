@@ -3,9 +3,10 @@ use Rattle.std.proofs.Common.{◌≡◌, ℕ, ◌+◌, Bool, true, false, not, O
 use Rattle.std.specs.Prelude.{nat_lt, max, Result, Ok, Err}
 use Rattle.bgp_framing.specs.Held.{is_waiting}
 use Rattle.link_epoch.specs.declared.link_end.Sign.TheVariants as sign
+use Rattle.outbox.specs.declared.item.What.{What}
 use Rattle.outbox.specs.declared.item.What.TheVariants as item
 use Rattle.prefix_lanes.specs.Bits.{PrefixView}
-use Rattle.run_model.specs.Network.{alone}
+use Rattle.run_model.specs.Network.{alone, takes}
 use Rattle.session_fsm.specs.declared.event.FsmEvent.TheVariants.{ManualStart}
 use Rattle.router_model.specs.declared.command.Command.TheVariants.{Start, Reset}
 use Rattle.router_model.specs.declared.refusal.RouterError.{RouterError}
@@ -15,7 +16,7 @@ use Rattle.router_model.specs.declared.refusal.Stepped.TheVariants as stepped
 use Rattle.router_model.specs.Settings.{Setting}
 use Rattle.router_model.specs.Sides.{Draft, NoMessage, met, reset, signed, second}
 use Rattle.router_model.specs.State.{undecided}
-use Rattle.router_model.specs.Step.{RouterEvent, Handles, Decides, moved}
+use Rattle.router_model.specs.Step.{RouterEvent, Handles, Decides, moved, overflows_taking}
 use Rattle.router_model.specs.Calls.{Stamped, Call, Obey, Tick, Take, Handle, Decide, Answer, Steps, Idle, Refuses, Gives, answer, judged, unless, if_so, greatest_stamp, stamped_after}
 use Rattle.router_side.specs.SideOf.{side}
 use Rattle.router_core.specs.declared.peers.Peer.{Peer}
@@ -24,7 +25,7 @@ use Rattle.router_core.specs.Whole.{overflow_in}
 use Rattle.router_core.specs.Judging.{judged_as, verdict_of}
 use Rattle.router_core.proofs.Carrying.{IsOf, ends_give, starts, resets}
 use Rattle.router_core.proofs.Serving.{hand_is}
-use Rattle.router_core.proofs.Taking.{takes_dial, takes_shut}
+use Rattle.router_core.proofs.Taking.{takes_dial, late_is}
 use Rattle.router_core.proofs.Ticking.{ticks, ticked}
 
 pub verdict_is : (e : RouterEvent) (s o : Bool) → verdict_of s o ≡ judged_as (judged None (Some e) s o)
@@ -87,12 +88,16 @@ module _ (g : Setting) (r : RouterView) (v i : ℕ) (p : Peer) (of : IsOf g r) (
         (answer g r.number (plain_of r) (Take v stamp (item.Dial n))) (Take v stamp (item.Dial n))
         (λ y ends. takes_dial g r v i p of at here l stamp y a (verdict_of (nat_lt greatest_stamp (max r.stamp stamp + 1)) a.overflows) n free made ends)
 
-    pub shut_judged : a ≡ signed r.own_open (side p.end) (sign.Shut n)
-        → verdict_of (nat_lt greatest_stamp (max r.stamp stamp + 1)) false ≡ judged_as (answer g r.number (plain_of r) (Take v stamp (item.Shut n)))
-    shut_judged made =
-        judged_ends g r.number (nat_lt greatest_stamp (max r.stamp stamp + 1)) false (plain_of r) (record { router = moved (plain_of r).router v NoMessage a; stamp = max r.stamp stamp + 1 })
-        (answer g r.number (plain_of r) (Take v stamp (item.Shut n))) (Take v stamp (item.Shut n))
-        (λ y ends. takes_shut g r v i p of at here l stamp y a (verdict_of (nat_lt greatest_stamp (max r.stamp stamp + 1)) false) n free made ends)
+  -- any other item dials nothing
+  pub item_judged : (stamp : ℕ) → is_waiting (side p.end).held ≡ false → (what : What) → overflows_taking g r.number (plain_of r).router v what ≡ false
+      → verdict_of (nat_lt greatest_stamp (max r.stamp stamp + 1)) false ≡ judged_as (answer g r.number (plain_of r) (Take v stamp what))
+  item_judged stamp free what none =
+      let s = nat_lt greatest_stamp (max r.stamp stamp + 1) in
+      let e : RouterEvent = takes v what in
+      judged_ends g r.number s false (plain_of r) (stamped_after g r.number (plain_of r) (Take v stamp what) e) (answer g r.number (plain_of r) (Take v stamp what)) (Take v stamp what)
+      (λ y ends. late_is g r v i p of at here l stamp what (verdict_of s false) y s free refl
+      (subst (λ (o : Bool). Gives g r.number (verdict_of s false) (judged None (Some e) s o) (plain_of r) (Take v stamp what) y) (sym none)
+      (ends_give g r.number s false (verdict_of s false) (plain_of r) y (stamped_after g r.number (plain_of r) (Take v stamp what) e) (Take v stamp what) e refl ends)))
 
 pub tick_judged : (g : Setting) (r : RouterView) → g.net ≡ r.net → IsSound r
     → verdict_of (nat_lt greatest_stamp (r.stamp + 1)) (overflow_in (second r.own_open) r.peers) ≡ judged_as (answer g r.number (plain_of r) Tick)

@@ -1,13 +1,12 @@
-use Rattle.std.proofs.Common.{◌≡◌, ◌∙◌, ◌+◌, Bool, true, false, not, ap, sym, subst, refl, arith}
-use Rattle.std.specs.Prelude.{nat_lt, max, Ok, Err}
-use Rattle.std.proofs.lemmas.Bool.Decides.{nat_tests}
+use Rattle.std.proofs.Common.{◌∙◌, ◌+◌, not, ap, subst, refl}
+use Rattle.std.specs.Prelude.{nat_lt, Ok, Err}
 use Rattle.router_model.specs.declared.refusal.RouterError.TheVariants as error
 use Rattle.router_model.specs.declared.refusal.Stepped.TheVariants as stepped
 use Rattle.router_model.specs.Calls.{greatest_stamp}
 use Rattle.router_model.specs.Calls as calls
 use Rattle.router_model.specs.declared.command.Command.TheVariants as command
-use Rattle.router_core.specs.Views.{RouterView, IsFound, plain_of}
-use Rattle.router_core.specs.Judging.{verdict_of, JudgesAs}
+use Rattle.router_core.specs.Views.{RouterView, plain_of}
+use Rattle.router_core.specs.Judging.{JudgesAs}
 use Rattle.run_model.specs.Network.{alone}
 use Rattle.rib_tables.specs.Words.{lists}
 use Rattle.router_model.specs.Settings.{is_origin}

@@ -1,13 +1,9 @@
-use Rattle.std.proofs.Common.{◌≡◌, ◌∙◌, ◌+◌, Bool, true, false, not, ap, sym, subst, refl, arith}
-use Rattle.std.specs.Prelude.{nat_lt, max, Ok, Err}
-use Rattle.std.proofs.lemmas.Bool.Decides.{nat_tests}
-use Rattle.router_model.specs.declared.refusal.RouterError.TheVariants as error
-use Rattle.router_model.specs.declared.refusal.Stepped.TheVariants as stepped
+use Rattle.std.proofs.Common.{◌∙◌, sym, subst}
 use Rattle.router_model.specs.Calls.{greatest_stamp}
 use Rattle.router_model.specs.Calls as calls
 use Rattle.router_model.specs.declared.command.Command.TheVariants as command
-use Rattle.router_core.specs.Views.{RouterView, IsFound, plain_of}
-use Rattle.router_core.specs.Judging.{verdict_of, JudgesAs}
+use Rattle.router_core.specs.Views.{RouterView, IsFound}
+use Rattle.router_core.specs.Judging.{JudgesAs}
 use Rattle.router_model.specs.Sides.{NoMessage}
 use Rattle.router_side.specs.Drafts.{draft}
 use Rattle.router_core.proofs.Carrying.{of_sound}

@@ -1,4 +1,4 @@
-use Rattle.std.proofs.Common.{◌≡◌, ◌∙◌, ◌+◌, Bool, true, false, not, ap, sym, subst, refl, arith}
+use Rattle.std.proofs.Common.{◌≡◌, ◌∙◌, ◌+◌, Bool, true, false, not, ap, sym, subst, refl, arith, inl, inr}
 use Rattle.std.specs.Prelude.{nat_lt, max, Ok, Err}
 use Rattle.std.proofs.lemmas.Bool.Decides.{nat_tests}
 use Rattle.router_model.specs.declared.refusal.RouterError.TheVariants as error
@@ -13,9 +13,10 @@ use Rattle.outbox.specs.declared.item.What.TheVariants as item
 use Rattle.router_model.specs.Sides.{NoMessage, signed}
 use Rattle.router_side.specs.Drafts.{draft}
 use Rattle.router_side.specs.SideOf.{side}
+use Rattle.router_model.specs.Step.{overflows_taking}
 use Rattle.router_core.proofs.Carrying.{of_sound}
 use Rattle.router_core.proofs.Taking.{takes_held}
-use Rattle.router_core.proofs.Judging.{judged_from, dial_judged, shut_judged}
+use Rattle.router_core.proofs.Judging.{judged_from, dial_judged, item_judged}
 use Rattle.router_core.proofs.router.Router.judge_take.Goals as goal
 
 pub returns-then-is_waiting : goal.returns-then-is_waiting
@@ -40,15 +41,20 @@ returns-in-Dial c =
     c.verdict.ensures ∙ ap (λ (s : Bool). verdict_of s c.sign-made.result.overflows) late
     ∙ dial_judged g r c.args.peer c.in-Some.at p (of_sound g r c.self.invariant e) found.2 c.index.ensures found.1 stamp free (draft r.own_open NoMessage c.sign-made.result) c.in-Dial.number c.sign-made.ensures))
 
+-- a Shut, a piece or a marker
 pub returns-in-Shut : goal.returns-in-Shut
 returns-in-Shut c =
     let r : RouterView = record { net = c.self.inside.network.now; number = c.self.inside.number; own_open = c.self.inside.own_open; peers = c.self.inside.peers.items; tables = c.self.inside.tables; marks = c.self.inside.marks; stamp = c.self.inside.stamp } in
     let found = subst (λ (x : RouterView). IsFound x.peers c.args.peer c.in-Some.at) (sym c.self.view_is) c.in-Some.ensures.place in
     let p = c.index.result.now in
     let stamp = c.args.item.now.stamp in
+    let what = c.args.item.now.what in
     let late : nat_lt greatest_stamp c.saturating_add-stamp.result ≡ nat_lt greatest_stamp (max r.stamp stamp + 1) = grind (arith, nat_tests, c.max.ensures, c.saturating_add-stamp.ensures) in
     let free = sym c.is_waiting.ensures ∙ c.if-is_waiting.false in
-    rw c.in-Shut.is
-    (subst (λ (x : RouterView). JudgesAs c.verdict-in-Shut.result x (calls.Take c.args.peer stamp (item.Shut c.in-Shut.field-0))) c.self.view_is (λ g e ranks.
+    subst (λ (x : RouterView). JudgesAs c.verdict-in-Shut.result x (calls.Take c.args.peer stamp what)) c.self.view_is (λ g e ranks.
+    let none : overflows_taking g r.number (plain_of r).router c.args.peer what ≡ false = elim c.in-Shut.is [
+      | inl h ↦ rw h.1 refl
+      | inr k ↦ elim k [ inl h ↦ rw h.2 refl | inr h ↦ rw h.2 refl ]
+    ] in
     c.verdict-in-Shut.ensures ∙ ap (λ (s : Bool). verdict_of s false) late
-    ∙ shut_judged g r c.args.peer c.in-Some.at p (of_sound g r c.self.invariant e) found.2 c.index.ensures found.1 stamp free (signed r.own_open (side p.end) (sign.Shut c.in-Shut.field-0)) c.in-Shut.field-0 refl))
+    ∙ item_judged g r c.args.peer c.in-Some.at p (of_sound g r c.self.invariant e) found.2 c.index.ensures found.1 stamp free what none)
