@@ -10,18 +10,17 @@ mod carry;
 mod choose;
 mod command;
 mod handle;
-mod judge;
 mod history;
+mod judge;
 mod offer;
 mod put;
 mod record;
 mod take;
 
-pub use judge::Call;
-
 use crate::opening::{new_peers, own_open};
 use crate::peers::{Peer, place_of};
 use bgp_codec::Message;
+pub use judge::Call;
 use prefix_lanes::Prefix;
 use ranked_policy::{Asn, Network};
 use rib_tables::Rib;
