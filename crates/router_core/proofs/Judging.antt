@@ -1,5 +1,5 @@
 -- What a call would answer, from what it answers.
-use Rattle.std.proofs.Common.{◌≡◌, ℕ, ◌+◌, Bool, true, false, not, Option, None, Some, refl, ap, sym, ◌∙◌, subst, get_or}
+use Rattle.std.proofs.Common.{◌≡◌, ℕ, ◌+◌, Bool, true, false, Option, None, Some, refl, ap, sym, subst, get_or}
 use Rattle.std.specs.Prelude.{nat_lt, max, Result, Ok, Err}
 use Rattle.bgp_framing.specs.Held.{is_waiting}
 use Rattle.link_epoch.specs.declared.link_end.Sign.TheVariants as sign
@@ -12,7 +12,6 @@ use Rattle.router_model.specs.declared.command.Command.TheVariants.{Start, Reset
 use Rattle.router_model.specs.declared.refusal.RouterError.{RouterError}
 use Rattle.router_model.specs.declared.refusal.RouterError.TheVariants as error
 use Rattle.router_model.specs.declared.refusal.Stepped.{Stepped}
-use Rattle.router_model.specs.declared.refusal.Stepped.TheVariants as stepped
 use Rattle.router_model.specs.Settings.{Setting}
 use Rattle.router_model.specs.Sides.{Draft, NoMessage, met, reset, signed, second}
 use Rattle.router_model.specs.State.{undecided}

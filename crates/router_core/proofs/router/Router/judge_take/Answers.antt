@@ -1,18 +1,14 @@
-use Rattle.std.proofs.Common.{◌≡◌, ◌∙◌, ◌+◌, Bool, true, false, not, ap, sym, subst, refl, arith, inl, inr}
-use Rattle.std.specs.Prelude.{nat_lt, max, Ok, Err}
+use Rattle.std.proofs.Common.{◌≡◌, ◌∙◌, ◌+◌, Bool, false, ap, sym, subst, refl, arith, inl, inr}
+use Rattle.std.specs.Prelude.{nat_lt, max, Err}
 use Rattle.std.proofs.lemmas.Bool.Decides.{nat_tests}
 use Rattle.router_model.specs.declared.refusal.RouterError.TheVariants as error
-use Rattle.router_model.specs.declared.refusal.Stepped.TheVariants as stepped
 use Rattle.router_model.specs.Calls.{greatest_stamp}
 use Rattle.router_model.specs.Calls as calls
-use Rattle.router_model.specs.declared.command.Command.TheVariants as command
 use Rattle.router_core.specs.Views.{RouterView, IsFound, plain_of}
 use Rattle.router_core.specs.Judging.{verdict_of, JudgesAs}
-use Rattle.link_epoch.specs.declared.link_end.Sign.TheVariants as sign
 use Rattle.outbox.specs.declared.item.What.TheVariants as item
-use Rattle.router_model.specs.Sides.{NoMessage, signed}
+use Rattle.router_model.specs.Sides.{NoMessage}
 use Rattle.router_side.specs.Drafts.{draft}
-use Rattle.router_side.specs.SideOf.{side}
 use Rattle.router_model.specs.Step.{overflows_taking}
 use Rattle.router_core.proofs.Carrying.{of_sound}
 use Rattle.router_core.proofs.Taking.{takes_held}
