@@ -111,7 +111,7 @@ module _ (over : BestOverWords) (one : OneBest) (g : Setting) (x : RouterView) (
   decided_all all = rw (← undecided_is over one g x c None all) (refl, refl)
 
   module _ (q : PrefixView) (least : IsLeastWithout x.tables.net.origins (IsSettled x.tables) q) where
-    first : undecided g x.number (plain_of x).router ≡ Some q
+    pub first : undecided g x.number (plain_of x).router ≡ Some q
     first = sym (undecided_is over one g x c (Some q) least)
 
     pub late_to_decide : nat_lt greatest_stamp (x.stamp + 1) ≡ true → Gives g x.number (Err error.StampEnd) (answer g x.number (plain_of x) Decide) (plain_of x) Decide (plain_of x)

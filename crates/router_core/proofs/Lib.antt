@@ -25,3 +25,4 @@ pub mod Snapshots
 pub mod MarkTaking
 pub mod Moving
 pub mod Ticking
+pub mod Judging

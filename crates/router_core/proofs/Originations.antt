@@ -108,10 +108,10 @@ module _ (g : Setting) (x : RouterView) (same : g.net ≡ x.net) (q : PrefixView
   no_origin_to_withdraw b h f = rw (test_is b h, f) (refl, refl)
 
   module _ (b : Bool) (h : IsTrue b ↔ IsOrigin x.net.origins x.number q) (yes : b ≡ true) (o : Bool) (k : IsTrue o ↔ Contains x.tables.originated q) where
-    origin : is_origin g.net.origins x.number q ≡ true
+    pub origin : is_origin g.net.origins x.number q ≡ true
     origin = test_is b h ∙ yes
 
-    listed : lists x.tables.originated q ≡ o
+    pub listed : lists x.tables.originated q ≡ o
     listed = sym (lists_is x.tables.originated q o k)
 
     pub originated_already : o ≡ true

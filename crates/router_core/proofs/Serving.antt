@@ -74,7 +74,7 @@ module _ (g : Setting) (r : RouterView) (v i : ℕ) (p : Peer) (of : IsOf g r) (
   abbrev Hands : Result Stepped RouterError → Stamped → Bool → Bool → Bool → Type 0
   Hands res y t b late = Gives g r.number res (judged (unless t error.NoSuchPeer) (if_so b (alone (Handles v))) late (overflows_at g r.number (plain_of r).router (if_so b (alone (Handles v))))) (plain_of r) (Handle v) y
 
-  hand_is : (res : Result Stepped RouterError) (y : Stamped) (b late : Bool) → is_waiting (side p.end).held ≡ b → nat_lt greatest_stamp (r.stamp + 1) ≡ late → Hands res y true b late
+  pub hand_is : (res : Result Stepped RouterError) (y : Stamped) (b late : Bool) → is_waiting (side p.end).held ≡ b → nat_lt greatest_stamp (r.stamp + 1) ≡ late → Hands res y true b late
       → Gives g r.number res (answer g r.number (plain_of r) (Handle v)) (plain_of r) (Handle v) y
   hand_is res y b late is at_stamp h =
       subst (λ (t : Bool). Hands res y t (is_waiting (sides_of r v).held) (nat_lt greatest_stamp (r.stamp + 1))) (sym (is_linked g r v true of l))

@@ -110,7 +110,7 @@ module _ (g : Setting) (r : RouterView) (v i : ℕ) (p : Peer) (of : IsOf g r) (
         (one_step g r y v NoMessage a (signed (open_of g.net r.number) (sides_of r v) (sign.Shut e)) next (Take v stamp (item.Shut e)) (takes v (item.Shut e)) res (λ w. false)
         (drafted g r v i p (λ o s. signed o s (sign.Shut e)) a of at here made) refl ends)
 
-  late_is : (what : What) (res : Result Stepped RouterError) (y : Stamped) (late : Bool) → is_waiting (side p.end).held ≡ false → nat_lt greatest_stamp next ≡ late
+  pub late_is : (what : What) (res : Result Stepped RouterError) (y : Stamped) (late : Bool) → is_waiting (side p.end).held ≡ false → nat_lt greatest_stamp next ≡ late
       → Gives g r.number res (judged None (Some (takes v what)) late (overflows_at g r.number (plain_of r).router (Some (takes v what)))) (plain_of r) (Take v stamp what) y
       → Gives g r.number res (answer g r.number (plain_of r) (Take v stamp what)) (plain_of r) (Take v stamp what) y
   late_is what res y late free is h =

@@ -24,7 +24,7 @@ use std::alloc::{AllocError, Global};
 
 // What comes to each peer's side.
 #[derive(Clone, Copy)]
-enum Whole {
+pub(super) enum Whole {
     // A second passes.
     Second,
     // The session stops.
@@ -42,7 +42,7 @@ fn drafted(whole: Whole, end: &SideEnd, own_open: &Message) -> Sketch
 }
 
 // Whether a dial of some side would pass the greatest incarnation.
-fn overflows(whole: Whole, peers: &[Peer], own_open: &Message) -> bool
+pub(super) fn overflows(whole: Whole, peers: &[Peer], own_open: &Message) -> bool
     ensures { result ≡ overflow_in (draft_by whole own_open.now) peers.now }
 {
     for peer in peers {

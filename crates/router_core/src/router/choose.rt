@@ -17,7 +17,7 @@ use router_model::{RouterError, Stepped};
 const OUTBOX_LIMIT: usize = 65_536;
 
 // Whom to tell next.
-enum Next {
+pub(super) enum Next {
     // The least peer that waits and has room, at its place, and its least prefix.
     Peer(usize, Prefix),
     // Each peer that waits is at the limit: the least of them.
@@ -53,7 +53,7 @@ impl Router<'_> {
     }
 
     // Whom to tell next.
-    fn next_to_tell(&self) -> Next
+    pub(super) fn next_to_tell(&self) -> Next
         ensures { IsNext self.now result }
     {
         let mut blocked = None;
