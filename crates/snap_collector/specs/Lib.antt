@@ -1,3 +1,4 @@
 pub mod Verdicts
 pub mod Laws
 pub mod Collecting
+pub mod Collector

@@ -13,11 +13,13 @@
 //! Left out: who keeps the offers, and for which numbers.
 #![tactic(auto)]
 
+mod collector;
 mod judging;
 pub mod laws;
 mod members;
 mod outcome;
 
+pub use collector::Collector;
 pub use judging::{decides, has_offered, verdict};
 pub use members::{Member, is_member};
 pub use outcome::{Outcome, Why};

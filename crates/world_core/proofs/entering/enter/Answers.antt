@@ -7,7 +7,7 @@ use Rattle.world_core.proofs.entering.enter.Goals as goal
 
 pub returns-then-is_err-clause-enters : goal.returns-then-is_err-clause-enters
 returns-then-is_err-clause-enters c =
-    λ g e ranks. rw c.without_room.ensures (wants_room (answer g c.args.router.now.number (plain_of c.args.router.now) (call_of c.args.call.now)) c.judge.result _ _ (c.judge.ensures g e ranks) (refl, c.reserve.ensures.items))
+    λ g e ranks. rw c.without_room.ensures (wants_room (answer g c.args.router.now.number (plain_of c.args.router.now) (call_of c.args.call.now)) c.judge.result _ _ (c.judge.ensures.judges g e ranks) (c.judge.ensures.plain, c.reserve.ensures.items))
 
 pub returns-in-Ok-Did-clause-enters : goal.returns-in-Ok-Did-clause-enters
 returns-in-Ok-Did-clause-enters c =
