@@ -1,8 +1,7 @@
 -- What decides a snapshot, and how it comes out.
-use Rattle.std.proofs.Common.{inl, inr, ◌≡◌, ◌≢◌, ℕ, ◌<◌, ◌==◌, Bool, true, false, ◌&&◌, ◌||◌, not, cond, List, [], ◌∷◌, ◌++◌, map, Option, None, Some, refl, ap, sym, ◌∙◌, subst, append_assoc}
+use Rattle.std.proofs.Common.{inl, inr, ◌≡◌, ◌≢◌, ℕ, ◌==◌, Bool, true, false, ◌&&◌, ◌||◌, cond, List, [], ◌∷◌, ◌++◌, Option, None, Some, refl, ap, sym, ◌∙◌, subst, append_assoc}
 use Rattle.std.specs.List.{list_any}
 use mathlib.Core.Logic.{◌⊎◌}
-use mathlib.Core.List.{IsPrefix}
 use Rattle.std.proofs.lemmas.Bool.{eqb-true, eq-eqb, ne_eqb, false≢true, true≢false}
 use Rattle.std.proofs.lemmas.List.{append-nil}
 use Rattle.std.proofs.lemmas.List.Elements.{filter-append}
@@ -11,10 +10,10 @@ use Rattle.std.proofs.lemmas.List.Folds.{list_any-append}
 use Rattle.prefix_lanes.specs.Bits.{PrefixView}
 use Rattle.bgp_codec.specs.declared.message.Message.{Message}
 use Rattle.run_model.specs.Routes.{Network}
-use Rattle.run_model.specs.Offers.{Part, Offer, Finished, Lost, Made, Cause, made_of, made_for, number_of, IsIn, Why, Shows, Precedes, Outcome, Waiting, Abandoned, Moving, Settled, Decides, IsDeciding, HasOutcome}
+use Rattle.run_model.specs.Offers.{Finished, Lost, Cause, made_of, made_for, number_of, IsIn, Why, Outcome, Waiting, Abandoned, Decides, IsDeciding, HasOutcome}
 use Rattle.snap_marker.specs.Recordings.{RouterOffer, MadeOffer, RouterPart}
-use Rattle.snap_collector.specs.Verdicts.{Member, of_part, has_part, is_lost, any_lost, all_parts, decides, is_member, first_fault, moving_or_settled, whole_or_waiting, abandoned_by, abandoned_or, verdict, IsKept, AreFor, IsOver, Rises}
-use Rattle.snap_collector.proofs.Holding.{found, stands, found_lost, lost_stands, number_is, all_for}
+use Rattle.snap_collector.specs.Verdicts.{Member, of_part, has_part, is_lost, any_lost, all_parts, decides, is_member, first_fault, moving_or_settled, whole_or_waiting, abandoned_by, abandoned_or, verdict, IsKept, AreFor, IsOver}
+use Rattle.snap_collector.proofs.Holding.{found, stands, found_lost, lost_stands, number_is}
 use Rattle.snap_collector.proofs.Faults.{first_is, IsFirstOf}
 
 -- ---- more offers decide where fewer do

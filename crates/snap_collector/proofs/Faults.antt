@@ -1,18 +1,17 @@
 -- The first fault of the parts, as the laws of runs say it.
-use Rattle.std.proofs.Common.{inl, inr, ◌≡◌, ◌≢◌, ℕ, ◌<◌, ◌==◌, Bool, true, false, ◌&&◌, ◌||◌, not, cond, List, [], ◌∷◌, map, Option, None, Some, refl, ap, sym, ◌∙◌, subst, arith}
-use Rattle.std.specs.Prelude.{MatchOption, nat_lt}
+use Rattle.std.proofs.Common.{◌≡◌, ◌≢◌, ℕ, ◌<◌, ◌==◌, Bool, true, false, ◌||◌, not, cond, List, [], ◌∷◌, map, Option, None, Some, refl, ap, sym, ◌∙◌, subst, arith}
+use Rattle.std.specs.Prelude.{MatchOption}
 use Rattle.std.specs.Option.{option_map}
 use Rattle.std.specs.List.{find, list_any}
-use mathlib.Core.Logic.{◌⊎◌}
 use Rattle.std.proofs.lemmas.Bool.{eqb-true, eqb-false, eq-eqb, ne_eqb, false≢true, true≢false}
 use Rattle.prefix_lanes.specs.Bits.{PrefixView}
 use Rattle.bgp_codec.specs.declared.message.Message.{Message}
 use Rattle.run_model.specs.Routes.{Network}
-use Rattle.run_model.specs.Offers.{Finished, Lost, made_of, number_of, IsIn, Why, Pending, InFlight, Mismatch, Shows, Precedes}
+use Rattle.run_model.specs.Offers.{Finished, made_of, IsIn, Why, Pending, InFlight, Mismatch, Shows, Precedes}
 use Rattle.snap_marker.specs.Parts.{is_empty}
-use Rattle.snap_marker.specs.Recordings.{RouterOffer, MadeOffer, RouterPart}
-use Rattle.snap_collector.specs.Verdicts.{Member, of_part, has_part, pending, in_flight, mismatch, or_else, fault_at, moving_at, first_fault, AreFor, IsAbove, Rises, is_member, HasLinks}
-use Rattle.snap_collector.proofs.Holding.{Found, found, stands, number_is, not_nil, is_some}
+use Rattle.snap_marker.specs.Recordings.{MadeOffer, RouterPart}
+use Rattle.snap_collector.specs.Verdicts.{Member, has_part, pending, in_flight, mismatch, or_else, fault_at, moving_at, first_fault, AreFor, IsAbove, Rises, is_member, HasLinks}
+use Rattle.snap_collector.proofs.Holding.{found, stands, number_is, not_nil, is_some}
 
 -- ---- the least of rising numbers that pass a test
 

@@ -1,10 +1,8 @@
 -- What offers hold, by tests and as the laws of runs say it.
-use Rattle.std.proofs.Common.{inl, inr, ◌≡◌, ◌≢◌, ℕ, ◌==◌, Bool, true, false, ◌&&◌, ◌||◌, not, List, [], ◌∷◌, ◌++◌, filter, cond, refl, ap, sym, ◌∙◌, subst}
-use mathlib.Core.Logic.{◌⊎◌}
-use Rattle.std.proofs.lemmas.Bool.{eqb-true, eqb-false, eq-eqb, ne_eqb, false≢true, true≢false}
-use Rattle.std.specs.List.{list_any}
+use Rattle.std.proofs.Common.{inl, inr, ◌≡◌, ◌≢◌, ℕ, ◌==◌, Bool, true, false, ◌&&◌, ◌||◌, not, List, [], ◌∷◌, refl, ap, ◌∙◌, subst}
+use Rattle.std.proofs.lemmas.Bool.{eqb-true, eq-eqb, false≢true}
 use Rattle.bgp_codec.specs.declared.message.Message.{Message}
-use Rattle.run_model.specs.Offers.{Part, Offer, Finished, Lost, Made, Cause, made_of, made_for, number_of, IsIn}
+use Rattle.run_model.specs.Offers.{Finished, Lost, Cause, made_of, made_for, number_of, IsIn}
 use Rattle.snap_marker.specs.Parts.{is_empty}
 use Rattle.snap_marker.specs.Recordings.{RouterOffer, MadeOffer, RouterPart}
 use Rattle.snap_collector.specs.Verdicts.{of_part, has_part, any_lost, is_lost, AreFor}

@@ -1,3 +1,5 @@
 pub mod Holding
 pub mod Faults
 pub mod Deciding
+pub mod Books
+pub mod Routers

@@ -1,12 +1,9 @@
 -- Offers, members and outcomes as the code has them, read as those of the definitions.
-use Rattle.std.specs.Prelude.{ℕ, ◌≡◌, ◌==◌, Bool, true, false, ◌&&◌, not, cond, List, [], ◌∷◌, ◌++◌, map, Option, None, Some, Result, Ok, Err, MatchResult}
+use Rattle.std.specs.Prelude.{ℕ, ◌==◌, Bool, List, map}
 use Rattle.std.specs.List.{list_any}
-use mathlib.Core.Logic.{◌⊎◌}
 use Rattle.run_model.specs.Offers as model
 use Rattle.run_model.specs.Offers.{made_of, number_of}
 use Rattle.snap_marker.specs.declared.part.Offer.{Offer}
-use Rattle.snap_marker.specs.declared.part.Offer.TheVariants as offer
-use Rattle.snap_marker.specs.declared.part.Lost.{Lost}
 use Rattle.snap_marker.specs.Recordings.{MadeOffer}
 use Rattle.snap_marker.specs.Parts as parts
 use Rattle.snap_marker.specs.Parts.{offer_of, cause_of}

@@ -1,12 +1,12 @@
 -- How a snapshot comes out by the offers for it (Chandy and Lamport 1985), as a function: what decides it, and the first fault of
 -- its parts, routers and peers rising.
-use Rattle.std.specs.Prelude.{ℕ, ◌≡◌, ◌<◌, ◌==◌, ◌↔◌, Bool, true, false, ◌&&◌, ◌||◌, not, cond, List, [], ◌∷◌, ◌++◌, map, filter, Option, None, Some}
+use Rattle.std.specs.Prelude.{ℕ, ◌≡◌, ◌<◌, ◌==◌, Bool, true, false, ◌&&◌, ◌||◌, not, cond, List, [], ◌∷◌, ◌++◌, map, Option, None, Some}
 use Rattle.std.specs.Option.{option_map}
 use Rattle.std.specs.List.{find, list_any}
 use Rattle.prefix_lanes.specs.Bits.{PrefixView}
 use Rattle.bgp_codec.specs.declared.message.Message.{Message}
 use Rattle.run_model.specs.Routes.{Network}
-use Rattle.run_model.specs.Offers.{Part, Offer, Finished, Lost, Made, Cause, Why, Pending, InFlight, Mismatch, Outcome, Waiting, Abandoned, Moving, Settled, number_of}
+use Rattle.run_model.specs.Offers.{Finished, Lost, Why, Pending, InFlight, Mismatch, Outcome, Waiting, Abandoned, Moving, Settled, number_of}
 use Rattle.snap_marker.specs.Parts.{is_empty}
 use Rattle.snap_marker.specs.Recordings.{RouterOffer, MadeOffer, RouterPart}
 

@@ -1,44 +1,180 @@
 //! Who keeps the offers of the routers of a network.
 
-ghost use Rattle.std.specs.Prelude.{◌≡◌, [], ◌∷◌, IfOk, OnOk, OnErr};
-ghost use Rattle.snap_collector.specs.Collecting.{made_by};
-ghost use Rattle.snap_collector.specs.Collector.{made_for, with_offers};
+ghost use Rattle.std.specs.Prelude.{◌≡◌, ◌≤◌, length, [], ◌∷◌, map, take, IfOk, OnOk, OnErr, option_copied};
+ghost use Rattle.snap_collector.specs.Collecting.{made_by, made_in, member_of, outcome_of};
+ghost use Rattle.snap_collector.specs.Collector.{made_at, made_for, offers_at, entry_of, with_offers, first_part, AreKept, AreMembers, IsPartOf, kept_of};
+ghost use Rattle.snap_collector.specs.Verdicts.{verdict, decides};
 
-use ranked_policy::Network;
-use snap_marker::Offer;
+use crate::judging::{decides, verdict};
+use crate::members::Member;
+use crate::outcome::Outcome;
+use ranked_policy::{Asn, Network};
+use snap_marker::{Offer, Part};
 use std::alloc::{AllocError, Global};
+use std::collections::BTreeMap;
 use std::marker::Model;
 
 /// The offers of the routers of a network.
 #[derive(Drop)]
 pub struct Collector {
-    offers: Vec<Offer>,
+    members: Vec<Member>,
+    // By the number of the snapshot, in the order in which they came.
+    offers: BTreeMap<u32, Vec<Offer>>,
+    // The numbers whose offers decide, rising.
+    decided: Vec<u32>,
 }
 
 impl Model for Collector {
-    ghost use Rattle.snap_collector.specs.Collector.{CollectorView};
+    ghost use Rattle.std.specs.Prelude.{map};
+    ghost use Rattle.snap_collector.specs.Collector.{CollectorView, entry_of};
 
     ghost Value = { CollectorView };
 
-    ghost view = { λ c. record { offers = c.offers.items } };
+    ghost view = { λ c. record { members = c.members.items; offers = map entry_of c.offers.entries; decided = c.decided.items } };
+}
+
+// The routers of a network with their peers, rising.
+fn members_of(alloc: Global, network: &Network) -> Result<Vec<Member>, AllocError>
+    ensures { IfOk result (λ members. AreMembers network.now members.items) }
+{
+    let mut members = Vec::new(alloc);
+    for router in network.routers() {
+        members.push(Member {
+            router: router.asn,
+            peers: network.peers(alloc, router.asn)?,
+        })?;
+    }
+    Ok(members)
+}
+
+// How many of these offers for one number are kept: those up to the first that decides.
+fn kept_len(members: &[Member], offers: &[Offer]) -> usize
+    ensures bound { result ≤ length offers.now }
+    ensures kept { made_in (take result offers.now) ≡ kept_of (map member_of members.now) (made_in offers.now) }
+{
+    let mut kept = 0;
+    while kept < offers.len() && !decides(members, &offers[..kept]) {
+        kept += 1;
+    }
+    kept
+}
+
+// The offers for a number, in the order in which they came.
+fn offers_for(offers: &BTreeMap<u32, Vec<Offer>>, number: u32) -> &[Offer]
+    ensures { result.now ≡ offers_at (map entry_of offers.now.entries) number }
+{
+    match offers.get(&number) {
+        Some(offers) => offers.as_slice(),
+        None => &[],
+    }
+}
+
+// Puts an offer behind those of its number.
+fn keep(
+    alloc: Global,
+    offers: &mut BTreeMap<u32, Vec<Offer>>,
+    offer: Offer,
+) -> Result<(), AllocError>
+    ensures ok { OnOk result (made_at (map entry_of offers.new.entries) ≡ with_offers (made_at (map entry_of offers.old.entries)) (made_by offer ∷ [])) }
+    ensures err { OnErr result (map entry_of offers.new.entries ≡ map entry_of offers.old.entries) }
+{
+    let number = offer.number();
+    match offers.get_mut(&number) {
+        Some(others) => {
+            others.push(offer)?;
+        }
+        None => {
+            let mut first = Vec::new(alloc);
+            first.push(offer)?;
+            offers.insert(number, first)?;
+        }
+    }
+    Ok(())
+}
+
+// The first part of a router.
+fn first_part(offers: &[Offer], router: Asn) -> Option<&Part>
+    ensures { option_copied result ≡ first_part offers.now router }
+{
+    for offer in offers {
+        match offer {
+            Offer::Part(part) => {
+                if router == part.router {
+                    return Some(part);
+                }
+            }
+            Offer::Lost(_lost) => {}
+        }
+    }
+    None
 }
 
 impl Collector {
-    /// Nothing was offered.
-    pub fn new(alloc: Global, _network: &Network) -> Result<Collector, AllocError>
-        ensures { IfOk result (λ c. made_for c ≡ (λ s. [])) }
+    /// The collector of a network, with nothing offered. It is refused only where memory was.
+    pub fn new(alloc: Global, network: &Network) -> Result<Collector, AllocError>
+        ensures nothing { IfOk result (λ c. made_for c ≡ (λ s. [])) }
+        ensures members { IfOk result (λ c. AreMembers network.now c.members) }
     {
         Ok(Collector {
-            offers: Vec::new(alloc),
+            members: members_of(alloc, network)?,
+            offers: BTreeMap::new(alloc),
+            decided: Vec::new(alloc),
         })
     }
 
-    /// Keeps an offer behind those of its number.
+    /// Keeps an offer behind those of its number, one that comes late too. Where a growth is refused
+    /// the collector stays as it was.
     pub fn record(&mut self, offer: Offer) -> Result<(), AllocError>
         ensures ok { OnOk result (made_for self.new ≡ with_offers (made_for self.old) (made_by offer ∷ [])) }
         ensures err { OnErr result (self.new ≡ self.old) }
+        ensures members { self.new.members ≡ self.old.members }
     {
-        self.offers.push(offer)?;
+        let number = offer.number();
+        let before = self.is_decided(number);
+        self.decided.reserve(1)?;
+        keep(*self.members.allocator(), &mut self.offers, offer)?;
+        if !before && decides(self.members.as_slice(), offers_for(&self.offers, number)) {
+            self.decided.push_reserved(number);
+            self.decided.sort_unstable();
+        }
         Ok(())
+    }
+
+    /// The numbers of the snapshots that are decided, rising.
+    pub fn decided(&self) -> &[u32]
+        ensures { result.now ≡ self.now.decided }
+    {
+        self.decided.as_slice()
+    }
+
+    /// Whether the offers for a number decide its snapshot.
+    pub fn is_decided(&self, number: u32) -> bool
+        ensures { result ≡ decides (map member_of self.now.members) (made_for self.now number) }
+    {
+        decides(self.members.as_slice(), offers_for(&self.offers, number))
+    }
+
+    // The offers for a number that are kept: those up to the first that decides.
+    fn kept(&self, number: u32) -> &[Offer]
+        ensures { AreKept self.now number result.now }
+    {
+        let offers = offers_for(&self.offers, number);
+        &offers[..kept_len(self.members.as_slice(), offers)]
+    }
+
+    /// How the snapshot of a number comes out, by the offers for it that are kept: those up to the
+    /// first that decides.
+    pub fn outcome(&self, number: u32) -> Outcome
+        ensures { outcome_of result ≡ verdict (map member_of self.now.members) (kept_of (map member_of self.now.members) (made_for self.now number)) }
+    {
+        verdict(self.members.as_slice(), self.kept(number))
+    }
+
+    /// What a router recorded of the snapshot of a number: its first part among the offers that are
+    /// kept.
+    pub fn part(&self, number: u32, router: Asn) -> Option<&Part>
+        ensures { IsPartOf self.now number router (option_copied result) }
+    {
+        first_part(self.kept(number), router)
     }
 }

@@ -1,4 +1,4 @@
-use Rattle.std.proofs.Common.{◌≡◌, drop, true}
+use Rattle.std.proofs.Common.{◌≡◌, drop}
 use Rattle.run_model.specs.Offers as model
 use Rattle.snap_collector.specs.Collecting.{made_in}
 use Rattle.snap_collector.specs.Verdicts.{any_lost, abandoned_or}

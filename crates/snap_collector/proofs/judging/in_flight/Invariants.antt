@@ -1,5 +1,5 @@
 use Rattle.std.proofs.Common.{◌≡◌, drop}
-use Rattle.snap_collector.specs.Collecting.{made_in, member_of}
+use Rattle.snap_collector.specs.Collecting.{made_in}
 use Rattle.snap_collector.specs.Verdicts.{in_flight}
 use Rattle.snap_collector.proofs.judging.in_flight.Given as goal
 

@@ -1,5 +1,5 @@
 use Rattle.std.proofs.Common.{◌≡◌, ◌==◌, not, drop}
-use Rattle.snap_collector.specs.Collecting.{made_in, member_of}
+use Rattle.snap_collector.specs.Collecting.{made_in}
 use Rattle.snap_collector.specs.Verdicts.{has_part}
 use Rattle.snap_collector.proofs.judging.mismatch.Given as goal
 

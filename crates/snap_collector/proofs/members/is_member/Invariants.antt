@@ -1,5 +1,5 @@
 use Rattle.std.proofs.Common.{◌≡◌, drop, map}
-use Rattle.snap_collector.specs.Collecting.{made_in, member_of}
+use Rattle.snap_collector.specs.Collecting.{member_of}
 use Rattle.snap_collector.specs.Verdicts.{is_member}
 use Rattle.snap_collector.proofs.members.is_member.Given as goal
 
