@@ -8,3 +8,4 @@ pub mod Linking
 pub mod Moving
 pub mod Worlds
 pub mod Orders
+pub mod Made
