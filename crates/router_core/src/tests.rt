@@ -5,8 +5,6 @@ use std::alloc::{AllocError, Global};
 use std::test::Fail;
 
 mod choosing;
-mod judging;
-mod whole;
 
 // Router 1 has identifier 10.0.0.1, router 2 has 10.0.0.2, a link joins them, and 1 is the origin of
 // 10.1.0.0/16.
