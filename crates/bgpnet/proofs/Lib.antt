@@ -2,7 +2,6 @@ pub mod DigitLemmas
 pub mod PrintingLemmas
 pub mod WritingLemmas
 pub mod CheckLemmas
-pub mod PlayLemmas
 pub mod PlaceLemmas
 pub mod BlankLemmas
 pub mod HexInputLemmas
