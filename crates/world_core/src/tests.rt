@@ -91,7 +91,9 @@ fn an_old_snapshot_is_refused(rt: HostRuntime) -> Result<(), Fail> {
     let mut world = World::new(rt.alloc(), &net)?;
     let event = Event::Command(1, Command::Snapshot(1));
     assert!(rt; world.step(&event).is_ok());
-    assert!(rt; world.step(&event) == Err(StepFault::Refused(RouterError::OldSnapshot { last: 1 })));
+    assert!(rt;
+        world.step(&event) == Err(StepFault::Refused(RouterError::OldSnapshot { last: 1 }))
+    );
     assert_eq!(rt; world.run().len(), 1);
     Ok(())
 }
