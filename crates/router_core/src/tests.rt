@@ -377,29 +377,3 @@ fn two_routers_have_their_routes(rt: HostRuntime) -> Result<(), Fail> {
     assert!(rt; settle(rt.alloc(), 1, 400)?);
     Ok(())
 }
-
-// A snapshot of both, once they have their routes: each has a part, which is not pending.
-fn parts(alloc: Global) -> Result<bool, Fail> {
-    let net = two_routers(alloc, 4096)?;
-    let prefix = Prefix::new(0x0a01_0000, 16).ok_or("a prefix")?;
-    let mut one = router(alloc, &net, 1)?;
-    let mut two = router(alloc, &net, 2)?;
-    begins(&mut one, &mut two, prefix)?;
-    turns(&mut one, &mut two, 40)?;
-    one.command(Command::Snapshot(1))?;
-    turns(&mut one, &mut two, 10)?;
-    Ok(is_quiet_part(one.next_offer()) && is_quiet_part(two.next_offer()))
-}
-
-fn is_quiet_part(offer: Option<&Offer>) -> bool {
-    match offer {
-        Some(Offer::Part(part)) => !part.pending && part.number == 1,
-        Some(Offer::Lost(_)) | None => false,
-    }
-}
-
-#[test]
-fn two_routers_record(rt: HostRuntime) -> Result<(), Fail> {
-    assert!(rt; parts(rt.alloc())?);
-    Ok(())
-}

@@ -94,39 +94,6 @@ fn drains(router: &mut Router<'_>, peer: Asn) -> Result<(), RouterError> {
     Ok(())
 }
 
-// Whether something waits towards router 2, and towards router 3.
-fn waits(router: &Router<'_>) -> Result<(bool, bool), RouterError> {
-    let two = router.next_item(2)?.is_some();
-    let three = router.next_item(3)?.is_some();
-    Ok((two, three))
-}
-
-// Router 1, whose sessions are Established, and which was put all that it said.
-fn ready(alloc: Global, net: &Network) -> Result<Router<'_>, Fail> {
-    let mut one = router(alloc, net, 1)?;
-    comes_up(alloc, &mut one, 2)?;
-    comes_up(alloc, &mut one, 3)?;
-    drains(&mut one, 2)?;
-    drains(&mut one, 3)?;
-    Ok(one)
-}
-
-#[test]
-fn the_least_peer_is_told_first(rt: HostRuntime) -> Result<(), Fail> {
-    let net = three_routers(rt.alloc())?;
-    let mut one = ready(rt.alloc(), &net)?;
-    assert_eq!(rt; one.advertise(), Ok(Stepped::Nothing));
-    one.command(Command::Originate(least()?))?;
-    one.decide()?;
-    assert_eq!(rt; waits(&one)?, (false, false));
-    assert_eq!(rt; one.advertise(), Ok(Stepped::Did));
-    assert_eq!(rt; waits(&one)?, (true, false));
-    assert_eq!(rt; one.advertise(), Ok(Stepped::Did));
-    assert_eq!(rt; waits(&one)?, (true, true));
-    assert_eq!(rt; one.advertise(), Ok(Stepped::Nothing));
-    Ok(())
-}
-
 // A prefix is originated, or withdrawn, and what then is kept is told.
 fn changes(router: &mut Router<'_>, command: Command) -> Result<Stepped, RouterError> {
     router.command(command)?;
