@@ -2,6 +2,7 @@ pub mod DigitLemmas
 pub mod PrintingLemmas
 pub mod WritingLemmas
 pub mod CheckLemmas
+pub mod PlayLemmas
 pub mod PlaceLemmas
 pub mod BlankLemmas
 pub mod HexInputLemmas
