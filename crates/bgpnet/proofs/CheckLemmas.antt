@@ -102,6 +102,11 @@ pub if_ok : {X E : Type 0} (P Q : X → Type 0) (r : Result X E) → ((x : X) �
 if_ok P Q (Ok x) f h = f x h
 if_ok P Q (Err e) f h = tt
 
+-- and of two facts
+pub both_ok : {X E : Type 0} (P Q S : X → Type 0) (r : Result X E) → ((x : X) → P x → Q x → S x) → IfOk r P → IfOk r Q → IfOk r S
+both_ok P Q S (Ok x) f h k = f x h k
+both_ok P Q S (Err e) f h k = tt
+
 -- a verdict on a problem is one on the problem that it is
 pub verdict_of : (p : Problem) (net : Plan) (q : PrefixView) (paths : ℕ → List ℕ) (check : Check) → p ≡ at_prefix net q → IsVerdict p paths check → IsVerdict (at_prefix net q) paths check
 verdict_of p net q paths check e v = subst (λ (x : Problem). IsVerdict x paths check) e v

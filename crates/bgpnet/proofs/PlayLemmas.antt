@@ -1,17 +1,22 @@
 -- Orders and routers, one more at a time.
-use Rattle.std.proofs.Common.{◌≡◌, ℕ, ◌+◌, ◌<◌, List, [], ◌∷◌, ◌++◌, length, take, drop, get_or, refl, sym, ap, subst, ◌∙◌, Ok}
+use Rattle.std.proofs.Common.{◌≡◌, ◌≢◌, ℕ, ◌+◌, ◌<◌, List, [], ◌∷◌, ◌++◌, length, take, drop, get_or, refl, sym, ap, subst, ◌∙◌, inl, inr, Ok, Err, Result}
+use Rattle.std.specs.Prelude.{IfOk}
 use Rattle.std.proofs.Common.{append_assoc}
 use Rattle.std.specs.List.{flat_map}
 use Rattle.std.proofs.lemmas.List.{append-nil, take_more, drop_more}
 use Rattle.std.proofs.lemmas.Grind.{flat_map-append}
 use Rattle.ranked_policy.specs.Plans.{Plan}
-use Rattle.router_model.specs.Settings.{Setting}
+use Rattle.router_model.specs.Settings.{Setting, ChoosesByRank}
 use Rattle.world_core.specs.declared.schedule.Event.{Event}
 use Rattle.world_core.specs.declared.schedule.StepFault.{StepFault}
-use Rattle.world_core.specs.World.{World, WorldAnswer, Does, Nothing, Stops, world_answer, world_after, world_of, onward, played}
+use Rattle.world_core.specs.declared.schedule.StepFault.TheVariants.{Memory}
+use Rattle.world_core.specs.World.{World, WorldAnswer, Does, Nothing, Stops, world_answer, world_after, world_of, onward, played, new_world}
 use Rattle.world_core.specs.Orders.{events_of, StopsAt}
+use Rattle.world_core.specs.Views.{WorldView, Opens, plain_world}
 use Rattle.schedule_text.specs.declared.schedule.ScheduledOrder.{ScheduledOrder}
-use Rattle.bgpnet.specs.Playing.{all_events, LeadTo, IsFirstRefused}
+use Rattle.bgpnet.specs.declared.schedules.Stop.{Stop}
+use Rattle.bgpnet.specs.Decoding.{Output}
+use Rattle.bgpnet.specs.Playing.{all_events, LeadTo, IsFirstRefused, Obeyed, ReportGives, OrdersGive, stopped}
 use Rattle.bgpnet.proofs.CheckLemmas.{parted}
 
 module _ (g : Setting) where
@@ -77,3 +82,12 @@ pub text_on : {X : Type 0} (f : X → List ℕ) (xs : List X) (i : ℕ) (x : X) 
 text_on {X} f xs i x old new all lt is put h =
     ap (λ (t : List ℕ). t ++ flat_map f (drop (i + 1) xs)) put ∙ append_assoc old (f x) (flat_map f (drop (i + 1) xs))
     ∙ ap (λ (t : List ℕ). old ++ t) (sym (ap (flat_map f) (drop_more xs i x lt ∙ ap (λ (y : X). y ∷ drop (i + 1) xs) (sym is)))) ∙ h
+
+-- from a new world: what is printed where all orders were obeyed, and where one was refused
+pub reported : (net : Plan) (orders : List ScheduledOrder) (x y : WorldView) (out : Output) → Opens net x → Obeyed (Ok tt) x orders y → ReportGives net (plain_world y) out → OrdersGive net orders out
+reported net orders x y out opens obeyed gives = λ (g : Setting) (e : g.net ≡ net) (chooses : ChoosesByRank g).
+    inl (plain_world y, subst (λ (w : World). LeadTo g w orders (plain_world y)) (opens.1 g e) (obeyed g (e ∙ sym opens.0) chooses), gives)
+
+pub halted : (net : Plan) (orders : List ScheduledOrder) (x y : WorldView) (stop : Stop) → Opens net x → Obeyed (Err stop) x orders y → stop.why ≢ Memory → OrdersGive net orders (stopped stop)
+halted net orders x y stop opens obeyed kind = λ (g : Setting) (e : g.net ≡ net) (chooses : ChoosesByRank g).
+    inr (stop, kind, subst (λ (w : World). IsFirstRefused g w orders stop) (opens.1 g e) (obeyed g (e ∙ sym opens.0) chooses), refl)

@@ -680,6 +680,31 @@ route 2 10.1.0.0/16 2-1\n\
 ",
 };
 
+/// The example `play/one-router`.
+pub const PLAY_ONE_ROUTER: Played = Played {
+    input: "# One router is a network too: its snapshot has no channel, so it settles as it is offered.\n\
+#\n\
+# answer: snapshot 1 settled\n\
+# answer: route 1 10.1.0.0/16 1\n\
+# answer: now\n\
+# answer: route 1 10.1.0.0/16 1\n\
+\n\
+router 1 10.0.0.1\n\
+origin 1 10.1.0.0/16\n\
+\n\
+schedule\n\
+originate 1 10.1.0.0/16\n\
+decide 1\n\
+snapshot 1 1\n\
+offer 1\n\
+",
+    answer: "snapshot 1 settled\n\
+route 1 10.1.0.0/16 1\n\
+now\n\
+route 1 10.1.0.0/16 1\n\
+",
+};
+
 /// The example `play/reset-again`.
 pub const PLAY_RESET_AGAIN: Played = Played {
     input: "# A session that was reset (see reset), and router 1 starts again: it comes up in its second\n\
@@ -923,8 +948,8 @@ route 4 10.1.0.0/16 4-2-1\n\
 
 /// The example `play/snapshot-closed`.
 pub const PLAY_SNAPSHOT_CLOSED: Played = Played {
-    input: "# Router 1 has recorded and waits for the marker of router 2, which resets the session: the recording\n\
-# is lost, and the snapshot is abandoned. The session comes up again, and the routes with it.\n\
+    input: "# Router 2 resets its session while 1 records: 1 loses its recording, and the snapshot is abandoned. A\n\
+# start at 1 brings the session up again, in its second incarnation.\n\
 #\n\
 # answer: snapshot 1 abandoned 1 2 closed\n\
 # answer: now\n\
@@ -990,8 +1015,8 @@ route 2 10.1.0.0/16 none\n\
 
 /// The example `play/snapshot-not-up`.
 pub const PLAY_SNAPSHOT_NOT_UP: Played = Played {
-    input: "# A snapshot needs every session of the router that begins it: here none is up, so it is abandoned at\n\
-# once.\n\
+    input: "# A snapshot before the session is Established has no channel to wait for: the recording is lost as\n\
+# it begins.\n\
 #\n\
 # answer: snapshot 1 abandoned 1 2 notup\n\
 # answer: now\n\
@@ -1016,8 +1041,8 @@ route 2 10.1.0.0/16 none\n\
 
 /// The example `play/snapshot-pending`.
 pub const PLAY_SNAPSHOT_PENDING: Played = Played {
-    input: "# Router 1 no longer originates the prefix, but has not chosen anew when it records: its part is\n\
-# pending, since what it keeps is not yet its best.\n\
+    input: "# Router 1 records before it has decided on the withdrawal: something is pending there, so the network\n\
+# moves.\n\
 #\n\
 # answer: snapshot 1 moving 1 pending\n\
 # answer: now\n\
@@ -1047,8 +1072,8 @@ route 2 10.1.0.0/16 none\n\
 
 /// The example `play/snapshot-superseded`.
 pub const PLAY_SNAPSHOT_SUPERSEDED: Played = Played {
-    input: "# Router 1 begins a second snapshot before its first one is finished: a router records one at a time,\n\
-# so the first is abandoned, and the second settles.\n\
+    input: "# Router 1 records number 2 before the marker of number 1 has come back: the first snapshot is\n\
+# abandoned, the second settles.\n\
 #\n\
 # answer: snapshot 1 abandoned 1 2 superseded\n\
 # answer: snapshot 2 settled\n\
@@ -1265,13 +1290,14 @@ route 2 10.1.0.0/16 none\n\
 };
 
 /// Each example of `play`.
-pub const PLAYED: [Played; 21] = [
+pub const PLAYED: [Played; 22] = [
     PLAY_DISAGREE_OTHER,
     PLAY_DISAGREE,
     PLAY_GOOD_GADGET,
     PLAY_HOLD_TIME_SHORT,
     PLAY_HOLD_TIME,
     PLAY_OCTETS,
+    PLAY_ONE_ROUTER,
     PLAY_RESET_AGAIN,
     PLAY_RESET,
     PLAY_RING_LATER,
