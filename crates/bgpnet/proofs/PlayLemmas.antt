@@ -15,7 +15,7 @@ use Rattle.world_core.specs.Orders.{events_of, StopsAt}
 use Rattle.world_core.specs.Views.{WorldView, Opens, plain_world}
 use Rattle.schedule_text.specs.declared.schedule.ScheduledOrder.{ScheduledOrder}
 use Rattle.bgpnet.specs.declared.schedules.Stop.{Stop}
-use Rattle.bgpnet.specs.Decoding.{Output}
+use Rattle.bgpnet.specs.Decoding.{Output, output}
 use Rattle.bgpnet.specs.Playing.{all_events, LeadTo, IsFirstRefused, Obeyed, ReportGives, OrdersGive, stopped}
 use Rattle.bgpnet.proofs.CheckLemmas.{parted}
 
@@ -91,3 +91,10 @@ reported net orders x y out opens obeyed gives = λ (g : Setting) (e : g.net ≡
 pub halted : (net : Plan) (orders : List ScheduledOrder) (x y : WorldView) (stop : Stop) → Opens net x → Obeyed (Err stop) x orders y → stop.why ≢ Memory → OrdersGive net orders (stopped stop)
 halted net orders x y stop opens obeyed kind = λ (g : Setting) (e : g.net ≡ net) (chooses : ChoosesByRank g).
     inr (stop, kind, subst (λ (w : World). IsFirstRefused g w orders stop) (opens.1 g e) (obeyed g (e ∙ sym opens.0) chooses), refl)
+
+-- the parts of a report, one behind the other
+pub report_is : (none first second all snapshots decided now routes : List ℕ) → none ≡ [] → first ≡ none ++ snapshots → snapshots ≡ decided → second ≡ first ++ now → all ≡ second ++ routes
+    → output all 0 ≡ output (decided ++ (now ++ routes)) 0
+report_is none first second all snapshots decided now routes empty one same two three =
+    ap (λ (t : List ℕ). output t 0)
+    (three ∙ ap (λ (t : List ℕ). t ++ routes) (two ∙ ap (λ (t : List ℕ). t ++ now) (one ∙ ap (λ (t : List ℕ). t ++ snapshots) empty ∙ same)) ∙ append_assoc decided now routes)

@@ -1,10 +1,9 @@
 -- What is printed for a network and a schedule.
 use Rattle.std.specs.Prelude.{◌≡◌, ◌≢◌, ℕ, List, ◌∷◌, ◌++◌, Result, Ok, codes, MatchResult, ◌⊎◌}
 use Rattle.std.specs.List.{flat_map}
-use Rattle.prefix_lanes.specs.Bits.{PrefixView}
 use Rattle.ranked_policy.specs.Plans.{Plan}
-use Rattle.ranked_policy.specs.declared.network.Origin.{Origin}
 use Rattle.router_model.specs.Settings.{Setting, ChoosesByRank}
+use Rattle.snap_collector.specs.Verdicts.{Member}
 use Rattle.world_core.specs.declared.schedule.Event.{Event}
 use Rattle.world_core.specs.declared.schedule.StepFault.TheVariants.{Memory}
 use Rattle.world_core.specs.World.{World, new_world, played}
@@ -15,31 +14,18 @@ use Rattle.net_text.specs.declared.code.Code.TheVariants as kinds
 use Rattle.net_text.specs.Lexing.{Text}
 use Rattle.schedule_text.specs.declared.schedule.ScheduledOrder.{ScheduledOrder}
 use Rattle.schedule_text.specs.Schedules.{SpellsSchedule, RefusesSchedule}
-use Rattle.schedule_text.specs.Reports.{route_line, now_line, stop_line}
+use Rattle.schedule_text.specs.Reports.{stop_line}
 use Rattle.bgpnet.specs.declared.schedules.Stop.{Stop}
 use Rattle.bgpnet.specs.Decoding.{Output, output}
+use Rattle.bgpnet.specs.Reporting.{snapshots_text, now_text}
 use Rattle.bgpnet.specs.Inputs.{code_text, refused, InputGives, Prints}
 
 -- ---- what is printed of a world
 
--- the path that a router keeps for the prefix of each origin
-abbrev pub router_text : (PrefixView → List ℕ) → ℕ → List Origin → List ℕ
-router_text kept u origins = flat_map (λ o. route_line u o.prefix (kept o.prefix)) origins
-
--- those of all routers, by rising number, then by address, then by length
-abbrev pub routes_text : Plan → World → List ℕ
-routes_text net w = flat_map (λ r. router_text (w.routers r.asn).router.kept r.asn net.origins) net.routers
-
-abbrev pub now_text : Plan → World → List ℕ
-now_text net w = now_line ++ routes_text net w
-
--- the text goes on
-abbrev pub Extends : List ℕ → List ℕ → Type 0
-Extends old new = (text : List ℕ) × (new ≡ old ++ text)
-
--- the lines of the snapshots that are decided, then the routes now
+-- the lines of snapshots, then the routes now
 abbrev pub ReportGives : Plan → World → Output → Type 0
-ReportGives net w out = (snapshots : List ℕ) × (out ≡ output (snapshots ++ now_text net w) 0)
+ReportGives net w out =
+    (members : List Member) × (decided : List ℕ) × (out ≡ output (snapshots_text net members w.made decided ++ now_text net w) 0)
 
 -- ---- what orders lead to
 

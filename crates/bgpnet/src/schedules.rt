@@ -4,7 +4,8 @@ ghost use Rattle.std.specs.Prelude.{◌≡◌, ◌≢◌, ◌++◌, IfOk, OnOk, 
 ghost use Rattle.router_core.specs.Views.{plain_of};
 ghost use Rattle.world_core.specs.Views.{plain_world};
 ghost use Rattle.bgpnet.specs.Decoding.{output};
-ghost use Rattle.bgpnet.specs.Playing.{router_text, routes_text, now_text, Obeyed, ReportGives, stopped, OrdersGive};
+ghost use Rattle.bgpnet.specs.Reporting.{router_text, routes_text};
+ghost use Rattle.bgpnet.specs.Playing.{Obeyed, ReportGives, stopped, OrdersGive};
 
 use crate::snapshots::put_snapshots;
 use crate::status::{DONE, REFUSED};

@@ -1,8 +1,10 @@
 //! What `bgpnet play` prints of snapshots.
 
-ghost use Rattle.std.specs.Prelude.{◌≡◌, ◌++◌, OnOk};
+ghost use Rattle.std.specs.Prelude.{◌≡◌, ◌++◌, OnOk, map};
 ghost use Rattle.snap_marker.specs.Parts.{kept_in};
-ghost use Rattle.bgpnet.specs.Playing.{router_text, Extends};
+ghost use Rattle.snap_collector.specs.Collecting.{member_of};
+ghost use Rattle.snap_collector.specs.Collector.{made_for, kept_of};
+ghost use Rattle.bgpnet.specs.Reporting.{router_text, recorded, part_text, parts_text, snapshot_text, snapshots_text};
 
 use prefix_lanes::Prefix;
 use ranked_policy::{Asn, Network, Origin};
@@ -39,6 +41,22 @@ fn put_part(
     Ok(())
 }
 
+// Appends the routes of the part that a router has in a snapshot, where it has one.
+fn put_recorded(
+    collector: &Collector,
+    number: u32,
+    router: Asn,
+    origins: &[Origin],
+    out: &mut Vec<u8>,
+) -> Result<(), AllocError>
+    ensures { OnOk result (out.new.items ≡ out.old.items ++ part_text origins.now router (recorded (kept_of (map member_of collector.now.members) (made_for collector.now number)) router)) }
+{
+    match collector.part(number, router) {
+        Some(part) => put_part(router, part, origins, out),
+        None => Ok(()),
+    }
+}
+
 // Appends the routes of the parts of a snapshot.
 fn put_parts(
     network: &Network,
@@ -46,12 +64,10 @@ fn put_parts(
     number: u32,
     out: &mut Vec<u8>,
 ) -> Result<(), AllocError>
-    ensures { OnOk result (Extends out.old.items out.new.items) }
+    ensures { OnOk result (out.new.items ≡ out.old.items ++ parts_text network.now (kept_of (map member_of collector.now.members) (made_for collector.now number))) }
 {
     for member in network.routers() {
-        if let Some(part) = collector.part(number, member.asn) {
-            put_part(member.asn, part, network.origins(), out)?;
-        }
+        put_recorded(collector, number, member.asn, network.origins(), out)?;
     }
     Ok(())
 }
@@ -63,7 +79,7 @@ fn put_snapshot(
     number: u32,
     out: &mut Vec<u8>,
 ) -> Result<(), AllocError>
-    ensures { OnOk result (Extends out.old.items out.new.items) }
+    ensures { OnOk result (out.new.items ≡ out.old.items ++ snapshot_text network.now (map member_of collector.now.members) (made_for collector.now) number) }
 {
     let outcome = collector.outcome(number);
     snapshot_line(number, &outcome, out)?;
@@ -79,7 +95,7 @@ pub fn put_snapshots(
     collector: &Collector,
     out: &mut Vec<u8>,
 ) -> Result<(), AllocError>
-    ensures { OnOk result (Extends out.old.items out.new.items) }
+    ensures { OnOk result (out.new.items ≡ out.old.items ++ snapshots_text network.now (map member_of collector.now.members) (made_for collector.now) collector.now.decided) }
 {
     for number in collector.decided() {
         put_snapshot(network, collector, *number, out)?;

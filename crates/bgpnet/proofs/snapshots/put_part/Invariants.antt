@@ -1,7 +1,7 @@
 -- what was put, before what is left, is what all are printed as
 use Rattle.std.proofs.Common.{◌≡◌, ◌++◌, drop}
 use Rattle.snap_marker.specs.Parts.{kept_in}
-use Rattle.bgpnet.specs.Playing.{router_text}
+use Rattle.bgpnet.specs.Reporting.{router_text}
 use Rattle.bgpnet.proofs.snapshots.put_part.Given as goal
 
 abbrev pub invariant-loop-origin : goal.invariant-loop-origin
