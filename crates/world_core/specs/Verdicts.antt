@@ -1,12 +1,12 @@
 -- How the snapshots of a run come out by the collector of its world.
 use Rattle.std.specs.Prelude.{ℕ, ◌≡◌, List, map}
-use Rattle.ranked_policy.specs.Plans.{IsNetwork}
+use Rattle.ranked_policy.specs.Plans.{Plan, IsNetwork, numbers}
 use Rattle.run_model.specs.Offers.{Outcome, HasOutcome}
 use Rattle.snap_collector.specs.declared.members.Member.{Member as MemberOf}
 use Rattle.snap_collector.specs.Collecting.{member_of}
 use Rattle.snap_collector.specs.Collector.{CollectorView, AreMembers, made_for, kept_of}
-use Rattle.snap_collector.specs.Verdicts.{IsOver, verdict}
-use Rattle.router_model.specs.Settings.{Setting}
+use Rattle.snap_collector.specs.Verdicts.{Member, IsOver, verdict}
+use Rattle.router_model.specs.Settings.{Setting, peers}
 use Rattle.router_runs.specs.Model.{network_of}
 use Rattle.router_runs.specs.Runs.{RunState}
 use Rattle.world_core.specs.World.{AgreesWith}
@@ -16,6 +16,14 @@ use Rattle.world_core.specs.Views.{WorldView, IsWhole, plain_world}
 abbrev pub MembersAreOfTheNetwork : Type 0
 MembersAreOfTheNetwork =
     (g : Setting) → IsNetwork g.net → (members : List MemberOf) → AreMembers g.net members → IsOver (network_of g) (map member_of members)
+
+-- the routers of a network with their peers, rising
+abbrev pub members_of : Plan → List Member
+members_of net = map (λ u. record { router = u; peers = peers net u }) (numbers net.routers)
+
+abbrev pub MembersAreTheRouters : Type 0
+MembersAreTheRouters =
+    (net : Plan) → IsNetwork net → (members : List MemberOf) → AreMembers net members → map member_of members ≡ members_of net
 
 -- how a collector says that the snapshot of a number comes out
 abbrev pub judged : CollectorView → ℕ → Outcome

@@ -1,7 +1,7 @@
 //! The laws of a world of routers, over every list of events.
 
 ghost use Rattle.world_core.specs.Keeping.{WhatIsPlayedIsARun, WhatIsPlayedIsReplayed, StepsAreReplayed, PlayedWorldsKeepTheirPromises, NothingWhereNoStepIs};
-ghost use Rattle.world_core.specs.Verdicts.{MembersAreOfTheNetwork, CollectorsJudgeTheirRuns};
+ghost use Rattle.world_core.specs.Verdicts.{MembersAreOfTheNetwork, CollectorsJudgeTheirRuns, MembersAreTheRouters};
 
 use router_model::laws::{
     answers_are_steps, idle_where_nothing_may_come, linked_routers_are_peers,
@@ -50,6 +50,13 @@ pub fn nothing_where_no_step_is()
 pub fn members_are_of_the_network()
     ensures { MembersAreOfTheNetwork }
 {}
+
+/// The members of a collector of a network are its routers with their peers, both rising.
+pub fn members_are_the_routers()
+    ensures { MembersAreTheRouters }
+{
+    linked_routers_are_peers();
+}
 
 /// What the collector of a world says of a snapshot is how it comes out by all offers of the run that the world stands at
 /// the end of, those that came late among them.
