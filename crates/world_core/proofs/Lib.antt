@@ -9,3 +9,4 @@ pub mod Moving
 pub mod Worlds
 pub mod Orders
 pub mod Made
+pub mod Members

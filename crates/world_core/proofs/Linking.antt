@@ -1,5 +1,5 @@
 -- The pipe from a peer is found where a link joins the two.
-use Rattle.std.proofs.Common.{◌≡◌, ℕ, zero, suc, ◌+◌, ◌<◌, ◌≤◌, ◌==◌, nat_eq, Bool, true, false, ◌&&◌, not, cond, List, [], ◌∷◌, length, map, filter, refl, ap, sym, ◌∙◌, arith, subst, get_or, ◌↔◌, inl, inr, Option, None, Some}
+use Rattle.std.proofs.Common.{◌≡◌, ℕ, zero, suc, ◌+◌, ◌<◌, ◌≤◌, ◌==◌, nat_eq, Bool, true, false, ◌&&◌, not, cond, List, [], ◌∷◌, length, map, filter, refl, ap, sym, ◌∙◌, arith, subst, ◌↔◌, inl, inr, Option, None, Some}
 use Rattle.std.specs.Prelude.{nat_lt, MatchOption, ◌||◌, IsTrue, Result, Ok, Err}
 use Rattle.std.specs.List.{position, position_or_len, list_any}
 use Rattle.std.proofs.lemmas.Bool.{eqb-true, eqb-false, eq-eqb}

@@ -2,9 +2,13 @@
 
 ghost use Rattle.std.specs.Prelude.{◌≡◌, IfOk, IfErr, MatchOption};
 ghost use Rattle.world_core.specs.declared.schedule.StepFault.TheVariants.{Memory};
+ghost use Rattle.snap_collector.specs.Collector.{AreMembers};
+ghost use Rattle.world_core.specs.Verdicts.{JudgesItsRuns};
 ghost use Rattle.world_core.specs.Views.{Opens, Answers, KeepsPromises, IsNoRouter, IsRouterOf};
 
-use crate::laws::{played_worlds_keep_their_promises, steps_are_replayed};
+use crate::laws::{
+    collectors_judge_their_runs, played_worlds_keep_their_promises, steps_are_replayed,
+};
 use crate::opening::opening;
 use crate::schedule::{Event, StepFault};
 use crate::state::State;
@@ -84,10 +88,13 @@ impl<'a> World<'a> {
         self.state.run.as_slice()
     }
 
-    /// The offers that were made.
+    /// The offers that were made. Its outcomes are those of the run that the world stands at the end of.
     pub fn collector(&self) -> &Collector
-        ensures { result.now ≡ self.now.collector }
+        ensures value { result.now ≡ self.now.collector }
+        ensures members { AreMembers self.now.net result.now.members }
+        ensures verdicts { JudgesItsRuns self.now }
     {
+        collectors_judge_their_runs();
         &self.state.collector
     }
 }
