@@ -1,11 +1,11 @@
 -- What a router recorded, as the code finds it among the offers that are kept.
-use Rattle.std.proofs.Common.{◌≡◌, ℕ, ◌==◌, Bool, true, false, cond, List, [], ◌∷◌, ◌++◌, map, Option, refl, ap, ◌∙◌}
+use Rattle.std.proofs.Common.{◌≡◌, ℕ, ◌==◌, Bool, true, false, cond, List, [], ◌∷◌, map, Option, refl, ap, ◌∙◌}
 use Rattle.std.specs.Option.{option_map}
 use Rattle.snap_marker.specs.declared.part.Part.{Part}
 use Rattle.snap_marker.specs.declared.part.Offer.{Offer}
 use Rattle.snap_marker.specs.declared.part.Offer.TheVariants as offer
 use Rattle.snap_marker.specs.Parts.{part_of}
-use Rattle.snap_marker.specs.Recordings.{RouterPart, MadeOffer}
+use Rattle.snap_marker.specs.Recordings.{MadeOffer}
 use Rattle.snap_collector.specs.Collecting.{made_in, member_of}
 use Rattle.snap_collector.specs.Collector.{CollectorView, IsPartOf, first_part, kept_of, made_for}
 use Rattle.bgpnet.specs.Reporting.{recorded}

@@ -1,21 +1,25 @@
 -- Orders and routers, one more at a time.
-use Rattle.std.proofs.Common.{◌≡◌, ◌≢◌, ℕ, ◌+◌, ◌<◌, List, [], ◌∷◌, ◌++◌, length, take, drop, get_or, refl, sym, ap, subst, ◌∙◌, inl, inr, Ok, Err, Result}
-use Rattle.std.specs.Prelude.{IfOk}
+use Rattle.std.proofs.Common.{◌≡◌, ◌≢◌, ℕ, ◌+◌, ◌<◌, List, [], ◌∷◌, ◌++◌, length, map, take, drop, get_or, refl, sym, ap, subst, ◌∙◌, inl, inr, Ok, Err}
 use Rattle.std.proofs.Common.{append_assoc}
 use Rattle.std.specs.List.{flat_map}
 use Rattle.std.proofs.lemmas.List.{append-nil, take_more, drop_more}
 use Rattle.std.proofs.lemmas.Grind.{flat_map-append}
 use Rattle.ranked_policy.specs.Plans.{Plan}
+use Rattle.snap_collector.specs.Collecting.{member_of}
+use Rattle.snap_collector.specs.Collector.{CollectorView, made_for}
+use Rattle.snap_collector.specs.Collector as collected
+use Rattle.snap_collector.specs.Verdicts.{Member}
 use Rattle.router_model.specs.Settings.{Setting, ChoosesByRank}
 use Rattle.world_core.specs.declared.schedule.Event.{Event}
 use Rattle.world_core.specs.declared.schedule.StepFault.{StepFault}
 use Rattle.world_core.specs.declared.schedule.StepFault.TheVariants.{Memory}
-use Rattle.world_core.specs.World.{World, WorldAnswer, Does, Nothing, Stops, world_answer, world_after, world_of, onward, played, new_world}
+use Rattle.world_core.specs.World.{World, WorldAnswer, Does, Nothing, Stops, world_answer, world_after, world_of, onward, played}
 use Rattle.world_core.specs.Orders.{events_of, StopsAt}
 use Rattle.world_core.specs.Views.{WorldView, Opens, plain_world}
 use Rattle.schedule_text.specs.declared.schedule.ScheduledOrder.{ScheduledOrder}
 use Rattle.bgpnet.specs.declared.schedules.Stop.{Stop}
 use Rattle.bgpnet.specs.Decoding.{Output, output}
+use Rattle.bgpnet.specs.Reporting.{AreDecided, snapshots_text}
 use Rattle.bgpnet.specs.Playing.{all_events, LeadTo, IsFirstRefused, Obeyed, ReportGives, OrdersGive, stopped}
 use Rattle.bgpnet.proofs.CheckLemmas.{parted}
 
@@ -91,6 +95,18 @@ reported net orders x y out opens obeyed gives = λ (g : Setting) (e : g.net ≡
 pub halted : (net : Plan) (orders : List ScheduledOrder) (x y : WorldView) (stop : Stop) → Opens net x → Obeyed (Err stop) x orders y → stop.why ≢ Memory → OrdersGive net orders (stopped stop)
 halted net orders x y stop opens obeyed kind = λ (g : Setting) (e : g.net ≡ net) (chooses : ChoosesByRank g).
     inr (stop, kind, subst (λ (w : World). IsFirstRefused g w orders stop) (opens.1 g e) (obeyed g (e ∙ sym opens.0) chooses), refl)
+
+-- the numbers that the collector calls decided are those whose offers decide
+pub decided_are : (k kept : CollectorView) (members : List Member) (numbers : List ℕ) → map member_of k.members ≡ members → k ≡ kept → collected.AreDecided k numbers → AreDecided members (made_for kept) numbers
+decided_are k kept members numbers are same h =
+    subst (λ (j : CollectorView). AreDecided members (made_for j) numbers) same
+    (subst (λ (ms : List Member). AreDecided ms (made_for k) numbers) are (record { rising = h.rising; exact = h.exact }))
+
+-- and so is what is printed of them
+pub snapshots_are : (net : Plan) (k kept : CollectorView) (members : List Member) (numbers : List ℕ) → map member_of k.members ≡ members → k ≡ kept
+    → snapshots_text net (map member_of k.members) (made_for k) numbers ≡ snapshots_text net members (made_for kept) numbers
+snapshots_are net k kept members numbers are same =
+    ap (λ (ms : List Member). snapshots_text net ms (made_for k) numbers) are ∙ ap (λ (j : CollectorView). snapshots_text net members (made_for j) numbers) same
 
 -- the parts of a report, one behind the other
 pub report_is : (none first second all snapshots decided now routes : List ℕ) → none ≡ [] → first ≡ none ++ snapshots → snapshots ≡ decided → second ≡ first ++ now → all ≡ second ++ routes

@@ -3,12 +3,12 @@ use Rattle.std.specs.Prelude.{◌≡◌, ◌≢◌, ℕ, List, ◌∷◌, ◌++�
 use Rattle.std.specs.List.{flat_map}
 use Rattle.ranked_policy.specs.Plans.{Plan}
 use Rattle.router_model.specs.Settings.{Setting, ChoosesByRank}
-use Rattle.snap_collector.specs.Verdicts.{Member}
 use Rattle.world_core.specs.declared.schedule.Event.{Event}
 use Rattle.world_core.specs.declared.schedule.StepFault.TheVariants.{Memory}
 use Rattle.world_core.specs.World.{World, new_world, played}
 use Rattle.world_core.specs.Orders.{events_of, StopsAt}
 use Rattle.world_core.specs.Views.{WorldView, plain_world}
+use Rattle.world_core.specs.Verdicts.{members_of}
 use Rattle.net_text.specs.declared.code.Code.{Code}
 use Rattle.net_text.specs.declared.code.Code.TheVariants as kinds
 use Rattle.net_text.specs.Lexing.{Text}
@@ -17,15 +17,16 @@ use Rattle.schedule_text.specs.Schedules.{SpellsSchedule, RefusesSchedule}
 use Rattle.schedule_text.specs.Reports.{stop_line}
 use Rattle.bgpnet.specs.declared.schedules.Stop.{Stop}
 use Rattle.bgpnet.specs.Decoding.{Output, output}
-use Rattle.bgpnet.specs.Reporting.{snapshots_text, now_text}
+use Rattle.bgpnet.specs.Reporting.{AreDecided, snapshots_text, now_text}
 use Rattle.bgpnet.specs.Inputs.{code_text, refused, InputGives, Prints}
 
 -- ---- what is printed of a world
 
--- the lines of snapshots, then the routes now
+-- the lines of the snapshots that are decided, by rising number, then the routes now
 abbrev pub ReportGives : Plan → World → Output → Type 0
 ReportGives net w out =
-    (members : List Member) × (decided : List ℕ) × (out ≡ output (snapshots_text net members w.made decided ++ now_text net w) 0)
+    (decided : List ℕ) × AreDecided (members_of net) w.made decided
+    × (out ≡ output (snapshots_text net (members_of net) w.made decided ++ now_text net w) 0)
 
 -- ---- what orders lead to
 

@@ -1,14 +1,13 @@
 -- What is printed of a world: how its snapshots came out, and the routes that its routers keep.
-use Rattle.std.specs.Prelude.{◌≡◌, ℕ, ◌<◌, ◌==◌, ◌↔◌, IsTrue, cond, List, [], ◌∷◌, ◌++◌, map, Option, None, Some}
+use Rattle.std.specs.Prelude.{◌≡◌, ℕ, ◌<◌, ◌==◌, ◌↔◌, true, cond, List, [], ◌∷◌, ◌++◌, Option, None, Some}
 use Rattle.std.specs.List.{flat_map, AllPairs, Contains}
 use Rattle.prefix_lanes.specs.Bits.{PrefixView}
-use Rattle.ranked_policy.specs.Plans.{Plan, numbers}
+use Rattle.ranked_policy.specs.Plans.{Plan}
 use Rattle.ranked_policy.specs.declared.network.Origin.{Origin}
 use Rattle.run_model.specs.Offers.{Finished, Lost, Outcome, Waiting, Abandoned, Moving, Settled}
 use Rattle.snap_marker.specs.Recordings.{RouterOffer, RouterPart, MadeOffer}
 use Rattle.snap_collector.specs.Verdicts.{Member, decides, verdict}
 use Rattle.snap_collector.specs.Collector.{kept_of}
-use Rattle.router_model.specs.Settings.{peers}
 use Rattle.world_core.specs.World.{World}
 use Rattle.schedule_text.specs.Reports.{snapshot_line, route_line, now_line}
 
@@ -26,10 +25,6 @@ abbrev pub now_text : Plan → World → List ℕ
 now_text net w = now_line ++ routes_text net w
 
 -- ---- snapshots
-
--- the routers of a network with their peers, rising
-abbrev pub members_of : Plan → List Member
-members_of net = map (λ u. record { router = u; peers = peers net u }) (numbers net.routers)
 
 -- what a router recorded: its first part among these offers
 abbrev pub part_or : RouterOffer → Option RouterPart → Option RouterPart
@@ -66,6 +61,6 @@ abbrev pub snapshots_text : Plan → List Member → (ℕ → List MadeOffer) �
 snapshots_text net members made numbers = flat_map (snapshot_text net members made) numbers
 
 -- the numbers whose offers decide their snapshot, rising
-abbrev pub AreDecided : List Member → (ℕ → List MadeOffer) → List ℕ → Type 0
-AreDecided members made decided =
-    AllPairs (λ s t. s < t) decided × ((s : ℕ) → Contains decided s ↔ IsTrue (decides members (made s)))
+pub record AreDecided (members : List Member) (made : ℕ → List MadeOffer) (decided : List ℕ) : Type 0 where
+  pub rising : AllPairs (λ s t. s < t) decided
+  pub exact : (s : ℕ) → Contains decided s ↔ (decides members (made s) ≡ true)

@@ -65,7 +65,8 @@ fn report_output(
     ensures { IfOk result (λ printed. ReportGives network.now (plain_world world.now) (output printed.0.items printed.1)) }
 {
     let mut out = Vec::new(alloc);
-    put_snapshots(network, world.collector(), &mut out)?;
+    let collector = world.collector();
+    put_snapshots(network, collector, collector.decided(), &mut out)?;
     now_line(&mut out)?;
     put_routes(network, world, &mut out)?;
     Ok((out, DONE))

@@ -89,15 +89,17 @@ fn put_snapshot(
     }
 }
 
-/// Appends the snapshots that are decided, by rising number.
+/// Appends how the snapshots of these numbers came out, in their order, with the routes of each that
+/// is settled.
 pub fn put_snapshots(
     network: &Network,
     collector: &Collector,
+    numbers: &[u32],
     out: &mut Vec<u8>,
 ) -> Result<(), AllocError>
-    ensures { OnOk result (out.new.items ≡ out.old.items ++ snapshots_text network.now (map member_of collector.now.members) (made_for collector.now) collector.now.decided) }
+    ensures { OnOk result (out.new.items ≡ out.old.items ++ snapshots_text network.now (map member_of collector.now.members) (made_for collector.now) numbers.now) }
 {
-    for number in collector.decided() {
+    for number in numbers {
         put_snapshot(network, collector, *number, out)?;
     }
     Ok(())

@@ -7,5 +7,5 @@ use Rattle.bgpnet.proofs.snapshots.put_snapshots.Given as goal
 
 abbrev pub invariant-loop-number : goal.invariant-loop-number
 invariant-loop-number l =
-    l.out.items ++ snapshots_text l.network (map member_of l.collector.members) (made_for l.collector) (drop l.number-index l.number-items)
-    ≡ l.fn.out.items ++ snapshots_text l.network (map member_of l.collector.members) (made_for l.collector) l.collector.decided
+    l.out.items ++ snapshots_text l.network (map member_of l.collector.members) (made_for l.collector) (drop l.number-index l.numbers)
+    ≡ l.fn.out.items ++ snapshots_text l.network (map member_of l.collector.members) (made_for l.collector) l.numbers
