@@ -1,5 +1,6 @@
 pub mod LexLemmas
 pub mod LayoutLemmas
+pub mod DeclaringLemmas
 pub mod WordLemmas
 pub mod PathLemmas
 pub mod DraftLemmas
