@@ -10,3 +10,4 @@ pub mod LawsBelow
 pub mod Journals
 pub mod Model
 pub mod Acts
+pub mod Mirrors
