@@ -29,7 +29,7 @@ use Rattle.router_model.specs.declared.command.Command.{Command}
 use Rattle.router_model.specs.declared.command.Command.TheVariants as command
 use Rattle.outbox.specs.declared.item.What.{What}
 use Rattle.outbox.specs.declared.item.What.TheVariants as item
-use Rattle.router_model.specs.Sides.{rest_behind, acted_with, fits, Side, Draft, AtHand, NoMessage, at_hand, front, carried, draft_of, met, reset, handled, without_front, fed, uses, told, marked, is_up, comes, meets, obeys}
+use Rattle.router_model.specs.Sides.{rest_behind, acted_with, fits, Side, Draft, AtHand, NoMessage, at_hand, front, carried, draft_of, met, reset, handled, without_front, fed, uses, told, marked, is_up, is_established, comes, meets, obeys}
 use Rattle.snap_marker.specs.Recordings.{ends_channel}
 use Rattle.router_model.specs.Settings.{identifier, Setting, linked, peers, prefixes}
 use Rattle.router_model.specs.State.{Router, rule_of, untold, undecided, route, is_untold}
@@ -39,7 +39,7 @@ use Rattle.router_model.specs.Laws.{all_passes}
 use Rattle.router_runs.specs.Reading.{sides_after, model_side, phase_of, phase_in, state_of}
 use Rattle.router_runs.specs.Doing.{Stands, Does, Row}
 use Rattle.router_runs.specs.Kept.{Advances}
-use Rattle.router_runs.proofs.Doing.{no_event, then_does}
+use Rattle.router_runs.proofs.Doing.{no_event, same_up, then_does}
 use Rattle.router_runs.proofs.Moving.{answers_is}
 use Rattle.router_runs.proofs.Rows.{phase_fits, at, at_own, own_event}
 use Rattle.router_runs.proofs.Handling.{handled_event}
@@ -58,6 +58,7 @@ module _ (laws : Laws) where
     says : e.says ≡ d.says ++ (comes (OpenMsg o) NoMessage (draft_of d.session d.link) ManualStart).says
     drops : e.drops ≡ d.drops
     over : (comes (OpenMsg o) NoMessage (draft_of d.session d.link) ManualStart).overflows ≡ false
+    down : is_established (comes (OpenMsg o) NoMessage (draft_of d.session d.link) ManualStart).session.state ≡ false
 
   from_idle : (c f : Bool) (o : Open) (d : Draft) (session : SessionView) → is_awaited d.link ≡ c → fits (next_number d.link) ≡ f
       → (comes (OpenMsg o) NoMessage (record d { session = record session { state = state.Idle } }) ManualStart).overflows ≡ false
@@ -65,10 +66,10 @@ module _ (laws : Laws) where
   unfolding comes meets obeys
   from_idle true true o d session aw fit over =
       let low = rw aw at fit in
-      record { session = rw (aw, low) refl; link = rw (aw, low) refl; dials = rw (aw, low) refl; says = rw (aw, low) (append_assoc d.says (Dial d.link.heard ∷ []) (Says d.link.heard (OpenMsg o) ∷ [])); drops = rw (aw, low) refl; over = rw (aw, low) refl }
+      record { session = rw (aw, low) refl; link = rw (aw, low) refl; dials = rw (aw, low) refl; says = rw (aw, low) (append_assoc d.says (Dial d.link.heard ∷ []) (Says d.link.heard (OpenMsg o) ∷ [])); drops = rw (aw, low) refl; over = rw (aw, low) refl; down = rw (aw, low) refl }
   from_idle false true o d session aw fit over =
       let low = rw aw at fit in
-      record { session = rw (aw, low) refl; link = rw (aw, low) refl; dials = rw (aw, low) refl; says = rw (aw, low) refl; drops = rw (aw, low) refl; over = rw (aw, low) refl }
+      record { session = rw (aw, low) refl; link = rw (aw, low) refl; dials = rw (aw, low) refl; says = rw (aw, low) refl; drops = rw (aw, low) refl; over = rw (aw, low) refl; down = rw (aw, low) refl }
   from_idle true false o d session aw fit over = absurd (let low = rw aw at fit in let k = rw (aw, low) at over in cc k)
   from_idle false false o d session aw fit over = absurd (let low = rw aw at fit in let k = rw (aw, low) at over in cc k)
 
@@ -77,15 +78,16 @@ module _ (laws : Laws) where
     idle : record d { session = record d.session { state = state.Idle } } ≡ d
     link : is_awaited d.link ≡ is_awaited s.link
     drops : phase_in st ≡ phase.Joined → d.drops ≡ true
+    down : is_established d.session.state ≡ false
 
   stopped_is : (st : State) (o : Open) (s : Side) → Stopped st s (met (OpenMsg o) (at st s) ManualStop)
   unfolding comes meets obeys
-  stopped_is state.Idle o s = record { idle = refl; link = refl; drops = λ j. absurd (cc j) }
-  stopped_is state.Connect o s = record { idle = refl; link = refl; drops = λ j. absurd (cc j) }
-  stopped_is state.Active o s = record { idle = refl; link = refl; drops = λ j. absurd (cc j) }
-  stopped_is state.OpenSent o s = record { idle = refl; link = refl; drops = λ j. refl }
-  stopped_is state.OpenConfirm o s = record { idle = refl; link = refl; drops = λ j. refl }
-  stopped_is state.Established o s = record { idle = refl; link = refl; drops = λ j. refl }
+  stopped_is state.Idle o s = record { idle = refl; link = refl; drops = λ j. absurd (cc j); down = refl }
+  stopped_is state.Connect o s = record { idle = refl; link = refl; drops = λ j. absurd (cc j); down = refl }
+  stopped_is state.Active o s = record { idle = refl; link = refl; drops = λ j. absurd (cc j); down = refl }
+  stopped_is state.OpenSent o s = record { idle = refl; link = refl; drops = λ j. refl; down = refl }
+  stopped_is state.OpenConfirm o s = record { idle = refl; link = refl; drops = λ j. refl; down = refl }
+  stopped_is state.Established o s = record { idle = refl; link = refl; drops = λ j. refl; down = refl }
 
   acted_none : (c : Bool) (e : ℕ) (history : ℕ → List Update) → acted_with c NoMessage e history ≡ history
   acted_none true e history = refl
@@ -104,7 +106,7 @@ module _ (laws : Laws) where
 
   does_like : (s t r : Side) (new more : List (Entry Message)) (a b : End Message) → Does s t new [] a b → t.session.state ≡ r.session.state → t.link ≡ r.link → t.acted ≡ r.acted → t.sent ≡ r.sent → new ≡ more → Does s r more [] a b
   does_like s t r new more a b d state link acted sent same =
-      subst (λ w. Does s r w [] a b) (append-nil new ∙ same) (then_does laws s t r new [] [] [] a b d (λ c appends takes y. no_event laws t r c b y (ap state_of state) link acted sent))
+      subst (λ w. Does s r w [] a b) (append-nil new ∙ same) (then_does laws s t r new [] [] [] a b (inr (inl (same_up laws t r (ap state_of state)))) d (λ c appends takes y. no_event laws t r c b y (ap state_of state) link acted sent))
 
   reset_row : (o : Open) (s : Side) (a b : End Message) → Stands s a b → (s.link.phase ≡ phase.Joined → s.link.heard ≡ s.link.epoch) → Stopped s.session.state s (met (OpenMsg o) s ManualStop) → (reset (OpenMsg o) s).overflows ≡ false
       → Row s NoMessage (reset (OpenMsg o) s) a b
@@ -119,7 +121,7 @@ module _ (laws : Laws) where
       let awaited : (reset (OpenMsg o) s).link.phase ≡ phase.Joined → is_awaited s.link ≡ true = λ j. sym stopped.link ∙ joined_by (is_awaited d.link) (ap (λ l. l.phase) (sym k.dials) ∙ j) in
       record {
         does = does_like s (carried NoMessage mid next) (carried NoMessage s (reset (OpenMsg o) s)) (d.says ++ next.says) (reset (OpenMsg o) s).says a b
-            (then_does laws s mid (carried NoMessage mid next) d.says [] next.says [] a b first.does (λ c appends takes y. (own_event laws ManualStart tt o mid c b y k.over).does))
+            (then_does laws s mid (carried NoMessage mid next) d.says [] next.says [] a b (inr (inr (stopped.down, k.down))) first.does (λ c appends takes y. (own_event laws ManualStart tt o mid c b y k.over).does))
             (ap (λ i. i.state) (sym k.session)) (sym k.link)
             (acted_none next.acts next.link.epoch mid.acted ∙ (acted_none d.acts d.link.epoch s.acted ∙ sym (acted_none (reset (OpenMsg o) s).acts (reset (OpenMsg o) s).link.epoch s.acted))) refl (sym k.says);
         joined = λ j. inr (
@@ -137,7 +139,7 @@ module _ (laws : Laws) where
       reset_row o s a b x own (subst (λ (t : Side). Stopped s.session.state t (met (OpenMsg o) t ManualStop)) (at_own laws s a b x) (like s.session.state s)) over
     where
       like : (st : State) (t : Side) → Stopped st (at st t) (met (OpenMsg o) (at st t) ManualStop)
-      like st t = (let k = stopped_is st o t in record { idle = k.idle; link = k.link; drops = k.drops })
+      like st t = (let k = stopped_is st o t in record { idle = k.idle; link = k.link; drops = k.drops; down = k.down })
 
   -- ---- a message is handled
 
@@ -218,7 +220,7 @@ module _ (laws : Laws) where
   takes_marker v true p c e n s before a b up k there =
       let r = there refl in
       then_takes laws v s (cond p (cond c (marked n s) s) s) before a b (Mark e n) (says_where p (says_where c (Mark s.link.epoch n ∷ []))) k r refl ((marker_keeps p c n s).1 ∙ r.none)
-      (λ z y next. then_does laws s s (cond p (cond c (marked n s) s) s) [] (Mark e n ∷ []) (says_where p (says_where c (Mark s.link.epoch n ∷ []))) [] z b (mark_taken laws s e n z b y next) (λ z' appends takes y'. marker_does p c n s z' b up y'))
+      (λ z y next. then_does laws s s (cond p (cond c (marked n s) s) s) [] (Mark e n ∷ []) (says_where p (says_where c (Mark s.link.epoch n ∷ []))) [] z b (inl refl) (mark_taken laws s e n z b y next) (λ z' appends takes y'. marker_does p c n s z' b up y'))
   takes_marker v false p c e n s before a b up k there =
       by_does laws v s (cond p (cond c (marked n s) s) s) (says_where p (says_where c (Mark s.link.epoch n ∷ []))) before a b k (sym (marker_keeps p c n s).0) (sym (marker_keeps p c n s).1) (marker_does p c n s a b up k.stands)
 
