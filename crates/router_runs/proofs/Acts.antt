@@ -24,7 +24,7 @@ use Rattle.router_runs.proofs.Lower.{Laws}
 module _ (laws : Laws) where
   -- ---- the moves of events
 
-  moves_all : model.Side Message → List (SessionEvent Message) → List (Move Message)
+  abbrev pub moves_all : model.Side Message → List (SessionEvent Message) → List (Move Message)
   moves_all x [] = []
   moves_all x (e ∷ es) = moves_of x.end e ++ moves_all (side_after x e) es
 
@@ -36,9 +36,8 @@ module _ (laws : Laws) where
   afters_append [] ns a = refl
   afters_append (m ∷ ms) ns a = afters_append ms ns (links.after a m)
 
-  all_moves : (es : List (SessionEvent Message)) (x : model.Side Message) (b : End Message) → MayComeAll x b es → Fits x.state x.end → EndFacts x.end b → EndFacts b x.end
+  pub all_moves : (es : List (SessionEvent Message)) (x : model.Side Message) (b : End Message) → MayComeAll x b es → Fits x.state x.end → EndFacts x.end b → EndFacts b x.end
       → MayInTurn x.end b (moves_all x es) × (afters x.end (moves_all x es) ≡ (sides_after x es).end)
-  unfolding moves_all
   all_moves [] x b may f g k = (tt, refl)
   all_moves (e ∷ es) x b may f g k =
       let l = laws.leads x b e f g k may.0 in

@@ -18,3 +18,5 @@ pub mod Keeping
 pub mod Leaving
 pub mod Losing
 pub mod Acts
+mod Quieting
+mod Hanging
