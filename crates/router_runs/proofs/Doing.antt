@@ -44,7 +44,7 @@ module _ (laws : Laws) where
 
   -- ---- what leaves Established
 
-  up_in : (st : State) → is_up_in (state_of st) ≡ is_established st
+  pub up_in : (st : State) → is_up_in (state_of st) ≡ is_established st
   up_in state.Idle = refl
   up_in state.Connect = refl
   up_in state.Active = refl

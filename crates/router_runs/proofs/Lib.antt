@@ -22,3 +22,4 @@ mod Quieting
 mod Hanging
 mod Using
 mod Going
+mod Turning
