@@ -194,3 +194,104 @@ module _ (laws : Laws) (up_by_fit : UpByFit Message) (g : Setting) (u : ℕ) (fa
     new_channel : (w : Bool) (old used added : List Message) → filter is_update used ≡ added → filter is_update (cond w (old ++ used) old) ≡ filter is_update old ++ cond w added []
     new_channel true old used added h = filter_append old used ∙ ap (λ l. filter is_update old ++ l) h
     new_channel false old used added h = sym (append-nil (filter is_update old))
+
+    or_behind : (b c : Bool) → c ≡ true → (b || c) ≡ true
+    or_behind true c h = refl
+    or_behind false c h = h
+
+    neither : (b c : Bool) → (b || c) ≡ false → (b ≡ false) × (c ≡ false)
+    neither true c h = absurd (cc h)
+    neither false c h = (refl, h)
+
+    -- a member is another than one that is none
+    others : (v w : ℕ) (vs : List ℕ) → list_any (nat_eq v) vs ≡ false → list_any (nat_eq w) vs ≡ true → (w == v) ≡ false
+    others v w vs none some = at (nat_eq w v) refl
+      where
+        at : (c : Bool) → nat_eq w v ≡ c → (w == v) ≡ false
+        at true h = absurd (let same : w ≡ v = eq_same w v h in let k : list_any (nat_eq v) vs ≡ true = subst (λ i. list_any (nat_eq i) vs ≡ true) same some in cc (k, none))
+        at false h = eq_off w v h
+
+    no_turn : (n : ModelRouter) → AllTurn n []
+    no_turn n = record {
+      m = n;
+      goes = no_goes g u far Still n;
+      there = λ v h. absurd (cc h);
+      last = refl;
+      copy = refl;
+      waits = refl;
+      kept = refl;
+      originated = refl;
+      kept_at = refl;
+      originated_at = refl;
+      unfinished = refl;
+      off = λ v h. (refl, refl);
+      channel = λ v h. absurd (cc h);
+    }
+
+    -- one side, and then the others
+    more_turn : (v : ℕ) (vs : List ℕ) (n : ModelRouter) → list_any (nat_eq v) vs ≡ false → n.recorder.ends v ≡ ends v
+        → (f : Turns n v (x.sides v) (y.sides v) (new v) (before v ++ items v) (us v)) → AllTurn f.m vs → AllTurn n (v ∷ vs)
+    more_turn v vs n none is f rest =
+        let m : ModelRouter = rest.m in
+        let k : ModelRouter = f.m in
+        let left : Option ℕ = left_at v in
+        let lost : lost_by_close (is_up (x.sides v) && not (is_up (y.sides v))) n.recorder.unfinished v (x.sides v).link.epoch ≡ lost_first (close_at v left) n.recorder.unfinished =
+        one_lost (is_up (x.sides v)) (is_up (y.sides v)) n.recorder.unfinished v (x.sides v).link.epoch in
+        let unf : k.recorder.unfinished ≡ after_first (close_at v left) n.recorder.unfinished =
+        f.moved.unfinished ∙ one_after (is_up (x.sides v)) (is_up (y.sides v)) n.recorder.unfinished v (x.sides v).link.epoch in
+        let both = then_goes g u far Still n k m (lost_by_close (is_up (x.sides v) && not (is_up (y.sides v))) n.recorder.unfinished v (x.sides v).link.epoch) (lost_first (first_left vs left_at) k.recorder.unfinished) f.goes rest.goes
+        (λ s h. elim h [ inl t ↦ inl t | inr free ↦ inr (ap (λ (c : ℕ → Option (ℕ → End Message)). c s) f.moved.copy ∙ free) ]) in
+        record {
+          m = m;
+          goes = subst (λ o. Goes g u far Still n m o)
+              (ap (λ o. o ++ lost_first (first_left vs left_at) k.recorder.unfinished) lost
+              ∙ (ap (λ o. lost_first (close_at v left) n.recorder.unfinished ++ lost_first (first_left vs left_at) o) unf ∙ lost_both (close_at v left) (first_left vs left_at) n.recorder.unfinished)) both;
+          there = λ w h. there_at w (nat_eq w v) refl h;
+          last = rest.last ∙ f.moved.last;
+          copy = rest.copy ∙ f.moved.copy;
+          waits = rest.waits ∙ f.moved.waits;
+          kept = rest.kept ∙ f.moved.kept;
+          originated = rest.originated ∙ f.moved.originated;
+          kept_at = rest.kept_at ∙ f.moved.kept_at;
+          originated_at = rest.originated_at ∙ f.moved.originated_at;
+          unfinished = rest.unfinished ∙ (ap (after_first (first_left vs left_at)) unf ∙ after_both (close_at v left) (first_left vs left_at) n.recorder.unfinished);
+          off = λ w h. (let p = neither (nat_eq w v) (list_any (nat_eq w) vs) h in
+              let apart = eq_off w v p.0 in
+              let r = rest.off w p.1 in
+              (r.0 ∙ f.moved.ends w apart, r.1 ∙ (f.moved.channel w ∙ ap (λ c. cond c (cond (n.recorder.waits w) (n.recorder.channel w ++ f.used) (n.recorder.channel w)) (n.recorder.channel w)) apart)));
+          channel = λ w h. channel_at w (nat_eq w v) refl h;
+        }
+      where
+        there_at : (w : ℕ) (c : Bool) → nat_eq w v ≡ c → (c || list_any (nat_eq w) vs) ≡ true → IsTurned w (y.sides w) (new w) (before w ++ items w) (ends w) (rest.m.recorder.ends w)
+        there_at w true same h =
+            let to : v ≡ w = sym (eq_same w v same) in
+            subst (λ i. IsTurned i (y.sides i) (new i) (before i ++ items i) (ends i) (rest.m.recorder.ends i)) to
+            (subst (λ e. IsTurned v (y.sides v) (new v) (before v ++ items v) (ends v) e) (sym ((rest.off v none).0 ∙ f.moved.own))
+            (subst (λ e. IsTurned v (y.sides v) (new v) (before v ++ items v) e f.end) is f.turned))
+        there_at w false same h = rest.there w h
+
+        channel_at : (w : ℕ) (c : Bool) → nat_eq w v ≡ c → (c || list_any (nat_eq w) vs) ≡ true
+            → filter is_update (rest.m.recorder.channel w) ≡ filter is_update (n.recorder.channel w) ++ cond (n.recorder.waits w) (map UpdateMsg (us w)) []
+        channel_at w true same h =
+            let to : v ≡ w = sym (eq_same w v same) in
+            subst (λ i. filter is_update (rest.m.recorder.channel i) ≡ filter is_update (n.recorder.channel i) ++ cond (n.recorder.waits i) (map UpdateMsg (us i)) []) to
+            (ap (filter is_update) ((rest.off v none).1 ∙ (f.moved.channel v ∙ ap (λ c. cond c (cond (n.recorder.waits v) (n.recorder.channel v ++ f.used) (n.recorder.channel v)) (n.recorder.channel v)) (eq_here v)))
+            ∙ new_channel (n.recorder.waits v) (n.recorder.channel v) f.used (map UpdateMsg (us v)) f.are)
+        channel_at w false same h =
+            let apart = eq_off w v same in
+            rest.channel w h
+            ∙ (ap (λ l. filter is_update l ++ cond (f.m.recorder.waits w) (map UpdateMsg (us w)) []) (f.moved.channel w ∙ ap (λ c. cond c (cond (n.recorder.waits w) (n.recorder.channel w ++ f.used) (n.recorder.channel w)) (n.recorder.channel w)) apart)
+            ∙ ap (λ (i : ℕ → Bool). filter is_update (n.recorder.channel w) ++ cond (i w) (map UpdateMsg (us w)) []) f.moved.waits)
+
+    pub all_turn : (vs : List ℕ) → AreApart vs → (n : ModelRouter) → ((v : ℕ) → list_any (nat_eq v) vs ≡ true → n.recorder.ends v ≡ ends v)
+        → ((v : ℕ) → list_any (nat_eq v) vs ≡ true → MayTurn v (x.sides v) (y.sides v) (new v) (before v) (items v) (us v) (ends v)) → AllTurn n vs
+    all_turn [] apart n is may = no_turn n
+    all_turn (v ∷ vs) apart n is may =
+        let hit : nat_eq v v ≡ true = grind (arith, nat_tests) in
+        let here : (nat_eq v v || list_any (nat_eq v) vs) ≡ true = ap (λ c. c || list_any (nat_eq v) vs) hit in
+        let e = is v here in
+        let k = may v here in
+        let f = side_turns n v (x.sides v) (y.sides v) (new v) (before v) (items v) (us v) k.apart (subst (λ i. Stands (x.sides v) i (far v)) (sym e) k.stands) (subst (Holds (x.sides v) (before v)) (sym e) k.holds)
+        (subst (λ i. Advances (x.sides v) (y.sides v) (new v) (before v) (items v) i (far v)) (sym e) k.advances) k.quiet k.unmarked k.hears k.still in
+        more_turn v vs n apart.0 e f
+        (all_turn vs apart.1 f.m (λ w h. f.moved.ends w (others v w vs apart.0 h) ∙ is w (or_behind (nat_eq w v) (list_any (nat_eq w) vs) h)) (λ w h. may w (or_behind (nat_eq w v) (list_any (nat_eq w) vs) h)))
