@@ -20,3 +20,4 @@ pub mod Losing
 pub mod Acts
 mod Quieting
 mod Hanging
+pub mod Words
