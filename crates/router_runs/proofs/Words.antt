@@ -20,7 +20,7 @@ use Rattle.run_model.specs.Routes as routes
 use Rattle.router_model.specs.Messages.{updates_in, is_update}
 use Rattle.router_model.specs.Settings.{Setting, linked, peers, names, prefixes}
 use Rattle.router_model.specs.Sides.{Side, is_up}
-use Rattle.router_model.specs.State.{Router, heard, last_told, last_word, word_after, same_path, path_from, route, is_undecided, is_untold, is_waiting_peer, is_pending}
+use Rattle.router_model.specs.State.{Router, heard, last_told, last_word, word_after, same_path, route, is_undecided, is_untold, is_waiting_peer, is_pending}
 use Rattle.router_runs.specs.Model.{announced_mentions, mentions, network_of}
 use Rattle.router_runs.specs.Reading.{Reads}
 use Rattle.router_runs.specs.Mirrors.{AreAlike}
