@@ -21,3 +21,4 @@ pub mod Acts
 mod Quieting
 mod Hanging
 pub mod Words
+pub mod Stability

@@ -98,7 +98,7 @@ split : (a b : Bool) → (a && b) ≡ true → (a ≡ true) × (b ≡ true)
 split true b h = (refl, h)
 split false b h = absurd cc
 
-same_view : (p q : PrefixView) → is_prefix p q ≡ true → p ≡ q
+pub same_view : (p q : PrefixView) → is_prefix p q ≡ true → p ≡ q
 same_view p q h =
     let s = split (p.addr == q.addr) (p.len == q.len) h in
     let e = s.0 in
@@ -106,7 +106,7 @@ same_view p q h =
     let a : p.addr ≡ q.addr = grind (arith, nat_tests, e) in
     let l : p.len ≡ q.len = grind (arith, nat_tests, f) in λ i. record { addr = a i; len = l i }
 
-own_view : (p : PrefixView) → is_prefix p p ≡ true
+pub own_view : (p : PrefixView) → is_prefix p p ≡ true
 own_view p = (let a : (p.addr == p.addr) ≡ true = grind (arith, nat_tests) in let l : (p.len == p.len) ≡ true = grind (arith, nat_tests) in rw (a, l) refl)
 
 at_named : (f : PrefixView → Bool) (p q : PrefixView) (b : Bool) (rest : Bool) → is_prefix p q ≡ b → f p ≡ false → (b || rest) ≡ true → (rest ≡ true → f q ≡ false) → f q ≡ false
