@@ -23,3 +23,5 @@ mod Hanging
 mod Using
 mod Going
 mod Turning
+pub mod Words
+pub mod Stability

@@ -8,6 +8,7 @@ use Rattle.run_model.specs.Sessions.{SessionRunsGoOn, SessionsMakeALinkRun}
 use Rattle.run_model.specs.Octets.{NextControlIsNextEntry, HeldBeginsNextMessage, DroppedOctetsAreMessages}
 use Rattle.run_model.specs.Streams.{BeginningsPass, OctetsBeginWhatIsSaid, UsedOctetsWereTaken, NoStaleOctetAtAnEnd, NoneDroppedAtAnEnd}
 use Rattle.run_model.specs.Facts.{EndFactsHold, MovesKeepFacts, NotDialledIsNotShut, PastStaysPast, SessionEventsLeadOn, EntriesAddUp}
+use Rattle.stable_paths.specs.Promises.{StableIsTheModels}
 use Rattle.router_model.specs.Laws.{LinkedRoutersArePeers, StepsAppendWhatTheySay}
 
 pub record LawsBelow : Type 0 where
@@ -38,3 +39,5 @@ pub record LawsBelow : Type 0 where
   -- routers
   pub links : LinkedRoutersArePeers
   pub appends : StepsAppendWhatTheySay
+  -- choices
+  pub stable : StableIsTheModels Message

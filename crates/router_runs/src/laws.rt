@@ -12,6 +12,7 @@ use bgp_codec::laws::{a_peers_writing_is_read, header_is_its_front, written_has_
 use router_model::laws::{
     leaving_loses_the_recording, linked_routers_are_peers, steps_append_what_they_say,
 };
+use stable_paths::laws::stable_is_the_models;
 use run_model::{
     Framing, end_facts_hold, entries_add_up, joined_heard_its_own, moves_keep_end_facts,
     no_octet_is_stale, octets_are_entries, octets_of_an_incarnation, session_events_lead_on,
@@ -43,6 +44,7 @@ fn laws_below()
     octets_of_an_incarnation::<Message>();
     linked_routers_are_peers();
     steps_append_what_they_say();
+    stable_is_the_models::<Message>();
 }
 
 /// Every message that a router may say is written as a frame, and each of its peers reads it back.

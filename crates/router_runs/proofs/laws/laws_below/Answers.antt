@@ -25,4 +25,5 @@ returns c = record {
   used = c.octets_of_an_incarnation.ensures.used;
   links = c.linked_routers_are_peers.ensures;
   appends = c.steps_append_what_they_say.ensures;
+  stable = c.stable_is_the_models.ensures;
 }
