@@ -9,7 +9,7 @@ use Rattle.run_model.specs.Links.{Entry, Dial, Says, Mark, Shut, End, Move, Dial
 use Rattle.run_model.specs.Sessions as model
 use Rattle.run_model.specs.Sessions.{SessionEvent, SessionState, Fits, MayCome, moves_of, state_after, afters, side_after}
 use Rattle.run_model.specs.Routes.{hangs_up}
-use Rattle.run_model.specs.Facts.{EndFacts, LeadsOn, UpByFit}
+use Rattle.run_model.specs.Facts.{EndFacts, LeadsOn}
 use Rattle.router_runs.specs.Reading.{MayComeAll, sides_after}
 use Rattle.router_runs.specs.Doing.{is_up_in, closes, leaves_in}
 use Rattle.router_runs.proofs.Acts.{moves_all}
@@ -54,33 +54,33 @@ and_all : (p : Bool) → (p && true) ≡ p
 and_all true = refl
 and_all false = refl
 
-module _ (laws : Laws) (up_by_fit : UpByFit Message) where
+module _ (laws : Laws) where
   pub up_is : (st : SessionState) (a : End Message) → Fits st a → links.is_up a ≡ is_up_in st
-  up_is model.Established a f = (up_by_fit model.Established a f).0 refl
+  up_is model.Established a f = (laws.up model.Established a f).0 refl
   up_is model.Idle a f = at (links.is_up a) refl
     where
       at : (b : Bool) → links.is_up a ≡ b → b ≡ false
-      at true h = absurd (let k = (up_by_fit model.Idle a f).1 h in cc k)
+      at true h = absurd (let k = (laws.up model.Idle a f).1 h in cc k)
       at false h = refl
   up_is model.Connect a f = at (links.is_up a) refl
     where
       at : (b : Bool) → links.is_up a ≡ b → b ≡ false
-      at true h = absurd (let k = (up_by_fit model.Connect a f).1 h in cc k)
+      at true h = absurd (let k = (laws.up model.Connect a f).1 h in cc k)
       at false h = refl
   up_is model.Active a f = at (links.is_up a) refl
     where
       at : (b : Bool) → links.is_up a ≡ b → b ≡ false
-      at true h = absurd (let k = (up_by_fit model.Active a f).1 h in cc k)
+      at true h = absurd (let k = (laws.up model.Active a f).1 h in cc k)
       at false h = refl
   up_is model.OpenSent a f = at (links.is_up a) refl
     where
       at : (b : Bool) → links.is_up a ≡ b → b ≡ false
-      at true h = absurd (let k = (up_by_fit model.OpenSent a f).1 h in cc k)
+      at true h = absurd (let k = (laws.up model.OpenSent a f).1 h in cc k)
       at false h = refl
   up_is model.OpenConfirm a f = at (links.is_up a) refl
     where
       at : (b : Bool) → links.is_up a ≡ b → b ≡ false
-      at true h = absurd (let k = (up_by_fit model.OpenConfirm a f).1 h in cc k)
+      at true h = absurd (let k = (laws.up model.OpenConfirm a f).1 h in cc k)
       at false h = refl
 
   -- telling a message leaves the number, and the session as up as it was, where it said enough before or used too little

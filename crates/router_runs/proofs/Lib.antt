@@ -25,3 +25,4 @@ mod Going
 mod Turning
 pub mod Words
 pub mod Stability
+mod Hearing

@@ -14,12 +14,13 @@ use Rattle.run_model.specs.Links.{Entry, End, Move, incarnation}
 use Rattle.run_model.specs.Octets.{Passing, passing, OnlyOctets}
 use Rattle.run_model.specs.Sessions.{afters}
 use Rattle.run_model.specs.Offers.{lost_by_close}
-use Rattle.run_model.specs.Facts.{MayInTurn, UpByFit}
+use Rattle.run_model.specs.Facts.{MayInTurn}
 use Rattle.snap_marker.specs.Recordings.{RouterOffer}
 use Rattle.router_model.specs.Messages.{is_update}
 use Rattle.router_model.specs.Settings.{Setting, linked}
 use Rattle.router_model.specs.Sides.{Side, is_up}
 use Rattle.router_model.specs.State.{Router}
+use Rattle.router_model.specs.Recording.{left_of}
 use Rattle.router_model.specs.Step.{close_at, or_first}
 use Rattle.router_runs.specs.Reading.{Reads, sides_after, model_side, state_of}
 use Rattle.router_runs.specs.Doing.{Stands, Does, is_up_in, leaves_in}
@@ -35,11 +36,6 @@ use Rattle.router_runs.proofs.Quieting.{PassesNoMark, octets_pass_none, none_pas
 use Rattle.router_runs.proofs.Lower.{Laws, passing_more}
 
 -- ---- what is left first
-
-abbrev pub left_of : Bool → Bool → ℕ → Option ℕ
-left_of true true e = None
-left_of true false e = Some e
-left_of false now e = None
 
 abbrev pub first_left : List ℕ → (ℕ → Option ℕ) → Option (ℕ × ℕ)
 first_left [] left = None
@@ -77,7 +73,7 @@ one_after true true o v e = refl
 one_after true false o v e = refl
 one_after false q o v e = refl
 
-module _ (laws : Laws) (up_by_fit : UpByFit Message) (g : Setting) (u : ℕ) (far : ℕ → End Message) (Still : Type 0) where
+module _ (laws : Laws) (g : Setting) (u : ℕ) (far : ℕ → End Message) (Still : Type 0) where
   -- ---- one side
 
   -- an end that a side is once it has turned
@@ -120,11 +116,11 @@ module _ (laws : Laws) (up_by_fit : UpByFit Message) (g : Setting) (u : ℕ) (fa
       let l = all_moves laws does.events (model_side s a) (far v) does.may x.fits x.mine x.theirs in
       let past_none = unmarked_past s t a c d.past before items h d.holds does.takes none in
       let all = all_quiet laws s t new d.past a (far v) x does quiet past_none in
-      let lost : loses a ms ≡ (is_up s && not (is_up t)) = all_lose laws up_by_fit does.events (model_side s a) (far v) does.may x.fits x.mine x.theirs ∙ does.leaves in
+      let lost : loses a ms ≡ (is_up s && not (is_up t)) = all_lose laws does.events (model_side s a) (far v) does.may x.fits x.mine x.theirs ∙ does.leaves in
       let go = moves_go laws g u v apart far Still ms n l.0 all (λ k. lost ∙ still k) in
       let number : (is_up s && not (is_up t)) ≡ true → lost_number a ms ≡ s.link.epoch =
       λ k. (let was : is_up_in (state_of s.session.state) ≡ true = up_in laws s.session.state ∙ both_true (is_up s) (not (is_up t)) k in
-      all_number laws up_by_fit does.events (model_side s a) (far v) does.may x.fits x.mine x.theirs was (does.leaves ∙ k) ∙ sym x.reads.epoch) in
+      all_number laws does.events (model_side s a) (far v) does.may x.fits x.mine x.theirs was (does.leaves ∙ k) ∙ sym x.reads.epoch) in
       let b : Bool = is_up s && not (is_up t) in
       record {
         m = moved laws g u v apart far Still n ms;

@@ -10,7 +10,8 @@ ghost use Rattle.router_runs.specs.Snapshots.{CloseLosesTheRecording};
 use bgp_codec::Message;
 use bgp_codec::laws::{a_peers_writing_is_read, header_is_its_front, written_has_a_header};
 use router_model::laws::{
-    leaving_loses_the_recording, linked_routers_are_peers, steps_append_what_they_say,
+    drafts_leave_established, leaving_loses_the_recording, linked_routers_are_peers,
+    steps_append_what_they_say,
 };
 use stable_paths::laws::stable_is_the_models;
 use run_model::{
@@ -44,6 +45,7 @@ fn laws_below()
     octets_of_an_incarnation::<Message>();
     linked_routers_are_peers();
     steps_append_what_they_say();
+    drafts_leave_established();
     stable_is_the_models::<Message>();
 }
 
