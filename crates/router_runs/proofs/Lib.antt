@@ -22,3 +22,4 @@ mod Quieting
 mod Hanging
 pub mod Words
 pub mod Stability
+pub mod Markers
