@@ -26,3 +26,4 @@ mod Turning
 pub mod Words
 pub mod Stability
 mod Hearing
+pub mod Markers

@@ -8,11 +8,14 @@ use Rattle.run_model.specs.Recordings.{Finishes, recorder_after}
 use Rattle.run_model.specs.Routes.{Network, Routers, Event, Acts, NetworkStep, router_after, advanced, routers_after, IsRunOf, reached, first_routers}
 use Rattle.run_model.specs.Places.{IsCutOfLink, RecordsAt, step_of, after_own, end_inside}
 use Rattle.run_model.specs.NetworkLinks.{reached_end, moves_between}
-use Rattle.run_model.specs.Steps.{NetworkEndFactsHold, CopiesAreACut, CopiesAreTheState, heard_with, heard_in, LinkEndsKeepEnough}
+use Rattle.run_model.specs.Steps.{NetworkEndFactsHold, CopiesAreACut, CopiesAreTheState, heard_with, heard_in, LinkEndsKeepEnough, MarkersAreObeyed}
+use Rattle.run_model.specs.Offers.{IsIn}
+use Rattle.run_model.proofs.MarkerFacts.{is_mark, has_mark}
+use Rattle.run_model.proofs.RecordingRuns.{holds_start}
 use Rattle.run_model.proofs.LinkFacts.{EndFacts}
 use Rattle.run_model.proofs.IncarnationRuns.{all_facts}
 use Rattle.run_model.proofs.NetworkLinkRuns.{network_runs_are_link_runs}
-use Rattle.run_model.proofs.SettledFacts.{some_same}
+use Rattle.run_model.proofs.SettledFacts.{some_same, facts_run}
 use Rattle.run_model.proofs.PlaceFacts.{records_its_state}
 use Rattle.run_model.proofs.CutPlaces.{recorded_at_one_place}
 use Rattle.run_model.proofs.WholeCut.{recordings_make_a_cut}
@@ -170,3 +173,26 @@ module _ {M P W : Type 0} where
       let h = heard_so a.taken 0 false sound in
       let low : max 0 (greatest_dial a.taken) ≡ greatest_dial a.taken = omega arith in
       (h.0 ∙ low, h.1 ∙ (or_false (has_shut (max 0 (greatest_dial a.taken)) a.taken) ∙ ap (λ i. has_shut i a.taken) low), dial_number a)
+
+-- ---- markers that were taken
+
+found_later : (b : Bool) (h : Bool) → h ≡ true → cond b true h ≡ true
+found_later true h e = refl
+found_later false h e = e
+
+module _ {M : Type 0} where
+  is_here : (x : Entry M) (n s : ℕ) → Mark n s ≡ x → is_mark n s x ≡ true
+  is_here x n s same =
+      let a : (n == n) ≡ true = grind (arith, nat_tests) in
+      let b : (s == s) ≡ true = grind (arith, nat_tests) in
+      subst (λ (y : Entry M). is_mark n s y ≡ true) same (rw (a, b) refl)
+
+  has_one : (n s : ℕ) (xs : List (Entry M)) → IsIn (Mark n s) xs → has_mark n s xs ≡ true
+  has_one n s [] h = absurd h
+  has_one n s (x ∷ xs) (inl now) = rw (is_here x n s now) refl
+  has_one n s (x ∷ xs) (inr later) = found_later (is_mark n s x) (has_mark n s xs) (has_one n s xs later)
+
+module _ {M P W : Type 0} where
+  pub markers_are_obeyed : MarkersAreObeyed M P W
+  markers_are_obeyed g ts r u v apart joined s h =
+      ((facts_run g ts (first_routers g) (holds_start g.linked) r).locals u v apart).obeyed s joined (has_one (incarnation (reached_end g ts u v)) s (reached_end g ts u v).taken h)

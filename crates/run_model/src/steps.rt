@@ -1,5 +1,5 @@
 //! What a state of a run gives to the next event of one router.
-ghost use Rattle.run_model.specs.Steps.{NetworkEndFactsHold, CopiesAreACut, CopiesAreTheState, LinkEndsKeepEnough};
+ghost use Rattle.run_model.specs.Steps.{NetworkEndFactsHold, CopiesAreACut, CopiesAreTheState, LinkEndsKeepEnough, MarkersAreObeyed};
 
 /// In every run of the network the facts of link ends hold of both ends of each link: what an end took is a beginning of
 /// what its peer appended, each message has the number dialled before it, an end joins only what its peer dialled, and it
@@ -28,4 +28,12 @@ pub fn copies_are_a_cut<M, P, W>()
 /// Premises: each event is one that `MayHappen` allows.
 pub fn link_ends_keep_enough<M, P, W>()
     ensures { LinkEndsKeepEnough M P W }
+{}
+
+/// In every run of the network an end that is joined took no marker of its own incarnation whose number is above the last
+/// that its router recorded.
+///
+/// Premises: each event is one that `MayHappen` allows.
+pub fn markers_are_obeyed<M, P, W>()
+    ensures { MarkersAreObeyed M P W }
 {}
