@@ -19,7 +19,9 @@ use Rattle.router_model.specs.Sides.{Side, is_up}
 use Rattle.router_model.specs.State.{Router}
 use Rattle.router_model.specs.Laws.{all_passes}
 use Rattle.router_runs.specs.Model.{network_of}
-use Rattle.router_runs.specs.Runs.{RunOrder, RunState, IsRunTo, side_of, log_of}
+use Rattle.run_model.specs.Network.{Run}
+use Rattle.router_model.specs.Settings.{IsSetting}
+use Rattle.router_runs.specs.Runs.{RunOrder, RunState, IsRunTo, logged_steps, side_of, log_of}
 use Rattle.router_runs.specs.Reading.{Reads}
 use Rattle.router_runs.specs.Doing.{Stands}
 use Rattle.router_runs.specs.Kept.{Holds}
@@ -160,3 +162,26 @@ pub record Mirrored (g : Setting) (order : RunOrder) (state : RunState) : Type 0
       → Copied g order state ((final (network_of g) steps).routers u) u s c
   pub quiet : (s : ℕ) → IsQuietSince g s order state
       → model.IsQuietSince (network_of g) s (routes.first_routers (network_of g)) (network_steps (network_of g) steps)
+
+-- the run of the laws goes on where the run of routers does, and forgets nothing that was recorded
+pub record GoesOn (g : Setting) (before : RunOrder) (at : RunState) (m : Mirrored g before at) (later : RunOrder) (last : RunState) : Type 0 where
+  pub whole : Mirrored g (before ++ later) last
+  pub more : ModelSteps
+  pub steps : whole.steps ≡ m.steps ++ more
+  pub keeps : (u s : ℕ) (c : ℕ → End Message) → ((final (network_of g) m.steps).routers u).recorder.copy s ≡ Some c
+      → (d : ℕ → End Message) × (((final (network_of g) whole.steps).routers u).recorder.copy s ≡ Some d)
+
+-- every run has its run of the laws
+abbrev pub RunsAreMirrored : Type 0
+RunsAreMirrored = (g : Setting) → IsSetting g → (order : RunOrder) (state : RunState) → IsRunTo g order state → Mirrored g order state
+
+abbrev pub MirrorsGoOn : Type 0
+MirrorsGoOn =
+    (g : Setting) → IsSetting g → (before later : RunOrder) (at last : RunState) (m : Mirrored g before at) → IsRunTo g before at
+    → Run (logged_steps g) at later last → GoesOn g before at m later last
+
+-- and where a router recorded, there is one whose router has that recording
+abbrev pub RecordingsAreMirrored : Type 0
+RecordingsAreMirrored =
+    (g : Setting) → IsSetting g → (order : RunOrder) (state : RunState) (u s : ℕ) (at : RunState) → RecordedAt g order state u s at
+    → (m : Mirrored g order state) × (c : ℕ → End Message) × (((final (network_of g) m.steps).routers u).recorder.copy s ≡ Some c)
