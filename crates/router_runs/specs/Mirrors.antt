@@ -152,6 +152,9 @@ pub record Copied (g : Setting) (order : RunOrder) (state : RunState) (n : Model
   pub ends : IsCopyAt g u at c
   pub kept : n.kept_at s ≡ (at.routers u).router.kept
   pub originated : n.originated_at s ≡ (at.routers u).router.originated
+  -- no octet that was taken behind the marker of a peer is held: it is the marker's own event, or the marker was not taken yet
+  pub unmarked : (v : ℕ) (near : linked g.net u v ≡ true) → links.is_up (c v) ≡ true
+      → ((ends.holds v near).rest ≡ []) ⊎ (offers.IsIn (links.Mark (links.incarnation (c v)) s) (c v).taken → ⊥)
 
 -- a run of routers, and the run of the laws beside it
 pub record Mirrored (g : Setting) (order : RunOrder) (state : RunState) : Type 0 where
