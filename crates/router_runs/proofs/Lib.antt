@@ -27,3 +27,4 @@ pub mod Words
 pub mod Stability
 mod Hearing
 pub mod Markers
+mod Locally
