@@ -7,7 +7,9 @@ use Rattle.std.proofs.lemmas.Bool.Decides.{nat_tests}
 use Rattle.bgp_codec.specs.declared.message.Message.{Message}
 use Rattle.bgp_codec.specs.declared.update.Update.{Update}
 use Rattle.ranked_policy.specs.Plans.{IsNetwork, numbers}
-use Rattle.run_model.specs.Links.{Entry, End}
+use Rattle.run_model.specs.Links as links
+use Rattle.run_model.specs.Links.{Entry, Mark, End, incarnation}
+use Rattle.run_model.specs.Offers.{IsIn}
 use Rattle.run_model.specs.Octets.{Passing}
 use Rattle.snap_marker.specs.Recordings.{RouterOffer, closed}
 use Rattle.router_model.specs.Settings.{Setting, linked, peers}
@@ -49,6 +51,10 @@ module _ (laws : Laws) (g : Setting) (net : IsNetwork g.net) (u : ℕ) (far : �
     pub reads : ReadsRouter g u y m
     pub queue : y.snapshots.queue ≡ x.snapshots.queue ++ offers
     pub recorded : Recorded n m x.snapshots.last y.snapshots.last
+    -- of a number that is recorded: markers went to each peer whose session is up, and none of its own is held behind
+    pub marks : (k v : ℕ) → x.snapshots.last < k → y.snapshots.last ≡ k → linked g.net u v ≡ true → links.is_up (m.recorder.ends v) ≡ true → IsIn (Mark (incarnation (m.recorder.ends v)) k) (m.recorder.ends v).appended
+    pub clear : (k v : ℕ) → x.snapshots.last < k → y.snapshots.last ≡ k → (near : linked g.net u v ≡ true) → links.is_up (m.recorder.ends v) ≡ true → IsIn (Mark (incarnation (m.recorder.ends v)) k) (m.recorder.ends v).taken
+        → (turned v near).holds.rest ≡ []
 
   peer_of : (v : ℕ) → linked g.net u v ≡ true → list_any (nat_eq v) (peers g.net u) ≡ true
   peer_of v near = (laws.links g.net net u v near).peer
@@ -72,6 +78,7 @@ module _ (laws : Laws) (g : Setting) (net : IsNetwork g.net) (u : ℕ) (far : �
     sessions_step may kept originated c is hears reads =
         let t = all_turn laws g u far Still x y new before items us n.recorder.ends (peers g.net u) (apart_of (peers g.net u) rising) n (λ v m. refl) (λ v m. may v (peer_linked g u v m)) in
         let s = snapshots_turn laws g u far Still x y new before items us n.recorder.ends n t c x.snapshots y.snapshots peer_of is hears reads.snapshots in
+        let same : x.snapshots.last ≡ y.snapshots.last = sym reads.snapshots.last ∙ (sym t.last ∙ s.0.last) in
         record {
           m = t.m;
           offers = lost_first (first_left (peers g.net u) (left_at laws g u far Still x y new before items us n.recorder.ends)) n.recorder.unfinished;
@@ -79,5 +86,7 @@ module _ (laws : Laws) (g : Setting) (net : IsNetwork g.net) (u : ℕ) (far : �
           turned = λ v near. t.there v (peer_of v near);
           reads = record { kept = t.kept ∙ (reads.kept ∙ sym kept); originated = t.originated ∙ (reads.originated ∙ sym originated); snapshots = s.0 };
           queue = s.1;
-          recorded = nothing_recorded n t.m x.snapshots.last y.snapshots.last t.copy t.kept_at t.originated_at (sym reads.snapshots.last ∙ (sym t.last ∙ s.0.last));
+          recorded = nothing_recorded n t.m x.snapshots.last y.snapshots.last t.copy t.kept_at t.originated_at same;
+          marks = λ k v low is near up. absurd (omega (arith, low, is, same));
+          clear = λ k v low is near up taken. absurd (omega (arith, low, is, same));
         }
