@@ -28,3 +28,4 @@ pub mod Stability
 mod Hearing
 pub mod Markers
 mod Locally
+mod SessionSteps
