@@ -134,6 +134,19 @@ module _ (laws : Laws) where
         ];
       }
 
+  -- behind it the session is not up
+  pub reset_down : (o : Open) (s : Side) (a b : End Message) → Stands s a b → (reset (OpenMsg o) s).overflows ≡ false → is_established (reset (OpenMsg o) s).session.state ≡ false
+  reset_down o s a b x over =
+      let d : Draft = met (OpenMsg o) s ManualStop in
+      let stopped = subst (λ (t : Side). Stopped s.session.state t (met (OpenMsg o) t ManualStop)) (at_own laws s a b x) (like s.session.state s) in
+      let k : Restarts o d (reset (OpenMsg o) s) =
+      subst (λ (i : Draft). (comes (OpenMsg o) NoMessage i ManualStart).overflows ≡ false → Restarts o i (comes (OpenMsg o) NoMessage i ManualStart)) stopped.idle
+      (λ over'. from_idle (is_awaited d.link) (fits (next_number d.link)) o d d.session refl refl over') over in
+      ap (λ (i : SessionView). is_established i.state) k.session ∙ k.down
+    where
+      like : (st : State) (t : Side) → Stopped st (at st t) (met (OpenMsg o) (at st t) ManualStop)
+      like st t = (let i = stopped_is st o t in record { idle = i.idle; link = i.link; drops = i.drops; down = i.down })
+
   reset_event : (o : Open) (s : Side) (a b : End Message) → Stands s a b → (s.link.phase ≡ phase.Joined → s.link.heard ≡ s.link.epoch) → (reset (OpenMsg o) s).overflows ≡ false → Row s NoMessage (reset (OpenMsg o) s) a b
   reset_event o s a b x own over =
       reset_row o s a b x own (subst (λ (t : Side). Stopped s.session.state t (met (OpenMsg o) t ManualStop)) (at_own laws s a b x) (like s.session.state s)) over

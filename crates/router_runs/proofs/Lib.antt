@@ -28,3 +28,5 @@ pub mod Stability
 mod Hearing
 pub mod Markers
 pub mod Believing
+mod Locally
+mod SessionSteps

@@ -62,7 +62,7 @@ above_at : (x w y : ℕ) (xs : List ℕ) (b : Bool) → nat_eq w y ≡ b → (b 
 above_at x w y xs true e h l f = (let same : w ≡ y = grind (arith, nat_tests, e) in omega (arith, same, l))
 above_at x w y xs false e h l f = f h
 
-above : (x w : ℕ) (xs : List ℕ) → AllByRecursion (λ y. x < y) xs → list_any (nat_eq w) xs ≡ true → x < w
+pub above : (x w : ℕ) (xs : List ℕ) → AllByRecursion (λ y. x < y) xs → list_any (nat_eq w) xs ≡ true → x < w
 above x w [] a h = absurd cc
 above x w (y ∷ ys) a h = above_at x w y ys (nat_eq w y) refl h a.0 (above x w ys a.1)
 
@@ -74,10 +74,10 @@ least_at p x v w xs true false eb ec m pw low over h f = (let same : w ≡ x = g
 least_at p x v w xs false true eb ec m pw low over h f = (let top : x ≡ v = cc in let o = over m in absurd (omega (arith, top, low, o)))
 least_at p x v w xs false false eb ec m pw low over h f = f m h
 
-pairs_head : (x : ℕ) (xs : List ℕ) → AllPairs (λ a b. a < b) (x ∷ xs) → (k : ℕ) (d : ℕ) → k < length xs → x < get_or xs k d
+pub pairs_head : (x : ℕ) (xs : List ℕ) → AllPairs (λ a b. a < b) (x ∷ xs) → (k : ℕ) (d : ℕ) → k < length xs → x < get_or xs k d
 pairs_head x xs pairs k d l = pairs 0 (suc k) d (omega arith) (omega (arith, l))
 
-pairs_tail : (x : ℕ) (xs : List ℕ) → AllPairs (λ a b. a < b) (x ∷ xs) → AllPairs (λ a b. a < b) xs
+pub pairs_tail : (x : ℕ) (xs : List ℕ) → AllPairs (λ a b. a < b) (x ∷ xs) → AllPairs (λ a b. a < b) xs
 pairs_tail x xs pairs i j d l m = pairs (suc i) (suc j) d (omega (arith, l)) (omega (arith, m))
 
 least : (p : ℕ → Bool) (xs : List ℕ) (v w : ℕ) → AllPairs (λ a b. a < b) xs → find p xs ≡ Some v → w < v → list_any (nat_eq w) xs ≡ true → p w ≡ true → ⊥
