@@ -1,0 +1,11 @@
+use Rattle.router_runs.proofs.snapshots.snapshot_laws_below.Goals as goal
+
+pub returns : goal.returns
+returns c = record {
+  aside = c.offer_runs_are_network_runs.ensures.run;
+  cut = c.copies_are_a_cut.ensures.cut;
+  parts = c.outcome_tells.ensures.parts;
+  mismatch = c.outcome_tells.ensures.mismatch;
+  stable = c.settled_outcome_is_stable_and_stays.ensures.stable;
+  stays = c.settled_outcome_is_stable_and_stays.ensures.stays;
+}
