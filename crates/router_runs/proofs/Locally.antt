@@ -86,10 +86,9 @@ module _ (laws : Laws) (g : Setting) (net : IsNetwork g.net) (u : ℕ) (far : �
     pub reads : ReadsRouter g u y m
     pub queue : y.snapshots.queue ≡ x.snapshots.queue ++ offers
     pub recorded : Recorded n m x.snapshots.last y.snapshots.last
-    -- of a number that is recorded: markers went to each peer whose session is up, and none of its own is held behind
-    pub marks : (k v : ℕ) → x.snapshots.last < k → y.snapshots.last ≡ k → linked g.net u v ≡ true → links.is_up (m.recorder.ends v) ≡ true → IsIn (Mark (incarnation (m.recorder.ends v)) k) (m.recorder.ends v).appended
-    pub clear : (k v : ℕ) → x.snapshots.last < k → y.snapshots.last ≡ k → (near : linked g.net u v ≡ true) → links.is_up (m.recorder.ends v) ≡ true → IsIn (Mark (incarnation (m.recorder.ends v)) k) (m.recorder.ends v).taken
-        → (turned v near).holds.rest ≡ []
+    -- of a number that is recorded: nothing is held of a peer, or its marker was not taken yet
+    pub unmarked : (k v : ℕ) → x.snapshots.last < k → y.snapshots.last ≡ k → (near : linked g.net u v ≡ true) → links.is_up (m.recorder.ends v) ≡ true
+        → ((turned v near).holds.rest ≡ []) ⊎ (IsIn (Mark (incarnation (m.recorder.ends v)) k) (m.recorder.ends v).taken → ⊥)
 
   peer_of : (v : ℕ) → linked g.net u v ≡ true → list_any (nat_eq v) (peers g.net u) ≡ true
   peer_of v near = (laws.links g.net net u v near).peer
@@ -122,6 +121,5 @@ module _ (laws : Laws) (g : Setting) (net : IsNetwork g.net) (u : ℕ) (far : �
           reads = record { kept = t.kept ∙ (reads.kept ∙ sym kept); originated = t.originated ∙ (reads.originated ∙ sym originated); snapshots = s.0 };
           queue = s.1;
           recorded = nothing_recorded n t.m x.snapshots.last y.snapshots.last t.copy t.kept_at t.originated_at same;
-          marks = λ k v low is near up. absurd (omega (arith, low, is, same));
-          clear = λ k v low is near up taken. absurd (omega (arith, low, is, same));
+          unmarked = λ k v low is near up. absurd (omega (arith, low, is, same));
         }

@@ -285,8 +285,7 @@ module _ (laws : Laws) (g : Setting) (net : IsNetwork g.net) (u : ℕ) (far : �
         reads = record { kept = refl; originated = refl; snapshots = snapshots_like g u (after g u x e).snapshots m k refl refl refl t.reads.snapshots };
         queue = t.queue ∙ ap (λ l. x.snapshots.queue ++ l) (sym (append-nil t.offers));
         recorded = record { kept = t.recorded.kept; new = λ i c is. inl (new_on t i c is); recorded = t.recorded.recorded };
-        marks = t.marks;
-        clear = t.clear;
+        unmarked = t.unmarked;
       }
     where
       same_last : x.snapshots.last ≡ (all_moved g u x (λ v. meets_at g u x v ManualStop)).snapshots.last
