@@ -29,3 +29,4 @@ mod Hearing
 pub mod Markers
 mod Locally
 mod SessionSteps
+pub mod Believing

@@ -11,3 +11,4 @@ pub mod Journals
 pub mod Model
 pub mod Acts
 pub mod Mirrors
+pub mod SnapshotLaws
