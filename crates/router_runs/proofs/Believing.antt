@@ -209,9 +209,10 @@ module _ (laws : Laws) (more : SnapshotLaws) (mirrored : RunsAreMirrored) where
 
     -- nothing is held behind the marker
     none_held : (u v : ℕ) (a b : ℕ → End Message) (rest : List (Passing Message)) → incarnation (b u) ≡ incarnation (a v) → IsIn (Mark (incarnation (a v)) s) (a v).appended
-        → (IsIn (Mark (incarnation (b u)) s) (b u).taken → rest ≡ []) → (b u).taken ≡ (a v).appended → rest ≡ []
-    none_held u v a b rest one there clear same =
-        clear (subst (λ l. IsIn (Mark (incarnation (b u)) s) l) (sym same) (subst (λ e. IsIn (Mark e s) (a v).appended) (sym one) there))
+        → (rest ≡ []) ⊎ (IsIn (Mark (incarnation (b u)) s) (b u).taken → ⊥) → (b u).taken ≡ (a v).appended → rest ≡ []
+    none_held u v a b rest one there (inl none) same = none
+    none_held u v a b rest one there (inr unmarked) same =
+        absurd (unmarked (subst (λ l. IsIn (Mark (incarnation (b u)) s) l) (sym same) (subst (λ e. IsIn (Mark e s) (a v).appended) (sym one) there)))
 
     -- the link from u to v in the cut
     link_is : IsRunTo g order state → (parts : ℕ → RouterPart) (found : Parts parts) (u v : ℕ) → linked g.net u v ≡ true → (a : Found u (parts u)) (b : Found v (parts v))
@@ -228,7 +229,8 @@ module _ (laws : Laws) (more : SnapshotLaws) (mirrored : RunsAreMirrored) where
         let e = (side_of at_v v u).link.epoch in
         let epoch : e ≡ incarnation (b.is.0 u) = (b.copied.ends.reads u near_back).epoch in
         let only = updates_in (b.channels u) in
-        let none = none_held u v a.is.0 b.is.0 holds.rest cut.0.one_incarnation (a.copied.ends.marks v near back.0.up) (b.copied.ends.clear u near_back cut.0.up) in
+        let marked = more.marked (network_of g) (network_steps (network_of g) m.steps) network_run u s v a.is.0 (copied_there u (parts u) a) back.0.up in
+        let none = none_held u v a.is.0 b.is.0 holds.rest cut.0.one_incarnation marked (b.copied.unmarked u near_back cut.0.up) in
         record {
           consistent = subst (λ l. IsPrefix l (passing written (log_of at_u u v))) (sym taken)
               (subst (λ l. IsPrefix (passing written (b.is.0 u).taken ++ holds.rest) (passing written l)) (sym (a.copied.ends.log v near))

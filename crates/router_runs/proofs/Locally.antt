@@ -11,11 +11,14 @@ use Rattle.run_model.specs.Links as links
 use Rattle.run_model.specs.Links.{Entry, Mark, End, incarnation}
 use Rattle.run_model.specs.Offers.{IsIn}
 use Rattle.run_model.specs.Octets.{Passing}
-use Rattle.snap_marker.specs.Recordings.{RouterOffer, closed}
+use Rattle.run_model.specs.Routes.{IsNotPending}
+use Rattle.snap_marker.specs.Recordings.{RouterOffer, Recording, Snapshots, closed}
+use Rattle.router_model.specs.Messages.{is_update}
 use Rattle.router_model.specs.Settings.{Setting, linked, peers}
 use Rattle.router_model.specs.Sides.{is_up}
 use Rattle.router_model.specs.State.{Router}
-use Rattle.router_runs.specs.Mirrors.{ModelRouter, Goes, ReadsRouter, Recorded}
+use Rattle.router_runs.specs.Model.{network_of}
+use Rattle.router_runs.specs.Mirrors.{ModelRouter, Goes, ReadsPart, ReadsRecording, ReadsSnapshots, ReadsRouter, Recorded}
 use Rattle.router_runs.proofs.Turning.{IsTurned, MayTurn, AllTurn, AreApart, left_at, first_left, lost_first, all_turn}
 use Rattle.router_runs.proofs.Hearing.{HearsUpdates, snapshots_turn}
 use Rattle.router_runs.proofs.Markers.{above, pairs_head, pairs_tail}
@@ -27,6 +30,38 @@ nothing_recorded n m low high copy kept originated same = record {
   kept = λ k c is. (c, ap (λ (f : ℕ → Option (ℕ → End Message)). f k) copy ∙ is);
   new = λ k c is. inl (ap (λ (f : ℕ → Option (ℕ → End Message)). f k) (sym copy) ∙ is, ap (λ f. f k) kept, ap (λ f. f k) originated);
   recorded = λ k less is. absurd (omega (arith, same, less, is));
+}
+
+-- what is read of a recording hangs on these alone
+part_like : (g : Setting) (u : ℕ) (r : Recording) (n m : ModelRouter) → m.recorder ≡ n.recorder → m.kept_at ≡ n.kept_at → m.originated_at ≡ n.originated_at → ReadsPart g u r n → ReadsPart g u r m
+part_like g u r n m recorder kept originated p =
+    let part = p.part in
+    record {
+      waits = λ v near. ap (λ i. i.waits v) recorder ∙ p.waits v near;
+      some = p.some;
+      part = (
+        part.0,
+        ap (λ i. i.copy r.number) recorder ∙ part.1,
+        (λ k named. part.2 k named ∙ ap (λ f. f r.number k) (sym kept)),
+        (λ k named. part.3 k named ∙ ap (λ f. f r.number k) (sym originated)),
+        part.4,
+        (
+          (λ k. subst (λ f. IsNotPending (network_of g) u part.0 (f r.number) (m.originated_at r.number)) (sym kept) (subst (λ f. IsNotPending (network_of g) u part.0 (n.kept_at r.number) (f r.number)) (sym originated) (part.5.0 k))),
+          (λ k. part.5.1 (subst (λ f. IsNotPending (network_of g) u part.0 (f r.number) (n.originated_at r.number)) kept (subst (λ f. IsNotPending (network_of g) u part.0 (m.kept_at r.number) (f r.number)) originated k))),
+        ),
+        (λ v near. part.6 v near ∙ ap (λ i. filter is_update (i.channel v)) (sym recorder)),
+      );
+    }
+
+pub recording_like : (g : Setting) (u : ℕ) (o : Option Recording) (n m : ModelRouter) → m.recorder ≡ n.recorder → m.kept_at ≡ n.kept_at → m.originated_at ≡ n.originated_at → ReadsRecording g u o n → ReadsRecording g u o m
+recording_like g u None n m recorder kept originated p = tt
+recording_like g u (Some r) n m recorder kept originated p = part_like g u r n m recorder kept originated p
+
+pub snapshots_like : (g : Setting) (u : ℕ) (z : Snapshots) (n m : ModelRouter) → m.recorder ≡ n.recorder → m.kept_at ≡ n.kept_at → m.originated_at ≡ n.originated_at → ReadsSnapshots g u z n → ReadsSnapshots g u z m
+snapshots_like g u z n m recorder kept originated r = record {
+  last = ap (λ i. i.last) recorder ∙ r.last;
+  unfinished = ap (λ i. i.unfinished) recorder ∙ r.unfinished;
+  recording = recording_like g u z.unfinished n m recorder kept originated r.recording;
 }
 
 passes_at : (q : ℕ → Bool) (w x : ℕ) (xs : List ℕ) (c b : Bool) → q x ≡ c → nat_eq w x ≡ b → (list_any (nat_eq w) (filter q xs) ≡ true → q w ≡ true) → list_any (nat_eq w) (cond c (x ∷ filter q xs) (filter q xs)) ≡ true → q w ≡ true
@@ -51,10 +86,9 @@ module _ (laws : Laws) (g : Setting) (net : IsNetwork g.net) (u : ℕ) (far : �
     pub reads : ReadsRouter g u y m
     pub queue : y.snapshots.queue ≡ x.snapshots.queue ++ offers
     pub recorded : Recorded n m x.snapshots.last y.snapshots.last
-    -- of a number that is recorded: markers went to each peer whose session is up, and none of its own is held behind
-    pub marks : (k v : ℕ) → x.snapshots.last < k → y.snapshots.last ≡ k → linked g.net u v ≡ true → links.is_up (m.recorder.ends v) ≡ true → IsIn (Mark (incarnation (m.recorder.ends v)) k) (m.recorder.ends v).appended
-    pub clear : (k v : ℕ) → x.snapshots.last < k → y.snapshots.last ≡ k → (near : linked g.net u v ≡ true) → links.is_up (m.recorder.ends v) ≡ true → IsIn (Mark (incarnation (m.recorder.ends v)) k) (m.recorder.ends v).taken
-        → (turned v near).holds.rest ≡ []
+    -- of a number that is recorded: nothing is held of a peer, or its marker was not taken yet
+    pub unmarked : (k v : ℕ) → x.snapshots.last < k → y.snapshots.last ≡ k → (near : linked g.net u v ≡ true) → links.is_up (m.recorder.ends v) ≡ true
+        → ((turned v near).holds.rest ≡ []) ⊎ (IsIn (Mark (incarnation (m.recorder.ends v)) k) (m.recorder.ends v).taken → ⊥)
 
   peer_of : (v : ℕ) → linked g.net u v ≡ true → list_any (nat_eq v) (peers g.net u) ≡ true
   peer_of v near = (laws.links g.net net u v near).peer
@@ -87,6 +121,5 @@ module _ (laws : Laws) (g : Setting) (net : IsNetwork g.net) (u : ℕ) (far : �
           reads = record { kept = t.kept ∙ (reads.kept ∙ sym kept); originated = t.originated ∙ (reads.originated ∙ sym originated); snapshots = s.0 };
           queue = s.1;
           recorded = nothing_recorded n t.m x.snapshots.last y.snapshots.last t.copy t.kept_at t.originated_at same;
-          marks = λ k v low is near up. absurd (omega (arith, low, is, same));
-          clear = λ k v low is near up taken. absurd (omega (arith, low, is, same));
+          unmarked = λ k v low is near up. absurd (omega (arith, low, is, same));
         }

@@ -20,13 +20,16 @@ use Rattle.outbox.specs.declared.item.What.{What}
 use Rattle.outbox.specs.declared.item.What.TheVariants as item
 use Rattle.outbox.specs.Items.{passes}
 use Rattle.snap_marker.specs.Recordings.{Recording, Snapshots, closed, joins_channel, with_message, acted_on}
-use Rattle.router_model.specs.Settings.{Setting, linked, peers}
+use Rattle.run_model.specs.Routes.{Command, router_after}
+use Rattle.router_model.specs.Settings.{Setting, linked, peers, identifier}
 use Rattle.router_model.specs.Sides.{Side, Draft, AtHand, NoMessage, HasFault, HasUpdate, at_hand, event_of, front, carried, acted_with, without_front, fed, uses, is_up, is_established}
 use Rattle.router_model.specs.State.{Router, rule_of, open_of}
 use Rattle.router_model.specs.Laws.{all_passes}
 use Rattle.router_model.specs.Recording.{left_of}
 use Rattle.router_model.specs.Step.{RouterEvent, Obeys, Ticks, Handles, Decides, Advertises, May, after, says, overflows, moved, all_moved, seen, with_side, put_from, close_at, first_close, or_first, meets_at, resets_at, second_at, signed_at, handled_at}
-use Rattle.router_runs.specs.Mirrors.{ModelRouter, ReadsRouter}
+use Rattle.router_runs.specs.Model.{network_of}
+use Rattle.router_runs.specs.Snapshots.{IsCommand}
+use Rattle.router_runs.specs.Mirrors.{ModelRouter, ModelEvent, Goes, ReadsRouter}
 use Rattle.router_runs.proofs.Stepping.{Before, same_number}
 use Rattle.router_runs.proofs.Events.{step_side, reset_down}
 use Rattle.router_runs.proofs.Quieting.{IsOfSessions, says_quietly, PassesNoMark, octets_pass_none}
@@ -34,7 +37,8 @@ use Rattle.router_runs.proofs.Octets.{only_octets}
 use Rattle.router_runs.proofs.Using.{Hears}
 use Rattle.router_runs.proofs.Turning.{MayTurn, first_left}
 use Rattle.router_runs.proofs.Hearing.{HearsIn, HearsAll, HearsUpdates, one_first}
-use Rattle.router_runs.proofs.Locally.{LocalStep, sessions_step, peer_linked}
+use Rattle.router_runs.proofs.Locally.{LocalStep, sessions_step, snapshots_like, peer_linked}
+use Rattle.router_runs.proofs.Going.{then_goes, one_goes}
 use Rattle.router_runs.proofs.Lower.{Laws}
 
 -- ---- what is heard
@@ -145,6 +149,10 @@ first_same (v ∷ vs) drafts left h =
     behind true c h = refl
     behind false c h = h
 
+closed_last : (c : Option (ℕ × ℕ)) (z : Snapshots) → (closed c z).last ≡ z.last
+closed_last None z = refl
+closed_last (Some c) z = refl
+
 module _ (laws : Laws) (g : Setting) (net : IsNetwork g.net) (u : ℕ) (far : ℕ → End Message) (Still : Type 0) (x : Router) (before : ℕ → List (Passing Message)) (n : ModelRouter)
     (known : (v : ℕ) → linked g.net u v ≡ true → Before laws v (x.sides v) (before v) (n.recorder.ends v) (far v)) (reads : ReadsRouter g u x n) where
   here : (w : ℕ) → (w == w) ≡ true
@@ -212,3 +220,135 @@ module _ (laws : Laws) (g : Setting) (net : IsNetwork g.net) (u : ℕ) (far : �
           hears = hears v near;
           still = λ s. lost_none (is_up (x.sides v)) (is_up ((after g u x e).sides v)) (still s v near);
         }
+
+  -- ---- each event
+
+  hears_side : (c : Bool) (s t : Side) → t.acted ≡ s.acted → Hears s (cond c t s) []
+  hears_side true s t same = inl (refl, λ e. ap (λ f. f e) same)
+  hears_side false s t same = inl (refl, λ e. refl)
+
+  fed_up : (c : Bool) (s : Side) (octets : List ℕ) → is_up (cond c (record s { held = s.held ++ octets }) s) ≡ is_up s
+  fed_up true s octets = refl
+  fed_up false s octets = refl
+
+  fed_acted : (c : Bool) (s : Side) (octets : List ℕ) → (cond c (record s { held = s.held ++ octets }) s).acted ≡ s.acted
+  fed_acted true s octets = refl
+  fed_acted false s octets = refl
+
+  abbrev Stays : RouterEvent → Type 0
+  Stays e = Still → (v : ℕ) → linked g.net u v ≡ true → is_up (x.sides v) ≡ true → is_up ((after g u x e).sides v) ≡ true
+
+  abbrev Comes : RouterEvent → Type 0
+  Comes e = (v : ℕ) → linked g.net u v ≡ true → IsPrefix (before v ++ all_passes (taken_from v e)) (passing written (far v).appended)
+
+  abbrev Fronts : RouterEvent → Type 0
+  Fronts e = (w : ℕ) → e ≡ alone (Handles w) → (m : Message) × (front (rule_of w) (x.sides w).held ≡ Ok m)
+
+  abbrev StepOf : RouterEvent → Type 0
+  StepOf e = LocalStep laws g net u far Still x (after g u x e) (says g u x e) before (λ v. all_passes (taken_from v e)) n
+
+  handles_step : (w : ℕ) → (may : May g u x (alone (Handles w))) → Fronts (alone (Handles w)) → Comes (alone (Handles w)) → Stays (alone (Handles w)) → StepOf (alone (Handles w))
+  handles_step w may fronts comes still =
+      let h : AtHand = at_hand (front (rule_of w) (x.sides w).held) in
+      let d : Draft = handled_at g u x w in
+      let e : RouterEvent = alone (Handles w) in
+      sessions_step laws g net u far Still x (after g u x e) (says g u x e) before (λ v. all_passes (taken_from v e)) (heard_at d.acts h w) n
+      (turning e tt may refl fronts comes still (heard_at d.acts h w) (λ v near. hears_at d.acts h w v (v == w) (x.sides v) d refl refl))
+      refl refl (close_at w d.left)
+      (one_left w may.0 (is_established d.session.state) d.left (after g u x e) ((laws.left (open_of g.net u) (x.sides w)).handled_by h (event_of (front (rule_of w) (x.sides w).held))) (λ v. up_handled (v == w) h (x.sides v) d))
+      (seen_one d.acts h w (closed (close_at w d.left) x.snapshots)) reads
+
+  reset_left : (w : ℕ) → linked g.net u w ≡ true → (resets_at g u x w).overflows ≡ false → (resets_at g u x w).left ≡ left_of (is_up (x.sides w)) (is_established (resets_at g u x w).session.state) (x.sides w).link.epoch
+  reset_left w near fits =
+      let down : is_established (resets_at g u x w).session.state ≡ false =
+      reset_down laws (record { asn = u; hold = g.net.settings.hold; id = identifier g.net.routers u; params = [] }) (x.sides w) (n.recorder.ends w) (far w) (known w near).stands fits in
+      (laws.left (open_of g.net u) (x.sides w)).reset_is ∙ ap (λ b. left_of (is_up (x.sides w)) b (x.sides w).link.epoch) (sym down)
+
+  abbrev Stopped : Type 0
+  Stopped = LocalStep laws g net u far Still x (all_moved g u x (λ v. meets_at g u x v ManualStop)) (says g u x (alone (Obeys command.Restart))) before (λ v. []) n
+
+  restart_step : Comes (alone (Obeys command.Restart)) → Stays (alone (Obeys command.Restart)) → (Still → ⊥) → StepOf (alone (Obeys command.Restart))
+  restart_step comes still loud =
+      let e : RouterEvent = alone (Obeys command.Restart) in
+      let drafts : ℕ → Draft = λ v. meets_at g u x v ManualStop in
+      let t = all_step drafts (λ v. (laws.left (open_of g.net u) (x.sides v)).met_by ManualStop) (says g u x e) (λ v. all_passes (taken_from v e))
+      (turning e tt tt refl (λ w k. absurd (cc k)) comes still (λ v. []) (λ v near. hears_none (linked g.net u v) (drafts v).acts (x.sides v) (drafts v) refl)) in
+      let m : ModelRouter = t.m in
+      let forget : ModelEvent = Command (λ q. false) (λ q. []) in
+      let k : ModelRouter = router_after (network_of g) u m forget in
+      record {
+        m = k;
+        offers = t.offers ++ [];
+        goes = then_goes g u far Still n m k t.offers [] t.goes (one_goes g u far Still m forget [] tt refl (λ s c h is. elim h [ inl still' ↦ absurd (loud still') | inr free ↦ absurd (let z = sym free ∙ is in cc z) ]))
+            (λ s h. elim h [ inl still' ↦ absurd (loud still') | inr free ↦ inr (free_on t s free) ]);
+        turned = t.turned;
+        reads = record { kept = refl; originated = refl; snapshots = snapshots_like g u (after g u x e).snapshots m k refl refl refl t.reads.snapshots };
+        queue = t.queue ∙ ap (λ l. x.snapshots.queue ++ l) (sym (append-nil t.offers));
+        recorded = record { kept = t.recorded.kept; new = λ i c is. inl (new_on t i c is); recorded = t.recorded.recorded };
+        unmarked = t.unmarked;
+      }
+    where
+      same_last : x.snapshots.last ≡ (all_moved g u x (λ v. meets_at g u x v ManualStop)).snapshots.last
+      same_last = sym (closed_last (first_close (peers g.net u) (λ v. meets_at g u x v ManualStop)) x.snapshots)
+
+      new_on : (t : Stopped) (k : ℕ) (c : ℕ → End Message) → t.m.recorder.copy k ≡ Some c → (n.recorder.copy k ≡ Some c) × (t.m.kept_at k ≡ n.kept_at k) × (t.m.originated_at k ≡ n.originated_at k)
+      new_on t k c h = elim (t.recorded.new k c h) [
+        | inl old ↦ old
+        | inr new ↦ absurd (let low = new.0 in let high = new.1 in let same = same_last in omega (arith, low, high, same))
+      ]
+
+      free_on : (t : Stopped) (s : ℕ) → n.recorder.copy s ≡ None → t.m.recorder.copy s ≡ None
+      free_on t s free = at (t.m.recorder.copy s) refl
+        where
+          at : (o : Option (ℕ → End Message)) → t.m.recorder.copy s ≡ o → o ≡ None
+          at None h = refl
+          at (Some c) h = absurd (let z = sym free ∙ (new_on t s c h).0 in cc z)
+
+  -- a step of sessions, whichever
+  pub session_step : (e : RouterEvent) → IsOfSessions e → May g u x e → overflows g u x e ≡ false → Fronts e → Comes e → Stays e → (Still → IsCommand e → ⊥) → StepOf e
+  session_step (alone (Obeys (command.Start w))) is may fits fronts comes still loud =
+      let d : Draft = meets_at g u x w ManualStart in
+      let e : RouterEvent = alone (Obeys (command.Start w)) in
+      moved_step w may d ((laws.left (open_of g.net u) (x.sides w)).met_by ManualStart) (says g u x e) (λ v. all_passes (taken_from v e))
+      (turning e is may fits fronts comes still (λ v. []) (λ v near. hears_none (v == w) d.acts (x.sides v) d refl))
+  session_step (alone (Obeys (command.Stop w))) is may fits fronts comes still loud =
+      let d : Draft = meets_at g u x w ManualStop in
+      let e : RouterEvent = alone (Obeys (command.Stop w)) in
+      moved_step w may d ((laws.left (open_of g.net u) (x.sides w)).met_by ManualStop) (says g u x e) (λ v. all_passes (taken_from v e))
+      (turning e is may fits fronts comes still (λ v. []) (λ v near. hears_none (v == w) d.acts (x.sides v) d refl))
+  session_step (alone (Obeys (command.Reset w))) is may fits fronts comes still loud =
+      let d : Draft = resets_at g u x w in
+      let e : RouterEvent = alone (Obeys (command.Reset w)) in
+      moved_step w may d (reset_left w may fits) (says g u x e) (λ v. all_passes (taken_from v e))
+      (turning e is may fits fronts comes still (λ v. []) (λ v near. hears_none (v == w) d.acts (x.sides v) d refl))
+  session_step (alone (Obeys (command.Originate q))) is may fits fronts comes still loud = absurd is
+  session_step (alone (Obeys (command.Withdraw q))) is may fits fronts comes still loud = absurd is
+  session_step (alone (Obeys (command.Snapshot s))) is may fits fronts comes still loud = absurd is
+  session_step (alone (Obeys command.Restart)) is may fits fronts comes still loud = restart_step comes still (λ s. loud s tt)
+  session_step (alone Ticks) is may fits fronts comes still loud =
+      let drafts : ℕ → Draft = second_at g u x in
+      let e : RouterEvent = alone Ticks in
+      all_step drafts (λ v. (laws.left (open_of g.net u) (x.sides v)).second_is) (says g u x e) (λ v. all_passes (taken_from v e))
+      (turning e is may fits fronts comes still (λ v. []) (λ v near. hears_none (linked g.net u v) (drafts v).acts (x.sides v) (drafts v) refl))
+  session_step (alone (Handles w)) is may fits fronts comes still loud = handles_step w may fronts comes still
+  session_step (alone Decides) is may fits fronts comes still loud = absurd is
+  session_step (alone (Advertises w)) is may fits fronts comes still loud = absurd is
+  session_step (puts w i) is may fits fronts comes still loud =
+      let e : RouterEvent = puts w i in
+      side_step w may.0 (λ s. put_from s i) (λ s. refl) (says g u x e) (λ v. all_passes (taken_from v e)) (turning e is may fits fronts comes still (λ v. []) (λ v near. hears_side (v == w) (x.sides v) (put_from (x.sides v) i) refl))
+  session_step (takes w (item.Dial k)) is may fits fronts comes still loud =
+      let d : Draft = signed_at g u x w (sign.Dial k) in
+      let e : RouterEvent = takes w (item.Dial k) in
+      moved_step w may.0 d ((laws.left (open_of g.net u) (x.sides w)).signed_by (sign.Dial k)) (says g u x e) (λ v. all_passes (taken_from v e))
+      (turning e is may fits fronts comes still (λ v. []) (λ v near. hears_none (v == w) d.acts (x.sides v) d refl))
+  session_step (takes w (item.Piece k octets)) is may fits fronts comes still loud =
+      let e : RouterEvent = takes w (item.Piece k octets) in
+      side_step w may.0 (λ s. fed s k octets) (λ s. fed_up (uses s.link k) s octets) (says g u x e) (λ v. all_passes (taken_from v e))
+      (turning e is may fits fronts comes still (λ v. []) (λ v near. hears_side (v == w) (x.sides v) (fed (x.sides v) k octets) (fed_acted (uses (x.sides v).link k) (x.sides v) octets)))
+  session_step (takes w (item.Mark k s)) is may fits fronts comes still loud = absurd is
+  session_step (takes w (item.Shut k)) is may fits fronts comes still loud =
+      let d : Draft = signed_at g u x w (sign.Shut k) in
+      let e : RouterEvent = takes w (item.Shut k) in
+      moved_step w may.0 d ((laws.left (open_of g.net u) (x.sides w)).signed_by (sign.Shut k)) (says g u x e) (λ v. all_passes (taken_from v e))
+      (turning e is may fits fronts comes still (λ v. []) (λ v near. hears_none (v == w) d.acts (x.sides v) d refl))
+  session_step (offers made) is may fits fronts comes still loud = absurd is

@@ -139,23 +139,22 @@ pub record Mirrors (g : Setting) (state : RunState) (w : ModelOffering) : Type 0
   pub queued : (u : ℕ) → w.queued u ≡ made_by u w.made ++ (state.routers u).router.snapshots.queue
   pub made : w.made ≡ state.offered
 
--- what a copy of the ends of router u is: its sides where it recorded s, with what it had said and taken by then
-pub record IsCopyAt (g : Setting) (u s : ℕ) (at : RunState) (c : ℕ → End Message) : Type 0 where
+-- what a copy of the ends of router u is: its sides where it recorded, with what it had said and taken by then
+pub record IsCopyAt (g : Setting) (u : ℕ) (at : RunState) (c : ℕ → End Message) : Type 0 where
   pub reads : (v : ℕ) → linked g.net u v ≡ true → Reads (side_of at u v) (c v)
   pub up : (v : ℕ) → linked g.net u v ≡ true → links.is_up (c v) ≡ is_up (side_of at u v)
   pub log : (v : ℕ) → linked g.net u v ≡ true → log_of at u v ≡ (c v).appended
   pub holds : (v : ℕ) → linked g.net u v ≡ true → Holds (side_of at u v) (all_passes (at.taken v u)) (c v)
-  -- markers went to each peer whose session was up
-  pub marks : (v : ℕ) → linked g.net u v ≡ true → links.is_up (c v) ≡ true → offers.IsIn (links.Mark (links.incarnation (c v)) s) (c v).appended
-  -- where a peer's marker was taken by then, nothing is held behind it
-  pub clear : (v : ℕ) (near : linked g.net u v ≡ true) → links.is_up (c v) ≡ true → offers.IsIn (links.Mark (links.incarnation (c v)) s) (c v).taken → (holds v near).rest ≡ []
 
 pub record Copied (g : Setting) (order : RunOrder) (state : RunState) (n : ModelRouter) (u s : ℕ) (c : ℕ → End Message) : Type 0 where
   pub at : RunState
   pub place : RecordedAt g order state u s at
-  pub ends : IsCopyAt g u s at c
+  pub ends : IsCopyAt g u at c
   pub kept : n.kept_at s ≡ (at.routers u).router.kept
   pub originated : n.originated_at s ≡ (at.routers u).router.originated
+  -- no octet that was taken behind the marker of a peer is held: it is the marker's own event, or the marker was not taken yet
+  pub unmarked : (v : ℕ) (near : linked g.net u v ≡ true) → links.is_up (c v) ≡ true
+      → ((ends.holds v near).rest ≡ []) ⊎ (offers.IsIn (links.Mark (links.incarnation (c v)) s) (c v).taken → ⊥)
 
 -- a run of routers, and the run of the laws beside it
 pub record Mirrored (g : Setting) (order : RunOrder) (state : RunState) : Type 0 where

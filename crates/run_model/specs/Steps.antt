@@ -2,7 +2,7 @@
 use Rattle.std.specs.Prelude.{ℕ, ◌≡◌, ◌≢◌, ◌==◌, ◌≤◌, nat_lt, Bool, true, false, cond, List, [], ◌∷◌, ◌++◌, Some}
 use mathlib.Core.Logic.{◌⊎◌}
 use mathlib.Core.List.{IsPrefix}
-use Rattle.run_model.specs.Links.{Entry, Dial, Says, Mark, Shut, End, Joined, has_shut, incarnation, heard_number, dialling, next_incarnation}
+use Rattle.run_model.specs.Links.{Entry, Dial, Says, Mark, Shut, End, Joined, has_shut, is_up, incarnation, heard_number, dialling, next_incarnation}
 use Rattle.run_model.specs.Facts.{EndFacts}
 use Rattle.run_model.specs.Octets.{Passing, passing, OnlyOctets}
 use Rattle.run_model.specs.Recordings.{Act, Finishes}
@@ -38,6 +38,12 @@ CopiesAreACut M P W =
     → ((cu v).taken ≡ (cv u).appended → held ≡ [])
     → IsPrefix (passing written (cu v).taken ++ held) (passing written ((reached g ts v).recorder.ends u).appended)
     → IsPrefix (passing written (cu v).taken ++ held) (passing written (cv u).appended))
+
+-- an end that was up as its router recorded has sent its marker
+abbrev pub CopiesAreMarked : (M P W : Type 0) → Type 0
+CopiesAreMarked M P W =
+    (g : Network M P W) (ts : List (NetworkStep M P W)) → IsRunOf g ts → (u s v : ℕ) (c : ℕ → End M)
+    → (reached g ts u).recorder.copy s ≡ Some c → is_up (c v) ≡ true → IsIn (Mark (incarnation (c v)) s) (c v).appended
 
 -- one event of a router is several of the model: where behind the one that records it at most finishes, the copies are the
 -- router's state after all of them

@@ -4,6 +4,7 @@ pub returns : goal.returns
 returns c = record {
   aside = c.offer_runs_are_network_runs.ensures.run;
   cut = c.copies_are_a_cut.ensures.cut;
+  marked = c.copies_are_a_cut.ensures.marked;
   parts = c.outcome_tells.ensures.parts;
   mismatch = c.outcome_tells.ensures.mismatch;
   stable = c.settled_outcome_is_stable_and_stays.ensures.stable;
