@@ -30,3 +30,4 @@ pub mod Markers
 pub mod Believing
 mod Locally
 mod SessionSteps
+mod Lifting
