@@ -31,3 +31,4 @@ pub mod Believing
 mod Locally
 mod SessionSteps
 mod Lifting
+mod TableSteps
