@@ -32,3 +32,4 @@ mod Locally
 mod SessionSteps
 mod Lifting
 mod TableSteps
+pub mod Mirroring
