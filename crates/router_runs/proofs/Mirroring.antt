@@ -106,6 +106,17 @@ none_offered (offers made) is = absurd is
 apart_of : (u a : ℕ) → (u == a) ≡ false → u ≡ a → ⊥
 apart_of u a h same = absurd (false≢true (sym h ∙ eq-eqb u a same))
 
+steps_append : (g : Setting) (ts us : ModelSteps) → network_steps (network_of g) (ts ++ us) ≡ network_steps (network_of g) ts ++ network_steps (network_of g) us
+steps_append g [] us = refl
+steps_append g (t ∷ ts) us =
+    ap (λ l. law.network_step (network_of g) t.router t.event ++ l) (steps_append g ts us)
+    ∙ sym (append_assoc (law.network_step (network_of g) t.router t.event) (network_steps (network_of g) ts) (network_steps (network_of g) us))
+
+quiet_on : (g : Setting) (s : ℕ) (ts us : List (routes.NetworkStep Message PrefixView (List ℕ))) (w : ℕ → ModelRouter) → model.IsQuietSince (network_of g) s w ts
+    → model.IsQuietSince (network_of g) s (routes.routers_after (network_of g) w ts) us → model.IsQuietSince (network_of g) s w (ts ++ us)
+quiet_on g s [] us w one two = two
+quiet_on g s (t ∷ ts) us w one two = (one.0, quiet_on g s ts us (routes.advanced (network_of g) w t) one.1 two)
+
 module _ (laws : Laws) (more : SnapshotLaws) (any_step : AnyStep laws) where
   module _ (g : Setting) (set : IsSetting g) (order : RunOrder) (old : RunState) (m : Mirrored g order old) (r : IsRunTo g order old) (u : ℕ) where
     abbrev x : Router
@@ -359,3 +370,240 @@ module _ (laws : Laws) (more : SnapshotLaws) (any_step : AnyStep laws) where
         queued = λ a. queue_at a (u == a) refl;
         made = k.made;
       }
+
+      -- ---- the run up to there
+
+      abbrev order_next : RunOrder
+      order_next = order ++ event e ∷ []
+
+      one_step : runs.Run (logged_steps g) old (event e ∷ []) (new e own)
+      one_step = (new e own, (own, step, refl, begins), refl)
+
+      routers_here : (new e own).routers u ≡ own
+      routers_here = ap (λ b. if b then own else old.routers u) (eq-eqb u u refl)
+
+      router_here : y ≡ ((new e own).routers u).router
+      router_here = sym leaves ∙ ap (λ i. i.router) (sym routers_here)
+
+      place_on : (a s : ℕ) (at : RunState) → RecordedAt g order old a s at → RecordedAt g order_next (new e own) a s at
+      place_on a s at p = record {
+        before = p.before;
+        event = p.event;
+        later = p.later ++ event e ∷ [];
+        old = p.old;
+        parts = ap (λ l. l ++ event e ∷ []) p.parts ∙ append_assoc p.before (record { router = a; event = p.event } ∷ p.later) (event e ∷ []);
+        reached = p.reached;
+        step = p.step;
+        goes_on = runs_join g p.later (event e ∷ []) at old (new e own) p.goes_on one_step;
+        greater = p.greater;
+        records = p.records;
+      }
+
+      place_here : (s : ℕ) → x.snapshots.last < s → y.snapshots.last ≡ s → RecordedAt g order_next (new e own) u s (new e own)
+      place_here s low high = record {
+        before = order;
+        event = e;
+        later = [];
+        old = old;
+        parts = refl;
+        reached = r;
+        step = (own, step, refl, begins);
+        goes_on = refl;
+        greater = low;
+        records = ap (λ i. i.snapshots.last) (sym router_here) ∙ high;
+      }
+
+      -- ---- what stands as recorded
+
+      copied_on : (a s : ℕ) (c : ℕ → End Message) (i : ModelRouter) → i.kept_at s ≡ (w.routers a).kept_at s → i.originated_at s ≡ (w.routers a).originated_at s → (w.routers a).recorder.copy s ≡ Some c → Copied g order_next (new e own) i a s c
+      copied_on a s c i kept_same originated_same is =
+          let was = m.copies a s c is in
+          record {
+            at = was.at;
+            place = place_on a s was.at was.place;
+            ends = was.ends;
+            kept = kept_same ∙ was.kept;
+            originated = originated_same ∙ was.originated;
+            unmarked = was.unmarked;
+          }
+
+      abbrev copy_holds : (c : ℕ → End Message) → k.router.recorder.ends ≡ c → (v : ℕ) → linked g.net u v ≡ true → Holds (side_of (new e own) u v) (all_passes ((new e own).taken v u)) (c v)
+      copy_holds c same v near =
+          holds_as (y.sides v) (side_of (new e own) u v) (before v ++ all_passes (taken_from v e)) (all_passes ((new e own).taken v u)) (k.router.recorder.ends v) (c v)
+          (ap (λ i. i.sides v) router_here)
+          (sym (all_more laws (old.taken v u) (taken_from v e)) ∙ ap (λ b. all_passes (old.taken v u ++ (if b then taken_from v e else []))) (sym (eq-eqb u u refl)))
+          (ap (λ f. f v) same) (k.turned v near).holds
+
+      copied_new : (s : ℕ) (c : ℕ → End Message) → x.snapshots.last < s → y.snapshots.last ≡ s → k.router.recorder.ends ≡ c → k.router.kept_at s ≡ k.router.kept → k.router.originated_at s ≡ k.router.originated
+          → Copied g order_next (new e own) k.router u s c
+      copied_new s c low high same kept_same originated_same = record {
+        at = new e own;
+        place = place_here s low high;
+        ends = record {
+          reads = λ v near. (stands_there v near).reads;
+          up = λ v near. up_is laws (state_of (side_of (new e own) u v).session.state) (c v) (stands_there v near).fits ∙ up_in laws (side_of (new e own) u v).session.state;
+          log = λ v near. ap (λ i. i.log v) routers_here ∙ (log_here v near ∙ (ap (λ i. i.appended) (sym (end_here v)) ∙ ap (λ f. (f v).appended) same));
+          holds = copy_holds c same;
+        };
+        kept = kept_same ∙ k.reads.kept ∙ ap (λ i. i.kept) router_here;
+        originated = originated_same ∙ k.reads.originated ∙ ap (λ i. i.originated) router_here;
+        unmarked = λ v near up.
+            subst (λ f. ((k.turned v near).holds.rest ≡ []) ⊎ (IsIn (links.Mark (links.incarnation (f v)) s) (f v).taken → ⊥)) same
+            (k.unmarked s v low high near (ap (λ f. links.is_up (f v)) same ∙ up));
+      }
+        where
+          stands_there : (v : ℕ) → linked g.net u v ≡ true → Stands (side_of (new e own) u v) (c v) (far v)
+          stands_there v near = stands_as (y.sides v) (side_of (new e own) u v) (k.router.recorder.ends v) (c v) (far v) (far v) (ap (λ i. i.sides v) router_here) (ap (λ f. f v) same) refl (k.turned v near).stands
+
+      copied_here : (s : ℕ) (c : ℕ → End Message) → k.router.recorder.copy s ≡ Some c → Copied g order_next (new e own) k.router u s c
+      copied_here s c is = elim (k.recorded.new s c is) [
+        | inl was ↦ copied_on u s c k.router was.1 was.2 was.0
+        | inr now ↦ copied_new s c now.0 now.1 now.2 now.3 now.4
+      ]
+
+      copied_at : (a s : ℕ) (c : ℕ → End Message) (p : Bool) → (u == a) ≡ p → (z.routers a).recorder.copy s ≡ Some c → Copied g order_next (new e own) (z.routers a) a s c
+      copied_at a s c true h is =
+          subst (λ j. (z.routers j).recorder.copy s ≡ Some c → Copied g order_next (new e own) (z.routers j) j s c) (number_is laws u a h)
+          (subst (λ i. i.recorder.copy s ≡ Some c → Copied g order_next (new e own) i u s c) (sym k.here) (copied_here s c)) is
+      copied_at a s c false h is =
+          let same = k.others a (apart_of u a h) in
+          copied_on a s c (z.routers a) (ap (λ i. i.kept_at s) same) (ap (λ i. i.originated_at s) same) (ap (λ i. i.recorder.copy s) (sym same) ∙ is)
+
+      keeps_at : (a s : ℕ) (c : ℕ → End Message) (p : Bool) → (u == a) ≡ p → (w.routers a).recorder.copy s ≡ Some c → (d : ℕ → End Message) × ((z.routers a).recorder.copy s ≡ Some d)
+      keeps_at a s c true h is =
+          subst (λ j. (w.routers j).recorder.copy s ≡ Some c → (d : ℕ → End Message) × ((z.routers j).recorder.copy s ≡ Some d)) (number_is laws u a h)
+          (λ here. (let on = k.recorded.kept s c here in (on.0, ap (λ i. i.recorder.copy s) k.here ∙ on.1))) is
+      keeps_at a s c false h is = (c, ap (λ i. i.recorder.copy s) (k.others a (apart_of u a h)) ∙ is)
+
+      -- ---- the quiet stretch
+
+      quiet_before : (s : ℕ) → IsQuietSince g s order_next (new e own) → IsQuietSince g s order old
+      quiet_before s q front later d was now at parts reached does on place =
+          q front (later ++ event e ∷ []) d was now at (ap (λ l. l ++ event e ∷ []) parts ∙ append_assoc front (d ∷ later) (event e ∷ [])) reached does
+          (runs_join g later (event e ∷ []) now old (new e own) on one_step) place
+
+      calm_at : (s : ℕ) → IsQuietSince g s order_next (new e own) → (o : Option (ℕ → End Message)) → n.recorder.copy s ≡ o → IsQuiet g u x y e ⊎ (n.recorder.copy s ≡ None)
+      calm_at s q None is = inr is
+      calm_at s q (Some c) is =
+          let was = m.copies u s c is in
+          inl (subst (λ i. IsQuiet g u x i e) (sym router_here) (q order [] (event e) old (new e own) was.at refl r (own, step, refl, begins) refl was.place))
+
+      quiet_next : (s : ℕ) → IsQuietSince g s order_next (new e own)
+          → model.IsQuietSince (network_of g) s (routes.first_routers (network_of g)) (network_steps (network_of g) (m.steps ++ k.steps))
+      quiet_next s q =
+          let one = m.quiet s (quiet_before s q) in
+          let two = k.calm s (calm_at s q (n.recorder.copy s) refl) in
+          subst (model.IsQuietSince (network_of g) s (routes.first_routers (network_of g))) (sym (steps_append g m.steps k.steps))
+          (quiet_on g s (network_steps (network_of g) m.steps) (network_steps (network_of g) k.steps) (routes.first_routers (network_of g)) one
+          (subst (λ i. model.IsQuietSince (network_of g) s i (network_steps (network_of g) k.steps)) (sym (more.aside (network_of g) m.steps m.run).1) two))
+
+      -- ---- the longer run
+
+      final_is : final (network_of g) (m.steps ++ k.steps) ≡ z
+      final_is = (more.on (network_of g) m.steps k.steps m.run k.run).1
+
+      abbrev whole_next : Mirrored g order_next (new e own)
+      whole_next = record {
+        steps = m.steps ++ k.steps;
+        run = (more.on (network_of g) m.steps k.steps m.run k.run).0;
+        mirrors = subst (Mirrors g (new e own)) (sym final_is) mirrors_next;
+        copies = λ a s c is. subst (λ o. (o.routers a).recorder.copy s ≡ Some c → Copied g order_next (new e own) (o.routers a) a s c) (sym final_is) (copied_at a s c (u == a) refl) is;
+        quiet = quiet_next;
+      }
+
+      abbrev goes_next : GoesOn g order old m (event e ∷ []) (new e own)
+      goes_next = record {
+        whole = whole_next;
+        more = k.steps;
+        steps = refl;
+        keeps = λ a s c is. subst (λ o. (d : ℕ → End Message) × ((o.routers a).recorder.copy s ≡ Some d)) (sym final_is) (keeps_at a s c (u == a) refl is);
+      }
+
+      news_next : (s : ℕ) → x.snapshots.last < s → (snapshots_of (new e own) u).last ≡ s → (c : ℕ → End Message) × (((final (network_of g) (m.steps ++ k.steps)).routers u).recorder.copy s ≡ Some c)
+      news_next s low high =
+          let got = k.recorded.recorded s low (ap (λ i. i.snapshots.last) router_here ∙ high) in
+          (got.0, ap (λ o. (o.routers u).recorder.copy s) final_is ∙ (ap (λ i. i.recorder.copy s) k.here ∙ got.1))
+
+    -- one step of the network, and the run of the laws behind it
+    record One (e : RouterEvent) (at : RunState) : Type 0 where
+      pub goes : GoesOn g order old m (event e ∷ []) at
+      pub news : (s : ℕ) → x.snapshots.last < s → (snapshots_of at u).last ≡ s → (c : ℕ → End Message) × (((final (network_of g) goes.whole.steps).routers u).recorder.copy s ≡ Some c)
+
+    one_on : (e : RouterEvent) (at : RunState) → runs.NetworkStep (logged_steps g) old (event e) at → One e at
+    one_on e at s =
+        let own : Logged = s.0 in
+        let begins : Begins e own = subst (λ (i : RunState). (a b : ℕ) → IsPrefix (i.taken a b) (i.put a b)) s.2 s.3 in
+        let k = next_of e own s.1 begins in
+        subst (One e) (sym s.2) (record { goes = goes_next e own s.1 begins k; news = news_next e own s.1 begins k })
+
+  -- ---- every run
+
+  module _ (g : Setting) (set : IsSetting g) where
+    first : Mirrored g [] (runs.opening (λ u. new_logged g))
+    first = record {
+      steps = [];
+      run = tt;
+      mirrors = record {
+        sides = λ u v near.
+            let apart = linked_apart laws g set.network u v near in
+            record {
+              reads = record { phase = refl; epoch = refl; heard = refl; is_shut = refl; acted = λ e. refl; sent = λ e. refl };
+              fits = record { phase = refl; has_said = tt; has_used = tt };
+              mine = first_facts laws u v apart;
+              theirs = first_facts laws v u (λ e. apart (sym e));
+            };
+        log = λ u v near. refl;
+        holds = λ u v near. record { rest = []; only = tt; passed = refl; joined = λ j. absurd (cc j); apart = λ n. refl };
+        routers = λ u. record { kept = refl; originated = refl; snapshots = record { last = refl; unfinished = refl; recording = tt } };
+        queued = λ u. refl;
+        made = refl;
+      };
+      copies = λ u s c is. absurd (cc is);
+      quiet = λ s q. tt;
+    }
+
+    -- a longer run, whatever its order is written as
+    record GoesTo (before : RunOrder) (at : RunState) (m : Mirrored g before at) (last : RunState) (order : RunOrder) : Type 0 where
+      pub whole : Mirrored g order last
+      pub added : ModelSteps
+      pub steps : whole.steps ≡ m.steps ++ added
+      pub keeps : (u s : ℕ) (c : ℕ → End Message) → ((final (network_of g) m.steps).routers u).recorder.copy s ≡ Some c
+          → (d : ℕ → End Message) × (((final (network_of g) whole.steps).routers u).recorder.copy s ≡ Some d)
+
+    goes_to : (before later : RunOrder) (at last : RunState) (m : Mirrored g before at) → GoesTo before at m last (before ++ later) → GoesOn g before at m later last
+    goes_to before later at last m k = record { whole = k.whole; more = k.added; steps = k.steps; keeps = k.keeps }
+
+    on_by : (before : RunOrder) (at next : RunState) (d : NetworkEvent Own What MadeOffer) → IsRunTo g before at → runs.NetworkStep (logged_steps g) at d next → IsRunTo g (before ++ d ∷ []) next
+    on_by before at next d r s = runs_join g before (d ∷ []) (runs.opening (λ u. new_logged g)) at next r (next, s, refl)
+
+    then_on : (later before : RunOrder) (at last : RunState) (m : Mirrored g before at) → IsRunTo g before at → runs.Run (logged_steps g) at later last → GoesTo before at m last (before ++ later)
+    then_on [] before at last m r on =
+        subst (λ i. GoesTo before at m i (before ++ [])) on
+        (subst (GoesTo before at m at) (sym (append-nil before)) (record { whole = m; added = []; steps = sym (append-nil m.steps); keeps = λ u s c is. (c, is) }))
+    then_on (d ∷ ds) before at last m r on =
+        let next : RunState = on.0 in
+        let one = one_on g set before at m r d.router d.event next on.1 in
+        let rest = then_on ds (before ++ d ∷ []) next last one.goes.whole (on_by before at next d r on.1) on.2 in
+        subst (GoesTo before at m last) (append_assoc before (d ∷ []) ds) (record {
+          whole = rest.whole;
+          added = one.goes.more ++ rest.added;
+          steps = rest.steps ∙ ap (λ l. l ++ rest.added) one.goes.steps ∙ append_assoc m.steps one.goes.more rest.added;
+          keeps = λ u s c is. (let a = one.goes.keeps u s c is in rest.keeps u s a.0 a.1);
+        })
+
+  pub runs_are_mirrored : RunsAreMirrored
+  runs_are_mirrored g set order state r = (then_on g set order [] (runs.opening (λ u. new_logged g)) state (first g set) refl r).whole
+
+  pub mirrors_go_on : MirrorsGoOn
+  mirrors_go_on g set before later at last m r on = goes_to g set before later at last m (then_on g set later before at last m r on)
+
+  pub recordings_are_mirrored : RecordingsAreMirrored
+  recordings_are_mirrored g set order state u s at p =
+      let m = runs_are_mirrored g set p.before p.old p.reached in
+      let d : NetworkEvent Own What MadeOffer = record { router = u; event = p.event } in
+      let one = one_on g set p.before p.old m p.reached u p.event at p.step in
+      let got = one.news s p.greater p.records in
+      let on = then_on g set p.later (p.before ++ d ∷ []) at state one.goes.whole (on_by g set p.before p.old at d p.reached p.step) p.goes_on in
+      let end = on.keeps u s got.0 got.1 in
+      subst (λ (o : RunOrder). (k : Mirrored g o state) × (c : ℕ → End Message) × (((final (network_of g) k.steps).routers u).recorder.copy s ≡ Some c))
+      (append_assoc p.before (d ∷ []) p.later ∙ sym p.parts) (on.whole, end.0, end.1)
