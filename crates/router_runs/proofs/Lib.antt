@@ -30,3 +30,5 @@ pub mod Markers
 mod Locally
 mod SessionSteps
 pub mod Believing
+mod Marking
+mod Parting
