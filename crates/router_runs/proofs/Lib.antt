@@ -32,3 +32,4 @@ mod SessionSteps
 pub mod Believing
 mod Marking
 mod Parting
+mod Beginning
