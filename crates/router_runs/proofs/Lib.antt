@@ -33,3 +33,4 @@ pub mod Believing
 mod Marking
 mod Parting
 mod Beginning
+mod MarkerSteps

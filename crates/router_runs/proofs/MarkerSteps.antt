@@ -1,0 +1,222 @@
+-- A snapshot by a command, and a marker that is taken, as events of the laws of runs.
+use Rattle.std.proofs.Common.{◌≡◌, ◌≢◌, ℕ, ◌<◌, ◌≤◌, ◌==◌, Bool, true, false, ◌&&◌, not, cond, List, [], ◌∷◌, ◌++◌, filter, refl, ap, sym, ◌∙◌, arith, append_assoc, subst, Option, None, Some, inl, inr, ◌⊎◌}
+use Rattle.std.specs.Prelude.{nat_lt, if◌then◌else◌}
+use mathlib.Core.List.{IsPrefix}
+use Rattle.std.proofs.lemmas.List.{append-nil}
+use Rattle.std.proofs.lemmas.Bool.Decides.{nat_tests}
+use Rattle.prefix_lanes.specs.Bits.{PrefixView}
+use Rattle.bgp_codec.specs.declared.message.Message.{Message}
+use Rattle.bgp_codec.specs.Spelling.{written}
+use Rattle.bgp_framing.specs.Held.{is_waiting}
+use Rattle.link_epoch.specs.declared.link_end.Phase.{Phase}
+use Rattle.link_epoch.specs.declared.link_end.Phase.TheVariants as phase
+use Rattle.ranked_policy.specs.Plans.{IsNetwork}
+use Rattle.run_model.specs.Links as links
+use Rattle.run_model.specs.Links.{Entry, Mark, End, Takes, incarnation, taking, IsNext}
+use Rattle.run_model.specs.Octets.{Passing, Control, octets_of, passing}
+use Rattle.run_model.specs.Recordings.{with_end, Begins, Follows, EndsChannel, IgnoresMarker}
+use Rattle.run_model.specs.Routes.{Acts, router_after, IsNotPending}
+use Rattle.run_model.specs.Offers.{IsPartOf, IsIn, lost_by_close}
+use Rattle.outbox.specs.declared.item.What.{What}
+use Rattle.outbox.specs.declared.item.What.TheVariants as item
+use Rattle.snap_marker.specs.Recordings.{RouterOffer, RouterPart, Recording, Snapshots, ends_channel, goes_on}
+use Rattle.router_model.specs.Messages.{is_update}
+use Rattle.router_model.specs.Settings.{Setting, linked, peers}
+use Rattle.router_model.specs.Sides as sides
+use Rattle.router_model.specs.Sides.{Side, is_up, uses}
+use Rattle.router_model.specs.State.{Router}
+use Rattle.router_model.specs.Laws.{all_passes}
+use Rattle.router_model.specs.Step.{awaits, heeds, is_greater, records, says_where, says_markers}
+use Rattle.router_runs.specs.Model.{network_of}
+use Rattle.router_runs.specs.Doing.{Stands}
+use Rattle.router_runs.specs.Kept.{Holds, Advances}
+use Rattle.router_runs.specs.Reading.{phase_of}
+use Rattle.router_runs.specs.Mirrors.{ModelRouter, Goes, AreAlike, ReadsPart, ReadsRecording, ReadsSnapshots, ReadsRouter, Recorded, number_of}
+use Rattle.router_runs.proofs.Stepping.{Before, Ready, ready, plus_nothing, same_number, swapped}
+use Rattle.router_runs.proofs.Signing.{at_place}
+use Rattle.router_runs.proofs.Octets.{control_passed}
+use Rattle.router_runs.proofs.Going.{no_goes, one_goes, then_goes}
+use Rattle.router_runs.proofs.Turning.{IsTurned, Turns, side_turns}
+use Rattle.router_runs.proofs.Marking.{up_alike, up_joined, takes_stands}
+use Rattle.router_runs.proofs.Parting.{PartsFrom, parts_on}
+use Rattle.router_runs.proofs.Beginning.{MayBegin, begins_step}
+use Rattle.router_runs.proofs.Locally.{LocalStep, nothing_recorded}
+use Rattle.router_runs.proofs.Lower.{Laws, passing_more}
+
+-- ---- what is read of a recording, where no end is looked at
+
+pub record IsLike (n m : ModelRouter) : Type 0 where
+  pub last : m.recorder.last ≡ n.recorder.last
+  pub unfinished : m.recorder.unfinished ≡ n.recorder.unfinished
+  pub waits : m.recorder.waits ≡ n.recorder.waits
+  pub copy : m.recorder.copy ≡ n.recorder.copy
+  pub kept_at : m.kept_at ≡ n.kept_at
+  pub originated_at : m.originated_at ≡ n.originated_at
+  pub channel : (v : ℕ) → filter is_update (m.recorder.channel v) ≡ filter is_update (n.recorder.channel v)
+
+part_alike : (g : Setting) (u k : ℕ) (p : RouterPart) (n m : ModelRouter) → IsLike n m → IsPartOf (network_of g) u n k n.recorder.channel p → IsPartOf (network_of g) u m k m.recorder.channel p
+part_alike g u k p n m l part = (
+  part.0,
+  ap (λ (f : ℕ → Option (ℕ → End Message)). f k) l.copy ∙ part.1,
+  (λ q named. part.2 q named ∙ ap (λ f. f k q) (sym l.kept_at)),
+  (λ q named. part.3 q named ∙ ap (λ f. f k q) (sym l.originated_at)),
+  part.4,
+  (
+    (λ h. subst (λ f. IsNotPending (network_of g) u part.0 (f k) (m.originated_at k)) (sym l.kept_at) (subst (λ f. IsNotPending (network_of g) u part.0 (n.kept_at k) (f k)) (sym l.originated_at) (part.5.0 h))),
+    (λ h. part.5.1 (subst (λ f. IsNotPending (network_of g) u part.0 (f k) (n.originated_at k)) l.kept_at (subst (λ f. IsNotPending (network_of g) u part.0 (m.kept_at k) (f k)) l.originated_at h))),
+  ),
+  (λ v near. part.6 v near ∙ sym (l.channel v)),
+)
+
+recording_alike : (g : Setting) (u : ℕ) (o : Option Recording) (n m : ModelRouter) → IsLike n m → ReadsRecording g u o n → ReadsRecording g u o m
+recording_alike g u None n m l r = tt
+recording_alike g u (Some k) n m l r =
+    record { waits = λ v near. ap (λ (f : ℕ → Bool). f v) l.waits ∙ r.waits v near; some = r.some; part = part_alike g u k.number k.part n m l r.part }
+
+snapshots_alike : (g : Setting) (u : ℕ) (z : Snapshots) (n m : ModelRouter) → IsLike n m → ReadsSnapshots g u z n → ReadsSnapshots g u z m
+snapshots_alike g u z n m l r = record { last = l.last ∙ r.last; unfinished = l.unfinished ∙ r.unfinished; recording = recording_alike g u z.unfinished n m l r.recording }
+
+and_not : (b : Bool) → (b && not b) ≡ false
+and_not true = refl
+and_not false = refl
+
+passes_if : (c : Bool) (i : What) (b : Bool) → c ≡ b → all_passes (if c then i ∷ [] else []) ≡ cond b (all_passes (i ∷ [])) []
+passes_if true i true h = refl
+passes_if true i false h = absurd (cc h)
+passes_if false i true h = absurd (cc h)
+passes_if false i false h = refl
+
+number_some : (a b : ℕ) → Some a ≡ Some b → a ≡ b
+number_some a b h = cc h
+
+module _ (laws : Laws) (g : Setting) (net : IsNetwork g.net) (u : ℕ) (far : ℕ → End Message) (Still : Type 0) (still : Still) (x : Router) (before : ℕ → List (Passing Message)) (n : ModelRouter)
+    (known : (v : ℕ) → linked g.net u v ≡ true → Before laws v (x.sides v) (before v) (n.recorder.ends v) (far v)) (reads : ReadsRouter g u x n)
+    (obeyed : (v : ℕ) → linked g.net u v ≡ true → (n.recorder.ends v).phase ≡ links.Joined → (k : ℕ) → IsIn (Mark (incarnation (n.recorder.ends v)) k) (n.recorder.ends v).taken → k ≤ n.recorder.last) where
+  alike : AreAlike g u x n.recorder.ends
+  alike = record { reads = λ v near. (known v near).stands.reads; up = λ v near. up_alike laws (x.sides v) (n.recorder.ends v) (far v) (known v near).stands }
+
+  -- no marker above the last number was taken
+  fresh : (s v : ℕ) → x.snapshots.last < s → linked g.net u v ≡ true → is_up (x.sides v) ≡ true → IsIn (Mark (incarnation (n.recorder.ends v)) s) (n.recorder.ends v).taken → ⊥
+  fresh s v low near up h =
+      let top = obeyed v near (up_joined laws (x.sides v) (n.recorder.ends v) (far v) (known v near).stands up) s h in
+      let last = reads.snapshots.last in
+      omega (arith, low, top, last)
+
+  less_by : (s : ℕ) → is_greater x s ≡ true → x.snapshots.last < s
+  less_by s h = grind (arith, nat_tests, h)
+
+  -- ---- by a command
+
+  snapshot_begins : (s : ℕ) → is_greater x s ≡ true → MayBegin laws g net u far Still still x before (λ v. []) n None s n n.recorder.ends []
+  snapshot_begins s greater =
+      let low = less_by s greater in
+      record {
+        greater = low;
+        goes = no_goes g u far Still n;
+        reads = reads;
+        queue = sym (append-nil x.snapshots.queue);
+        recorded = nothing_recorded n n x.snapshots.last x.snapshots.last refl refl refl refl;
+        act = λ whole queues up q. one_goes g u far Still n (Acts (Begins s whole)) queues ((subst (λ i. i < s) (sym reads.snapshots.last) low, up), tt) q (λ i c h is. refl);
+        alike = alike;
+        stands = λ v near. (known v near).stands;
+        appended = λ v near. refl;
+        holds = λ v near. plus_nothing laws (x.sides v) (before v) (n.recorder.ends v) (known v near).holds;
+        unmarked = λ v near up. inr (λ h. fresh s v low near up h);
+      }
+
+  pub snapshot_step : (s : ℕ) → is_greater x s ≡ true → LocalStep laws g net u far Still x (records g u x s None) (λ v. says_markers g u x s v) before (λ v. []) n
+  snapshot_step s greater = begins_step laws g net u far Still still x before (λ v. []) n None s n n.recorder.ends [] (snapshot_begins s greater)
+
+  -- ---- a marker is taken from w
+
+  module _ (w e s : ℕ) (near_w : linked g.net u w ≡ true) (quiet : is_waiting (x.sides w).held ≡ false) (comes : IsPrefix (before w ++ Control (Mark e s) ∷ []) (passing written (far w).appended)) where
+    abbrev here_is : Before laws w (x.sides w) (before w) (n.recorder.ends w) (far w)
+    here_is = known w near_w
+
+    dropped : Ready laws (x.sides w) (Mark e s) here_is.holds.rest (n.recorder.ends w) (far w)
+    dropped = ready laws w (x.sides w) (before w) (n.recorder.ends w) (far w) (Mark e s) here_is quiet comes
+
+    -- messages that were dropped pass first
+    advances : Advances (x.sides w) (x.sides w) [] (before w) [] (n.recorder.ends w) (far w)
+    advances =
+        let h = here_is.holds in
+        let a : End Message = n.recorder.ends w in
+        record {
+          past = dropped.messages;
+          does = dropped.does;
+          holds = plus_nothing laws (x.sides w) (before w) _ (record {
+            rest = [];
+            only = tt;
+            passed = h.passed ∙ (ap (λ l. passing written a.taken ++ l) (sym dropped.are) ∙ (sym (passing_more laws written a.taken dropped.messages) ∙ (ap (passing written) (sym dropped.does.takes) ∙ sym (append-nil _))));
+            joined = λ j. ap (octets_of (x.sides w).link.epoch) (sym dropped.none);
+            apart = λ j. dropped.none;
+          });
+        }
+
+    turns : Turns laws g u far Still n w (x.sides w) (x.sides w) [] (before w ++ []) [] dropped.messages
+    unfolding advances
+    turns =
+        side_turns laws g u far Still n w (x.sides w) (x.sides w) [] (before w) [] [] (laws.links g.net net u w near_w).apart here_is.stands here_is.holds advances tt tt (inl (refl, λ i. refl)) (λ t. and_not (is_up (x.sides w)))
+
+    abbrev n1 : ModelRouter
+    n1 = turns.m
+
+    none_lost : (b : Bool) (o : Option ℕ) (v d : ℕ) → b ≡ false → lost_by_close {M = Message} {P = PrefixView} {W = List ℕ} b o v d ≡ []
+    none_lost true o v d h = absurd (cc h)
+    none_lost false o v d h = refl
+
+    goes1 : Goes g u far Still n n1 []
+    goes1 = subst (λ o. Goes g u far Still n n1 o) (none_lost (is_up (x.sides w) && not (is_up (x.sides w))) n.recorder.unfinished w (x.sides w).link.epoch (and_not (is_up (x.sides w)))) turns.goes
+
+    same_updates : (c b : Bool) (old used : List Message) → filter is_update used ≡ [] → filter is_update (cond c (cond b (old ++ used) old) old) ≡ filter is_update old
+    same_updates true true old used h = filter_append old used ∙ (ap (λ l. filter is_update old ++ l) h ∙ append-nil (filter is_update old))
+      where
+        filter_at : (c : Bool) (m : Message) (xs ys zs : List Message) → zs ≡ xs ++ ys → cond c (m ∷ zs) zs ≡ cond c (m ∷ xs) xs ++ ys
+        filter_at true m xs ys zs h = ap (λ w. m ∷ w) h
+        filter_at false m xs ys zs h = h
+
+        filter_append : (xs ys : List Message) → filter is_update (xs ++ ys) ≡ filter is_update xs ++ filter is_update ys
+        filter_append [] ys = refl
+        filter_append (m ∷ xs) ys = filter_at (is_update m) m (filter is_update xs) (filter is_update ys) (filter is_update (xs ++ ys)) (filter_append xs ys)
+    same_updates true false old used h = refl
+    same_updates false b old used h = refl
+
+    like1 : IsLike n n1
+    like1 = record {
+      last = turns.moved.last;
+      unfinished = turns.moved.unfinished ∙ ap (λ b. cond b None n.recorder.unfinished) (and_not (is_up (x.sides w)));
+      waits = turns.moved.waits;
+      copy = turns.moved.copy;
+      kept_at = turns.moved.kept_at;
+      originated_at = turns.moved.originated_at;
+      channel = λ v. ap (filter is_update) (turns.moved.channel v) ∙ same_updates (v == w) (n.recorder.waits v) (n.recorder.channel v) turns.used turns.are;
+    }
+
+    reads1 : ReadsRouter g u x n1
+    reads1 = record { kept = turns.moved.kept ∙ reads.kept; originated = turns.moved.originated ∙ reads.originated; snapshots = snapshots_alike g u x.snapshots n n1 like1 reads.snapshots }
+
+    stands1 : (v : ℕ) → linked g.net u v ≡ true → Stands (x.sides v) (n1.recorder.ends v) (far v)
+    stands1 v near = at (v == w) refl
+      where
+        at : (c : Bool) → (v == w) ≡ c → Stands (x.sides v) (n1.recorder.ends v) (far v)
+        at true is = subst (λ i. Stands (x.sides i) (n1.recorder.ends i) (far i)) (sym (same_number laws v w is)) (subst (λ i. Stands (x.sides w) i (far w)) (sym turns.moved.own) turns.turned.stands)
+        at false is = subst (λ i. Stands (x.sides v) i (far v)) (sym (turns.moved.ends v is)) (known v near).stands
+
+    appended1 : (v : ℕ) → (n1.recorder.ends v).appended ≡ (n.recorder.ends v).appended
+    appended1 v = at (v == w) refl
+      where
+        at : (c : Bool) → (v == w) ≡ c → (n1.recorder.ends v).appended ≡ (n.recorder.ends v).appended
+        at true is =
+            subst (λ i. (n1.recorder.ends i).appended ≡ (n.recorder.ends i).appended) (sym (same_number laws v w is))
+            (ap (λ (i : End Message). i.appended) turns.moved.own ∙ (turns.turned.appended ∙ append-nil (n.recorder.ends w).appended))
+        at false is = ap (λ (i : End Message). i.appended) (turns.moved.ends v is)
+
+    taken1 : (n1.recorder.ends w).taken ≡ (n.recorder.ends w).taken ++ dropped.messages
+    taken1 = ap (λ (i : End Message). i.taken) turns.moved.own ∙ turns.took
+
+    next1 : IsNext (n1.recorder.ends w) (far w) (Mark e s)
+    next1 =
+        let f = dropped.front in
+        at_place laws (n1.recorder.ends w).taken (Mark e s) f.0 (far w).appended
+        (ap (λ l. l ++ Mark e s ∷ f.0) taken1 ∙ (append_assoc (n.recorder.ends w).taken dropped.messages (Mark e s ∷ f.0)
+        ∙ (ap (λ l. (n.recorder.ends w).taken ++ l) (sym (append_assoc dropped.messages (Mark e s ∷ []) f.0)) ∙ (sym (append_assoc (n.recorder.ends w).taken (dropped.messages ++ Mark e s ∷ []) f.0) ∙ f.1))))
