@@ -133,7 +133,7 @@ module _ (laws : Laws) (g : Setting) (net : IsNetwork g.net) (u : ℕ) (far : �
     abbrev here_is : Before laws w (x.sides w) (before w) (n.recorder.ends w) (far w)
     here_is = known w near_w
 
-    dropped : Ready laws (x.sides w) (Mark e s) here_is.holds.rest (n.recorder.ends w) (far w)
+    pub dropped : Ready laws (x.sides w) (Mark e s) here_is.holds.rest (n.recorder.ends w) (far w)
     dropped = ready laws w (x.sides w) (before w) (n.recorder.ends w) (far w) (Mark e s) here_is quiet comes
 
     -- messages that were dropped pass first
@@ -153,7 +153,7 @@ module _ (laws : Laws) (g : Setting) (net : IsNetwork g.net) (u : ℕ) (far : �
           });
         }
 
-    turns : Turns laws g u far Still n w (x.sides w) (x.sides w) [] (before w ++ []) [] dropped.messages
+    pub turns : Turns laws g u far Still n w (x.sides w) (x.sides w) [] (before w ++ []) [] dropped.messages
     unfolding advances
     turns =
         side_turns laws g u far Still n w (x.sides w) (x.sides w) [] (before w) [] [] (laws.links g.net net u w near_w).apart here_is.stands here_is.holds advances tt tt (inl (refl, λ i. refl)) (λ t. and_not (is_up (x.sides w)))
@@ -220,3 +220,146 @@ module _ (laws : Laws) (g : Setting) (net : IsNetwork g.net) (u : ℕ) (far : �
         at_place laws (n1.recorder.ends w).taken (Mark e s) f.0 (far w).appended
         (ap (λ l. l ++ Mark e s ∷ f.0) taken1 ∙ (append_assoc (n.recorder.ends w).taken dropped.messages (Mark e s ∷ f.0)
         ∙ (ap (λ l. (n.recorder.ends w).taken ++ l) (sym (append_assoc dropped.messages (Mark e s ∷ []) f.0)) ∙ (sym (append_assoc (n.recorder.ends w).taken (dropped.messages ++ Mark e s ∷ []) f.0) ∙ f.1))))
+
+    -- the ends once the marker is taken
+    abbrev ends2 : ℕ → End Message
+    ends2 = with_end n1.recorder.ends w (taking (n1.recorder.ends w) (Mark e s))
+
+    abbrev items : ℕ → List (Passing Message)
+    items v = all_passes (if w == v then item.Mark e s ∷ [] else [])
+
+    record TakenAt (v : ℕ) (c : End Message) (came : List (Passing Message)) : Type 0 where
+      stands : Stands (x.sides v) c (far v)
+      appended : c.appended ≡ (n.recorder.ends v).appended
+      holds : Holds (x.sides v) (before v ++ came) c
+      clear : x.snapshots.last < s → is_up (x.sides v) ≡ true → (holds.rest ≡ []) ⊎ (IsIn (Mark (incarnation c) s) c.taken → ⊥)
+
+    here : (w == w) ≡ true
+    here = grind (arith, nat_tests)
+
+    own_taken : TakenAt w (taking (n1.recorder.ends w) (Mark e s)) (Control (Mark e s) ∷ [])
+    own_taken = record {
+      stands = takes_stands laws (x.sides w) (n1.recorder.ends w) (far w) e s (stands1 w near_w) next1;
+      appended = appended1 w;
+      holds = record {
+        rest = [];
+        only = tt;
+        passed = control_passed laws (Mark e s) dropped.messages (before w) (x.sides w) (n.recorder.ends w) (taking (n1.recorder.ends w) (Mark e s)) here_is.holds dropped.are
+            (ap (λ l. l ++ Mark e s ∷ []) taken1 ∙ append_assoc (n.recorder.ends w).taken dropped.messages (Mark e s ∷ [])) refl;
+        joined = λ j. ap (octets_of (x.sides w).link.epoch) (sym dropped.none);
+        apart = λ j. dropped.none;
+      };
+      clear = λ low up. inl refl;
+    }
+
+    other_taken : (v : ℕ) → linked g.net u v ≡ true → (v == w) ≡ false → TakenAt v (n1.recorder.ends v) []
+    other_taken v near miss =
+        let same = turns.moved.ends v miss in
+        subst (λ c. TakenAt v c []) (sym same)
+        (record {
+          stands = (known v near).stands;
+          appended = refl;
+          holds = plus_nothing laws (x.sides v) (before v) (n.recorder.ends v) (known v near).holds;
+          clear = λ low up. inr (λ h. fresh s v low near up h);
+        })
+
+    taken_at : (v : ℕ) → linked g.net u v ≡ true → TakenAt v (ends2 v) (items v)
+    taken_at v near = at (v == w) refl
+      where
+        at : (c : Bool) → (v == w) ≡ c → TakenAt v (ends2 v) (items v)
+        at true is =
+            let own : TakenAt w (ends2 w) (items w) =
+            subst (λ l. TakenAt w (ends2 w) l) (sym (passes_if (w == w) (item.Mark e s) true here))
+            (subst (λ i. TakenAt w i (Control (Mark e s) ∷ [])) (sym (ap (λ b. cond b (taking (n1.recorder.ends w) (Mark e s)) (n1.recorder.ends w)) here)) own_taken) in
+            subst (λ i. TakenAt i (ends2 i) (items i)) (sym (same_number laws v w is)) own
+        at false is =
+            subst (λ l. TakenAt v (ends2 v) l) (sym (passes_if (w == v) (item.Mark e s) false (sym (swapped laws v w) ∙ is)))
+            (subst (λ i. TakenAt v i []) (sym (ap (λ b. cond b (taking (n1.recorder.ends w) (Mark e s)) (n1.recorder.ends v)) is)) (other_taken v near is))
+
+    -- ---- it is recorded by
+
+    follows : is_greater x s ≡ true → is_up (x.sides w) ≡ true → e ≡ incarnation (n1.recorder.ends w) → MayBegin laws g net u far Still still x before items n (Some w) s n1 ends2 []
+    unfolding taken_at
+    follows greater up own =
+        let low = less_by s greater in
+        let a1 : AreAlike g u x n1.recorder.ends = record { reads = λ v near. (stands1 v near).reads; up = λ v near. up_alike laws (x.sides v) (n1.recorder.ends v) (far v) (stands1 v near) } in
+        record {
+          greater = low;
+          goes = goes1;
+          reads = reads1;
+          queue = sym (append-nil x.snapshots.queue);
+          recorded = nothing_recorded n n1 x.snapshots.last x.snapshots.last turns.moved.copy turns.moved.kept_at turns.moved.originated_at refl;
+          act = λ whole queues all q. one_goes g u far Still n1 (Acts (Follows w e s whole)) queues
+              (((laws.links g.net net u w near_w).apart, next1, a1.up w near_w ∙ up, own, subst (λ i. i < s) (sym reads1.snapshots.last) low, all), tt) q (λ i c h is. refl);
+          alike = a1;
+          stands = λ v near. (taken_at v near).stands;
+          appended = λ v near. (taken_at v near).appended;
+          holds = λ v near. (taken_at v near).holds;
+          unmarked = λ v near up'. (taken_at v near).clear low up';
+        }
+
+    -- ---- it is ignored, or ends a channel
+
+    -- an event that leaves these ends, and all else as it was
+    pub record Takes2 (k : ModelRouter) : Type 0 where
+      ends : k.recorder.ends ≡ ends2
+      kept : k.kept ≡ n1.kept
+      originated : k.originated ≡ n1.originated
+      copy : k.recorder.copy ≡ n1.recorder.copy
+      kept_at : k.kept_at ≡ n1.kept_at
+      originated_at : k.originated_at ≡ n1.originated_at
+
+    abbrev nothing_said : ℕ → List (Entry Message)
+    nothing_said v = []
+
+    turned2 : (k : ModelRouter) → k.recorder.ends ≡ ends2 → (v : ℕ) → linked g.net u v ≡ true → IsTurned laws g u far Still v (x.sides v) [] (before v ++ items v) (n.recorder.ends v) (k.recorder.ends v)
+    turned2 k same v near =
+        let t = taken_at v near in
+        subst (λ (f : ℕ → End Message). IsTurned laws g u far Still v (x.sides v) [] (before v ++ items v) (n.recorder.ends v) (f v)) (sym same)
+        (record { stands = t.stands; appended = t.appended ∙ sym (append-nil (n.recorder.ends v).appended); holds = t.holds })
+
+    -- the step, from what the act leaves
+    by_act : (k m : ModelRouter) (first later : List RouterOffer) (z : Snapshots) → Goes g u far Still n1 k first → Goes g u far Still k m later → Takes2 m → ReadsSnapshots g u z m → z.queue ≡ x.snapshots.queue ++ (first ++ later) → z.last ≡ x.snapshots.last
+        → LocalStep laws g net u far Still x (record x { snapshots = z }) nothing_said before items n
+    by_act k m first later z go on t r queue last = record {
+      m = m;
+      offers = first ++ later;
+      goes = then_goes g u far Still n n1 m [] (first ++ later) goes1 (then_goes g u far Still n1 k m first later go on (λ i h. inl still)) (λ i h. inl still);
+      turned = λ v near. turned2 m t.ends v near;
+      reads = record { kept = t.kept ∙ reads1.kept; originated = t.originated ∙ reads1.originated; snapshots = r };
+      queue = queue;
+      recorded = nothing_recorded n m x.snapshots.last z.last (t.copy ∙ turns.moved.copy) (t.kept_at ∙ turns.moved.kept_at) (t.originated_at ∙ turns.moved.originated_at) (sym last);
+      unmarked = λ i v low is near up. absurd (omega (arith, low, is, last));
+    }
+
+    abbrev MayIgnore : Type 0
+    MayIgnore =
+        (links.is_up (n1.recorder.ends w) ≡ false)
+        ⊎ ((e ≢ incarnation (n1.recorder.ends w)) ⊎ ((s ≤ n1.recorder.last) × ((n1.recorder.unfinished ≢ Some s) ⊎ (n1.recorder.waits w ≡ false))))
+
+    ignores : MayIgnore → LocalStep laws g net u far Still x x nothing_said before items n
+    ignores why =
+        let k : ModelRouter = router_after (network_of g) u n1 (Acts (IgnoresMarker w e s)) in
+        by_act k k [] [] x.snapshots (one_goes g u far Still n1 (Acts (IgnoresMarker w e s)) [] (((laws.links g.net net u w near_w).apart, next1, why), tt) refl (λ i c h is. refl)) (no_goes g u far Still k)
+        (record { ends = refl; kept = refl; originated = refl; copy = refl; kept_at = refl; originated_at = refl })
+        (snapshots_alike g u x.snapshots n1 k (record { last = refl; unfinished = refl; waits = refl; copy = refl; kept_at = refl; originated_at = refl; channel = λ v. refl }) reads1.snapshots)
+        (sym (append-nil x.snapshots.queue)) refl
+
+    ends_one : (r : Recording) → x.snapshots.unfinished ≡ Some r → r.number ≡ s → r.waits w ≡ true → is_up (x.sides w) ≡ true → e ≡ incarnation (n1.recorder.ends w)
+        → LocalStep laws g net u far Still x (record x { snapshots = goes_on (peers g.net u) (record r { waits = λ y. cond (y == w) false (r.waits y) }) x.snapshots }) nothing_said before items n
+    ends_one r is number waits up own =
+        let k : ModelRouter = router_after (network_of g) u n1 (Acts (EndsChannel w e s)) in
+        let q : Recording = record r { waits = λ y. cond (y == w) false (r.waits y) } in
+        let unf : n1.recorder.unfinished ≡ Some r.number = reads1.snapshots.unfinished ∙ ap number_of is in
+        let part : ReadsPart g u r n1 = subst (λ o. ReadsRecording g u o n1) is reads1.snapshots.recording in
+        let a1 = up_alike laws (x.sides w) (n1.recorder.ends w) (far w) (stands1 w near_w) in
+        let p = parts_on laws g net u far Still k q x.snapshots reads1.snapshots.last unf (λ v near. ap (λ b. cond (v == w) false b) (part.waits v near))
+        (part_copy r k part) in
+        by_act k p.parts.m [] p.parts.offers (goes_on (peers g.net u) q x.snapshots)
+        (one_goes g u far Still n1 (Acts (EndsChannel w e s)) [] (((laws.links g.net net u w near_w).apart, next1, a1 ∙ up, own, unf ∙ ap (λ i. Some i) number, part.waits w near_w ∙ waits), tt) refl (λ i c h j. refl))
+        p.parts.goes
+        (record { ends = p.parts.ends; kept = p.parts.kept; originated = p.parts.originated; copy = p.parts.copy; kept_at = p.parts.kept_at; originated_at = p.parts.originated_at })
+        p.parts.reads p.queue p.last
+      where
+        part_copy : (r : Recording) (k : ModelRouter) → ReadsPart g u r n1 → IsPartOf (network_of g) u (router_after (network_of g) u n1 (Acts (EndsChannel w e s))) r.number n1.recorder.channel r.part
+        part_copy r k p = p.part
