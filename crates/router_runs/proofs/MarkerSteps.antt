@@ -363,3 +363,68 @@ module _ (laws : Laws) (g : Setting) (net : IsNetwork g.net) (u : ℕ) (far : �
       where
         part_copy : (r : Recording) (k : ModelRouter) → ReadsPart g u r n1 → IsPartOf (network_of g) u (router_after (network_of g) u n1 (Acts (EndsChannel w e s))) r.number n1.recorder.channel r.part
         part_copy r k p = p.part
+
+    -- ---- by the tests of the router
+
+    both : (p q : Bool) → (p && q) ≡ true → (p ≡ true) × (q ≡ true)
+    both true q h = (refl, h)
+    both false q h = absurd (cc h)
+
+    not_greater : is_greater x s ≡ false → s ≤ n1.recorder.last
+    not_greater h = (let last = reads1.snapshots.last in let low : s ≤ x.snapshots.last = grind (arith, nat_tests, h) in omega (arith, last, low))
+
+    ends_if : is_greater x s ≡ false → is_up (x.sides w) ≡ true → e ≡ incarnation (n1.recorder.ends w) → (o : Option Recording) → x.snapshots.unfinished ≡ o
+        → LocalStep laws g net u far Still x (record x { snapshots = ends_channel (peers g.net u) w s o x.snapshots }) nothing_said before items n
+    ends_if low up own None is =
+        ignores (inr (inr (not_greater low, inl (λ h. (let none : n1.recorder.unfinished ≡ None = reads1.snapshots.unfinished ∙ ap number_of is in let k : None ≡ Some s = sym none ∙ h in cc k)))))
+    ends_if low up own (Some r) is = at ((r.number == s) && r.waits w) refl
+      where
+        unf : n1.recorder.unfinished ≡ Some r.number
+        unf = reads1.snapshots.unfinished ∙ ap number_of is
+
+        part : ReadsPart g u r n1
+        part = subst (λ o. ReadsRecording g u o n1) is reads1.snapshots.recording
+
+        other : (c : Bool) → (r.number == s) ≡ c → (c && r.waits w) ≡ false → (n1.recorder.unfinished ≢ Some s) ⊎ (n1.recorder.waits w ≡ false)
+        other true same h = inr (part.waits w near_w ∙ h)
+        other false same h = inl (λ k. (let number : r.number ≡ s = number_some r.number s (sym unf ∙ k) in let hit : (r.number == s) ≡ true = grind (arith, nat_tests, number) in cc (hit, same)))
+
+        at : (b : Bool) → ((r.number == s) && r.waits w) ≡ b
+            → LocalStep laws g net u far Still x (record x { snapshots = cond b (goes_on (peers g.net u) (record r { waits = λ y. cond (y == w) false (r.waits y) }) x.snapshots) x.snapshots }) nothing_said before items n
+        at true h = (let p = both (r.number == s) (r.waits w) h in let number : r.number ≡ s = (let q = p.0 in grind (arith, nat_tests, q)) in ends_one r is number p.1 up own)
+        at false h = ignores (inr (inr (not_greater low, other (r.number == s) refl h)))
+
+    joined_by : (p : Phase) → phase_of p ≡ links.Joined → sides.is_joined p ≡ true
+    joined_by phase.Shut h = absurd (cc h)
+    joined_by phase.Offered h = absurd (cc h)
+    joined_by phase.Joined h = refl
+
+    -- a marker that is not heeded
+    unheeded : (b : Bool) → is_up (x.sides w) ≡ b → (b && uses (x.sides w).link e) ≡ false → MayIgnore
+    unheeded false down h = inl (up_alike laws (x.sides w) (n1.recorder.ends w) (far w) (stands1 w near_w) ∙ down)
+    unheeded true up h =
+        let k = stands1 w near_w in
+        let joined : sides.is_joined (x.sides w).link.phase ≡ true = joined_by (x.sides w).link.phase (sym k.reads.phase ∙ up_joined laws (x.sides w) (n1.recorder.ends w) (far w) k up) in
+        let miss : (e == (x.sides w).link.epoch) ≡ false = sym (ap (λ b. b && (e == (x.sides w).link.epoch)) joined) ∙ h in
+        let epoch = k.reads.epoch in
+        inr (inl (λ same. (let hit : (e == (x.sides w).link.epoch) ≡ true = (let q : e ≡ (x.sides w).link.epoch = same ∙ sym epoch in grind (arith, nat_tests, q)) in cc (hit, miss))))
+
+    by_tests : (h gr : Bool) → heeds g u x w e ≡ h → is_greater x s ≡ gr
+        → LocalStep laws g net u far Still x (cond h (cond gr (records g u x s (Some w)) (record x { snapshots = ends_channel (peers g.net u) w s x.snapshots.unfinished x.snapshots })) x)
+        (λ v. says_where (h && gr) (says_markers g u x s v)) before items n
+    by_tests true gr heeded greater =
+        let p = both (is_up (x.sides w)) (uses (x.sides w).link e) heeded in
+        let q = both (sides.is_joined (x.sides w).link.phase) (e == (x.sides w).link.epoch) p.1 in
+        let epoch = (stands1 w near_w).reads.epoch in
+        let same : e ≡ (x.sides w).link.epoch = (let k = q.1 in grind (arith, nat_tests, k)) in
+        heeded_by gr greater p.0 (same ∙ epoch)
+      where
+        heeded_by : (gr : Bool) → is_greater x s ≡ gr → is_up (x.sides w) ≡ true → e ≡ incarnation (n1.recorder.ends w)
+            → LocalStep laws g net u far Still x (cond gr (records g u x s (Some w)) (record x { snapshots = ends_channel (peers g.net u) w s x.snapshots.unfinished x.snapshots })) (λ v. says_where gr (says_markers g u x s v)) before items n
+        heeded_by true greater up own = begins_step laws g net u far Still still x before items n (Some w) s n1 ends2 [] (follows greater up own)
+        heeded_by false greater up own = ends_if greater up own x.snapshots.unfinished refl
+    by_tests false gr heeded greater = ignores (unheeded (is_up (x.sides w)) refl heeded)
+
+    pub mark_step : LocalStep laws g net u far Still x (cond (heeds g u x w e) (cond (is_greater x s) (records g u x s (Some w)) (record x { snapshots = ends_channel (peers g.net u) w s x.snapshots.unfinished x.snapshots })) x)
+        (λ v. says_where (heeds g u x w e && is_greater x s) (says_markers g u x s v)) before items n
+    mark_step = by_tests (heeds g u x w e) (is_greater x s) refl refl
