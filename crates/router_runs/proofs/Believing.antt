@@ -34,7 +34,7 @@ use Rattle.router_runs.specs.Mirrors.{ModelSteps, ModelRouter, AreAlike, Mirrors
 use Rattle.router_runs.specs.SnapshotLaws.{SnapshotLaws}
 use Rattle.session_fsm.specs.declared.state.State.{State}
 use Rattle.session_fsm.specs.declared.state.State.TheVariants as state
-use Rattle.router_runs.specs.Snapshots.{HasMade, HaveMade, RecordedAt, IsPartOf, IsCutLink, IsCutOf, PartsAreOfACut, ComesOut, DecidedHasAllParts, MismatchNeverComes, AsOriginated, AreStable, SettledIsStable, IsQuietSince, HasRoute, SettledStays, IsBelievable, SettledSnapshotsCanBeBelieved}
+use Rattle.router_runs.specs.Snapshots.{HasMade, HaveMade, RecordedAt, IsPartOf, IsCutLink, IsCutOf, PartsAreOfACut, ComesOut, DecidedHasAllParts, MismatchNeverComes, AsOriginated, AreStable, SettledIsStable, IsQuietSince, HasRoute, SettledStays, SettledSnapshotsCanBeBelieved, SnapshotsHoldInRuns}
 use Rattle.router_runs.proofs.Lower.{Laws}
 use Rattle.router_runs.proofs.Hanging.{up_is}
 use Rattle.router_runs.proofs.Entries.{prefix_trans}
@@ -360,3 +360,11 @@ module _ (laws : Laws) (more : SnapshotLaws) (mirrored : RunsAreMirrored) where
           stable = settled_is_stable g set (before ++ later) last whole s settled parts made;
           stays = λ quiet u recording is place q named. settled_stays g set before later at last r on s settled quiet u recording (parts u) place (made u is) q named;
         }
+
+    pub snapshots_hold : SnapshotsHoldInRuns
+    snapshots_hold g set order state r = record {
+      all = λ s u is comes. decided_has_all_parts g set order state r s u is comes;
+      mismatch = λ s u v comes. mismatch_never_comes g set order state r s u v comes;
+      cut = λ s parts made. parts_are_of_a_cut g set order state r s parts made;
+      settled = λ s settled before later at whole r on. settled_snapshots_can_be_believed g set before later at state r on s settled;
+    }

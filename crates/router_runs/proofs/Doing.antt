@@ -155,6 +155,21 @@ module _ (laws : Laws) where
             ∙ (ap (λ k. k && not (is_up_in (state_of t.session.state))) (up_in s.session.state) ∙ ap (λ k. is_up s && not k) (up_in t.session.state))));
       }
 
+  -- the side and its end behind one event, whose moves are these
+  pub event_stands : (s t : Side) (a b : End Message) (event : SessionEvent Message) (ms : List (Move Message)) → Stands s a b → MayCome (model_side s a) b event → moves_of a event ≡ ms
+      → state_after (model_side s a) event ≡ state_of t.session.state → (sides_by ms s).link ≡ t.link → (sides_by ms s).acted ≡ t.acted → (sides_by ms s).sent ≡ t.sent
+      → Stands t (afters a ms) b
+  event_stands s t a b event ms at may are state link acted sent =
+      let l = event_fits laws (model_side s a) b event at.fits at.mine at.theirs may in
+      let r = moved_on ms s a b at.reads at.mine at.theirs (subst (MayInTurn a b) are l.may) in
+      let is : afters a (moves_of a event) ≡ afters a ms = ap (afters a) are in
+      record {
+        reads = reads_like (sides_by ms s) t (afters a ms) link acted sent r.0.reads;
+        fits = subst (Fits (state_of t.session.state)) is (subst (λ i. Fits i (afters a (moves_of a event))) state l.fits);
+        mine = r.1;
+        theirs = r.2;
+      }
+
   -- none
   pub no_event : (s t : Side) (a b : End Message) → Stands s a b → state_of s.session.state ≡ state_of t.session.state → s.link ≡ t.link → s.acted ≡ t.acted → s.sent ≡ t.sent → Does s t [] [] a b
   no_event s t a b at state link acted sent = record {

@@ -237,7 +237,7 @@ module _ (laws : Laws) where
   takes_marker v false p c e n s before a b up k there =
       by_does laws v s (cond p (cond c (marked n s) s) s) (says_where p (says_where c (Mark s.link.epoch n ∷ []))) before a b k (sym (marker_keeps p c n s).0) (sym (marker_keeps p c n s).1) (marker_does p c n s a b up k.stands)
 
-  untold_up : (l c : Bool) (f : Option PrefixView) (q : PrefixView) → cond (l && c) f None ≡ Some q → c ≡ true
+  pub untold_up : (l c : Bool) (f : Option PrefixView) (q : PrefixView) → cond (l && c) f None ≡ Some q → c ≡ true
   untold_up true true f q h = refl
   untold_up true false f q h = absurd (cc h)
   untold_up false c f q h = absurd (cc h)

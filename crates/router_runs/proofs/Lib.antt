@@ -27,6 +27,7 @@ pub mod Words
 pub mod Stability
 mod Hearing
 pub mod Markers
+pub mod Believing
 mod Locally
 mod SessionSteps
 pub mod Believing
@@ -34,3 +35,5 @@ mod Marking
 mod Parting
 mod Beginning
 mod MarkerSteps
+mod Lifting
+mod TableSteps

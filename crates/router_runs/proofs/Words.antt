@@ -147,11 +147,11 @@ all_of f q (x ∷ xs) h = all_of_at f q x (filter q xs) (q x) refl (h x) (all_of
 
 -- ---- the flag
 
-same_if : (a b : List ℕ) (t : Bool) → t ≡ same_path a b → not t ≡ false → a ≡ b
+pub same_if : (a b : List ℕ) (t : Bool) → t ≡ same_path a b → not t ≡ false → a ≡ b
 same_if a b true e h = same_text a b e
 same_if a b false e h = absurd cc
 
-if_same : (a b : List ℕ) (t : Bool) → t ≡ same_path a b → a ≡ b → not t ≡ false
+pub if_same : (a b : List ℕ) (t : Bool) → t ≡ same_path a b → a ≡ b → not t ≡ false
 if_same a b true e h = refl
 if_same a b false e h = absurd (other_text a b e h)
 

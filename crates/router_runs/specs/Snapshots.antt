@@ -186,3 +186,19 @@ abbrev pub SettledSnapshotsCanBeBelieved : Type 0
 SettledSnapshotsCanBeBelieved =
     (g : Setting) → IsSetting g → (before later : RunOrder) (at last : RunState) → IsRunTo g before at
     → runs.Run (logged_steps g) at later last → (s : ℕ) → ComesOut g last s Settled → IsBelievable g before later at last s
+
+-- ---- the snapshots of one run
+
+pub record SnapshotsHold (g : Setting) (order : RunOrder) (state : RunState) : Type 0 where
+  -- one that is settled or moving has a part of every router, and no two parts name two incarnations of a link
+  pub all : (s u : ℕ) → is_router g u ≡ true → ComesOut g state s Settled ⊎ ((v : ℕ) × (why : Why) × ComesOut g state s (Moving v why))
+      → (part : RouterPart) × HasMade state s u part
+  pub mismatch : (s u v : ℕ) → ComesOut g state s (Moving u (Mismatch v)) → ⊥
+  -- the parts are what a consistent cut leaves
+  pub cut : (s : ℕ) (parts : ℕ → RouterPart) → HaveMade g state s parts → (at : ℕ → RunState) × IsCutOf g order state s parts at
+  -- one that is settled is a stable path assignment, which stays
+  pub settled : (s : ℕ) → ComesOut g state s Settled → (before later : RunOrder) (at : RunState) → order ≡ before ++ later
+      → IsRunTo g before at → runs.Run (logged_steps g) at later state → IsBelievable g before later at state s
+
+abbrev pub SnapshotsHoldInRuns : Type 0
+SnapshotsHoldInRuns = (g : Setting) → IsSetting g → (order : RunOrder) (state : RunState) → IsRunTo g order state → SnapshotsHold g order state

@@ -28,7 +28,7 @@ impl Framing for Frames {
 }
 
 /// What the crates below say of link ends, sessions, octets and the steps of one router.
-fn laws_below()
+pub(crate) fn laws_below()
     ensures { LawsBelow }
 {
     header_is_its_front();
