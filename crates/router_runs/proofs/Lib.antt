@@ -30,10 +30,10 @@ pub mod Markers
 pub mod Believing
 mod Locally
 mod SessionSteps
-pub mod Believing
 mod Marking
 mod Parting
 mod Beginning
 mod MarkerSteps
 mod Lifting
 mod TableSteps
+mod LocalSteps
