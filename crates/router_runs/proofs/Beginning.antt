@@ -1,6 +1,5 @@
 -- A router records a number, by a command or by the first marker of it.
-use Rattle.std.proofs.Common.{◌≡◌, ◌≢◌, ℕ, ◌<◌, ◌==◌, Bool, true, false, ◌&&◌, not, cond, List, [], ◌∷◌, ◌++◌, refl, ap, sym, ◌∙◌, arith, append_assoc, subst, Option, None, Some, inl, inr, ◌⊎◌}
-use Rattle.std.specs.Prelude.{nat_lt}
+use Rattle.std.proofs.Common.{◌≡◌, ℕ, ◌<◌, ◌==◌, Bool, true, false, ◌&&◌, not, cond, List, [], ◌++◌, refl, ap, sym, ◌∙◌, arith, append_assoc, subst, Option, None, Some, inl, inr, ◌⊎◌}
 use Rattle.std.proofs.lemmas.List.{append-nil}
 use Rattle.std.proofs.lemmas.Bool.Decides.{nat_tests}
 use Rattle.bgp_codec.specs.declared.message.Message.{Message}
@@ -10,24 +9,24 @@ use Rattle.run_model.specs.Links.{Entry, Mark, End, Marks, incarnation}
 use Rattle.run_model.specs.Octets.{Passing}
 use Rattle.run_model.specs.Recordings as model
 use Rattle.run_model.specs.Recordings.{recording, Begins}
-use Rattle.run_model.specs.Routes.{Acts, router_after, IsNotPending}
+use Rattle.run_model.specs.Routes.{IsNotPending}
 use Rattle.run_model.specs.Offers as offers
 use Rattle.run_model.specs.Offers.{IsPartOf, IsIn, Lost, NotUp}
-use Rattle.snap_marker.specs.Recordings.{RouterOffer, Recording, Snapshots, queueing, goes_on, begins_or_is_lost, superseding, superseded}
+use Rattle.snap_marker.specs.Recordings.{RouterOffer, Recording, Snapshots, goes_on, begins_or_is_lost, superseding, superseded}
 use Rattle.router_model.specs.Settings.{Setting, linked, peers}
 use Rattle.router_model.specs.Sides.{Side, is_up, marked}
-use Rattle.router_model.specs.State.{Router, is_pending}
-use Rattle.router_model.specs.Step.{awaits, is_greater, recorded_part, recording_of, records, says_where, says_markers}
+use Rattle.router_model.specs.State.{Router}
+use Rattle.router_model.specs.Step.{awaits, recording_of, records, says_markers}
 use Rattle.router_runs.specs.Model.{network_of}
 use Rattle.router_runs.specs.Doing.{Stands}
 use Rattle.router_runs.specs.Kept.{Holds}
-use Rattle.router_runs.specs.Mirrors.{ModelRouter, Goes, AreAlike, ReadsSnapshots, ReadsRouter, Recorded}
+use Rattle.router_runs.specs.Mirrors.{ModelRouter, Goes, AreAlike, ReadsRouter, Recorded}
 use Rattle.router_runs.proofs.Doing.{reads_like}
 use Rattle.router_runs.proofs.Words.{pending_alike}
 use Rattle.router_runs.proofs.Markers.{first_down, is_whole, lost_now, sup_is, begins_lost, all_up}
 use Rattle.router_runs.proofs.Marking.{up_alike, SendsWhere, sends_where}
-use Rattle.router_runs.proofs.Parting.{PartsFrom, parts_on}
-use Rattle.router_runs.proofs.Going.{then_goes, one_goes}
+use Rattle.router_runs.proofs.Parting.{parts_on}
+use Rattle.router_runs.proofs.Going.{then_goes}
 use Rattle.router_runs.proofs.Turning.{IsTurned}
 use Rattle.router_runs.proofs.Locally.{LocalStep}
 use Rattle.router_runs.proofs.Lower.{Laws}
@@ -105,8 +104,7 @@ module _ (laws : Laws) (g : Setting) (net : IsNetwork g.net) (u : ℕ) (far : �
         let a = alike_after d in
         let p = pending_alike laws g net u x (becomes d).recorder.ends a in
         let kept : (becomes d).kept_at s ≡ x.kept = ap (λ c. cond c n1.kept (n1.kept_at s)) here ∙ k.reads.kept in
-        let originated : (becomes d).originated_at s ≡ x.originated = ap (λ c. cond c n1.originated (n1.originated_at s)) here ∙ k.reads.originated in
-        (
+        let originated : (becomes d).originated_at s ≡ x.originated = ap (λ c. cond c n1.originated (n1.originated_at s)) here ∙ k.reads.originated in (
           (becomes d).recorder.ends,
           ap (λ c. cond c (Some (becomes d).recorder.ends) (n1.recorder.copy s)) here,
           (λ q named. ap (λ f. f q) (sym kept)),

@@ -8,6 +8,7 @@ pub mod Handling
 pub mod Signing
 pub mod Octets
 pub mod Stepping
+pub mod Resetting
 pub mod Events
 pub mod Running
 pub mod Streams
@@ -33,6 +34,7 @@ mod SessionSteps
 mod Marking
 mod Parting
 mod Beginning
+mod Alike
 mod MarkerSteps
 mod Lifting
 mod TableSteps

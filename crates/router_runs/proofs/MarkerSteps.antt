@@ -1,6 +1,6 @@
 -- A snapshot by a command, and a marker that is taken, as events of the laws of runs.
 use Rattle.std.proofs.Common.{◌≡◌, ◌≢◌, ℕ, ◌<◌, ◌≤◌, ◌==◌, Bool, true, false, ◌&&◌, not, cond, List, [], ◌∷◌, ◌++◌, filter, refl, ap, sym, ◌∙◌, arith, append_assoc, subst, Option, None, Some, inl, inr, ◌⊎◌}
-use Rattle.std.specs.Prelude.{nat_lt, if◌then◌else◌}
+use Rattle.std.specs.Prelude.{if◌then◌else◌}
 use mathlib.Core.List.{IsPrefix}
 use Rattle.std.proofs.lemmas.List.{append-nil}
 use Rattle.std.proofs.lemmas.Bool.Decides.{nat_tests}
@@ -15,66 +15,34 @@ use Rattle.run_model.specs.Links as links
 use Rattle.run_model.specs.Links.{Entry, Mark, End, Takes, incarnation, taking, IsNext}
 use Rattle.run_model.specs.Octets.{Passing, Control, octets_of, passing}
 use Rattle.run_model.specs.Recordings.{with_end, Begins, Follows, EndsChannel, IgnoresMarker}
-use Rattle.run_model.specs.Routes.{Acts, router_after, IsNotPending}
+use Rattle.run_model.specs.Routes.{Acts, router_after}
 use Rattle.run_model.specs.Offers.{IsPartOf, IsIn, lost_by_close}
 use Rattle.outbox.specs.declared.item.What.{What}
 use Rattle.outbox.specs.declared.item.What.TheVariants as item
-use Rattle.snap_marker.specs.Recordings.{RouterOffer, RouterPart, Recording, Snapshots, ends_channel, goes_on}
+use Rattle.snap_marker.specs.Recordings.{RouterOffer, Recording, Snapshots, ends_channel, goes_on}
 use Rattle.router_model.specs.Messages.{is_update}
 use Rattle.router_model.specs.Settings.{Setting, linked, peers}
 use Rattle.router_model.specs.Sides as sides
 use Rattle.router_model.specs.Sides.{Side, is_up, uses}
 use Rattle.router_model.specs.State.{Router}
 use Rattle.router_model.specs.Laws.{all_passes}
-use Rattle.router_model.specs.Step.{awaits, heeds, is_greater, records, says_where, says_markers}
+use Rattle.router_model.specs.Step.{heeds, is_greater, records, says_where, says_markers}
 use Rattle.router_runs.specs.Model.{network_of}
 use Rattle.router_runs.specs.Doing.{Stands}
 use Rattle.router_runs.specs.Kept.{Holds, Advances}
 use Rattle.router_runs.specs.Reading.{phase_of}
-use Rattle.router_runs.specs.Mirrors.{ModelRouter, Goes, AreAlike, ReadsPart, ReadsRecording, ReadsSnapshots, ReadsRouter, Recorded, number_of}
+use Rattle.router_runs.specs.Mirrors.{ModelRouter, Goes, AreAlike, ReadsPart, ReadsRecording, ReadsSnapshots, ReadsRouter, number_of}
 use Rattle.router_runs.proofs.Stepping.{Before, Ready, ready, plus_nothing, same_number, swapped}
 use Rattle.router_runs.proofs.Signing.{at_place}
 use Rattle.router_runs.proofs.Octets.{control_passed}
 use Rattle.router_runs.proofs.Going.{no_goes, one_goes, then_goes}
 use Rattle.router_runs.proofs.Turning.{IsTurned, Turns, side_turns}
 use Rattle.router_runs.proofs.Marking.{up_alike, up_joined, takes_stands}
-use Rattle.router_runs.proofs.Parting.{PartsFrom, parts_on}
+use Rattle.router_runs.proofs.Alike.{IsLike, snapshots_alike}
+use Rattle.router_runs.proofs.Parting.{parts_on}
 use Rattle.router_runs.proofs.Beginning.{MayBegin, begins_step}
 use Rattle.router_runs.proofs.Locally.{LocalStep, nothing_recorded}
 use Rattle.router_runs.proofs.Lower.{Laws, passing_more}
-
--- ---- what is read of a recording, where no end is looked at
-
-pub record IsLike (n m : ModelRouter) : Type 0 where
-  pub last : m.recorder.last ≡ n.recorder.last
-  pub unfinished : m.recorder.unfinished ≡ n.recorder.unfinished
-  pub waits : m.recorder.waits ≡ n.recorder.waits
-  pub copy : m.recorder.copy ≡ n.recorder.copy
-  pub kept_at : m.kept_at ≡ n.kept_at
-  pub originated_at : m.originated_at ≡ n.originated_at
-  pub channel : (v : ℕ) → filter is_update (m.recorder.channel v) ≡ filter is_update (n.recorder.channel v)
-
-part_alike : (g : Setting) (u k : ℕ) (p : RouterPart) (n m : ModelRouter) → IsLike n m → IsPartOf (network_of g) u n k n.recorder.channel p → IsPartOf (network_of g) u m k m.recorder.channel p
-part_alike g u k p n m l part = (
-  part.0,
-  ap (λ (f : ℕ → Option (ℕ → End Message)). f k) l.copy ∙ part.1,
-  (λ q named. part.2 q named ∙ ap (λ f. f k q) (sym l.kept_at)),
-  (λ q named. part.3 q named ∙ ap (λ f. f k q) (sym l.originated_at)),
-  part.4,
-  (
-    (λ h. subst (λ f. IsNotPending (network_of g) u part.0 (f k) (m.originated_at k)) (sym l.kept_at) (subst (λ f. IsNotPending (network_of g) u part.0 (n.kept_at k) (f k)) (sym l.originated_at) (part.5.0 h))),
-    (λ h. part.5.1 (subst (λ f. IsNotPending (network_of g) u part.0 (f k) (n.originated_at k)) l.kept_at (subst (λ f. IsNotPending (network_of g) u part.0 (m.kept_at k) (f k)) l.originated_at h))),
-  ),
-  (λ v near. part.6 v near ∙ sym (l.channel v)),
-)
-
-recording_alike : (g : Setting) (u : ℕ) (o : Option Recording) (n m : ModelRouter) → IsLike n m → ReadsRecording g u o n → ReadsRecording g u o m
-recording_alike g u None n m l r = tt
-recording_alike g u (Some k) n m l r =
-    record { waits = λ v near. ap (λ (f : ℕ → Bool). f v) l.waits ∙ r.waits v near; some = r.some; part = part_alike g u k.number k.part n m l r.part }
-
-snapshots_alike : (g : Setting) (u : ℕ) (z : Snapshots) (n m : ModelRouter) → IsLike n m → ReadsSnapshots g u z n → ReadsSnapshots g u z m
-snapshots_alike g u z n m l r = record { last = l.last ∙ r.last; unfinished = l.unfinished ∙ r.unfinished; recording = recording_alike g u z.unfinished n m l r.recording }
 
 and_not : (b : Bool) → (b && not b) ≡ false
 and_not true = refl

@@ -1,5 +1,5 @@
 -- A step of a router's sessions, towards all its peers, as events of the laws of runs.
-use Rattle.std.proofs.Common.{◌≡◌, ◌≢◌, ℕ, ◌==◌, nat_eq, Bool, true, false, ◌&&◌, ◌||◌, not, cond, List, [], ◌∷◌, ◌++◌, filter, refl, ap, sym, ◌∙◌, arith, append_assoc, subst, Option, None, Some, inl, inr, ◌⊎◌}
+use Rattle.std.proofs.Common.{◌≡◌, ◌≢◌, ℕ, ◌==◌, nat_eq, Bool, true, false, ◌&&◌, ◌||◌, not, cond, List, [], ◌∷◌, ◌++◌, filter, refl, ap, sym, ◌∙◌, arith, append_assoc, subst, Option, None, Some, inl, inr}
 use Rattle.std.specs.Prelude.{map}
 use Rattle.std.specs.List.{list_any}
 use Rattle.std.proofs.lemmas.List.{append-nil, append_cancel_left}
@@ -9,21 +9,18 @@ use Rattle.bgp_codec.specs.declared.message.Message.{Message}
 use Rattle.bgp_codec.specs.declared.message.Message.TheVariants.{UpdateMsg}
 use Rattle.bgp_codec.specs.declared.update.Update.{Update}
 use Rattle.bgp_codec.specs.Spelling.{written}
-use Rattle.run_model.specs.Links as links
-use Rattle.run_model.specs.Links.{Entry, End, Move, incarnation}
-use Rattle.run_model.specs.Octets.{Passing, passing, OnlyOctets}
-use Rattle.run_model.specs.Sessions.{afters}
+use Rattle.run_model.specs.Links.{Entry, End}
+use Rattle.run_model.specs.Octets.{Passing, passing}
 use Rattle.run_model.specs.Offers.{lost_by_close}
-use Rattle.run_model.specs.Facts.{MayInTurn}
 use Rattle.snap_marker.specs.Recordings.{RouterOffer}
 use Rattle.router_model.specs.Messages.{is_update}
-use Rattle.router_model.specs.Settings.{Setting, linked}
+use Rattle.router_model.specs.Settings.{Setting}
 use Rattle.router_model.specs.Sides.{Side, is_up}
 use Rattle.router_model.specs.State.{Router}
 use Rattle.router_model.specs.Recording.{left_of}
 use Rattle.router_model.specs.Step.{close_at, or_first}
 use Rattle.router_runs.specs.Reading.{Reads, sides_after, model_side, state_of}
-use Rattle.router_runs.specs.Doing.{Stands, Does, is_up_in, leaves_in}
+use Rattle.router_runs.specs.Doing.{Stands, is_up_in}
 use Rattle.router_runs.specs.Kept.{Holds, Advances}
 use Rattle.router_runs.specs.Acts.{SaysNoUpdate, HasNoMark}
 use Rattle.router_runs.specs.Mirrors.{ModelRouter, Goes}
@@ -31,7 +28,7 @@ use Rattle.router_runs.proofs.Acts.{moves_all, all_moves, all_quiet}
 use Rattle.router_runs.proofs.Doing.{up_in}
 use Rattle.router_runs.proofs.Hanging.{loses, lost_number, all_lose, all_number}
 use Rattle.router_runs.proofs.Using.{uses, Hears, used_updates}
-use Rattle.router_runs.proofs.Going.{IsStill, no_goes, then_goes, IsMoved, moved, moves_go}
+use Rattle.router_runs.proofs.Going.{no_goes, then_goes, IsMoved, moved, moves_go}
 use Rattle.router_runs.proofs.Quieting.{PassesNoMark, octets_pass_none, none_passes}
 use Rattle.router_runs.proofs.Lower.{Laws, passing_more}
 
