@@ -1,5 +1,5 @@
 -- What the run of the laws beside a run of routers says of its snapshots.
-use Rattle.std.proofs.Common.{◌≡◌, ℕ, ◌==◌, Bool, true, false, cond, List, [], ◌∷◌, ◌++◌, append_assoc, map, refl, ap, sym, subst, ◌∙◌, Some, None, inl, inr}
+use Rattle.std.proofs.Common.{◌≡◌, ℕ, ◌==◌, Bool, true, false, cond, List, [], ◌∷◌, ◌++◌, map, refl, ap, sym, subst, ◌∙◌, Some, inl, inr}
 use Rattle.std.specs.Prelude.{filter}
 use mathlib.Core.List.{IsPrefix}
 use mathlib.Core.Logic.{◌⊎◌}
@@ -7,10 +7,7 @@ use Rattle.std.proofs.lemmas.List.{append-nil}
 use Rattle.prefix_lanes.specs.Bits.{PrefixView}
 use Rattle.bgp_codec.specs.declared.message.Message.{Message}
 use Rattle.bgp_codec.specs.declared.message.Message.TheVariants.{OpenMsg, UpdateMsg, NoticeMsg, AliveMsg}
-use Rattle.bgp_codec.specs.declared.update.Update.{Update}
 use Rattle.bgp_codec.specs.Spelling.{written}
-use Rattle.ranked_policy.specs.Plans.{IsOrigin}
-use Rattle.run_model.specs.Links as links
 use Rattle.run_model.specs.Links.{End, Mark, said, incarnation}
 use Rattle.run_model.specs.Octets.{Passing, passing, OnlyOctets}
 use Rattle.run_model.specs.Routes as routes
@@ -21,20 +18,19 @@ use Rattle.run_model.specs.Offers as offers
 use Rattle.run_model.specs.Offers.{Finished, Lost, Settled, Moving, Why, Mismatch, Outcome, HasOutcome, Made, made_of, made_for, number_of, IsIn, Decides, IsDeciding, IsOfferRunOf, final, network_steps}
 use Rattle.snap_marker.specs.Recordings.{RouterPart, MadeOffer}
 use Rattle.router_model.specs.Messages.{updates_in, is_update}
-use Rattle.router_model.specs.Settings.{Setting, IsSetting, is_router, linked, names}
-use Rattle.router_model.specs.Sides.{Side, is_up, is_established}
-use Rattle.router_model.specs.State.{Router, route, is_pending}
+use Rattle.router_model.specs.Settings.{Setting, IsSetting, is_router, linked}
+use Rattle.router_model.specs.Sides.{is_established}
+use Rattle.router_model.specs.State.{Router, is_pending}
 use Rattle.router_model.specs.Laws.{all_passes}
 use Rattle.router_runs.specs.Runs.{RunOrder, RunState, IsRunTo, logged_steps, new_logged, side_of, log_of}
 use Rattle.router_runs.specs.Model.{network_of}
 use Rattle.router_runs.specs.Reading.{state_of}
-use Rattle.router_runs.specs.Doing.{Stands, is_up_in}
-use Rattle.router_runs.specs.Kept.{Holds}
-use Rattle.router_runs.specs.Mirrors.{ModelSteps, ModelRouter, AreAlike, Mirrors, Mirrored, Copied, IsCopyAt, RunsAreMirrored, MirrorsGoOn, RecordingsAreMirrored}
+use Rattle.router_runs.specs.Doing.{is_up_in}
+use Rattle.router_runs.specs.Mirrors.{ModelRouter, AreAlike, Mirrors, Mirrored, Copied, RunsAreMirrored, MirrorsGoOn, RecordingsAreMirrored}
 use Rattle.router_runs.specs.SnapshotLaws.{SnapshotLaws}
 use Rattle.session_fsm.specs.declared.state.State.{State}
 use Rattle.session_fsm.specs.declared.state.State.TheVariants as state
-use Rattle.router_runs.specs.Snapshots.{HasMade, HaveMade, RecordedAt, IsPartOf, IsCutLink, IsCutOf, PartsAreOfACut, ComesOut, DecidedHasAllParts, MismatchNeverComes, AsOriginated, AreStable, SettledIsStable, IsQuietSince, HasRoute, SettledStays, SettledSnapshotsCanBeBelieved, SnapshotsHoldInRuns}
+use Rattle.router_runs.specs.Snapshots.{HasMade, HaveMade, RecordedAt, IsPartOf, IsCutLink, IsCutOf, PartsAreOfACut, ComesOut, DecidedHasAllParts, MismatchNeverComes, SettledIsStable, SettledStays, SettledSnapshotsCanBeBelieved, SnapshotsHoldInRuns}
 use Rattle.router_runs.proofs.Lower.{Laws}
 use Rattle.router_runs.proofs.Hanging.{up_is}
 use Rattle.router_runs.proofs.Entries.{prefix_trans}
@@ -285,8 +281,6 @@ module _ (laws : Laws) (more : SnapshotLaws) (mirrored : RunsAreMirrored) where
       let found : Parts g set order state m s parts = λ u is. data_of g order state m s u (parts u) (made u is) in
       (places_of g set order state m s parts found, cut_is g set order state m s r parts found)
 
-
-
   there : (g : Setting) (order : RunOrder) (state : RunState) (m : Mirrored g order state) (s : ℕ) (outcome : Outcome) → ComesOut g state s outcome
       → HasOutcome (network_of g) s (final (network_of g) m.steps).made outcome
   there g order state m s outcome h = subst (λ made. HasOutcome (network_of g) s made outcome) (sym m.mirrors.made) h
@@ -327,8 +321,8 @@ module _ (laws : Laws) (more : SnapshotLaws) (mirrored : RunsAreMirrored) where
         let x : Router = (at.routers u).router in (
           sym (ap (λ f. f q) reads.kept) ∙ law.0,
           sym (routes_alike g u x (w.routers u).recorder.ends (alike_there g at w m.mirrors u) q)
-          ∙ ap (λ b. routes.route (network_of g) u (w.routers u).recorder.ends q b) (sym (ap (λ f. f q) reads.originated))
-          ∙ law.1,
+              ∙ ap (λ b. routes.route (network_of g) u (w.routers u).recorder.ends q b) (sym (ap (λ f. f q) reads.originated))
+              ∙ law.1,
         )
 
     -- ---- all of it

@@ -1,5 +1,5 @@
 -- Events of one router, one after another.
-use Rattle.std.proofs.Common.{◌≡◌, ◌≢◌, ℕ, ◌==◌, Bool, true, false, ◌&&◌, ◌||◌, not, cond, List, [], ◌∷◌, ◌++◌, refl, ap, sym, ◌∙◌, arith, append_assoc, subst, Option, None, Some, inl, inr, ◌⊎◌}
+use Rattle.std.proofs.Common.{◌≡◌, ◌≢◌, ℕ, ◌==◌, Bool, true, false, ◌&&◌, ◌||◌, cond, List, [], ◌∷◌, ◌++◌, refl, ap, sym, ◌∙◌, arith, append_assoc, subst, Option, None, Some, inl, inr, ◌⊎◌}
 use Rattle.std.proofs.lemmas.List.{append-nil}
 use Rattle.std.proofs.lemmas.Bool.Decides.{nat_tests}
 use Rattle.prefix_lanes.specs.Bits.{PrefixView}
@@ -8,13 +8,12 @@ use Rattle.run_model.specs.Links as links
 use Rattle.run_model.specs.Links.{End, Move, Dials, Tells, Marks, HangsUp, Takes, Dial, Says, Mark, Shut, incarnation}
 use Rattle.run_model.specs.Sessions.{afters}
 use Rattle.run_model.specs.Recordings.{Moves, used_by, unfinished_after}
-use Rattle.run_model.specs.Routes as routes
 use Rattle.run_model.specs.Routes.{Acts, router_after, hangs_up}
 use Rattle.run_model.specs.Quiet.{IsQuietEvent}
 use Rattle.run_model.specs.Offers.{Queues, lost_by_close}
 use Rattle.run_model.specs.Facts.{MayInTurn}
 use Rattle.snap_marker.specs.Recordings.{RouterOffer}
-use Rattle.router_model.specs.Settings.{Setting, linked}
+use Rattle.router_model.specs.Settings.{Setting}
 use Rattle.router_runs.specs.Model.{network_of}
 use Rattle.router_runs.specs.Mirrors.{ModelRouter, ModelEvent, Local, MayLocal, IsLocalRun, local_after, queued_by, IsLocallyQuiet, Goes}
 use Rattle.router_runs.proofs.Acts.{IsQuiet, AllQuiet, plain}
@@ -197,10 +196,10 @@ module _ (laws : Laws) (g : Setting) (u v : ℕ) (apart : u ≢ v) (far : ℕ �
       let both = then_goes g u far Still n k (moved k ms) (lost_by_close (links.is_up a && hangs_up m) n.recorder.unfinished v (incarnation a)) (lost_by_close (loses (k.recorder.ends v) ms) k.recorder.unfinished v (lost_number (k.recorder.ends v) ms))
       first rest.0 (λ s h. h) in (
         subst (λ o. Goes g u far Still n (moved k ms) o)
-        (ap (λ (i : End Message). lost_by_close (links.is_up a && hangs_up m) n.recorder.unfinished v (incarnation a) ++ lost_by_close (loses i ms) k.recorder.unfinished v (lost_number i ms)) one
-        ∙ (ap (λ o. lost_by_close (links.is_up a && hangs_up m) n.recorder.unfinished v (incarnation a) ++ lost_by_close (loses (links.after a m) ms) o v (lost_number (links.after a m) ms)) unf
-        ∙ or_choice (links.is_up a && hangs_up m) (loses (links.after a m) ms) n.recorder.unfinished v (incarnation a) (lost_number (links.after a m) ms)))
-        both,
+            (ap (λ (i : End Message). lost_by_close (links.is_up a && hangs_up m) n.recorder.unfinished v (incarnation a) ++ lost_by_close (loses i ms) k.recorder.unfinished v (lost_number i ms)) one
+            ∙ (ap (λ o. lost_by_close (links.is_up a && hangs_up m) n.recorder.unfinished v (incarnation a) ++ lost_by_close (loses (links.after a m) ms) o v (lost_number (links.after a m) ms)) unf
+            ∙ or_choice (links.is_up a && hangs_up m) (loses (links.after a m) ms) n.recorder.unfinished v (incarnation a) (lost_number (links.after a m) ms)))
+            both,
         record {
           own = r.own ∙ ap (λ i. afters i ms) one;
           ends = λ y h. r.ends y h ∙ rw h refl;

@@ -1,7 +1,6 @@
 -- The moves of a session's events that hang up while the session is up.
-use Rattle.std.proofs.Common.{◌≡◌, ℕ, ◌<◌, ◌==◌, Bool, true, false, ◌&&◌, ◌||◌, not, cond, List, [], ◌∷◌, ◌++◌, length, refl, ap, sym, ◌∙◌, arith, subst}
+use Rattle.std.proofs.Common.{◌≡◌, ℕ, ◌<◌, ◌==◌, Bool, true, false, ◌&&◌, ◌||◌, cond, List, [], ◌∷◌, ◌++◌, length, refl, ap, sym, ◌∙◌, arith}
 use Rattle.std.specs.Prelude.{nat_lt}
-use Rattle.std.proofs.lemmas.List.{append-nil}
 use Rattle.std.proofs.lemmas.Bool.Decides.{nat_tests}
 use Rattle.bgp_codec.specs.declared.message.Message.{Message}
 use Rattle.run_model.specs.Links as links
@@ -10,7 +9,7 @@ use Rattle.run_model.specs.Sessions as model
 use Rattle.run_model.specs.Sessions.{SessionEvent, SessionState, Fits, MayCome, moves_of, state_after, afters, side_after}
 use Rattle.run_model.specs.Routes.{hangs_up}
 use Rattle.run_model.specs.Facts.{EndFacts, LeadsOn}
-use Rattle.router_runs.specs.Reading.{MayComeAll, sides_after}
+use Rattle.router_runs.specs.Reading.{MayComeAll}
 use Rattle.router_runs.specs.Doing.{is_up_in, closes, leaves_in}
 use Rattle.router_runs.proofs.Acts.{moves_all}
 use Rattle.router_runs.proofs.Lower.{Laws, greatest_dial-append}

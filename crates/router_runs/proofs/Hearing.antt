@@ -1,5 +1,5 @@
 -- What the sessions of a router do to what it records, as in the laws of runs.
-use Rattle.std.proofs.Common.{◌≡◌, ◌≢◌, ℕ, ◌==◌, nat_eq, Bool, true, false, ◌&&◌, ◌||◌, not, cond, List, [], ◌∷◌, ◌++◌, filter, refl, ap, sym, ◌∙◌, arith, subst, Option, None, Some, inl, inr, ◌⊎◌}
+use Rattle.std.proofs.Common.{◌≡◌, ◌≢◌, ℕ, nat_eq, Bool, true, false, ◌||◌, cond, List, [], ◌∷◌, ◌++◌, filter, refl, ap, sym, ◌∙◌, arith, subst, Option, None, Some, inl, inr, ◌⊎◌}
 use Rattle.std.specs.Prelude.{map}
 use Rattle.std.specs.List.{list_any}
 use Rattle.std.proofs.lemmas.List.{append-nil}
@@ -12,14 +12,14 @@ use Rattle.run_model.specs.Octets.{Passing}
 use Rattle.run_model.specs.Routes as routes
 use Rattle.run_model.specs.Offers as offers
 use Rattle.run_model.specs.Offers.{lost_by_close, Closed}
-use Rattle.snap_marker.specs.Recordings.{RouterOffer, Recording, Snapshots, closed, lost}
+use Rattle.snap_marker.specs.Recordings.{Recording, Snapshots, closed, lost}
 use Rattle.router_model.specs.Messages.{is_update}
 use Rattle.router_model.specs.Settings.{Setting, linked, peers}
 use Rattle.router_model.specs.State.{Router}
 use Rattle.router_model.specs.Step.{close_at, or_first}
 use Rattle.router_runs.specs.Model.{network_of}
 use Rattle.router_runs.specs.Mirrors.{ModelRouter, ReadsPart, ReadsRecording, ReadsSnapshots, number_of}
-use Rattle.router_runs.proofs.Turning.{AllTurn, AreApart, left_at, first_left, after_first, lost_first}
+use Rattle.router_runs.proofs.Turning.{AllTurn, left_at, first_left, after_first, lost_first}
 use Rattle.router_runs.proofs.Lower.{Laws}
 
 -- these UPDATEs join the channels that still wait for their marker
@@ -107,23 +107,22 @@ module _ (laws : Laws) (g : Setting) (u : ℕ) (far : ℕ → End Message) (Stil
       record {
         waits = λ v near. ap (λ (f : ℕ → Bool). f v) t.waits ∙ (p.waits v near ∙ ap (λ (f : ℕ → Bool). f v) (sym h.waits));
         some = ap (λ (f : ℕ → Bool). list_any f (peers g.net u)) h.waits ∙ p.some;
-        part = subst (λ i. offers.IsPartOf (network_of g) u t.m i t.m.recorder.channel q.part) (sym h.number)
-            (
-              part.0,
-              ap (λ (f : ℕ → Option (ℕ → End Message)). f r.number) t.copy ∙ part.1,
-              (λ k named. ap (λ f. f k) h.kept ∙ (part.2 k named ∙ ap (λ f. f r.number k) (sym t.kept_at))),
-              (λ k named. ap (λ f. f k) h.originated ∙ (part.3 k named ∙ ap (λ f. f r.number k) (sym t.originated_at))),
-              (λ v near. ap (λ f. f v) h.incarnation ∙ part.4 v near),
-              (
-                (λ k. subst (λ f. routes.IsNotPending (network_of g) u part.0 (f r.number) (t.m.originated_at r.number)) (sym t.kept_at)
-                    (subst (λ f. routes.IsNotPending (network_of g) u part.0 (n.kept_at r.number) (f r.number)) (sym t.originated_at) (part.5.0 (sym h.pending ∙ k)))),
-                (λ k. h.pending ∙ part.5.1 (subst (λ f. routes.IsNotPending (network_of g) u part.0 (f r.number) (n.originated_at r.number)) t.kept_at
-                    (subst (λ f. routes.IsNotPending (network_of g) u part.0 (t.m.kept_at r.number) (f r.number)) t.originated_at k))),
-              ),
-              (λ v near. h.channel v
-                  ∙ (ap (λ l. l ++ cond (r.waits v) (map UpdateMsg (us v)) []) (part.6 v near)
-                  ∙ (ap (λ c. filter is_update (n.recorder.channel v) ++ cond c (map UpdateMsg (us v)) []) (sym (p.waits v near)) ∙ sym (t.channel v (member v near))))),
-            );
+        part = subst (λ i. offers.IsPartOf (network_of g) u t.m i t.m.recorder.channel q.part) (sym h.number) (
+          part.0,
+          ap (λ (f : ℕ → Option (ℕ → End Message)). f r.number) t.copy ∙ part.1,
+          (λ k named. ap (λ f. f k) h.kept ∙ (part.2 k named ∙ ap (λ f. f r.number k) (sym t.kept_at))),
+          (λ k named. ap (λ f. f k) h.originated ∙ (part.3 k named ∙ ap (λ f. f r.number k) (sym t.originated_at))),
+          (λ v near. ap (λ f. f v) h.incarnation ∙ part.4 v near),
+          (
+            (λ k. subst (λ f. routes.IsNotPending (network_of g) u part.0 (f r.number) (t.m.originated_at r.number)) (sym t.kept_at)
+                (subst (λ f. routes.IsNotPending (network_of g) u part.0 (n.kept_at r.number) (f r.number)) (sym t.originated_at) (part.5.0 (sym h.pending ∙ k)))),
+            (λ k. h.pending ∙ part.5.1 (subst (λ f. routes.IsNotPending (network_of g) u part.0 (f r.number) (n.originated_at r.number)) t.kept_at
+                (subst (λ f. routes.IsNotPending (network_of g) u part.0 (t.m.kept_at r.number) (f r.number)) t.originated_at k))),
+          ),
+          (λ v near. h.channel v
+              ∙ (ap (λ l. l ++ cond (r.waits v) (map UpdateMsg (us v)) []) (part.6 v near)
+              ∙ (ap (λ c. filter is_update (n.recorder.channel v) ++ cond c (map UpdateMsg (us v)) []) (sym (p.waits v near)) ∙ sym (t.channel v (member v near))))),
+        );
       }
 
   recording_heard : (n : ModelRouter) (t : AllTurn laws g u far Still x y new before items us ends n (peers g.net u)) (o p : Option Recording) → ((v : ℕ) → linked g.net u v ≡ true → list_any (nat_eq v) (peers g.net u) ≡ true)

@@ -8,6 +8,7 @@ pub mod Handling
 pub mod Signing
 pub mod Octets
 pub mod Stepping
+pub mod Resetting
 pub mod Events
 pub mod Running
 pub mod Streams
@@ -30,6 +31,12 @@ pub mod Markers
 pub mod Believing
 mod Locally
 mod SessionSteps
+mod Marking
+mod Parting
+mod Beginning
+mod Alike
+mod MarkerSteps
 mod Lifting
 mod TableSteps
 pub mod Mirroring
+mod LocalSteps

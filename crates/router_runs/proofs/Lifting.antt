@@ -1,9 +1,8 @@
 -- Events of one router, as events of the network in which the other routers stand still.
-use Rattle.std.proofs.Common.{◌≡◌, ℕ, ◌==◌, Bool, true, false, cond, List, [], ◌∷◌, ◌++◌, append_assoc, refl, ap, sym, subst, ◌∙◌, arith, Some, None}
+use Rattle.std.proofs.Common.{◌≡◌, ℕ, ◌==◌, Bool, true, false, cond, List, [], ◌∷◌, ◌++◌, append_assoc, refl, ap, sym, subst, ◌∙◌, None}
 use mathlib.Core.Logic.{◌⊎◌}
 use Rattle.std.proofs.lemmas.List.{append-nil}
-use Rattle.std.proofs.lemmas.Bool.{eqb-true, eq-eqb, false≢true}
-use Rattle.prefix_lanes.specs.Bits.{PrefixView}
+use Rattle.std.proofs.lemmas.Bool.{eqb-true, eq-eqb}
 use Rattle.bgp_codec.specs.declared.message.Message.{Message}
 use Rattle.run_model.specs.Links as links
 use Rattle.run_model.specs.Links.{End, May, Mark, IsNext}
@@ -11,7 +10,7 @@ use Rattle.run_model.specs.Recordings.{Recorder, Act, MayAct, Moves, EndsChannel
 use Rattle.run_model.specs.Routes as routes
 use Rattle.run_model.specs.Routes.{Acts, Advertise, Decide, Command, MayHappen, router_after}
 use Rattle.run_model.specs.Quiet as model
-use Rattle.run_model.specs.Offers.{Happens, MayOffer, Queues, IsOfferRun, offering_after, offerings_after, event_of, network_steps}
+use Rattle.run_model.specs.Offers.{Happens, Queues, IsOfferRun, offering_after, offerings_after, event_of, network_steps}
 use Rattle.snap_marker.specs.Recordings.{RouterOffer}
 use Rattle.router_model.specs.Settings.{Setting, linked}
 use Rattle.router_runs.specs.Model.{network_of}
@@ -48,7 +47,7 @@ module _ (g : Setting) (u : ℕ) (w : ModelOffering) where
   may_happen : (n : ModelRouter) (offers : List RouterOffer) (z : ModelOffering) → Lifts u w n offers z → (e : ModelEvent) → MayLocal g u far n e → MayHappen (network_of g) z.routers u e
   may_happen n offers z at (Acts act) may = (
     subst (λ (x : ModelRouter). MayAct u x.recorder (λ v. (z.routers v).recorder.ends u) (linked g.net u) act) (sym at.here)
-    (may_act g u n.recorder far (λ v. (z.routers v).recorder.ends u) (λ v apart. ap (λ (x : ModelRouter). x.recorder.ends u) (sym (at.others v apart))) act may.0),
+        (may_act g u n.recorder far (λ v. (z.routers v).recorder.ends u) (λ v apart. ap (λ (x : ModelRouter). x.recorder.ends u) (sym (at.others v apart))) act may.0),
     may.1,
   )
   may_happen n offers z at (Advertise v p m) may = subst (λ (x : ModelRouter). (u ≡ v → ⊥) × (linked g.net u v ≡ true) × (links.is_up (x.recorder.ends v) ≡ true)
@@ -93,7 +92,7 @@ module _ (g : Setting) (u : ℕ) (w : ModelOffering) where
   quiet_run s (l ∷ ls) n z is calm = (
     λ known c copy. subst (λ x. model.IsQuietEvent x l.event) (sym is) (calm.0 c (ap (λ (x : ModelRouter). x.recorder.copy s) (sym is) ∙ copy)),
     quiet_run s ls (router_after (network_of g) u n l.event) (λ y. cond (y == u) (router_after (network_of g) y (z y) l.event) (z y))
-    (ap (λ b. cond b (router_after (network_of g) u (z u) l.event) (z u)) here_is ∙ ap (λ x. router_after (network_of g) u x l.event) is) calm.1,
+        (ap (λ b. cond b (router_after (network_of g) u (z u) l.event) (z u)) here_is ∙ ap (λ x. router_after (network_of g) u x l.event) is) calm.1,
   )
 
   -- what the router does is a run of the network, with offers

@@ -1,5 +1,5 @@
 -- What a step of one router is in the laws of runs, and that a step of its sessions is so.
-use Rattle.std.proofs.Common.{◌≡◌, ◌≢◌, ℕ, ◌<◌, ◌==◌, nat_eq, Bool, true, false, ◌&&◌, ◌||◌, not, cond, List, [], ◌∷◌, ◌++◌, filter, refl, ap, sym, ◌∙◌, arith, subst, Option, None, Some, inl, inr, ◌⊎◌}
+use Rattle.std.proofs.Common.{◌≡◌, ℕ, ◌<◌, nat_eq, Bool, true, false, cond, List, [], ◌∷◌, ◌++◌, filter, refl, ap, sym, ◌∙◌, arith, subst, Option, None, Some, inl, ◌⊎◌}
 use Rattle.std.specs.List.{list_any, AllPairs}
 use Rattle.std.proofs.lemmas.List.Elements.{recursion_from_All}
 use Rattle.std.proofs.lemmas.List.Kept.{AllPairs-filter}
@@ -15,11 +15,10 @@ use Rattle.run_model.specs.Routes.{IsNotPending}
 use Rattle.snap_marker.specs.Recordings.{RouterOffer, Recording, Snapshots, closed}
 use Rattle.router_model.specs.Messages.{is_update}
 use Rattle.router_model.specs.Settings.{Setting, linked, peers}
-use Rattle.router_model.specs.Sides.{is_up}
 use Rattle.router_model.specs.State.{Router}
 use Rattle.router_runs.specs.Model.{network_of}
 use Rattle.router_runs.specs.Mirrors.{ModelRouter, Goes, ReadsPart, ReadsRecording, ReadsSnapshots, ReadsRouter, Recorded}
-use Rattle.router_runs.proofs.Turning.{IsTurned, MayTurn, AllTurn, AreApart, left_at, first_left, lost_first, all_turn}
+use Rattle.router_runs.proofs.Turning.{IsTurned, MayTurn, AreApart, left_at, first_left, lost_first, all_turn}
 use Rattle.router_runs.proofs.Hearing.{HearsUpdates, snapshots_turn}
 use Rattle.router_runs.proofs.Markers.{above, pairs_head, pairs_tail}
 use Rattle.router_runs.proofs.Lower.{Laws}

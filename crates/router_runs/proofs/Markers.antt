@@ -6,7 +6,6 @@ use Rattle.std.proofs.lemmas.List.Elements.{recursion_from_All}
 use Rattle.std.proofs.lemmas.List.Kept.{AllPairs-filter}
 use Rattle.std.proofs.lemmas.Bool.Decides.{nat_tests}
 use Rattle.ranked_policy.specs.Plans.{IsNetwork, numbers}
-use Rattle.run_model.specs.Links as links
 use Rattle.run_model.specs.Recordings.{AllUp}
 use Rattle.run_model.specs.Offers.{Lost, NotUp, Superseded, Supersedes, BeginsLost}
 use Rattle.snap_marker.specs.Recordings.{RouterOffer, Recording, Snapshots, superseded, lost_at}

@@ -1,6 +1,6 @@
 -- Each event of a router's sessions, as events of the laws of runs.
-use Rattle.std.proofs.Common.{◌≡◌, ◌≢◌, ℕ, ◌==◌, nat_eq, Bool, true, false, ◌&&◌, ◌||◌, not, cond, List, [], ◌∷◌, ◌++◌, refl, ap, sym, ◌∙◌, arith, subst, Option, None, Some, inl, inr, ◌⊎◌}
-use Rattle.std.specs.Prelude.{map, if◌then◌else◌, Ok, Result}
+use Rattle.std.proofs.Common.{◌≡◌, ℕ, ◌==◌, nat_eq, Bool, true, false, ◌&&◌, ◌||◌, not, cond, List, [], ◌∷◌, ◌++◌, refl, ap, sym, ◌∙◌, arith, Option, None, Some, inl, inr}
+use Rattle.std.specs.Prelude.{map, if◌then◌else◌, Ok}
 use Rattle.std.specs.List.{list_any}
 use mathlib.Core.List.{IsPrefix}
 use Rattle.std.proofs.lemmas.List.{append-nil}
@@ -13,13 +13,13 @@ use Rattle.link_epoch.specs.declared.link_end.Sign.TheVariants as sign
 use Rattle.session_fsm.specs.declared.event.FsmEvent.TheVariants.{ManualStart, ManualStop}
 use Rattle.ranked_policy.specs.Plans.{IsNetwork}
 use Rattle.run_model.specs.Links.{Entry, End}
-use Rattle.run_model.specs.Octets.{Passing, Control, octets_of, passing}
+use Rattle.run_model.specs.Octets.{Passing, octets_of, passing}
 use Rattle.run_model.specs.Network.{alone, puts, takes, offers, taken_from}
 use Rattle.router_model.specs.declared.command.Command.TheVariants as command
 use Rattle.outbox.specs.declared.item.What.{What}
 use Rattle.outbox.specs.declared.item.What.TheVariants as item
 use Rattle.outbox.specs.Items.{passes}
-use Rattle.snap_marker.specs.Recordings.{Recording, Snapshots, closed, joins_channel, with_message, acted_on}
+use Rattle.snap_marker.specs.Recordings.{Recording, Snapshots, closed, joins_channel, with_message}
 use Rattle.run_model.specs.Routes.{Command, router_after}
 use Rattle.router_model.specs.Settings.{Setting, linked, peers, identifier}
 use Rattle.router_model.specs.Sides.{Side, Draft, AtHand, NoMessage, HasFault, HasUpdate, at_hand, event_of, front, carried, acted_with, without_front, fed, uses, is_up, is_established}
@@ -29,9 +29,10 @@ use Rattle.router_model.specs.Recording.{left_of}
 use Rattle.router_model.specs.Step.{RouterEvent, Obeys, Ticks, Handles, Decides, Advertises, May, after, says, overflows, moved, all_moved, seen, with_side, put_from, close_at, first_close, or_first, meets_at, resets_at, second_at, signed_at, handled_at}
 use Rattle.router_runs.specs.Model.{network_of}
 use Rattle.router_runs.specs.Snapshots.{IsCommand}
-use Rattle.router_runs.specs.Mirrors.{ModelRouter, ModelEvent, Goes, ReadsRouter}
+use Rattle.router_runs.specs.Mirrors.{ModelRouter, ModelEvent, ReadsRouter}
 use Rattle.router_runs.proofs.Stepping.{Before, same_number}
-use Rattle.router_runs.proofs.Events.{step_side, reset_down}
+use Rattle.router_runs.proofs.Events.{step_side}
+use Rattle.router_runs.proofs.Resetting.{reset_down}
 use Rattle.router_runs.proofs.Quieting.{IsOfSessions, says_quietly, PassesNoMark, octets_pass_none}
 use Rattle.router_runs.proofs.Octets.{only_octets}
 use Rattle.router_runs.proofs.Using.{Hears}

@@ -1,24 +1,22 @@
 -- A stable assignment of the network of the laws is one of the network: its routers, links and choices are the same.
-use Rattle.std.proofs.Common.{◌≡◌, ℕ, ◌==◌, nat_eq, Bool, true, false, ◌&&◌, ◌||◌, cond, List, [], ◌∷◌, get_or, refl, ap, sym, ◌∙◌, arith, subst, inl, inr}
+use Rattle.std.proofs.Common.{◌≡◌, ℕ, ◌==◌, Bool, true, false, ◌&&◌, ◌||◌, cond, List, [], ◌∷◌, get_or, refl, sym, subst, inl, inr}
 use Rattle.std.specs.Prelude.{◌↔◌}
-use Rattle.std.specs.List.{Any, Contains, list_any}
-use Rattle.std.proofs.lemmas.Bool.Decides.{nat_tests}
+use Rattle.std.specs.List.{Any}
 use Rattle.std.proofs.lemmas.Bool.{or_cases, eqb-true, eq-eqb}
 use Rattle.std.proofs.lemmas.List.Folds.{Any-from_list_any, list_any-from_Any}
 use Rattle.prefix_lanes.specs.Bits.{PrefixView}
-use Rattle.bgp_codec.specs.declared.message.Message.{Message}
 use Rattle.ranked_policy.specs.declared.network.Link.{Link}
 use Rattle.ranked_policy.specs.declared.network.Origin.{Origin}
-use Rattle.ranked_policy.specs.Plans.{Plan, IsNetwork, IsRouter, IsOrigin, IsNamed, Joins, Linked, numbers}
+use Rattle.ranked_policy.specs.Plans.{Plan, IsRouter, IsOrigin, IsNamed, Joins, Linked, numbers}
 use Rattle.ranked_policy.specs.Policies.{Table, IsTableOf}
 use Rattle.rib_tables.specs.Words.{is_prefix}
-use Rattle.stable_paths.specs.Stable.{Problem, IsBest, IsBestOf, IsStable}
-use Rattle.stable_paths.specs.Promises.{Chooses, StableIsTheModels}
+use Rattle.stable_paths.specs.Stable.{Problem, IsBest, IsStable}
+use Rattle.stable_paths.specs.Promises.{Chooses}
 use Rattle.run_model.specs.Routes as routes
 use Rattle.router_model.specs.Settings.{Setting, IsSetting, joins, linked, is_router, names}
 use Rattle.router_runs.specs.Model.{network_of}
 use Rattle.router_runs.proofs.Lower.{Laws}
-use Rattle.router_runs.proofs.Words.{same_view, own_view}
+use Rattle.router_runs.proofs.Words.{same_view}
 
 both_are : (a b : Bool) → (a && b) ≡ true → (a ≡ true) × (b ≡ true)
 both_are true b h = (refl, h)

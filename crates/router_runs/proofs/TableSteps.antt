@@ -1,10 +1,8 @@
 -- What a router decides, tells, originates and withdraws, as events of the laws of runs.
-use Rattle.std.proofs.Common.{◌≡◌, ◌≢◌, ℕ, ◌<◌, ◌==◌, nat_eq, Bool, true, false, ◌&&◌, ◌||◌, not, cond, List, [], ◌∷◌, ◌++◌, filter, map, refl, ap, sym, ◌∙◌, arith, subst, Option, None, Some, inl, inr, ◌⊎◌}
+use Rattle.std.proofs.Common.{◌≡◌, ℕ, ◌==◌, Bool, true, false, ◌&&◌, ◌||◌, not, cond, List, [], ◌∷◌, ◌++◌, filter, map, refl, ap, sym, ◌∙◌, arith, subst, Option, None, Some, inl, inr}
 use Rattle.std.specs.Prelude.{is_some}
-use Rattle.std.specs.List.{find, list_any}
-use Rattle.std.proofs.Math.Path.{fun_ext}
+use Rattle.std.specs.List.{find}
 use Rattle.std.proofs.lemmas.List.{append-nil}
-use Rattle.std.proofs.lemmas.Bool.Decides.{nat_tests}
 use Rattle.prefix_lanes.specs.Bits.{PrefixView}
 use Rattle.bgp_codec.specs.declared.message.Message.{Message}
 use Rattle.bgp_codec.specs.declared.message.Message.TheVariants.{UpdateMsg}
@@ -12,20 +10,18 @@ use Rattle.bgp_codec.specs.declared.update.Update.{Update}
 use Rattle.ranked_policy.specs.Plans.{IsNetwork}
 use Rattle.ranked_policy.specs.declared.network.Origin.{Origin}
 use Rattle.rib_tables.specs.Words.{is_prefix, path_in}
-use Rattle.run_model.specs.Links as links
 use Rattle.run_model.specs.Sessions as model
-use Rattle.run_model.specs.Links.{Entry, End, Says, Tells, after, incarnation}
+use Rattle.run_model.specs.Links.{Entry, End, Says, Tells, after}
 use Rattle.run_model.specs.Octets.{Passing}
-use Rattle.run_model.specs.Network.{alone, taken_from}
+use Rattle.run_model.specs.Network.{alone}
 use Rattle.run_model.specs.Routes as routes
 use Rattle.run_model.specs.Routes.{Command, Decide, Advertise, IsNotPending, router_after}
-use Rattle.snap_marker.specs.Recordings.{Recording, Snapshots}
+use Rattle.snap_marker.specs.Recordings.{Recording}
 use Rattle.router_model.specs.declared.command.Command.TheVariants as command
 use Rattle.router_model.specs.Messages.{is_update}
 use Rattle.router_model.specs.Settings.{Setting, linked, names, prefixes, identifier}
 use Rattle.router_model.specs.Sides.{Side, told, is_up}
 use Rattle.router_model.specs.State.{Router, same_path, route, undecided, untold, is_undecided, is_untold, last_told, telling}
-use Rattle.router_model.specs.Laws.{all_passes}
 use Rattle.router_model.specs.Step as steps
 use Rattle.router_model.specs.Step.{RouterEvent, Obeys, Decides, Advertises, May, says, originating, keeping, telling_to, telling_of}
 use Rattle.router_runs.specs.Model.{network_of}
@@ -41,7 +37,7 @@ use Rattle.router_runs.proofs.Words.{told_alike, routes_alike, if_same, own_view
 use Rattle.router_runs.proofs.Markers.{found}
 use Rattle.router_runs.proofs.Turning.{IsTurned}
 use Rattle.router_runs.proofs.Locally.{LocalStep, snapshots_like, nothing_recorded}
-use Rattle.router_runs.proofs.Going.{IsStill, one_goes}
+use Rattle.router_runs.proofs.Going.{one_goes}
 use Rattle.router_runs.proofs.Signing.{established}
 use Rattle.router_runs.proofs.Lower.{Laws}
 
@@ -212,16 +208,15 @@ module _ (laws : Laws) (g : Setting) (net : IsNetwork g.net) (u : ℕ) (far : �
       record {
         m = m;
         offers = [];
-        goes = one_goes g u far Still n event []
-            (
-              (laws.links g.net net u w near.0).apart,
-              near.0,
-              alike.up w near.0 ∙ up,
-              (λ same. differs (x.kept q) (path_in (last_told (x.sides w) q)) other (sym kept ∙ (sym same ∙ told_is))),
-              named,
-              refl,
-              mentions_path (x.kept q) q ∙ ap (λ p. (q, p) ∷ []) (sym kept),
-            ) refl (λ s c still is. tt);
+        goes = one_goes g u far Still n event [] (
+          (laws.links g.net net u w near.0).apart,
+          near.0,
+          alike.up w near.0 ∙ up,
+          (λ same. differs (x.kept q) (path_in (last_told (x.sides w) q)) other (sym kept ∙ (sym same ∙ told_is))),
+          named,
+          refl,
+          mentions_path (x.kept q) q ∙ ap (λ p. (q, p) ∷ []) (sym kept),
+        ) refl (λ s c still is. tt);
         turned = λ v near_v. there v (v == w) refl near_v;
         reads = record {
           kept = reads.kept;

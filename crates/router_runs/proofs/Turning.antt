@@ -1,5 +1,5 @@
 -- A step of a router's sessions, towards all its peers, as events of the laws of runs.
-use Rattle.std.proofs.Common.{◌≡◌, ◌≢◌, ℕ, ◌==◌, nat_eq, Bool, true, false, ◌&&◌, ◌||◌, not, cond, List, [], ◌∷◌, ◌++◌, filter, refl, ap, sym, ◌∙◌, arith, append_assoc, subst, Option, None, Some, inl, inr, ◌⊎◌}
+use Rattle.std.proofs.Common.{◌≡◌, ◌≢◌, ℕ, ◌==◌, nat_eq, Bool, true, false, ◌&&◌, ◌||◌, not, cond, List, [], ◌∷◌, ◌++◌, filter, refl, ap, sym, ◌∙◌, arith, append_assoc, subst, Option, None, Some, inl, inr}
 use Rattle.std.specs.Prelude.{map}
 use Rattle.std.specs.List.{list_any}
 use Rattle.std.proofs.lemmas.List.{append-nil, append_cancel_left}
@@ -9,21 +9,18 @@ use Rattle.bgp_codec.specs.declared.message.Message.{Message}
 use Rattle.bgp_codec.specs.declared.message.Message.TheVariants.{UpdateMsg}
 use Rattle.bgp_codec.specs.declared.update.Update.{Update}
 use Rattle.bgp_codec.specs.Spelling.{written}
-use Rattle.run_model.specs.Links as links
-use Rattle.run_model.specs.Links.{Entry, End, Move, incarnation}
-use Rattle.run_model.specs.Octets.{Passing, passing, OnlyOctets}
-use Rattle.run_model.specs.Sessions.{afters}
+use Rattle.run_model.specs.Links.{Entry, End}
+use Rattle.run_model.specs.Octets.{Passing, passing}
 use Rattle.run_model.specs.Offers.{lost_by_close}
-use Rattle.run_model.specs.Facts.{MayInTurn}
 use Rattle.snap_marker.specs.Recordings.{RouterOffer}
 use Rattle.router_model.specs.Messages.{is_update}
-use Rattle.router_model.specs.Settings.{Setting, linked}
+use Rattle.router_model.specs.Settings.{Setting}
 use Rattle.router_model.specs.Sides.{Side, is_up}
 use Rattle.router_model.specs.State.{Router}
 use Rattle.router_model.specs.Recording.{left_of}
 use Rattle.router_model.specs.Step.{close_at, or_first}
 use Rattle.router_runs.specs.Reading.{Reads, sides_after, model_side, state_of}
-use Rattle.router_runs.specs.Doing.{Stands, Does, is_up_in, leaves_in}
+use Rattle.router_runs.specs.Doing.{Stands, is_up_in}
 use Rattle.router_runs.specs.Kept.{Holds, Advances}
 use Rattle.router_runs.specs.Acts.{SaysNoUpdate, HasNoMark}
 use Rattle.router_runs.specs.Mirrors.{ModelRouter, Goes}
@@ -31,7 +28,7 @@ use Rattle.router_runs.proofs.Acts.{moves_all, all_moves, all_quiet}
 use Rattle.router_runs.proofs.Doing.{up_in}
 use Rattle.router_runs.proofs.Hanging.{loses, lost_number, all_lose, all_number}
 use Rattle.router_runs.proofs.Using.{uses, Hears, used_updates}
-use Rattle.router_runs.proofs.Going.{IsStill, no_goes, then_goes, IsMoved, moved, moves_go}
+use Rattle.router_runs.proofs.Going.{no_goes, then_goes, IsMoved, moved, moves_go}
 use Rattle.router_runs.proofs.Quieting.{PassesNoMark, octets_pass_none, none_passes}
 use Rattle.router_runs.proofs.Lower.{Laws, passing_more}
 
@@ -82,7 +79,7 @@ module _ (laws : Laws) (g : Setting) (u : ℕ) (far : ℕ → End Message) (Stil
     pub appended : c.appended ≡ a.appended ++ new
     pub holds : Holds t came c
 
-  pub record Turns (n : ModelRouter) (v : ℕ) (s t : Side) (new : List (Entry Message)) (came : List (Passing Message)) (us : List Update) : Type 0 where
+  pub record Turns (n : ModelRouter) (v : ℕ) (s t : Side) (new : List (Entry Message)) (came : List (Passing Message)) (us : List Update) (past : List (Entry Message)) : Type 0 where
     pub m : ModelRouter
     pub end : End Message
     pub used : List Message
@@ -90,6 +87,7 @@ module _ (laws : Laws) (g : Setting) (u : ℕ) (far : ℕ → End Message) (Stil
     pub goes : Goes g u far Still n m (lost_by_close (is_up s && not (is_up t)) n.recorder.unfinished v s.link.epoch)
     pub moved : IsMoved n m v end (is_up s && not (is_up t)) used
     pub turned : IsTurned v t new came (n.recorder.ends v) end
+    pub took : end.taken ≡ (n.recorder.ends v).taken ++ past
 
   same_loss : (b : Bool) (o : Option ℕ) (v d e : ℕ) → (b ≡ true → d ≡ e) → lost_by_close {M = Message} {P = PrefixView} {W = List ℕ} b o v d ≡ lost_by_close b o v e
   same_loss true o v d e h = ap (lost_by_close true o v) (h refl)
@@ -106,8 +104,8 @@ module _ (laws : Laws) (g : Setting) (u : ℕ) (far : ℕ → End Message) (Stil
       none_passes past k.rest (subst PassesNoMark (append_cancel_left (passing written a.taken) (h.rest ++ items) (passing written past ++ k.rest) whole) (octets_pass_none h.rest items h.only none))
 
   pub side_turns : (n : ModelRouter) (v : ℕ) (s t : Side) (new : List (Entry Message)) (before items : List (Passing Message)) (us : List Update) → u ≢ v → Stands s (n.recorder.ends v) (far v) → Holds s before (n.recorder.ends v)
-      → Advances s t new before items (n.recorder.ends v) (far v) → SaysNoUpdate new → PassesNoMark items → Hears s t us → (Still → (is_up s && not (is_up t)) ≡ false)
-      → Turns n v s t new (before ++ items) us
+      → (d : Advances s t new before items (n.recorder.ends v) (far v)) → SaysNoUpdate new → PassesNoMark items → Hears s t us → (Still → (is_up s && not (is_up t)) ≡ false)
+      → Turns n v s t new (before ++ items) us d.past
   side_turns n v s t new before items us apart x h d quiet none hears still =
       let a : End Message = n.recorder.ends v in
       let does = d.does in
@@ -131,6 +129,7 @@ module _ (laws : Laws) (g : Setting) (u : ℕ) (far : ℕ → End Message) (Stil
             (ap (λ k. lost_by_close k n.recorder.unfinished v (lost_number a ms)) lost ∙ same_loss b n.recorder.unfinished v (lost_number a ms) s.link.epoch number) go.0;
         moved = subst (λ k. IsMoved n (moved laws g u v apart far Still n ms) v c k (uses a ms)) lost (subst (λ i. IsMoved n (moved laws g u v apart far Still n ms) v i (loses a ms) (uses a ms)) l.1 go.1);
         turned = record { stands = does.stands; appended = does.appends; holds = d.holds };
+        took = does.takes;
       }
 
   -- ---- all sides
@@ -225,9 +224,9 @@ module _ (laws : Laws) (g : Setting) (u : ℕ) (far : ℕ → End Message) (Stil
     }
 
     -- one side, and then the others
-    more_turn : (v : ℕ) (vs : List ℕ) (n : ModelRouter) → list_any (nat_eq v) vs ≡ false → n.recorder.ends v ≡ ends v
-        → (f : Turns n v (x.sides v) (y.sides v) (new v) (before v ++ items v) (us v)) → AllTurn f.m vs → AllTurn n (v ∷ vs)
-    more_turn v vs n none is f rest =
+    more_turn : (v : ℕ) (vs : List ℕ) (n : ModelRouter) (past : List (Entry Message)) → list_any (nat_eq v) vs ≡ false → n.recorder.ends v ≡ ends v
+        → (f : Turns n v (x.sides v) (y.sides v) (new v) (before v ++ items v) (us v) past) → AllTurn f.m vs → AllTurn n (v ∷ vs)
+    more_turn v vs n past none is f rest =
         let m : ModelRouter = rest.m in
         let k : ModelRouter = f.m in
         let left : Option ℕ = left_at v in
@@ -287,7 +286,8 @@ module _ (laws : Laws) (g : Setting) (u : ℕ) (far : ℕ → End Message) (Stil
         let here : (nat_eq v v || list_any (nat_eq v) vs) ≡ true = ap (λ c. c || list_any (nat_eq v) vs) hit in
         let e = is v here in
         let k = may v here in
+        let d = subst (λ i. Advances (x.sides v) (y.sides v) (new v) (before v) (items v) i (far v)) (sym e) k.advances in
         let f = side_turns n v (x.sides v) (y.sides v) (new v) (before v) (items v) (us v) k.apart (subst (λ i. Stands (x.sides v) i (far v)) (sym e) k.stands) (subst (Holds (x.sides v) (before v)) (sym e) k.holds)
-        (subst (λ i. Advances (x.sides v) (y.sides v) (new v) (before v) (items v) i (far v)) (sym e) k.advances) k.quiet k.unmarked k.hears k.still in
-        more_turn v vs n apart.0 e f
+        d k.quiet k.unmarked k.hears k.still in
+        more_turn v vs n d.past apart.0 e f
         (all_turn vs apart.1 f.m (λ w h. f.moved.ends w (others v w vs apart.0 h) ∙ is w (or_behind (nat_eq w v) (list_any (nat_eq w) vs) h)) (λ w h. may w (or_behind (nat_eq w v) (list_any (nat_eq w) vs) h)))

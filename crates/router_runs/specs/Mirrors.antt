@@ -1,5 +1,5 @@
 -- A network of routers, and the network of the laws of runs that it is: router by router, recording by recording.
-use Rattle.std.specs.Prelude.{ℕ, ◌≡◌, ◌==◌, ◌<◌, Bool, true, false, not, ◌&&◌, cond, List, [], ◌∷◌, ◌++◌, Option, None, Some}
+use Rattle.std.specs.Prelude.{ℕ, ◌≡◌, ◌<◌, true, List, [], ◌∷◌, ◌++◌, Option, None, Some}
 use Rattle.std.specs.List.{list_any}
 use mathlib.Core.Logic.{◌⊎◌}
 use Rattle.prefix_lanes.specs.Bits.{PrefixView}
@@ -15,7 +15,7 @@ use Rattle.run_model.specs.Offers as offers
 use Rattle.run_model.specs.Offers.{Offering, OfferStep, Happens, Queues, IsOfferRunOf, final, network_steps, made_by}
 use Rattle.snap_marker.specs.Recordings.{RouterOffer, Recording, Snapshots}
 use Rattle.router_model.specs.Settings.{Setting, linked, peers}
-use Rattle.router_model.specs.Sides.{Side, is_up}
+use Rattle.router_model.specs.Sides.{is_up}
 use Rattle.router_model.specs.State.{Router}
 use Rattle.router_model.specs.Laws.{all_passes}
 use Rattle.router_runs.specs.Model.{network_of}

@@ -13,12 +13,12 @@ use router_model::laws::{
     drafts_leave_established, leaving_loses_the_recording, linked_routers_are_peers,
     steps_append_what_they_say,
 };
-use stable_paths::laws::stable_is_the_models;
 use run_model::{
     Framing, end_facts_hold, entries_add_up, joined_heard_its_own, moves_keep_end_facts,
     no_octet_is_stale, octets_are_entries, octets_of_an_incarnation, session_events_lead_on,
     sessions_are_link_runs,
 };
+use stable_paths::laws::stable_is_the_models;
 
 /// Frames of BGP-4 (RFC 4271 section 4.1): octets with a good header whose Length is their number.
 struct Frames;

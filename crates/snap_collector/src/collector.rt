@@ -1,12 +1,16 @@
 //! Who keeps the offers of the routers of a network.
 
-ghost use Rattle.std.specs.Prelude.{◌≡◌, ◌≤◌, length, [], ◌∷◌, map, take, IfOk, OnOk, OnErr, option_copied};
+ghost use Rattle.std.specs.Prelude.{◌≡◌, ℕ, ◌<◌, ◌≤◌, ◌↔◌, length, [], ◌∷◌, map, take, vec_len, vec_capacity, IfOk, OnOk, OnErr, option_copied};
+ghost use Rattle.std.specs.List.{AllPairs, Contains};
+ghost use mathlib.Core.Logic.{◌⊎◌};
 ghost use Rattle.snap_collector.specs.Collecting.{made_by, made_in, member_of, outcome_of};
-ghost use Rattle.snap_collector.specs.Collector.{made_at, made_for, offers_at, entry_of, with_offers, first_part, AreKept, AreMembers, IsPartOf, kept_of};
+ghost use Rattle.snap_collector.specs.Collector.{made_at, made_for, offers_at, entry_of, with_offers, first_part, AreDecided, AreKept, AreMembers, IsPartOf, kept_of};
+ghost use Rattle.snap_collector.specs.Taking.{Takes};
 ghost use Rattle.snap_collector.specs.Verdicts.{verdict, decides};
 
-use crate::judging::{decides, verdict};
-use crate::members::Member;
+use crate::answer::{CollectError, Taken};
+use crate::judging::{decides, has_offered, verdict};
+use crate::members::{Member, is_member};
 use crate::outcome::Outcome;
 use ranked_policy::{Asn, Network};
 use snap_marker::{Offer, Part};
@@ -26,11 +30,13 @@ pub struct Collector {
 
 impl Model for Collector {
     ghost use Rattle.std.specs.Prelude.{map};
-    ghost use Rattle.snap_collector.specs.Collector.{CollectorView, entry_of};
+    ghost use Rattle.snap_collector.specs.Collector.{CollectorView, AreDecided, entry_of};
 
     ghost Value = { CollectorView };
 
     ghost view = { λ c. record { members = c.members.items; offers = map entry_of c.offers.entries; decided = c.decided.items } };
+
+    ghost invariant = { λ c. AreDecided (record { members = c.members.items; offers = map entry_of c.offers.entries; decided = c.decided.items }) c.decided.items };
 }
 
 // The routers of a network with their peers, rising.
@@ -92,6 +98,18 @@ fn keep(
     Ok(())
 }
 
+// Puts a number to its place among rising ones, which have room for it; one that is there stays alone.
+fn note(numbers: &mut Vec<u32>, number: u32)
+    requires room { vec_len numbers.old < vec_capacity numbers.old }
+    requires rising { AllPairs (λ s t. s < t) numbers.old.items }
+    ensures rising { AllPairs (λ s t. s < t) numbers.new.items }
+    ensures more { (s : ℕ) → Contains numbers.new.items s ↔ (Contains numbers.old.items s ⊎ (s ≡ number)) }
+{
+    if let Err(at) = numbers.binary_search(&number) {
+        numbers.insert(at, number).unwrap();
+    }
+}
+
 // The first part of a router.
 fn first_part(offers: &[Offer], router: Asn) -> Option<&Part>
     ensures { option_copied result ≡ first_part offers.now router }
@@ -115,6 +133,7 @@ impl Collector {
         ensures nothing { IfOk result (λ c. made_for c ≡ (λ s. [])) }
         ensures members { IfOk result (λ c. AreMembers network.now c.members) }
     {
+        let _ = network.built();
         Ok(Collector {
             members: members_of(alloc, network)?,
             offers: BTreeMap::new(alloc),
@@ -130,19 +149,45 @@ impl Collector {
         ensures members { self.new.members ≡ self.old.members }
     {
         let number = offer.number();
-        let before = self.is_decided(number);
         self.decided.reserve(1)?;
         keep(*self.members.allocator(), &mut self.offers, offer)?;
-        if !before && decides(self.members.as_slice(), offers_for(&self.offers, number)) {
-            self.decided.push_reserved(number);
-            self.decided.sort_unstable();
+        if decides(self.members.as_slice(), offers_for(&self.offers, number)) {
+            note(&mut self.decided, number);
         }
         Ok(())
     }
 
+    /// Takes what a router offers: it stands behind the offers for its number, and the answer says
+    /// whether it decided its snapshot. An offer for a snapshot that was decided before is late, and
+    /// changes nothing. Refused [`CollectError::Stranger`] where no router of the network offers,
+    /// [`CollectError::Twice`] where the router has offered for this number before and the snapshot
+    /// waits, [`CollectError::Memory`] where a growth was refused. A refusal changes nothing.
+    pub fn offer(&mut self, offer: Offer) -> Result<Taken, CollectError>
+        ensures { Takes self.old self.new offer result }
+    {
+        let router = offer.router();
+        let number = offer.number();
+        if !is_member(self.members.as_slice(), router) {
+            return Err(CollectError::Stranger { router });
+        }
+        if self.is_decided(number) {
+            return Ok(Taken::Late);
+        }
+        if has_offered(offers_for(&self.offers, number), router) {
+            return Err(CollectError::Twice { router });
+        }
+        self.record(offer)?;
+        if self.is_decided(number) {
+            Ok(Taken::Decided)
+        } else {
+            Ok(Taken::Kept)
+        }
+    }
+
     /// The numbers of the snapshots that are decided, rising.
     pub fn decided(&self) -> &[u32]
-        ensures { result.now ≡ self.now.decided }
+        ensures value { result.now ≡ self.now.decided }
+        ensures decided { AreDecided self.now result.now }
     {
         self.decided.as_slice()
     }
