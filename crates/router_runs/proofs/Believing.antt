@@ -120,7 +120,7 @@ up_in state.OpenSent = refl
 up_in state.OpenConfirm = refl
 up_in state.Established = refl
 
-runs_join : (g : Setting) (before later : RunOrder) (old at last : RunState) → runs.Run (logged_steps g) old before at → runs.Run (logged_steps g) at later last → runs.Run (logged_steps g) old (before ++ later) last
+pub runs_join : (g : Setting) (before later : RunOrder) (old at last : RunState) → runs.Run (logged_steps g) old before at → runs.Run (logged_steps g) at later last → runs.Run (logged_steps g) old (before ++ later) last
 runs_join g [] later old at last r on = subst (λ z. runs.Run (logged_steps g) z later last) (sym r) on
 runs_join g (d ∷ ds) later old at last r on = (r.0, r.1, runs_join g ds later r.0 at last r.2 on)
 

@@ -39,3 +39,4 @@ mod MarkerSteps
 mod Lifting
 mod TableSteps
 mod LocalSteps
+pub mod Mirroring

@@ -1,0 +1,609 @@
+-- The run of the laws beside a run of routers: event by event.
+use Rattle.std.proofs.Common.{◌≡◌, ◌≢◌, ℕ, ◌<◌, ◌≤◌, ◌==◌, Bool, true, false, cond, List, [], ◌∷◌, ◌++◌, append_assoc, length, drop, slice_get, refl, ap, sym, ◌∙◌, arith, subst, Option, None, Some, inl, inr, ◌⊎◌}
+use Rattle.std.specs.Prelude.{if◌then◌else◌, Ok}
+use mathlib.Core.List.{IsPrefix}
+use Rattle.std.proofs.lemmas.List.{append-nil}
+use Rattle.std.proofs.lemmas.Bool.{eqb-true, eq-eqb, false≢true}
+use Rattle.prefix_lanes.specs.Bits.{PrefixView}
+use Rattle.bgp_codec.specs.declared.message.Message.{Message}
+use Rattle.bgp_codec.specs.Spelling.{written}
+use Rattle.link_epoch.specs.declared.link_end.Phase.TheVariants as phase
+use Rattle.run_model.specs.Links as links
+use Rattle.run_model.specs.Links.{Entry, End}
+use Rattle.run_model.specs.Octets as octets
+use Rattle.run_model.specs.Octets.{Passing, passing, AllGood}
+use Rattle.run_model.specs.Network as runs
+use Rattle.run_model.specs.Network.{NetworkEvent, alone, puts, takes, offers, taken_from, put_towards, offered_by}
+use Rattle.run_model.specs.Routes as routes
+use Rattle.run_model.specs.Quiet as model
+use Rattle.run_model.specs.Offers as law
+use Rattle.run_model.specs.Offers.{Makes, IsIn, IsOfferRun, IsOfferRunOf, offerings_after, final, network_steps, made_by, made_of}
+use Rattle.outbox.specs.declared.item.What.{What}
+use Rattle.snap_marker.specs.Recordings.{RouterOffer, MadeOffer}
+use Rattle.router_model.specs.Settings.{Setting, IsSetting, linked}
+use Rattle.router_model.specs.Sides.{Side, front, is_up}
+use Rattle.router_model.specs.State.{Router, rule_of}
+use Rattle.router_model.specs.Laws.{all_passes}
+use Rattle.router_model.specs.Step.{Own, RouterEvent, Handles, May, after, says, overflows, next_offer, without_offer}
+use Rattle.router_runs.specs.Runs.{Logged, LoggedStep, RunOrder, RunState, IsRunTo, logged_steps, new_logged, side_of, log_of}
+use Rattle.router_runs.specs.Model.{network_of}
+use Rattle.router_runs.specs.Reading.{state_of}
+use Rattle.router_runs.specs.Doing.{Stands}
+use Rattle.router_runs.specs.Kept.{Holds, IsGood}
+use Rattle.router_runs.specs.Said.{Kept}
+use Rattle.router_runs.specs.Snapshots.{RecordedAt, IsQuiet, IsQuietSince, snapshots_of}
+use Rattle.router_runs.specs.SnapshotLaws.{SnapshotLaws}
+use Rattle.router_runs.specs.Mirrors.{ModelRouter, ModelOffering, ModelSteps, ReadsRouter, ReadsSnapshots, Recorded, Mirrors, IsCopyAt, Copied, Mirrored, GoesOn, RunsAreMirrored, MirrorsGoOn, RecordingsAreMirrored}
+use Rattle.router_runs.proofs.Stepping.{Before}
+use Rattle.router_runs.proofs.Doing.{up_in}
+use Rattle.router_runs.proofs.Hanging.{up_is}
+use Rattle.router_runs.proofs.Entries.{prefix_trans}
+use Rattle.router_runs.proofs.Running.{all_more, all_front, number_is, own_number}
+use Rattle.router_runs.proofs.Keeping.{kept_to, all_good, reads_front, linked_both, linked_apart}
+use Rattle.router_runs.proofs.Turning.{IsTurned}
+use Rattle.router_runs.proofs.Locally.{LocalStep, nothing_recorded}
+use Rattle.router_runs.proofs.Lifting.{Lifts, Lifted, lift}
+use Rattle.router_runs.proofs.Believing.{runs_join}
+use Rattle.router_runs.proofs.Lower.{Laws, first_facts}
+
+-- it makes no offer
+abbrev pub IsNoOffer : RouterEvent → Type 0
+IsNoOffer (alone o) = Unit {0}
+IsNoOffer (puts v i) = Unit {0}
+IsNoOffer (takes v i) = Unit {0}
+IsNoOffer (offers made) = ⊥
+
+-- every event of a router but an offer is a list of events of the laws
+abbrev pub AnyStep : Laws → Type 0
+AnyStep laws =
+    (g : Setting) (set : IsSetting g) (u : ℕ) (far : ℕ → End Message) (x : Router) (before : ℕ → List (Passing Message)) (n : ModelRouter)
+    → ((v : ℕ) → linked g.net u v ≡ true → Before laws v (x.sides v) (before v) (n.recorder.ends v) (far v)) → ReadsRouter g u x n
+    → (e : RouterEvent) → IsNoOffer e → May g u x e → overflows g u x e ≡ false
+    → ((v : ℕ) → linked g.net u v ≡ true → (n.recorder.ends v).phase ≡ links.Joined → (k : ℕ) → IsIn (links.Mark (links.incarnation (n.recorder.ends v)) k) (n.recorder.ends v).taken → k ≤ n.recorder.last)
+    → ((w : ℕ) → e ≡ alone (Handles w) → (m : Message) × (front (rule_of w) (x.sides w).held ≡ Ok m))
+    → ((v : ℕ) → linked g.net u v ≡ true → IsPrefix (before v ++ all_passes (taken_from v e)) (passing written (far v).appended))
+    → LocalStep laws g set.network u far (IsQuiet g u x (after g u x e) e) x (after g u x e) (says g u x e) before (λ v. all_passes (taken_from v e)) n
+
+-- what is held is the same of the same
+abbrev holds_as : (s t : Side) (k l : List (Passing Message)) (a b : End Message) → s ≡ t → k ≡ l → a ≡ b → Holds s k a → Holds t l b
+holds_as s t k l a b side items end h = record {
+  rest = h.rest;
+  only = h.only;
+  passed = sym items ∙ (h.passed ∙ ap (λ c. passing written c.taken ++ h.rest) end);
+  joined = subst (λ r. r.link.phase ≡ phase.Joined → h.rest ≡ octets.octets_of r.link.epoch r.held) side h.joined;
+  apart = subst (λ r. r.link.phase ≢ phase.Joined → r.held ≡ []) side h.apart;
+}
+
+stands_as : (s t : Side) (a b c d : End Message) → s ≡ t → a ≡ b → c ≡ d → Stands s a c → Stands t b d
+stands_as s t a b c d side end other st = subst (λ r. Stands r b d) side (subst (λ i. Stands s i d) end (subst (Stands s a) other st))
+
+-- the next of a list of which this many are gone
+slice_behind : {A : Type 0} (xs ys : List A) → slice_get (xs ++ ys) (length xs) ≡ slice_get ys 0
+slice_behind [] ys = refl
+slice_behind (x ∷ xs) ys = slice_behind xs ys
+
+taken_first : {A : Type 0} (xs ys : List A) (y : A) → slice_get ys 0 ≡ Some y → xs ++ ys ≡ (xs ++ y ∷ []) ++ drop 1 ys
+taken_first xs [] y h = absurd (cc h)
+taken_first xs (z ∷ ys) y h = (let same : z ≡ y = cc in ap (λ k. xs ++ k ∷ ys) same ∙ sym (append_assoc xs (y ∷ []) ys))
+
+made_one : (a : ℕ) (ms : List MadeOffer) (m : MadeOffer) → made_by a (ms ++ m ∷ []) ≡ made_by a ms ++ cond (a == m.router) (m.offer ∷ []) []
+made_one a [] m = at (a == m.router)
+  where
+    at : (b : Bool) → cond b (m.offer ∷ []) [] ≡ cond b (m.offer ∷ []) []
+    at b = refl
+made_one a (k ∷ ms) m = at (a == k.router) (made_one a ms m)
+  where
+    at : (b : Bool) → made_by a (ms ++ m ∷ []) ≡ made_by a ms ++ cond (a == m.router) (m.offer ∷ []) [] → cond b (k.offer ∷ made_by a (ms ++ m ∷ [])) (made_by a (ms ++ m ∷ [])) ≡ cond b (k.offer ∷ made_by a ms) (made_by a ms) ++ cond (a == m.router) (m.offer ∷ []) []
+    at true h = ap (λ l. k.offer ∷ l) h
+    at false h = h
+
+none_offered : (e : RouterEvent) → IsNoOffer e → offered_by e ≡ []
+none_offered (alone o) is = refl
+none_offered (puts v i) is = refl
+none_offered (takes v i) is = refl
+none_offered (offers made) is = absurd is
+
+apart_of : (u a : ℕ) → (u == a) ≡ false → u ≡ a → ⊥
+apart_of u a h same = absurd (false≢true (sym h ∙ eq-eqb u a same))
+
+steps_append : (g : Setting) (ts us : ModelSteps) → network_steps (network_of g) (ts ++ us) ≡ network_steps (network_of g) ts ++ network_steps (network_of g) us
+steps_append g [] us = refl
+steps_append g (t ∷ ts) us =
+    ap (λ l. law.network_step (network_of g) t.router t.event ++ l) (steps_append g ts us)
+    ∙ sym (append_assoc (law.network_step (network_of g) t.router t.event) (network_steps (network_of g) ts) (network_steps (network_of g) us))
+
+quiet_on : (g : Setting) (s : ℕ) (ts us : List (routes.NetworkStep Message PrefixView (List ℕ))) (w : ℕ → ModelRouter) → model.IsQuietSince (network_of g) s w ts
+    → model.IsQuietSince (network_of g) s (routes.routers_after (network_of g) w ts) us → model.IsQuietSince (network_of g) s w (ts ++ us)
+quiet_on g s [] us w one two = two
+quiet_on g s (t ∷ ts) us w one two = (one.0, quiet_on g s ts us (routes.advanced (network_of g) w t) one.1 two)
+
+module _ (laws : Laws) (more : SnapshotLaws) (any_step : AnyStep laws) where
+  module _ (g : Setting) (set : IsSetting g) (order : RunOrder) (old : RunState) (m : Mirrored g order old) (r : IsRunTo g order old) (u : ℕ) where
+    abbrev x : Router
+    x = (old.routers u).router
+
+    abbrev w : ModelOffering
+    w = final (network_of g) m.steps
+
+    abbrev n : ModelRouter
+    n = w.routers u
+
+    abbrev far : ℕ → End Message
+    far v = (w.routers v).recorder.ends u
+
+    abbrev before : ℕ → List (Passing Message)
+    before v = all_passes (old.taken v u)
+
+    abbrev event : RouterEvent → NetworkEvent Own What MadeOffer
+    event e = record { router = u; event = e }
+
+    abbrev new : RouterEvent → Logged → RunState
+    new e own = runs.after (logged_steps g) old (event e) own
+
+    abbrev Begins : RouterEvent → Logged → Type 0
+    Begins e own = (a b : ℕ) → IsPrefix ((new e own).taken a b) ((new e own).put a b)
+
+    kept : Kept g old
+    kept = kept_to laws g set order old r
+
+    known : (v : ℕ) → linked g.net u v ≡ true → Before laws v (x.sides v) (before v) (n.recorder.ends v) (far v)
+    known v near =
+        let back = linked_both laws g set.network u v near in
+        record {
+          stands = m.mirrors.sides u v near;
+          own = own_number laws u v (side_of old u v) (side_of old v u) (log_of old u v) (log_of old v u) (old.taken v u) (old.taken u v) (linked_apart laws g set.network u v near) (kept.reached.links u v near);
+          holds = m.mirrors.holds u v near;
+          good = subst (AllGood (IsGood v)) (m.mirrors.log v u back) (all_good laws g set old kept v u back);
+        }
+
+    -- what is taken was said before
+    comes_at : (v : ℕ) (e : RouterEvent) (own : Logged) (c d : Bool) → (u == v) ≡ c → c ≡ false → (u == u) ≡ d → d ≡ true → IsPrefix (old.taken v u ++ (if d then taken_from v e else [])) (old.put v u ++ (if c then put_towards u e else []))
+        → IsPrefix (before v ++ all_passes (taken_from v e)) (passing written (log_of old v u))
+    comes_at v e own true d h miss k hit is = absurd (cc miss)
+    comes_at v e own false false h miss k hit is = absurd (cc hit)
+    comes_at v e own false true h miss k hit is =
+        subst (λ l. IsPrefix l (passing written (log_of old v u))) (all_more laws (old.taken v u) (taken_from v e))
+        (prefix_trans (all_passes (old.taken v u ++ taken_from v e)) (all_passes (old.put v u)) (passing written (log_of old v u))
+        (all_front laws (old.taken v u ++ taken_from v e) (old.put v u) (subst (IsPrefix (old.taken v u ++ taken_from v e)) (append-nil (old.put v u)) is))
+        ((side_of old v u).outbox, kept.reached.puts v u))
+
+    off : (v : ℕ) → linked g.net u v ≡ true → (u == v) ≡ false
+    off v near = at (u == v) refl
+      where
+        at : (b : Bool) → (u == v) ≡ b → b ≡ false
+        at true h = absurd (linked_apart laws g set.network u v near (number_is laws u v h))
+        at false h = refl
+
+    comes : (e : RouterEvent) (own : Logged) → Begins e own → (v : ℕ) → linked g.net u v ≡ true → IsPrefix (before v ++ all_passes (taken_from v e)) (passing written (far v).appended)
+    comes e own begins v near =
+        subst (λ l. IsPrefix (before v ++ all_passes (taken_from v e)) (passing written l)) (m.mirrors.log v u (linked_both laws g set.network u v near))
+        (comes_at v e own (u == v) (u == u) refl (off v near) refl (eq-eqb u u refl) (begins v u))
+
+    -- markers are obeyed as they are taken
+    obeyed : (v : ℕ) → linked g.net u v ≡ true → (n.recorder.ends v).phase ≡ links.Joined → (k : ℕ) → IsIn (links.Mark (links.incarnation (n.recorder.ends v)) k) (n.recorder.ends v).taken → k ≤ n.recorder.last
+    obeyed v near =
+        let aside = more.aside (network_of g) m.steps m.run in
+        subst (λ z. ((z u).recorder.ends v).phase ≡ links.Joined → (k : ℕ) → IsIn (links.Mark (links.incarnation ((z u).recorder.ends v)) k) ((z u).recorder.ends v).taken → k ≤ (z u).recorder.last) aside.1
+        (more.obeyed (network_of g) (network_steps (network_of g) m.steps) aside.0 u v (linked_apart laws g set.network u v near))
+
+    -- the step of the router in the laws, with what it leaves there
+    record Next (e : RouterEvent) (own : Logged) : Type 0 where
+      pub steps : ModelSteps
+      pub run : IsOfferRun (network_of g) w steps
+      pub router : ModelRouter
+      pub here : (offerings_after (network_of g) w steps).routers u ≡ router
+      pub others : (a : ℕ) → (u ≡ a → ⊥) → (offerings_after (network_of g) w steps).routers a ≡ w.routers a
+      pub queued : (offerings_after (network_of g) w steps).queued u ≡ made_by u (offerings_after (network_of g) w steps).made ++ (after g u x e).snapshots.queue
+      pub other_queues : (a : ℕ) → (u ≡ a → ⊥) → (offerings_after (network_of g) w steps).queued a ≡ made_by a (offerings_after (network_of g) w steps).made ++ (old.routers a).router.snapshots.queue
+      pub made : (offerings_after (network_of g) w steps).made ≡ (new e own).offered
+      pub calm : (s : ℕ) → IsQuiet g u x (after g u x e) e ⊎ (n.recorder.copy s ≡ None) → model.IsQuietSince (network_of g) s w.routers (network_steps (network_of g) steps)
+      pub turned : (v : ℕ) → linked g.net u v ≡ true
+          → IsTurned laws g u far (IsQuiet g u x (after g u x e) e) v ((after g u x e).sides v) (says g u x e v) (before v ++ all_passes (taken_from v e)) (n.recorder.ends v) (router.recorder.ends v)
+      pub reads : ReadsRouter g u (after g u x e) router
+      pub recorded : Recorded n router x.snapshots.last (after g u x e).snapshots.last
+      pub unmarked : (k v : ℕ) → x.snapshots.last < k → (after g u x e).snapshots.last ≡ k → (near : linked g.net u v ≡ true) → links.is_up (router.recorder.ends v) ≡ true
+          → ((turned v near).holds.rest ≡ []) ⊎ (IsIn (links.Mark (links.incarnation (router.recorder.ends v)) k) (router.recorder.ends v).taken → ⊥)
+
+    usual : (e : RouterEvent) → IsNoOffer e → (own : Logged) → LoggedStep g u (old.routers u) e own → Begins e own → Next e own
+    usual e is own step begins =
+        let y : Router = after g u x e in
+        let l = any_step g set u far x before n known (m.mirrors.routers u) e is step.step.may step.step.numbers obeyed (reads_front laws g set old kept (event e) own step) (comes e own begins) in
+        let up = lift g u w (IsQuiet g u x y e) l.m l.offers l.goes in
+        let z : ModelOffering = offerings_after (network_of g) w up.steps in
+        record {
+          steps = up.steps;
+          run = up.run;
+          router = l.m;
+          here = up.leads.here;
+          others = up.leads.others;
+          queued =
+              up.leads.queued
+              ∙ ap (λ q. q ++ l.offers) (m.mirrors.queued u)
+              ∙ append_assoc (made_by u w.made) x.snapshots.queue l.offers
+              ∙ ap (λ q. made_by u w.made ++ q) (sym l.queue)
+              ∙ ap (λ ms. made_by u ms ++ y.snapshots.queue) (sym up.leads.made);
+          other_queues = λ a apart. up.leads.other_queues a apart ∙ m.mirrors.queued a ∙ ap (λ ms. made_by a ms ++ (old.routers a).router.snapshots.queue) (sym up.leads.made);
+          made = up.leads.made ∙ m.mirrors.made ∙ sym (append-nil old.offered) ∙ ap (λ k. old.offered ++ k) (sym (none_offered e is));
+          calm = up.calm;
+          turned = l.turned;
+          reads = l.reads;
+          recorded = l.recorded;
+          unmarked = l.unmarked;
+        }
+
+    -- ---- an offer that is made
+
+    makes : (made : MadeOffer) (own : Logged) → LoggedStep g u (old.routers u) (offers made) own → Begins (offers made) own → Next (offers made) own
+    makes made own step begins =
+        let is : made.router ≡ u = step.step.may.0 in
+        let queue : w.queued u ≡ made_by u w.made ++ x.snapshots.queue = m.mirrors.queued u in
+        let mine : made_by u (w.made ++ made ∷ []) ≡ made_by u w.made ++ made.offer ∷ [] =
+        made_one u w.made made ∙ ap (λ c. made_by u w.made ++ cond c (made.offer ∷ []) []) (eq-eqb u made.router (sym is)) in
+        let same : made_of u made.offer ≡ made = λ i. record { router = sym is i; offer = made.offer } in
+        record {
+          steps = record { router = u; event = Makes made.offer } ∷ [];
+          run = (ap (λ q. slice_get q (length (made_by u w.made))) queue ∙ slice_behind (made_by u w.made) x.snapshots.queue ∙ step.step.may.1, tt);
+          router = n;
+          here = refl;
+          others = λ a apart. refl;
+          queued =
+              queue ∙ taken_first (made_by u w.made) x.snapshots.queue made.offer step.step.may.1
+              ∙ ap (λ k. k ++ drop 1 x.snapshots.queue) (sym mine)
+              ∙ ap (λ k. made_by u (w.made ++ k ∷ []) ++ drop 1 x.snapshots.queue) (sym same);
+          other_queues = λ a apart.
+              m.mirrors.queued a
+              ∙ ap (λ k. k ++ (old.routers a).router.snapshots.queue) (sym (append-nil (made_by a w.made)) ∙ ap (λ c. made_by a w.made ++ cond c (made.offer ∷ []) []) (sym (miss a apart)) ∙ sym (made_one a w.made (made_of u made.offer)));
+          made = ap (λ k. w.made ++ k ∷ []) same ∙ ap (λ k. k ++ made ∷ []) m.mirrors.made;
+          calm = λ s still. tt;
+          turned = λ v near. record {
+            stands = (known v near).stands;
+            appended = sym (append-nil (n.recorder.ends v).appended);
+            holds = holds_as (x.sides v) (x.sides v) (before v) (before v ++ []) (n.recorder.ends v) (n.recorder.ends v) refl (sym (append-nil (before v))) refl (known v near).holds;
+          };
+          reads = record {
+            kept = (m.mirrors.routers u).kept;
+            originated = (m.mirrors.routers u).originated;
+            snapshots = record { last = (m.mirrors.routers u).snapshots.last; unfinished = (m.mirrors.routers u).snapshots.unfinished; recording = (m.mirrors.routers u).snapshots.recording };
+          };
+          recorded = nothing_recorded n n x.snapshots.last x.snapshots.last refl refl refl refl;
+          unmarked = λ k v low at near up. absurd (omega (arith, low, at));
+        }
+      where
+        miss : (a : ℕ) → (u ≡ a → ⊥) → (a == u) ≡ false
+        miss a apart = at (a == u) refl
+          where
+            at : (b : Bool) → (a == u) ≡ b → b ≡ false
+            at true h = absurd (apart (sym (eqb-true a u h)))
+            at false h = refl
+
+    next_of : (e : RouterEvent) (own : Logged) → LoggedStep g u (old.routers u) e own → Begins e own → Next e own
+    next_of (alone o) own step begins = usual (alone o) tt own step begins
+    next_of (puts v i) own step begins = usual (puts v i) tt own step begins
+    next_of (takes v i) own step begins = usual (takes v i) tt own step begins
+    next_of (offers made) own step begins = makes made own step begins
+
+    -- ---- the state behind it
+
+    module _ (e : RouterEvent) (own : Logged) (step : LoggedStep g u (old.routers u) e own) (begins : Begins e own) (k : Next e own) where
+      abbrev y : Router
+      y = after g u x e
+
+      abbrev z : ModelOffering
+      z = offerings_after (network_of g) w k.steps
+
+      abbrev leaves : own.router ≡ y
+      leaves = step.step.leaves
+
+      side_here : (v : ℕ) → y.sides v ≡ own.router.sides v
+      side_here v = ap (λ i. i.sides v) (sym leaves)
+
+      end_here : (v : ℕ) → k.router.recorder.ends v ≡ (z.routers u).recorder.ends v
+      end_here v = ap (λ i. i.recorder.ends v) (sym k.here)
+
+      end_there : (a v : ℕ) → (u ≡ a → ⊥) → (w.routers a).recorder.ends v ≡ (z.routers a).recorder.ends v
+      end_there a v apart = ap (λ i. i.recorder.ends v) (sym (k.others a apart))
+
+      sides_at : (a b : ℕ) → linked g.net a b ≡ true → (p : Bool) → (u == a) ≡ p → (q : Bool) → (u == b) ≡ q
+          → Stands ((if p then own else old.routers a).router.sides b) ((z.routers a).recorder.ends b) ((z.routers b).recorder.ends a)
+      sides_at a b near true h true i = absurd (linked_apart laws g set.network a b near (sym (number_is laws u a h) ∙ number_is laws u b i))
+      sides_at a b near true h false i =
+          let same : u ≡ a = number_is laws u a h in
+          let near_u : linked g.net u b ≡ true = subst (λ j. linked g.net j b ≡ true) (sym same) near in
+          subst (λ j. Stands (own.router.sides b) ((z.routers j).recorder.ends b) ((z.routers b).recorder.ends j)) same
+          (stands_as (y.sides b) (own.router.sides b) (k.router.recorder.ends b) ((z.routers u).recorder.ends b) (far b) ((z.routers b).recorder.ends u) (side_here b) (end_here b) (end_there b u (apart_of u b i)) (k.turned b near_u).stands)
+      sides_at a b near false h true i =
+          let same : u ≡ b = number_is laws u b i in
+          let near_b : linked g.net a u ≡ true = subst (λ j. linked g.net a j ≡ true) (sym same) near in
+          let near_u : linked g.net u a ≡ true = linked_both laws g set.network a u near_b in
+          let was = m.mirrors.sides a u near_b in
+          let now = (k.turned a near_u).stands in
+          subst (λ j. Stands (side_of old a j) ((z.routers a).recorder.ends j) ((z.routers j).recorder.ends a)) same
+          (stands_as (side_of old a u) (side_of old a u) ((w.routers a).recorder.ends u) ((z.routers a).recorder.ends u) (k.router.recorder.ends a) ((z.routers u).recorder.ends a) refl (end_there a u (apart_of u a h)) (end_here a)
+          (record { reads = was.reads; fits = was.fits; mine = now.theirs; theirs = now.mine }))
+      sides_at a b near false h false i =
+          stands_as (side_of old a b) (side_of old a b) ((w.routers a).recorder.ends b) ((z.routers a).recorder.ends b) ((w.routers b).recorder.ends a) ((z.routers b).recorder.ends a) refl (end_there a b (apart_of u a h)) (end_there b a (apart_of u b i))
+          (m.mirrors.sides a b near)
+
+      log_here : (v : ℕ) → linked g.net u v ≡ true → own.log v ≡ ((z.routers u).recorder.ends v).appended
+      log_here v near =
+          ap (λ f. f v) step.log
+          ∙ (ap (λ l. l ++ says g u x e v) (m.mirrors.log u v near)
+          ∙ (sym (k.turned v near).appended
+          ∙ ap (λ i. i.appended) (end_here v)))
+
+      log_at : (a b : ℕ) → linked g.net a b ≡ true → (p : Bool) → (u == a) ≡ p → (if p then own else old.routers a).log b ≡ ((z.routers a).recorder.ends b).appended
+      log_at a b near true h =
+          let same : u ≡ a = number_is laws u a h in
+          subst (λ j. own.log b ≡ ((z.routers j).recorder.ends b).appended) same (log_here b (subst (λ j. linked g.net j b ≡ true) (sym same) near))
+      log_at a b near false h = m.mirrors.log a b near ∙ ap (λ i. i.appended) (end_there a b (apart_of u a h))
+
+      abbrev holds_here : (v : ℕ) → linked g.net u v ≡ true → Holds (own.router.sides v) (all_passes (old.taken v u ++ taken_from v e)) ((z.routers u).recorder.ends v)
+      holds_here v near =
+          holds_as (y.sides v) (own.router.sides v) (before v ++ all_passes (taken_from v e)) (all_passes (old.taken v u ++ taken_from v e)) (k.router.recorder.ends v) ((z.routers u).recorder.ends v)
+          (side_here v) (sym (all_more laws (old.taken v u) (taken_from v e))) (end_here v) (k.turned v near).holds
+
+      holds_at : (a b : ℕ) → linked g.net a b ≡ true → (p : Bool) → (u == a) ≡ p
+          → Holds ((if p then own else old.routers a).router.sides b) (all_passes (old.taken b a ++ (if p then taken_from b e else []))) ((z.routers a).recorder.ends b)
+      holds_at a b near true h =
+          let same : u ≡ a = number_is laws u a h in
+          subst (λ j. Holds (own.router.sides b) (all_passes (old.taken b j ++ taken_from b e)) ((z.routers j).recorder.ends b)) same (holds_here b (subst (λ j. linked g.net j b ≡ true) (sym same) near))
+      holds_at a b near false h =
+          holds_as (side_of old a b) (side_of old a b) (all_passes (old.taken b a)) (all_passes (old.taken b a ++ [])) ((w.routers a).recorder.ends b) ((z.routers a).recorder.ends b) refl (ap all_passes (sym (append-nil (old.taken b a))))
+          (end_there a b (apart_of u a h)) (m.mirrors.holds a b near)
+
+      router_at : (a : ℕ) (p : Bool) → (u == a) ≡ p → ReadsRouter g a (if p then own else old.routers a).router (z.routers a)
+      router_at a true h =
+          subst (λ j. ReadsRouter g j own.router (z.routers j)) (number_is laws u a h) (subst (ReadsRouter g u own.router) (sym k.here) (subst (λ i. ReadsRouter g u i k.router) (sym leaves) k.reads))
+      router_at a false h = subst (ReadsRouter g a (old.routers a).router) (sym (k.others a (apart_of u a h))) (m.mirrors.routers a)
+
+      queue_at : (a : ℕ) (p : Bool) → (u == a) ≡ p → z.queued a ≡ made_by a z.made ++ (if p then own else old.routers a).router.snapshots.queue
+      queue_at a true h =
+          subst (λ j. z.queued j ≡ made_by j z.made ++ own.router.snapshots.queue) (number_is laws u a h) (k.queued ∙ ap (λ i. made_by u z.made ++ i.snapshots.queue) (sym leaves))
+      queue_at a false h = k.other_queues a (apart_of u a h)
+
+      mirrors_next : Mirrors g (new e own) z
+      mirrors_next = record {
+        sides = λ a b near. sides_at a b near (u == a) refl (u == b) refl;
+        log = λ a b near. log_at a b near (u == a) refl;
+        holds = λ a b near. holds_at a b near (u == a) refl;
+        routers = λ a. router_at a (u == a) refl;
+        queued = λ a. queue_at a (u == a) refl;
+        made = k.made;
+      }
+
+      -- ---- the run up to there
+
+      abbrev order_next : RunOrder
+      order_next = order ++ event e ∷ []
+
+      one_step : runs.Run (logged_steps g) old (event e ∷ []) (new e own)
+      one_step = (new e own, (own, step, refl, begins), refl)
+
+      routers_here : (new e own).routers u ≡ own
+      routers_here = ap (λ b. if b then own else old.routers u) (eq-eqb u u refl)
+
+      router_here : y ≡ ((new e own).routers u).router
+      router_here = sym leaves ∙ ap (λ i. i.router) (sym routers_here)
+
+      place_on : (a s : ℕ) (at : RunState) → RecordedAt g order old a s at → RecordedAt g order_next (new e own) a s at
+      place_on a s at p = record {
+        before = p.before;
+        event = p.event;
+        later = p.later ++ event e ∷ [];
+        old = p.old;
+        parts = ap (λ l. l ++ event e ∷ []) p.parts ∙ append_assoc p.before (record { router = a; event = p.event } ∷ p.later) (event e ∷ []);
+        reached = p.reached;
+        step = p.step;
+        goes_on = runs_join g p.later (event e ∷ []) at old (new e own) p.goes_on one_step;
+        greater = p.greater;
+        records = p.records;
+      }
+
+      place_here : (s : ℕ) → x.snapshots.last < s → y.snapshots.last ≡ s → RecordedAt g order_next (new e own) u s (new e own)
+      place_here s low high = record {
+        before = order;
+        event = e;
+        later = [];
+        old = old;
+        parts = refl;
+        reached = r;
+        step = (own, step, refl, begins);
+        goes_on = refl;
+        greater = low;
+        records = ap (λ i. i.snapshots.last) (sym router_here) ∙ high;
+      }
+
+      -- ---- what stands as recorded
+
+      copied_on : (a s : ℕ) (c : ℕ → End Message) (i : ModelRouter) → i.kept_at s ≡ (w.routers a).kept_at s → i.originated_at s ≡ (w.routers a).originated_at s → (w.routers a).recorder.copy s ≡ Some c → Copied g order_next (new e own) i a s c
+      copied_on a s c i kept_same originated_same is =
+          let was = m.copies a s c is in
+          record {
+            at = was.at;
+            place = place_on a s was.at was.place;
+            ends = was.ends;
+            kept = kept_same ∙ was.kept;
+            originated = originated_same ∙ was.originated;
+            unmarked = was.unmarked;
+          }
+
+      abbrev copy_holds : (c : ℕ → End Message) → k.router.recorder.ends ≡ c → (v : ℕ) → linked g.net u v ≡ true → Holds (side_of (new e own) u v) (all_passes ((new e own).taken v u)) (c v)
+      copy_holds c same v near =
+          holds_as (y.sides v) (side_of (new e own) u v) (before v ++ all_passes (taken_from v e)) (all_passes ((new e own).taken v u)) (k.router.recorder.ends v) (c v)
+          (ap (λ i. i.sides v) router_here)
+          (sym (all_more laws (old.taken v u) (taken_from v e)) ∙ ap (λ b. all_passes (old.taken v u ++ (if b then taken_from v e else []))) (sym (eq-eqb u u refl)))
+          (ap (λ f. f v) same) (k.turned v near).holds
+
+      copied_new : (s : ℕ) (c : ℕ → End Message) → x.snapshots.last < s → y.snapshots.last ≡ s → k.router.recorder.ends ≡ c → k.router.kept_at s ≡ k.router.kept → k.router.originated_at s ≡ k.router.originated
+          → Copied g order_next (new e own) k.router u s c
+      copied_new s c low high same kept_same originated_same = record {
+        at = new e own;
+        place = place_here s low high;
+        ends = record {
+          reads = λ v near. (stands_there v near).reads;
+          up = λ v near. up_is laws (state_of (side_of (new e own) u v).session.state) (c v) (stands_there v near).fits ∙ up_in laws (side_of (new e own) u v).session.state;
+          log = λ v near. ap (λ i. i.log v) routers_here ∙ (log_here v near ∙ (ap (λ i. i.appended) (sym (end_here v)) ∙ ap (λ f. (f v).appended) same));
+          holds = copy_holds c same;
+        };
+        kept = kept_same ∙ k.reads.kept ∙ ap (λ i. i.kept) router_here;
+        originated = originated_same ∙ k.reads.originated ∙ ap (λ i. i.originated) router_here;
+        unmarked = λ v near up.
+            subst (λ f. ((k.turned v near).holds.rest ≡ []) ⊎ (IsIn (links.Mark (links.incarnation (f v)) s) (f v).taken → ⊥)) same
+            (k.unmarked s v low high near (ap (λ f. links.is_up (f v)) same ∙ up));
+      }
+        where
+          stands_there : (v : ℕ) → linked g.net u v ≡ true → Stands (side_of (new e own) u v) (c v) (far v)
+          stands_there v near = stands_as (y.sides v) (side_of (new e own) u v) (k.router.recorder.ends v) (c v) (far v) (far v) (ap (λ i. i.sides v) router_here) (ap (λ f. f v) same) refl (k.turned v near).stands
+
+      copied_here : (s : ℕ) (c : ℕ → End Message) → k.router.recorder.copy s ≡ Some c → Copied g order_next (new e own) k.router u s c
+      copied_here s c is = elim (k.recorded.new s c is) [
+        | inl was ↦ copied_on u s c k.router was.1 was.2 was.0
+        | inr now ↦ copied_new s c now.0 now.1 now.2 now.3 now.4
+      ]
+
+      copied_at : (a s : ℕ) (c : ℕ → End Message) (p : Bool) → (u == a) ≡ p → (z.routers a).recorder.copy s ≡ Some c → Copied g order_next (new e own) (z.routers a) a s c
+      copied_at a s c true h is =
+          subst (λ j. (z.routers j).recorder.copy s ≡ Some c → Copied g order_next (new e own) (z.routers j) j s c) (number_is laws u a h)
+          (subst (λ i. i.recorder.copy s ≡ Some c → Copied g order_next (new e own) i u s c) (sym k.here) (copied_here s c)) is
+      copied_at a s c false h is =
+          let same = k.others a (apart_of u a h) in
+          copied_on a s c (z.routers a) (ap (λ i. i.kept_at s) same) (ap (λ i. i.originated_at s) same) (ap (λ i. i.recorder.copy s) (sym same) ∙ is)
+
+      keeps_at : (a s : ℕ) (c : ℕ → End Message) (p : Bool) → (u == a) ≡ p → (w.routers a).recorder.copy s ≡ Some c → (d : ℕ → End Message) × ((z.routers a).recorder.copy s ≡ Some d)
+      keeps_at a s c true h is =
+          subst (λ j. (w.routers j).recorder.copy s ≡ Some c → (d : ℕ → End Message) × ((z.routers j).recorder.copy s ≡ Some d)) (number_is laws u a h)
+          (λ here. (let on = k.recorded.kept s c here in (on.0, ap (λ i. i.recorder.copy s) k.here ∙ on.1))) is
+      keeps_at a s c false h is = (c, ap (λ i. i.recorder.copy s) (k.others a (apart_of u a h)) ∙ is)
+
+      -- ---- the quiet stretch
+
+      quiet_before : (s : ℕ) → IsQuietSince g s order_next (new e own) → IsQuietSince g s order old
+      quiet_before s q front later d was now at parts reached does on place =
+          q front (later ++ event e ∷ []) d was now at (ap (λ l. l ++ event e ∷ []) parts ∙ append_assoc front (d ∷ later) (event e ∷ [])) reached does
+          (runs_join g later (event e ∷ []) now old (new e own) on one_step) place
+
+      calm_at : (s : ℕ) → IsQuietSince g s order_next (new e own) → (o : Option (ℕ → End Message)) → n.recorder.copy s ≡ o → IsQuiet g u x y e ⊎ (n.recorder.copy s ≡ None)
+      calm_at s q None is = inr is
+      calm_at s q (Some c) is =
+          let was = m.copies u s c is in
+          inl (subst (λ i. IsQuiet g u x i e) (sym router_here) (q order [] (event e) old (new e own) was.at refl r (own, step, refl, begins) refl was.place))
+
+      quiet_next : (s : ℕ) → IsQuietSince g s order_next (new e own)
+          → model.IsQuietSince (network_of g) s (routes.first_routers (network_of g)) (network_steps (network_of g) (m.steps ++ k.steps))
+      quiet_next s q =
+          let one = m.quiet s (quiet_before s q) in
+          let two = k.calm s (calm_at s q (n.recorder.copy s) refl) in
+          subst (model.IsQuietSince (network_of g) s (routes.first_routers (network_of g))) (sym (steps_append g m.steps k.steps))
+          (quiet_on g s (network_steps (network_of g) m.steps) (network_steps (network_of g) k.steps) (routes.first_routers (network_of g)) one
+          (subst (λ i. model.IsQuietSince (network_of g) s i (network_steps (network_of g) k.steps)) (sym (more.aside (network_of g) m.steps m.run).1) two))
+
+      -- ---- the longer run
+
+      final_is : final (network_of g) (m.steps ++ k.steps) ≡ z
+      final_is = (more.on (network_of g) m.steps k.steps m.run k.run).1
+
+      abbrev whole_next : Mirrored g order_next (new e own)
+      whole_next = record {
+        steps = m.steps ++ k.steps;
+        run = (more.on (network_of g) m.steps k.steps m.run k.run).0;
+        mirrors = subst (Mirrors g (new e own)) (sym final_is) mirrors_next;
+        copies = λ a s c is. subst (λ o. (o.routers a).recorder.copy s ≡ Some c → Copied g order_next (new e own) (o.routers a) a s c) (sym final_is) (copied_at a s c (u == a) refl) is;
+        quiet = quiet_next;
+      }
+
+      abbrev goes_next : GoesOn g order old m (event e ∷ []) (new e own)
+      goes_next = record {
+        whole = whole_next;
+        more = k.steps;
+        steps = refl;
+        keeps = λ a s c is. subst (λ o. (d : ℕ → End Message) × ((o.routers a).recorder.copy s ≡ Some d)) (sym final_is) (keeps_at a s c (u == a) refl is);
+      }
+
+      news_next : (s : ℕ) → x.snapshots.last < s → (snapshots_of (new e own) u).last ≡ s → (c : ℕ → End Message) × (((final (network_of g) (m.steps ++ k.steps)).routers u).recorder.copy s ≡ Some c)
+      news_next s low high =
+          let got = k.recorded.recorded s low (ap (λ i. i.snapshots.last) router_here ∙ high) in
+          (got.0, ap (λ o. (o.routers u).recorder.copy s) final_is ∙ (ap (λ i. i.recorder.copy s) k.here ∙ got.1))
+
+    -- one step of the network, and the run of the laws behind it
+    record One (e : RouterEvent) (at : RunState) : Type 0 where
+      pub goes : GoesOn g order old m (event e ∷ []) at
+      pub news : (s : ℕ) → x.snapshots.last < s → (snapshots_of at u).last ≡ s → (c : ℕ → End Message) × (((final (network_of g) goes.whole.steps).routers u).recorder.copy s ≡ Some c)
+
+    one_on : (e : RouterEvent) (at : RunState) → runs.NetworkStep (logged_steps g) old (event e) at → One e at
+    one_on e at s =
+        let own : Logged = s.0 in
+        let begins : Begins e own = subst (λ (i : RunState). (a b : ℕ) → IsPrefix (i.taken a b) (i.put a b)) s.2 s.3 in
+        let k = next_of e own s.1 begins in
+        subst (One e) (sym s.2) (record { goes = goes_next e own s.1 begins k; news = news_next e own s.1 begins k })
+
+  -- ---- every run
+
+  module _ (g : Setting) (set : IsSetting g) where
+    first : Mirrored g [] (runs.opening (λ u. new_logged g))
+    first = record {
+      steps = [];
+      run = tt;
+      mirrors = record {
+        sides = λ u v near.
+            let apart = linked_apart laws g set.network u v near in
+            record {
+              reads = record { phase = refl; epoch = refl; heard = refl; is_shut = refl; acted = λ e. refl; sent = λ e. refl };
+              fits = record { phase = refl; has_said = tt; has_used = tt };
+              mine = first_facts laws u v apart;
+              theirs = first_facts laws v u (λ e. apart (sym e));
+            };
+        log = λ u v near. refl;
+        holds = λ u v near. record { rest = []; only = tt; passed = refl; joined = λ j. absurd (cc j); apart = λ n. refl };
+        routers = λ u. record { kept = refl; originated = refl; snapshots = record { last = refl; unfinished = refl; recording = tt } };
+        queued = λ u. refl;
+        made = refl;
+      };
+      copies = λ u s c is. absurd (cc is);
+      quiet = λ s q. tt;
+    }
+
+    -- a longer run, whatever its order is written as
+    record GoesTo (before : RunOrder) (at : RunState) (m : Mirrored g before at) (last : RunState) (order : RunOrder) : Type 0 where
+      pub whole : Mirrored g order last
+      pub added : ModelSteps
+      pub steps : whole.steps ≡ m.steps ++ added
+      pub keeps : (u s : ℕ) (c : ℕ → End Message) → ((final (network_of g) m.steps).routers u).recorder.copy s ≡ Some c
+          → (d : ℕ → End Message) × (((final (network_of g) whole.steps).routers u).recorder.copy s ≡ Some d)
+
+    goes_to : (before later : RunOrder) (at last : RunState) (m : Mirrored g before at) → GoesTo before at m last (before ++ later) → GoesOn g before at m later last
+    goes_to before later at last m k = record { whole = k.whole; more = k.added; steps = k.steps; keeps = k.keeps }
+
+    on_by : (before : RunOrder) (at next : RunState) (d : NetworkEvent Own What MadeOffer) → IsRunTo g before at → runs.NetworkStep (logged_steps g) at d next → IsRunTo g (before ++ d ∷ []) next
+    on_by before at next d r s = runs_join g before (d ∷ []) (runs.opening (λ u. new_logged g)) at next r (next, s, refl)
+
+    then_on : (later before : RunOrder) (at last : RunState) (m : Mirrored g before at) → IsRunTo g before at → runs.Run (logged_steps g) at later last → GoesTo before at m last (before ++ later)
+    then_on [] before at last m r on =
+        subst (λ i. GoesTo before at m i (before ++ [])) on
+        (subst (GoesTo before at m at) (sym (append-nil before)) (record { whole = m; added = []; steps = sym (append-nil m.steps); keeps = λ u s c is. (c, is) }))
+    then_on (d ∷ ds) before at last m r on =
+        let next : RunState = on.0 in
+        let one = one_on g set before at m r d.router d.event next on.1 in
+        let rest = then_on ds (before ++ d ∷ []) next last one.goes.whole (on_by before at next d r on.1) on.2 in
+        subst (GoesTo before at m last) (append_assoc before (d ∷ []) ds) (record {
+          whole = rest.whole;
+          added = one.goes.more ++ rest.added;
+          steps = rest.steps ∙ ap (λ l. l ++ rest.added) one.goes.steps ∙ append_assoc m.steps one.goes.more rest.added;
+          keeps = λ u s c is. (let a = one.goes.keeps u s c is in rest.keeps u s a.0 a.1);
+        })
+
+  pub runs_are_mirrored : RunsAreMirrored
+  runs_are_mirrored g set order state r = (then_on g set order [] (runs.opening (λ u. new_logged g)) state (first g set) refl r).whole
+
+  pub mirrors_go_on : MirrorsGoOn
+  mirrors_go_on g set before later at last m r on = goes_to g set before later at last m (then_on g set later before at last m r on)
+
+  pub recordings_are_mirrored : RecordingsAreMirrored
+  recordings_are_mirrored g set order state u s at p =
+      let m = runs_are_mirrored g set p.before p.old p.reached in
+      let d : NetworkEvent Own What MadeOffer = record { router = u; event = p.event } in
+      let one = one_on g set p.before p.old m p.reached u p.event at p.step in
+      let got = one.news s p.greater p.records in
+      let on = then_on g set p.later (p.before ++ d ∷ []) at state one.goes.whole (on_by g set p.before p.old at d p.reached p.step) p.goes_on in
+      let end = on.keeps u s got.0 got.1 in
+      subst (λ (o : RunOrder). (k : Mirrored g o state) × (c : ℕ → End Message) × (((final (network_of g) k.steps).routers u).recorder.copy s ≡ Some c))
+      (append_assoc p.before (d ∷ []) p.later ∙ sym p.parts) (on.whole, end.0, end.1)
