@@ -1,6 +1,6 @@
 -- The run of the laws beside a run of routers: event by event.
 use Rattle.std.proofs.Common.{◌≡◌, ◌≢◌, ℕ, ◌<◌, ◌≤◌, ◌==◌, Bool, true, false, cond, List, [], ◌∷◌, ◌++◌, append_assoc, length, drop, slice_get, refl, ap, sym, ◌∙◌, arith, subst, Option, None, Some, inl, inr, ◌⊎◌}
-use Rattle.std.specs.Prelude.{if◌then◌else◌, Ok}
+use Rattle.std.specs.Prelude.{if◌then◌else◌}
 use mathlib.Core.List.{IsPrefix}
 use Rattle.std.proofs.lemmas.List.{append-nil}
 use Rattle.std.proofs.lemmas.Bool.{eqb-true, eq-eqb, false≢true}
@@ -19,12 +19,12 @@ use Rattle.run_model.specs.Quiet as model
 use Rattle.run_model.specs.Offers as law
 use Rattle.run_model.specs.Offers.{Makes, IsIn, IsOfferRun, IsOfferRunOf, offerings_after, final, network_steps, made_by, made_of}
 use Rattle.outbox.specs.declared.item.What.{What}
-use Rattle.snap_marker.specs.Recordings.{RouterOffer, MadeOffer}
+use Rattle.snap_marker.specs.Recordings.{MadeOffer}
 use Rattle.router_model.specs.Settings.{Setting, IsSetting, linked}
-use Rattle.router_model.specs.Sides.{Side, front, is_up}
-use Rattle.router_model.specs.State.{Router, rule_of}
+use Rattle.router_model.specs.Sides.{Side, front}
+use Rattle.router_model.specs.State.{Router}
 use Rattle.router_model.specs.Laws.{all_passes}
-use Rattle.router_model.specs.Step.{Own, RouterEvent, Handles, May, after, says, overflows, next_offer, without_offer}
+use Rattle.router_model.specs.Step.{Own, RouterEvent, after, says}
 use Rattle.router_runs.specs.Runs.{Logged, LoggedStep, RunOrder, RunState, IsRunTo, logged_steps, new_logged, side_of, log_of}
 use Rattle.router_runs.specs.Model.{network_of}
 use Rattle.router_runs.specs.Reading.{state_of}
@@ -33,7 +33,7 @@ use Rattle.router_runs.specs.Kept.{Holds, IsGood}
 use Rattle.router_runs.specs.Said.{Kept}
 use Rattle.router_runs.specs.Snapshots.{RecordedAt, IsQuiet, IsQuietSince, snapshots_of}
 use Rattle.router_runs.specs.SnapshotLaws.{SnapshotLaws}
-use Rattle.router_runs.specs.Mirrors.{ModelRouter, ModelOffering, ModelSteps, ReadsRouter, ReadsSnapshots, Recorded, Mirrors, IsCopyAt, Copied, Mirrored, GoesOn, RunsAreMirrored, MirrorsGoOn, RecordingsAreMirrored}
+use Rattle.router_runs.specs.Mirrors.{ModelRouter, ModelOffering, ModelSteps, ReadsRouter, Recorded, Mirrors, Copied, Mirrored, GoesOn, RunsAreMirrored, MirrorsGoOn, RecordingsAreMirrored}
 use Rattle.router_runs.proofs.Stepping.{Before}
 use Rattle.router_runs.proofs.Doing.{up_in}
 use Rattle.router_runs.proofs.Hanging.{up_is}
@@ -41,28 +41,11 @@ use Rattle.router_runs.proofs.Entries.{prefix_trans}
 use Rattle.router_runs.proofs.Running.{all_more, all_front, number_is, own_number}
 use Rattle.router_runs.proofs.Keeping.{kept_to, all_good, reads_front, linked_both, linked_apart}
 use Rattle.router_runs.proofs.Turning.{IsTurned}
-use Rattle.router_runs.proofs.Locally.{LocalStep, nothing_recorded}
-use Rattle.router_runs.proofs.Lifting.{Lifts, Lifted, lift}
+use Rattle.router_runs.proofs.Locally.{nothing_recorded}
+use Rattle.router_runs.proofs.LocalSteps.{IsNoOffer, local_step}
+use Rattle.router_runs.proofs.Lifting.{lift}
 use Rattle.router_runs.proofs.Believing.{runs_join}
 use Rattle.router_runs.proofs.Lower.{Laws, first_facts}
-
--- it makes no offer
-abbrev pub IsNoOffer : RouterEvent → Type 0
-IsNoOffer (alone o) = Unit {0}
-IsNoOffer (puts v i) = Unit {0}
-IsNoOffer (takes v i) = Unit {0}
-IsNoOffer (offers made) = ⊥
-
--- every event of a router but an offer is a list of events of the laws
-abbrev pub AnyStep : Laws → Type 0
-AnyStep laws =
-    (g : Setting) (set : IsSetting g) (u : ℕ) (far : ℕ → End Message) (x : Router) (before : ℕ → List (Passing Message)) (n : ModelRouter)
-    → ((v : ℕ) → linked g.net u v ≡ true → Before laws v (x.sides v) (before v) (n.recorder.ends v) (far v)) → ReadsRouter g u x n
-    → (e : RouterEvent) → IsNoOffer e → May g u x e → overflows g u x e ≡ false
-    → ((v : ℕ) → linked g.net u v ≡ true → (n.recorder.ends v).phase ≡ links.Joined → (k : ℕ) → IsIn (links.Mark (links.incarnation (n.recorder.ends v)) k) (n.recorder.ends v).taken → k ≤ n.recorder.last)
-    → ((w : ℕ) → e ≡ alone (Handles w) → (m : Message) × (front (rule_of w) (x.sides w).held ≡ Ok m))
-    → ((v : ℕ) → linked g.net u v ≡ true → IsPrefix (before v ++ all_passes (taken_from v e)) (passing written (far v).appended))
-    → LocalStep laws g set.network u far (IsQuiet g u x (after g u x e) e) x (after g u x e) (says g u x e) before (λ v. all_passes (taken_from v e)) n
 
 -- what is held is the same of the same
 abbrev holds_as : (s t : Side) (k l : List (Passing Message)) (a b : End Message) → s ≡ t → k ≡ l → a ≡ b → Holds s k a → Holds t l b
@@ -117,7 +100,7 @@ quiet_on : (g : Setting) (s : ℕ) (ts us : List (routes.NetworkStep Message Pre
 quiet_on g s [] us w one two = two
 quiet_on g s (t ∷ ts) us w one two = (one.0, quiet_on g s ts us (routes.advanced (network_of g) w t) one.1 two)
 
-module _ (laws : Laws) (more : SnapshotLaws) (any_step : AnyStep laws) where
+module _ (laws : Laws) (more : SnapshotLaws) where
   module _ (g : Setting) (set : IsSetting g) (order : RunOrder) (old : RunState) (m : Mirrored g order old) (r : IsRunTo g order old) (u : ℕ) where
     abbrev x : Router
     x = (old.routers u).router
@@ -207,7 +190,7 @@ module _ (laws : Laws) (more : SnapshotLaws) (any_step : AnyStep laws) where
     usual : (e : RouterEvent) → IsNoOffer e → (own : Logged) → LoggedStep g u (old.routers u) e own → Begins e own → Next e own
     usual e is own step begins =
         let y : Router = after g u x e in
-        let l = any_step g set u far x before n known (m.mirrors.routers u) e is step.step.may step.step.numbers obeyed (reads_front laws g set old kept (event e) own step) (comes e own begins) in
+        let l = local_step laws g set.network u far x before n known (m.mirrors.routers u) obeyed e is step.step.may step.step.numbers (reads_front laws g set old kept (event e) own step) (comes e own begins) in
         let up = lift g u w (IsQuiet g u x y e) l.m l.offers l.goes in
         let z : ModelOffering = offerings_after (network_of g) w up.steps in
         record {
