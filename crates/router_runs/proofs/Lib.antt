@@ -38,5 +38,5 @@ mod Alike
 mod MarkerSteps
 mod Lifting
 mod TableSteps
-mod LocalSteps
 pub mod Mirroring
+mod LocalSteps
