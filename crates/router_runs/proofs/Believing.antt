@@ -327,28 +327,11 @@ module _ (laws : Laws) (more : SnapshotLaws) (mirrored : RunsAreMirrored) where
 
     -- ---- all of it
 
-    no_part : RouterPart
-    no_part = record { kept = λ q. []; originated = λ q. false; incarnation = λ v. 0; pending = false; channel = λ v. [] }
-
-    abbrev one_part : (g : Setting) (last : RunState) (s : ℕ) → ((u : ℕ) → is_router g u ≡ true → (part : RouterPart) × HasMade last s u part) → (u : ℕ) (b : Bool) → is_router g u ≡ b → RouterPart
-    one_part g last s has u true is = (has u is).0
-    one_part g last s has u false is = no_part
-
-    one_made : (g : Setting) (last : RunState) (s : ℕ) (has : (u : ℕ) → is_router g u ≡ true → (part : RouterPart) × HasMade last s u part) (u : ℕ) (b : Bool) (is : is_router g u ≡ b) → b ≡ true
-        → HasMade last s u (one_part g last s has u b is)
-    one_made g last s has u true is h = (has u is).1
-    one_made g last s has u false is h = absurd (cc h)
-
     pub settled_snapshots_can_be_believed : SettledSnapshotsCanBeBelieved
-    settled_snapshots_can_be_believed g set before later at last r on s settled =
+    settled_snapshots_can_be_believed g set before later at last r on s settled parts made =
         let whole : IsRunTo g (before ++ later) last = runs_join g before later (runs.opening (λ u. new_logged g)) at last r on in
-        let has : (u : ℕ) → is_router g u ≡ true → (part : RouterPart) × HasMade last s u part = λ u is. decided_has_all_parts g set (before ++ later) last whole s u is (inl settled) in
-        let parts : ℕ → RouterPart = λ u. one_part g last s has u (is_router g u) refl in
-        let made : HaveMade g last s parts = λ u is. one_made g last s has u (is_router g u) refl is in
         let cut = parts_are_of_a_cut g set (before ++ later) last whole s parts made in
         record {
-          parts = parts;
-          made = made;
           recordings = cut.0;
           cut = cut.1;
           stable = settled_is_stable g set (before ++ later) last whole s settled parts made;
@@ -360,5 +343,5 @@ module _ (laws : Laws) (more : SnapshotLaws) (mirrored : RunsAreMirrored) where
       all = λ s u is comes. decided_has_all_parts g set order state r s u is comes;
       mismatch = λ s u v comes. mismatch_never_comes g set order state r s u v comes;
       cut = λ s parts made. parts_are_of_a_cut g set order state r s parts made;
-      settled = λ s settled before later at whole r on. settled_snapshots_can_be_believed g set before later at state r on s settled;
+      settled = λ s settled parts made before later at whole r on. settled_snapshots_can_be_believed g set before later at state r on s settled parts made;
     }

@@ -169,22 +169,20 @@ SettledStays =
 
 -- ---- all of it: a snapshot that is settled can be believed
 
-pub record IsBelievable (g : Setting) (before later : RunOrder) (at last : RunState) (s : ℕ) : Type 0 where
-  -- each router made one part, and these are what a consistent cut leaves
-  pub parts : ℕ → RouterPart
-  pub made : HaveMade g last s parts
+-- these parts are what a consistent cut leaves, their paths are a stable path assignment, and stay at `at`, a place of the run
+pub record IsBelievable (g : Setting) (before later : RunOrder) (at last : RunState) (s : ℕ) (parts : ℕ → RouterPart) : Type 0 where
   pub recordings : ℕ → RunState
   pub cut : IsCutOf g (before ++ later) last s parts recordings
-  -- their paths are a stable path assignment
   pub stable : AreStable g parts
-  -- and stay
   pub stays : IsQuietSince g s before at → (u : ℕ) (recording : RunState) → is_router g u ≡ true → RecordedAt g before at u s recording
       → (q : PrefixView) → names g.net.origins q ≡ true → HasRoute g at u q ((parts u).kept q)
 
+-- the parts that all routers made of a settled snapshot; that they made them says `DecidedHasAllParts`
 abbrev pub SettledSnapshotsCanBeBelieved : Type 0
 SettledSnapshotsCanBeBelieved =
     (g : Setting) → IsSetting g → (before later : RunOrder) (at last : RunState) → IsRunTo g before at
-    → runs.Run (logged_steps g) at later last → (s : ℕ) → ComesOut g last s Settled → IsBelievable g before later at last s
+    → runs.Run (logged_steps g) at later last → (s : ℕ) → ComesOut g last s Settled → (parts : ℕ → RouterPart) → HaveMade g last s parts
+    → IsBelievable g before later at last s parts
 
 -- ---- the snapshots of one run
 
@@ -196,8 +194,9 @@ pub record SnapshotsHold (g : Setting) (order : RunOrder) (state : RunState) : T
   -- the parts are what a consistent cut leaves
   pub cut : (s : ℕ) (parts : ℕ → RouterPart) → HaveMade g state s parts → (at : ℕ → RunState) × IsCutOf g order state s parts at
   -- one that is settled is a stable path assignment, which stays
-  pub settled : (s : ℕ) → ComesOut g state s Settled → (before later : RunOrder) (at : RunState) → order ≡ before ++ later
-      → IsRunTo g before at → runs.Run (logged_steps g) at later state → IsBelievable g before later at state s
+  pub settled : (s : ℕ) → ComesOut g state s Settled → (parts : ℕ → RouterPart) → HaveMade g state s parts
+      → (before later : RunOrder) (at : RunState) → order ≡ before ++ later → IsRunTo g before at → runs.Run (logged_steps g) at later state
+      → IsBelievable g before later at state s parts
 
 abbrev pub SnapshotsHoldInRuns : Type 0
 SnapshotsHoldInRuns = (g : Setting) → IsSetting g → (order : RunOrder) (state : RunState) → IsRunTo g order state → SnapshotsHold g order state

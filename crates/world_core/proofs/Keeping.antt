@@ -56,11 +56,11 @@ what_is_played_is_replayed g events w h = replayed g events (new_world g) w 0 re
 
 -- ---- its promises
 
-module _ (answers_are_steps : AnswersAreSteps) (peers : LinkedRoutersArePeers) (in_order : UpdatesPassInOrder) (snapshots : SnapshotsHoldInRuns) where
+module _ (answers_are_steps : AnswersAreSteps) (peers : LinkedRoutersArePeers) (in_order : UpdatesPassInOrder) (hold : SnapshotsHoldInRuns) where
   pub worlds_keep_their_promises : PlayedWorldsKeepTheirPromises
   worlds_keep_their_promises g set events w h =
       let run = what_is_played_is_a_run answers_are_steps g set events w h in
-      record { run = run; in_order = λ u v e link. in_order_of run u v e link; snapshots = snapshots g set run.order run.state run.run }
+      record { run = run; in_order = λ u v e link. in_order_of run u v e link; snapshots = λ order state r agrees. hold g set order state r }
     where
       in_order_of : (run : IsRunOfWorld g w) (u v e : ℕ) → linked g.net u v ≡ true → IsPrefix (((w.routers v).router.sides u).acted e) (((w.routers u).router.sides v).sent e)
       in_order_of run u v e link =

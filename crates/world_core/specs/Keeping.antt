@@ -16,14 +16,14 @@ use Rattle.world_core.specs.declared.schedule.Event.{Event}
 use Rattle.world_core.specs.declared.schedule.Event.TheVariants as schedule
 use Rattle.world_core.specs.World.{World, Does, Nothing, new_world, world_answer, world_after, played, name_of, AgreesWith, IsRunOfWorld, IsReplayed}
 
--- it stands at the end of a run; the UPDATEs that each router acted on in an incarnation of a session are a beginning of those
--- that its peer sent in it; and of each snapshot the parts are those of a consistent cut, and where it is settled their paths are a
--- stable path assignment and stay every router's routes until a session closes or a command comes
+-- it stands at the end of a run; the UPDATEs that each router acted on in an incarnation of a session are a beginning of those that
+-- its peer sent in it; and of each run that it stands at the end of, the snapshots are consistent cuts, and what is settled is a
+-- stable path assignment, which stays
 pub record KeepsItsPromises (g : Setting) (w : World) : Type 0 where
   pub run : IsRunOfWorld g w
   pub in_order : (u v e : ℕ) → linked g.net u v ≡ true
       → IsPrefix (((w.routers v).router.sides u).acted e) (((w.routers u).router.sides v).sent e)
-  pub snapshots : SnapshotsHold g run.order run.state
+  pub snapshots : (order : RunOrder) (state : RunState) → IsRunTo g order state → AgreesWith g w state → SnapshotsHold g order state
 
 -- what is played is a run
 abbrev pub WhatIsPlayedIsARun : Type 0

@@ -28,9 +28,9 @@ pub fn steps_are_replayed()
 {}
 
 /// Every world that was played stands at the end of a run, and in it the UPDATEs that each router acted on in an
-/// incarnation of a session are a beginning of those that its peer sent in it: in order, once each. Of each snapshot the
-/// parts are those of a consistent cut; where it is settled, their paths are a stable path assignment, and stay every
-/// router's routes until a session closes or a command comes.
+/// incarnation of a session are a beginning of those that its peer sent in it: in order, once each. The snapshots of each run
+/// that it stands at the end of are consistent cuts, and the paths of one that is settled are a stable path assignment, which
+/// stays while the run is quiet.
 pub fn played_worlds_keep_their_promises()
     ensures { PlayedWorldsKeepTheirPromises }
 {

@@ -1,4 +1,4 @@
--- By the promises of runs.
+-- By the promise of runs.
 use Rattle.world_core.proofs.Keeping.{worlds_keep_their_promises}
 use Rattle.world_core.proofs.laws.played_worlds_keep_their_promises.Goals as goal
 
