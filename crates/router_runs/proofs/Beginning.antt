@@ -51,23 +51,23 @@ and_linked true b h = refl
 and_linked false b h = absurd (cc h)
 
 module _ (laws : Laws) (g : Setting) (net : IsNetwork g.net) (u : ℕ) (far : ℕ → End Message) (Still : Type 0) (still : Still) (x : Router) (before items : ℕ → List (Passing Message)) (n : ModelRouter) where
-  -- what is known as it records: the router n1 that acts, and its ends once the marker that came was taken
-  pub record MayBegin (first : Option ℕ) (s : ℕ) (n1 : ModelRouter) (ends : ℕ → End Message) (queued : List RouterOffer) : Type 0 where
+  -- what is known as it records: the router acting that acts, and its ends once the marker that came was taken
+  pub record MayBegin (first : Option ℕ) (s : ℕ) (acting : ModelRouter) (ends : ℕ → End Message) (queued : List RouterOffer) : Type 0 where
     pub greater : x.snapshots.last < s
-    pub goes : Goes g u far Still n n1 queued
-    pub reads : ReadsRouter g u x n1
+    pub goes : Goes g u far Still n acting queued
+    pub reads : ReadsRouter g u x acting
     pub queue : x.snapshots.queue ≡ x.snapshots.queue ++ queued
-    pub recorded : Recorded n n1 x.snapshots.last x.snapshots.last
-    pub act : (whole : Bool) (queues : List RouterOffer) → model.AllUp (linked g.net u) n1.recorder.ends whole
-        → offers.Records (network_of g) u n1.recorder s whole queues
-        → Goes g u far Still n1 (begun_from n1 ends s whole (awaits first)) queues
-    pub alike : AreAlike g u x n1.recorder.ends
+    pub recorded : Recorded n acting x.snapshots.last x.snapshots.last
+    pub act : (whole : Bool) (queues : List RouterOffer) → model.AllUp (linked g.net u) acting.recorder.ends whole
+        → offers.Records (network_of g) u acting.recorder s whole queues
+        → Goes g u far Still acting (begun_from acting ends s whole (awaits first)) queues
+    pub alike : AreAlike g u x acting.recorder.ends
     pub stands : (v : ℕ) → linked g.net u v ≡ true → Stands (x.sides v) (ends v) (far v)
     pub appended : (v : ℕ) → linked g.net u v ≡ true → (ends v).appended ≡ (n.recorder.ends v).appended
     pub holds : (v : ℕ) → linked g.net u v ≡ true → Holds (x.sides v) (before v ++ items v) (ends v)
     pub unmarked : (v : ℕ) (near : linked g.net u v ≡ true) → is_up (x.sides v) ≡ true → ((holds v near).rest ≡ []) ⊎ (IsIn (Mark (incarnation (ends v)) s) (ends v).taken → ⊥)
 
-  module _ (first : Option ℕ) (s : ℕ) (n1 : ModelRouter) (ends : ℕ → End Message) (queued : List RouterOffer) (k : MayBegin first s n1 ends queued) where
+  module _ (first : Option ℕ) (s : ℕ) (acting : ModelRouter) (ends : ℕ → End Message) (queued : List RouterOffer) (k : MayBegin first s acting ends queued) where
     abbrev sides : ℕ → Side
     sides = λ v. cond (linked g.net u v && is_up (x.sides v)) (marked s (x.sides v)) (x.sides v)
 
@@ -78,7 +78,7 @@ module _ (laws : Laws) (g : Setting) (net : IsNetwork g.net) (u : ℕ) (far : �
     left_by d = record x { sides = sides; snapshots = begins_or_is_lost (peers g.net u) d r (superseding r (peers g.net u) x.snapshots) }
 
     abbrev becomes : Option ℕ → ModelRouter
-    becomes d = begun_from n1 ends s (is_whole d) (awaits first)
+    becomes d = begun_from acting ends s (is_whole d) (awaits first)
 
     abbrev sup : List RouterOffer
     sup = superseded (peers g.net u) (λ v. (x.sides v).link.epoch) x.snapshots.unfinished
@@ -103,10 +103,10 @@ module _ (laws : Laws) (g : Setting) (net : IsNetwork g.net) (u : ℕ) (far : �
     part_is d =
         let a = alike_after d in
         let p = pending_alike laws g net u x (becomes d).recorder.ends a in
-        let kept : (becomes d).kept_at s ≡ x.kept = ap (λ c. cond c n1.kept (n1.kept_at s)) here ∙ k.reads.kept in
-        let originated : (becomes d).originated_at s ≡ x.originated = ap (λ c. cond c n1.originated (n1.originated_at s)) here ∙ k.reads.originated in (
+        let kept : (becomes d).kept_at s ≡ x.kept = ap (λ c. cond c acting.kept (acting.kept_at s)) here ∙ k.reads.kept in
+        let originated : (becomes d).originated_at s ≡ x.originated = ap (λ c. cond c acting.originated (acting.originated_at s)) here ∙ k.reads.originated in (
           (becomes d).recorder.ends,
-          ap (λ c. cond c (Some (becomes d).recorder.ends) (n1.recorder.copy s)) here,
+          ap (λ c. cond c (Some (becomes d).recorder.ends) (acting.recorder.copy s)) here,
           (λ q named. ap (λ f. f q) (sym kept)),
           (λ q named. ap (λ f. f q) (sym originated)),
           (λ v near. (a.reads v near).epoch),
@@ -117,13 +117,13 @@ module _ (laws : Laws) (g : Setting) (net : IsNetwork g.net) (u : ℕ) (far : �
           (λ v near. refl),
         )
 
-    acts : (d : Option ℕ) → first_down g u x ≡ d → Goes g u far Still n1 (becomes d) (sup ++ lost_now s x d)
+    acts : (d : Option ℕ) → first_down g u x ≡ d → Goes g u far Still acting (becomes d) (sup ++ lost_now s x d)
     acts d e =
-        k.act (is_whole d) (sup ++ lost_now s x d) (all_up laws g net u x n1 k.alike d e)
-        (sup, lost_now s x d, sup_is laws g net u x n1 k.alike x.snapshots k.reads.snapshots, begins_lost laws g net u x n1 k.alike s d e, refl)
+        k.act (is_whole d) (sup ++ lost_now s x d) (all_up laws g net u x acting k.alike d e)
+        (sup, lost_now s x d, sup_is laws g net u x acting k.alike x.snapshots k.reads.snapshots, begins_lost laws g net u x acting k.alike s d e, refl)
 
     both : (d : Option ℕ) → first_down g u x ≡ d → Goes g u far Still n (becomes d) (queued ++ (sup ++ lost_now s x d))
-    both d e = then_goes g u far Still n n1 (becomes d) queued (sup ++ lost_now s x d) k.goes (acts d e) (λ i h. inl still)
+    both d e = then_goes g u far Still n acting (becomes d) queued (sup ++ lost_now s x d) k.goes (acts d e) (λ i h. inl still)
 
     -- the sides, once their markers are sent
     turned : (d : Option ℕ) (v : ℕ) → linked g.net u v ≡ true → IsTurned laws g u far Still v (sides v) (says_markers g u x s v) (before v ++ items v) (n.recorder.ends v) ((becomes d).recorder.ends v)
@@ -146,32 +146,32 @@ module _ (laws : Laws) (g : Setting) (net : IsNetwork g.net) (u : ℕ) (far : �
     new_copy d high is = record {
       kept = λ i c old. (let o = k.recorded.kept i c old in some_copy i (i == s) o.0 o.1);
       new = λ i c now. at_number i c (i == s) refl now;
-      recorded = λ i low same. ((becomes d).recorder.ends, ap (λ b. cond b (Some (becomes d).recorder.ends) (n1.recorder.copy i)) (hit i (sym is ∙ same)));
+      recorded = λ i low same. ((becomes d).recorder.ends, ap (λ b. cond b (Some (becomes d).recorder.ends) (acting.recorder.copy i)) (hit i (sym is ∙ same)));
     }
       where
         hit : (i : ℕ) → s ≡ i → (i == s) ≡ true
         hit i same = grind (arith, nat_tests, same)
 
-        some_copy : (i : ℕ) (b : Bool) (c : ℕ → End Message) → n1.recorder.copy i ≡ Some c → (e : ℕ → End Message) × (cond b (Some (becomes d).recorder.ends) (n1.recorder.copy i) ≡ Some e)
+        some_copy : (i : ℕ) (b : Bool) (c : ℕ → End Message) → acting.recorder.copy i ≡ Some c → (e : ℕ → End Message) × (cond b (Some (becomes d).recorder.ends) (acting.recorder.copy i) ≡ Some e)
         some_copy i true c h = ((becomes d).recorder.ends, refl)
         some_copy i false c h = (c, h)
 
         low_end : (i : ℕ) → x.snapshots.last < i → x.snapshots.last ≡ i → ⊥
         low_end i l e = omega (arith, l, e)
 
-        at_number : (i : ℕ) (c : ℕ → End Message) (b : Bool) → (i == s) ≡ b → cond (i == s) (Some (becomes d).recorder.ends) (n1.recorder.copy i) ≡ Some c
-            → ((n.recorder.copy i ≡ Some c) × (cond (i == s) n1.kept (n1.kept_at i) ≡ n.kept_at i) × (cond (i == s) n1.originated (n1.originated_at i) ≡ n.originated_at i))
-            ⊎ ((x.snapshots.last < i) × (high ≡ i) × ((becomes d).recorder.ends ≡ c) × (cond (i == s) n1.kept (n1.kept_at i) ≡ n1.kept) × (cond (i == s) n1.originated (n1.originated_at i) ≡ n1.originated))
+        at_number : (i : ℕ) (c : ℕ → End Message) (b : Bool) → (i == s) ≡ b → cond (i == s) (Some (becomes d).recorder.ends) (acting.recorder.copy i) ≡ Some c
+            → ((n.recorder.copy i ≡ Some c) × (cond (i == s) acting.kept (acting.kept_at i) ≡ n.kept_at i) × (cond (i == s) acting.originated (acting.originated_at i) ≡ n.originated_at i))
+            ⊎ ((x.snapshots.last < i) × (high ≡ i) × ((becomes d).recorder.ends ≡ c) × (cond (i == s) acting.kept (acting.kept_at i) ≡ acting.kept) × (cond (i == s) acting.originated (acting.originated_at i) ≡ acting.originated))
         at_number i c true e now =
             let same : i ≡ s = grind (arith, nat_tests, e) in
-            let own : (becomes d).recorder.ends ≡ c = some_same (sym (ap (λ b. cond b (Some (becomes d).recorder.ends) (n1.recorder.copy i)) e) ∙ now) in
-            inr (subst (λ j. x.snapshots.last < j) (sym same) k.greater, is ∙ sym same, own, ap (λ b. cond b n1.kept (n1.kept_at i)) e, ap (λ b. cond b n1.originated (n1.originated_at i)) e)
+            let own : (becomes d).recorder.ends ≡ c = some_same (sym (ap (λ b. cond b (Some (becomes d).recorder.ends) (acting.recorder.copy i)) e) ∙ now) in
+            inr (subst (λ j. x.snapshots.last < j) (sym same) k.greater, is ∙ sym same, own, ap (λ b. cond b acting.kept (acting.kept_at i)) e, ap (λ b. cond b acting.originated (acting.originated_at i)) e)
           where
             some_same : {A : Type 0} {a b : A} → Some a ≡ Some b → a ≡ b
             some_same h = cc h
         at_number i c false e now =
-            elim (k.recorded.new i c (sym (ap (λ b. cond b (Some (becomes d).recorder.ends) (n1.recorder.copy i)) e) ∙ now)) [
-              | inl old ↦ inl (old.0, ap (λ b. cond b n1.kept (n1.kept_at i)) e ∙ old.1, ap (λ b. cond b n1.originated (n1.originated_at i)) e ∙ old.2)
+            elim (k.recorded.new i c (sym (ap (λ b. cond b (Some (becomes d).recorder.ends) (acting.recorder.copy i)) e) ∙ now)) [
+              | inl old ↦ inl (old.0, ap (λ b. cond b acting.kept (acting.kept_at i)) e ∙ old.1, ap (λ b. cond b acting.originated (acting.originated_at i)) e ∙ old.2)
               | inr no' ↦ absurd (low_end i no'.0 no'.1)
             ]
 
@@ -184,7 +184,7 @@ module _ (laws : Laws) (g : Setting) (net : IsNetwork g.net) (u : ℕ) (far : �
         × ((i : ℕ) → i ≡ s → links.is_up (e v) ≡ true → (t.holds.rest ≡ []) ⊎ (IsIn (Mark (incarnation (e v)) i) (e v).taken → ⊥)))
         (sym same) (turned d v near, λ i is up. clear d i v is near up)
 
-    recorded_like : (d : Option ℕ) (m : ModelRouter) (high : ℕ) → m.recorder.ends ≡ (becomes d).recorder.ends → m.recorder.copy ≡ (becomes d).recorder.copy → m.kept ≡ n1.kept → m.originated ≡ n1.originated
+    recorded_like : (d : Option ℕ) (m : ModelRouter) (high : ℕ) → m.recorder.ends ≡ (becomes d).recorder.ends → m.recorder.copy ≡ (becomes d).recorder.copy → m.kept ≡ acting.kept → m.originated ≡ acting.originated
         → m.kept_at ≡ (becomes d).kept_at → m.originated_at ≡ (becomes d).originated_at → high ≡ s → Recorded n m x.snapshots.last high
     recorded_like d m high ends' copy kept originated kept_at originated_at is =
         let q = new_copy d high is in

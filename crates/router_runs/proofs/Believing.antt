@@ -30,7 +30,7 @@ use Rattle.router_runs.specs.Mirrors.{ModelRouter, AreAlike, Mirrors, Mirrored, 
 use Rattle.router_runs.specs.SnapshotLaws.{SnapshotLaws}
 use Rattle.session_fsm.specs.declared.state.State.{State}
 use Rattle.session_fsm.specs.declared.state.State.TheVariants as state
-use Rattle.router_runs.specs.Snapshots.{HasMade, HaveMade, RecordedAt, IsPartOf, IsCutLink, IsCutOf, PartsAreOfACut, ComesOut, DecidedHasAllParts, MismatchNeverComes, SettledIsStable, SettledStays, SettledSnapshotsCanBeBelieved, SnapshotsHoldInRuns}
+use Rattle.router_runs.specs.Snapshots.{HasMade, RecordedAt, IsPartOf, IsCutLink, IsCutOf, PartsAreOfACut, ComesOut, DecidedHasAllParts, MismatchNeverComes, SettledIsStable, SettledStays, SettledSnapshotsCanBeBelieved, SnapshotsHoldInRuns}
 use Rattle.router_runs.proofs.Lower.{Laws}
 use Rattle.router_runs.proofs.Hanging.{up_is}
 use Rattle.router_runs.proofs.Entries.{prefix_trans}

@@ -38,5 +38,6 @@ mod Alike
 mod MarkerSteps
 mod Lifting
 mod TableSteps
-pub mod Mirroring
+pub mod NextEvent
+mod Mirroring
 mod LocalSteps

@@ -1,18 +1,15 @@
 -- By the run of the laws beside each run of routers.
-use Rattle.router_runs.proofs.LocalSteps.{local_step}
 use Rattle.router_runs.proofs.Believing.{decided_has_all_parts, parts_are_of_a_cut, mismatch_never_comes, settled_is_stable, settled_stays, settled_snapshots_can_be_believed, snapshots_hold}
-use Rattle.router_runs.proofs.Mirroring.{AnyStep, runs_are_mirrored, mirrors_go_on, recordings_are_mirrored}
+use Rattle.router_runs.proofs.Mirroring.{runs_are_mirrored, mirrors_go_on, recordings_are_mirrored}
 use Rattle.router_runs.proofs.snapshots.snapshots_of_runs.Goals as goal
 
 pub returns : goal.returns
 returns c =
     let laws = c.laws_below.ensures in
     let more = c.snapshot_laws_below.ensures in
-    let steps : AnyStep laws =
-    λ g set u far x before n known reads e is may fits obeyed fronts comes. local_step laws g set.network u far x before n known reads obeyed e is may fits fronts comes in
-    let mirrored = runs_are_mirrored laws more steps in
-    let on = mirrors_go_on laws more steps in
-    let recorded = recordings_are_mirrored laws more steps in
+    let mirrored = runs_are_mirrored laws more in
+    let on = mirrors_go_on laws more in
+    let recorded = recordings_are_mirrored laws more in
     record {
       cut = parts_are_of_a_cut laws more mirrored;
       all = decided_has_all_parts;
