@@ -1,5 +1,6 @@
 pub mod LexLemmas
 pub mod LayoutLemmas
+pub mod AddingLemmas
 pub mod DeclaringLemmas
 pub mod WordLemmas
 pub mod PathLemmas
