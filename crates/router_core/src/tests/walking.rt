@@ -85,7 +85,7 @@ fn item(alloc: Global, walk: &mut Walk<'_>) -> Result<Item, Fail> {
         walk.epoch = near;
         walk.said = 0;
     }
-    let stamp = dice(&mut walk.seed) * 7;
+    let stamp = dice(&mut walk.seed).wrapping_mul(7);
     if dice(&mut walk.seed) == 0 {
         let what = stray(alloc, &mut walk.seed, near)?;
         return Ok(Item { stamp, what });
