@@ -64,17 +64,22 @@ fn two_routers_have_their_routes(rt: HostRuntime) -> Result<(), Fail> {
     Ok(())
 }
 
-// A snapshot of both, once they have their routes: each has a part, which is not pending.
+// Both record, once they have their routes.
+fn records_both(one: &mut Router<'_>, two: &mut Router<'_>, n: u32) -> Result<bool, RouterError> {
+    turns(one, two, n)?;
+    one.command(Command::Snapshot(1))?;
+    turns(one, two, n)?;
+    Ok(is_quiet_part(one.next_offer()) && is_quiet_part(two.next_offer()))
+}
+
+// A snapshot of both: each has a part, which is not pending.
 fn parts(alloc: Global, cut: usize, n: u32) -> Result<bool, Fail> {
     let net = two_routers(alloc, cut)?;
     let prefix = Prefix::new(0x0a01_0000, 16).ok_or("a prefix")?;
     let mut one = router(alloc, &net, 1)?;
     let mut two = router(alloc, &net, 2)?;
     begins(&mut one, &mut two, prefix)?;
-    turns(&mut one, &mut two, n)?;
-    one.command(Command::Snapshot(1))?;
-    turns(&mut one, &mut two, n)?;
-    Ok(is_quiet_part(one.next_offer()) && is_quiet_part(two.next_offer()))
+    Ok(records_both(&mut one, &mut two, n)?)
 }
 
 fn is_quiet_part(offer: Option<&Offer>) -> bool {

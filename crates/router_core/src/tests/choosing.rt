@@ -177,9 +177,8 @@ fn the_least_peer_is_told_first(rt: HostRuntime) -> Result<(), Fail> {
 
 // A prefix is originated once, its path is set once, and nobody is there to be told.
 fn originates_once(one: &mut Router<'_>, prefix: Prefix) -> bool {
-    let command = Command::Originate(prefix);
-    one.command(command) == Ok(Stepped::Did)
-        && one.command(command) == Ok(Stepped::Nothing)
+    one.command(Command::Originate(prefix)) == Ok(Stepped::Did)
+        && one.command(Command::Originate(prefix)) == Ok(Stepped::Nothing)
         && one.decide() == Ok(Stepped::Did)
         && one.decide() == Ok(Stepped::Nothing)
         && one.advertise() == Ok(Stepped::Nothing)

@@ -146,7 +146,7 @@ fn has_stamp(
 }
 
 // A call is answered as it was judged.
-fn calls(two: &mut Router<'_>, call: &Call) -> bool {
+pub(super) fn calls(two: &mut Router<'_>, call: &Call) -> bool {
     let last = two.stamp();
     let judged = two.judge(call);
     let answer = does(two, call);
