@@ -13,6 +13,7 @@ use Rattle.run_model.specs.Routes.{Network}
 use Rattle.run_model.specs.Offers.{Finished, Lost, Cause, made_of, made_for, number_of, IsIn, Why, Outcome, Waiting, Abandoned, Decides, IsDeciding, HasOutcome}
 use Rattle.snap_marker.specs.Recordings.{RouterOffer, MadeOffer, RouterPart}
 use Rattle.snap_collector.specs.Verdicts.{Member, of_part, has_part, is_lost, any_lost, all_parts, decides, is_member, first_fault, moving_or_settled, whole_or_waiting, abandoned_by, abandoned_or, verdict, IsKept, AreFor, IsOver}
+use Rattle.snap_collector.specs.Collector.{kept_behind, kept_of}
 use Rattle.snap_collector.proofs.Holding.{found, stands, found_lost, lost_stands, number_is}
 use Rattle.snap_collector.proofs.Faults.{first_is, IsFirstOf}
 
@@ -239,3 +240,34 @@ kept_more members s made kept m e d k = record {
     all : (k.rest ≡ []) ⊎ (decides members kept ≡ true) → made_for s made ≡ kept
     all (inl none) = k.parts ∙ ap (λ (l : List MadeOffer). kept ++ l) none ∙ append-nil kept
     all (inr h) = absurd (true≢false (sym h ∙ d))
+
+-- ---- of offers for a number, those up to the first that decides
+
+abbrev Ends : List Member → ℕ → List MadeOffer → List MadeOffer → Type 0
+Ends members s all kept = (rest : List MadeOffer) × (all ≡ kept ++ rest) × ((rest ≡ []) ⊎ (decides members kept ≡ true)) × AreFor s kept × IsKept members kept
+
+pick : (members : List Member) (s : ℕ) (all : List MadeOffer) (b : Bool) (x y : List MadeOffer) → (b ≡ true → Ends members s all x) → (b ≡ false → Ends members s all y) → Ends members s all (cond b x y)
+pick members s all true x y f g = f refl
+pick members s all false x y f g = g refl
+
+longer : (members : List Member) (front : List MadeOffer) (m : MadeOffer) → decides members front ≡ false → IsKept members (front ++ m ∷ [])
+longer members front m e = λ shorter last h. subst (λ ms. decides members ms ≡ false) (same_front front shorter m last h) e
+
+ends : (members : List Member) (s : ℕ) (all front ms : List MadeOffer) → all ≡ front ++ ms → IsKept members front → AreFor s front → AreFor s ms → Ends members s all (kept_behind members front ms)
+ends members s all front [] is kept are more = ([], is, inl refl, are, kept)
+ends members s all front (m ∷ ms) is kept are more =
+    pick members s all (decides members front) front (kept_behind members (front ++ m ∷ []) ms) (λ e. (m ∷ ms, is, inr e, are, kept))
+    (λ e. ends members s all (front ++ m ∷ []) ms (is ∙ sym (append_assoc front (m ∷ []) ms)) (longer members front m e) (for_more s front m are more.0) more.1)
+
+for_one : (s : ℕ) (b : Bool) (m : MadeOffer) (ms : List MadeOffer) → (number_of m.offer == s) ≡ b → AreFor s ms → AreFor s (cond b (m ∷ ms) ms)
+for_one s true m ms e h = (eqb-true (number_of m.offer) s e, h)
+for_one s false m ms e h = h
+
+all_for_it : (s : ℕ) (made : List MadeOffer) → AreFor s (made_for s made)
+all_for_it s [] = tt
+all_for_it s (m ∷ made) = for_one s (number_of m.offer == s) m (made_for s made) refl (all_for_it s made)
+
+pub collected : (members : List Member) (s : ℕ) (made : List MadeOffer) → IsKeptOf members s made (kept_of members (made_for s made))
+collected members s made =
+    let e = ends members s (made_for s made) [] (made_for s made) refl (kept_at_first members s).whole tt (all_for_it s made) in
+    record { rest = e.0; parts = e.1; done = e.2; number = e.3; whole = e.4 }

@@ -6,6 +6,7 @@ use Rattle.bgp_codec.specs.declared.message.Message.{Message}
 use Rattle.run_model.specs.Routes.{Network}
 use Rattle.run_model.specs.Offers.{HasOutcome, made_for, number_of}
 use Rattle.snap_marker.specs.Recordings.{MadeOffer}
+use Rattle.snap_collector.specs.Collector.{kept_of}
 use Rattle.snap_collector.specs.Verdicts.{Member, IsOver, IsKept, AreFor, decides, verdict}
 
 -- of the offers made, those for a number that were kept: all of them, or those up to the one that decided
@@ -33,3 +34,7 @@ KeptGoesOn =
 -- before any offer nothing is kept
 abbrev pub NothingIsKept : Type 0
 NothingIsKept = (members : List Member) (s : ℕ) → IsKeptOf members s [] []
+
+-- what a collector keeps of all offers made: those for the number up to the first that decides
+abbrev pub CollectedAreKept : Type 0
+CollectedAreKept = (members : List Member) (s : ℕ) (made : List MadeOffer) → IsKeptOf members s made (kept_of members (made_for s made))

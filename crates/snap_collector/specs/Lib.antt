@@ -2,3 +2,4 @@ pub mod Verdicts
 pub mod Laws
 pub mod Collecting
 pub mod Collector
+pub mod Taking

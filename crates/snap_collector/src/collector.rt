@@ -3,10 +3,12 @@
 ghost use Rattle.std.specs.Prelude.{◌≡◌, ◌≤◌, length, [], ◌∷◌, map, take, IfOk, OnOk, OnErr, option_copied};
 ghost use Rattle.snap_collector.specs.Collecting.{made_by, made_in, member_of, outcome_of};
 ghost use Rattle.snap_collector.specs.Collector.{made_at, made_for, offers_at, entry_of, with_offers, first_part, AreKept, AreMembers, IsPartOf, kept_of};
+ghost use Rattle.snap_collector.specs.Taking.{Takes};
 ghost use Rattle.snap_collector.specs.Verdicts.{verdict, decides};
 
-use crate::judging::{decides, verdict};
-use crate::members::Member;
+use crate::answer::{CollectError, Taken};
+use crate::judging::{decides, has_offered, verdict};
+use crate::members::{Member, is_member};
 use crate::outcome::Outcome;
 use ranked_policy::{Asn, Network};
 use snap_marker::{Offer, Part};
@@ -138,6 +140,33 @@ impl Collector {
             self.decided.sort_unstable();
         }
         Ok(())
+    }
+
+    /// Takes what a router offers: it stands behind the offers for its number, and the answer says
+    /// whether it decided its snapshot. An offer for a snapshot that was decided before is late, and
+    /// changes nothing. Refused [`CollectError::Stranger`] where no router of the network offers,
+    /// [`CollectError::Twice`] where the router has offered for this number before and the snapshot
+    /// waits, [`CollectError::Memory`] where a growth was refused. A refusal changes nothing.
+    pub fn offer(&mut self, offer: Offer) -> Result<Taken, CollectError>
+        ensures { Takes self.old self.new offer result }
+    {
+        let router = offer.router();
+        let number = offer.number();
+        if !is_member(self.members.as_slice(), router) {
+            return Err(CollectError::Stranger { router });
+        }
+        if self.is_decided(number) {
+            return Ok(Taken::Late);
+        }
+        if has_offered(offers_for(&self.offers, number), router) {
+            return Err(CollectError::Twice { router });
+        }
+        self.record(offer)?;
+        if self.is_decided(number) {
+            Ok(Taken::Decided)
+        } else {
+            Ok(Taken::Kept)
+        }
     }
 
     /// The numbers of the snapshots that are decided, rising.

@@ -1,7 +1,7 @@
 //! What verdicts are worth, over every list of offers. Each is the contract of a function without
 //! work of its own.
 
-ghost use Rattle.snap_collector.specs.Laws.{KeptGoesOn, NothingIsKept, VerdictsAreOutcomes};
+ghost use Rattle.snap_collector.specs.Laws.{CollectedAreKept, KeptGoesOn, NothingIsKept, VerdictsAreOutcomes};
 
 /// The verdict on the offers that were kept is how the snapshot comes out by all offers that were
 /// made, late ones among them.
@@ -17,4 +17,10 @@ pub fn nothing_is_kept()
 /// An offer for another number changes nothing, one that comes late neither; any other is kept.
 pub fn kept_goes_on()
     ensures { KeptGoesOn }
+{}
+
+/// What a collector keeps of the offers for a number, those up to the first that decides, is what
+/// the other laws say of offers that were kept.
+pub fn collected_are_kept()
+    ensures { CollectedAreKept }
 {}

@@ -10,15 +10,21 @@
 //! the verdict is how the snapshot comes out by the laws of network runs, of all offers made, those
 //! that came late among them ([`laws::verdicts_are_outcomes`]).
 //!
-//! Left out: who keeps the offers, and for which numbers.
+//! A [`Collector`] keeps the offers by their numbers: [`Collector::offer`] takes one, or answers that
+//! it comes late, [`Collector::outcome`] is the verdict on those kept, [`Collector::part`] what a
+//! router recorded.
+//!
+//! Left out: which offers a router makes.
 #![tactic(auto)]
 
+mod answer;
 mod collector;
 mod judging;
 pub mod laws;
 mod members;
 mod outcome;
 
+pub use answer::{CollectError, Taken};
 pub use collector::Collector;
 pub use judging::{decides, has_offered, verdict};
 pub use members::{Member, is_member};

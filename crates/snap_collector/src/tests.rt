@@ -1,5 +1,7 @@
 //! Verdicts on the offers of two routers, 1 and 2, that are linked.
 
+mod offering;
+
 use crate::{Member, Outcome, Why, decides, has_offered, verdict};
 use bgp_codec::{Attrs, Items, Update};
 use ranked_policy::Items as Peers;
@@ -139,5 +141,6 @@ fn laws_are_called(_rt: HostRuntime) -> Result<(), Fail> {
     crate::laws::verdicts_are_outcomes();
     crate::laws::nothing_is_kept();
     crate::laws::kept_goes_on();
+    crate::laws::collected_are_kept();
     Ok(())
 }

@@ -1,0 +1,95 @@
+//! What a collector of the two linked routers answers, offer by offer.
+
+use crate::tests::{lost, part};
+use crate::{CollectError, Collector, Outcome, Taken};
+use ranked_policy::{NetBuilder, Network, Settings};
+use snap_marker::Offer;
+use std::alloc::Global;
+use std::test::*;
+
+const SETTINGS: Settings = Settings {
+    hold: 0,
+    restart: 0,
+    cut: 4096,
+    pipe: 4,
+};
+
+fn network(alloc: Global) -> Result<Network, Fail> {
+    let mut net = NetBuilder::new(alloc, SETTINGS)?;
+    net.push_router(1, 0x0a00_0001)?;
+    net.push_router(2, 0x0a00_0002)?;
+    net.push_link(1, 2)?;
+    match net.finish() {
+        Ok(net) => Ok(net),
+        Err((_, error)) => Err(error.into()),
+    }
+}
+
+fn collector(alloc: Global) -> Result<Collector, Fail> {
+    let network = network(alloc)?;
+    Ok(Collector::new(alloc, &network)?)
+}
+
+/// What a collector answers to the part of a router.
+fn given(alloc: Global, collector: &mut Collector, router: u32) -> Result<Taken, Fail> {
+    let offer = part(alloc, router, false, 7, 0)?;
+    Ok(collector.offer(offer)?)
+}
+
+/// The offer of a number that is no router's is refused, and nothing is kept.
+#[test]
+fn a_stranger_is_refused(rt: HostRuntime) -> Result<(), Fail> {
+    let mut collector = collector(rt.alloc())?;
+    let answer = collector.offer(Offer::Lost(lost(3)));
+    assert_eq!(rt; answer, Err(CollectError::Stranger { router: 3 }));
+    assert_eq!(rt; collector.outcome(5), Outcome::Waiting);
+    Ok(())
+}
+
+/// A second offer of a router is refused while the snapshot waits.
+#[test]
+fn a_second_offer_is_refused(rt: HostRuntime) -> Result<(), Fail> {
+    let mut collector = collector(rt.alloc())?;
+    assert_eq!(rt; given(rt.alloc(), &mut collector, 1)?, Taken::Kept);
+    let answer = collector.offer(Offer::Lost(lost(1)));
+    assert_eq!(rt; answer, Err(CollectError::Twice { router: 1 }));
+    assert!(rt; collector.decided().is_empty());
+    Ok(())
+}
+
+/// The last part decides, and it and the others can be read.
+#[test]
+fn the_last_part_decides(rt: HostRuntime) -> Result<(), Fail> {
+    let mut collector = collector(rt.alloc())?;
+    assert_eq!(rt; given(rt.alloc(), &mut collector, 2)?, Taken::Kept);
+    assert_eq!(rt; given(rt.alloc(), &mut collector, 1)?, Taken::Decided);
+    assert_eq!(rt; collector.outcome(5), Outcome::Settled);
+    assert_eq!(rt; collector.decided(), [5].as_slice());
+    assert!(rt; collector.part(5, 2).is_some() && collector.part(5, 3).is_none());
+    Ok(())
+}
+
+/// The first loss decides, and what comes behind it is late.
+#[test]
+fn the_first_loss_decides(rt: HostRuntime) -> Result<(), Fail> {
+    let mut collector = collector(rt.alloc())?;
+    assert_eq!(rt; collector.offer(Offer::Lost(lost(2)))?, Taken::Decided);
+    assert_eq!(rt; given(rt.alloc(), &mut collector, 1)?, Taken::Late);
+    assert_eq!(rt; collector.outcome(5), Outcome::Abandoned(lost(2)));
+    assert!(rt; collector.part(5, 1).is_none());
+    Ok(())
+}
+
+/// An offer that is kept late changes no outcome.
+#[test]
+fn what_is_recorded_late_is_not_heard(rt: HostRuntime) -> Result<(), Fail> {
+    let alloc = rt.alloc();
+    let mut collector = collector(alloc)?;
+    collector.record(Offer::Lost(lost(2)))?;
+    collector.record(Offer::Lost(lost(1)))?;
+    collector.record(part(alloc, 1, false, 7, 0)?)?;
+    assert_eq!(rt; collector.outcome(5), Outcome::Abandoned(lost(2)));
+    assert_eq!(rt; collector.decided(), [5].as_slice());
+    assert!(rt; collector.part(5, 1).is_none());
+    Ok(())
+}

@@ -1,0 +1,105 @@
+//! A worker.
+
+mod chores;
+mod offer;
+mod own;
+mod pipes;
+
+use crate::around::{Desk, Gate, Lines};
+use crate::chore::Chore;
+use crate::journal::{Entry, Journal};
+use crossbeam_utils::Backoff;
+use ranked_policy::Asn;
+use router_core::Router;
+use router_model::RouterError;
+use std::alloc::AllocError;
+use std::sync::Wait;
+use thiserror::Error;
+use world_core::Event;
+
+/// Why a worker ended before its last chore.
+#[derive(Clone, Copy, Debug, PartialEq, Eq, Error)]
+pub enum WorkerFault {
+    /// A growth was refused.
+    #[error("memory")]
+    Memory,
+    /// Its router had no stamp or no incarnation left, or its offer was refused.
+    #[error("refused")]
+    Refused,
+}
+
+impl From<AllocError> for WorkerFault {
+    ghost use Rattle.std.specs.Prelude.{◌≡◌};
+    ghost use Rattle.worker_loop.specs.declared.worker.WorkerFault.TheVariants.{Memory};
+
+    ghost from_gives = { λ _ fault. fault ≡ Memory };
+
+    fn from(_error: AllocError) -> WorkerFault {
+        WorkerFault::Memory
+    }
+}
+
+/// A router, with all that its worker meets and its journal.
+#[derive(Drop)]
+pub struct Worker<'a, L, D, G> {
+    /// The router.
+    pub router: Router<'a>,
+    /// The numbers of its peers, rising.
+    pub peers: Vec<Asn>,
+    /// The lines to its peers.
+    pub lines: L,
+    /// Its place at the board.
+    pub desk: D,
+    /// The gate that gives its chores.
+    pub gate: G,
+    /// What it did.
+    pub journal: Journal,
+}
+
+// What a refusal of the router is to a worker: some say only that there is nothing to do.
+fn passed_over(error: RouterError) -> Result<(), WorkerFault> {
+    match error {
+        RouterError::NoSuchPeer
+        | RouterError::NotOrigin
+        | RouterError::OldSnapshot { .. }
+        | RouterError::Blocked { .. }
+        | RouterError::Held { .. } => Ok(()),
+        RouterError::StampEnd | RouterError::EpochEnd => Err(WorkerFault::Refused),
+        RouterError::Memory => Err(WorkerFault::Memory),
+    }
+}
+
+// An event joins those of a journal that has room for it.
+fn note(events: &mut Vec<Entry>, stamp: u64, event: Event) {
+    events.extend_from_slice(&[Entry { stamp, event }]).unwrap();
+}
+
+impl<'a, L: Lines, D: Desk, G: Gate> Worker<'a, L, D, G> {
+    /// Does the chores that the gate gives: so many, or up to the first Stop. It backs off after a
+    /// Turn in which no event was done.
+    ///
+    /// Refused [`WorkerFault::Refused`] where the router has no stamp or incarnation left or an offer
+    /// is refused, and [`WorkerFault::Memory`] where a growth was; then the worker ended in the middle.
+    pub fn work<R: Wait>(
+        &mut self,
+        rt: &R,
+        board: &D::Board,
+        turns: u32,
+    ) -> Result<(), WorkerFault> {
+        let backoff = Backoff::new();
+        for turn in 0..turns {
+            let chore = self.next_chore(rt, turn)?;
+            let before = self.journal.events.len();
+            self.obey(rt, board, chore)?;
+            if chore == Chore::Stop {
+                return Ok(());
+            }
+            if self.journal.events.len() == before {
+                backoff.snooze();
+            } else {
+                backoff.reset();
+            }
+        }
+        Ok(())
+    }
+}

@@ -1,0 +1,63 @@
+//! Chores, done.
+
+use super::{Worker, WorkerFault};
+use crate::around::{Desk, Gate, Lines};
+use crate::chore::Chore;
+use ranked_policy::Asn;
+use router_core::Call;
+use std::sync::Wait;
+use world_core::Event;
+
+impl<'a, L: Lines, D: Desk, G: Gate> Worker<'a, L, D, G> {
+    // The next chore, written down.
+    pub(super) fn next_chore<R: Wait>(&mut self, rt: &R, turn: u32) -> Result<Chore, WorkerFault> {
+        self.journal.chores.reserve(1)?;
+        let chore = self.gate.next(rt, self.router.number(), turn);
+        self.journal.chores.extend_from_slice(&[chore])?;
+        Ok(chore)
+    }
+
+    // One Put, one Take and one Handle with a peer are tried.
+    fn meet<R: Wait>(&mut self, rt: &R, peer: Asn) -> Result<(), WorkerFault> {
+        self.try_put(rt, peer)?;
+        self.try_take(rt, peer)?;
+        let event = Event::Handle(self.router.number(), peer);
+        self.try_call(&Call::Handle(peer), event)
+    }
+
+    // The same with each peer, rising.
+    fn meet_all<R: Wait>(&mut self, rt: &R) -> Result<(), WorkerFault> {
+        for place in 0..self.peers.len() {
+            let peer = self.peers[place];
+            self.meet(rt, peer)?;
+        }
+        Ok(())
+    }
+
+    // A turn.
+    fn turn<R: Wait>(&mut self, rt: &R, board: &D::Board) -> Result<(), WorkerFault> {
+        self.meet_all(rt)?;
+        let number = self.router.number();
+        self.try_call(&Call::Decide, Event::Decide(number))?;
+        self.try_call(&Call::Advertise, Event::Advertise(number))?;
+        self.try_offer(rt, board)
+    }
+
+    // One chore.
+    pub(super) fn obey<R: Wait>(
+        &mut self,
+        rt: &R,
+        board: &D::Board,
+        chore: Chore,
+    ) -> Result<(), WorkerFault> {
+        let number = self.router.number();
+        match chore {
+            Chore::Turn => self.turn(rt, board),
+            Chore::Tick => self.try_call(&Call::Tick, Event::Tick(number)),
+            Chore::Command(command) => {
+                self.try_call(&Call::Obey(command), Event::Command(number, command))
+            }
+            Chore::Stop => Ok(()),
+        }
+    }
+}

@@ -1,0 +1,26 @@
+//! What the router of a worker offers.
+
+use super::{Worker, WorkerFault, note};
+use crate::around::{Desk, Gate, Lines};
+use std::sync::Wait;
+use world_core::Event;
+
+impl<'a, L: Lines, D: Desk, G: Gate> Worker<'a, L, D, G> {
+    // Makes the offer that waits in front, where one does.
+    pub(super) fn try_offer<R: Wait>(
+        &mut self,
+        rt: &R,
+        board: &D::Board,
+    ) -> Result<(), WorkerFault> {
+        let Some(offer) = self.router.next_offer() else {
+            return Ok(());
+        };
+        self.journal.events.reserve(1)?;
+        let offer = offer.copied(*self.journal.events.allocator())?;
+        let stamp = self.desk.offer(rt, board, self.router.stamp(), offer)?;
+        self.router.offer_made(stamp);
+        let event = Event::Offer(self.router.number());
+        note(&mut self.journal.events, stamp, event);
+        Ok(())
+    }
+}
