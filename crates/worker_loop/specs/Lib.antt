@@ -1,0 +1,4 @@
+pub mod Acts
+pub mod Following
+pub mod Whole
+pub mod Script

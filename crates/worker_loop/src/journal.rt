@@ -1,5 +1,7 @@
 //! What a worker writes down.
 
+ghost use Rattle.std.specs.Prelude.{◌≡◌, []};
+
 use crate::chore::Chore;
 use std::alloc::Global;
 use world_core::Event;
@@ -24,7 +26,10 @@ pub struct Journal {
 
 impl Journal {
     /// An empty journal. It takes no memory.
-    pub fn new(alloc: Global) -> Journal {
+    pub fn new(alloc: Global) -> Journal
+        ensures chores { result.chores.items ≡ [] }
+        ensures events { result.events.items ≡ [] }
+    {
         Journal {
             chores: Vec::new(alloc),
             events: Vec::new(alloc),

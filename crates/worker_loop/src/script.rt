@@ -1,5 +1,8 @@
 //! A gate that reads a list.
 
+ghost use Rattle.std.specs.Prelude.{◌≡◌, [], List, ℕ};
+ghost use Rattle.worker_loop.specs.Script.{chore_at, chores_of};
+
 use crate::around::Gate;
 use crate::chore::Chore;
 use ranked_policy::Asn;
@@ -14,13 +17,17 @@ pub struct ScriptGate {
 
 impl ScriptGate {
     /// A gate that has given nothing yet. It takes no memory.
-    pub fn new(script: Vec<(u32, Chore)>) -> ScriptGate {
+    pub fn new(script: Vec<(u32, Chore)>) -> ScriptGate
+        ensures { chores_of result.script.items result.count ≡ [] }
+    {
         ScriptGate { script, count: 0 }
     }
 }
 
 // The first chore listed for a turn.
-fn chore_at(script: &[(u32, Chore)], turn: u32) -> Chore {
+fn chore_at(script: &[(u32, Chore)], turn: u32) -> Chore
+    ensures { result ≡ chore_at script.now turn }
+{
     for line in script {
         if line.0 == turn {
             return line.1;
@@ -30,6 +37,8 @@ fn chore_at(script: &[(u32, Chore)], turn: u32) -> Chore {
 }
 
 impl Gate for ScriptGate {
+    ghost given = { λ g. chores_of g.script.items g.count };
+
     fn next<R: Wait>(&mut self, _rt: &R, _router: Asn, turn: u32) -> Chore {
         self.count = u64::from(turn) + 1;
         chore_at(self.script.as_slice(), turn)

@@ -5,6 +5,9 @@ mod offer;
 mod own;
 mod pipes;
 
+ghost use Rattle.std.specs.Prelude.{◌≡◌, ◌<◌, ◌++◌, ◌∷◌, [], vec_len, vec_capacity};
+ghost use Rattle.worker_loop.specs.Whole.{entry, passing};
+
 use crate::around::{Desk, Gate, Lines};
 use crate::chore::Chore;
 use crate::journal::{Entry, Journal};
@@ -57,7 +60,9 @@ pub struct Worker<'a, L, D, G> {
 }
 
 // What a refusal of the router is to a worker: some say only that there is nothing to do.
-fn passed_over(error: RouterError) -> Result<(), WorkerFault> {
+fn passed_over(error: RouterError) -> Result<(), WorkerFault>
+    ensures { result ≡ passing error }
+{
     match error {
         RouterError::NoSuchPeer
         | RouterError::NotOrigin
@@ -70,11 +75,19 @@ fn passed_over(error: RouterError) -> Result<(), WorkerFault> {
 }
 
 // An event joins those of a journal that has room for it.
-fn note(events: &mut Vec<Entry>, stamp: u64, event: Event) {
+fn note(events: &mut Vec<Entry>, stamp: u64, event: Event)
+    requires { vec_len events.old < vec_capacity events.old }
+    ensures { events.new.items ≡ events.old.items ++ entry stamp event ∷ [] }
+{
     events.extend_from_slice(&[Entry { stamp, event }]).unwrap();
 }
 
 impl<'a, L: Lines, D: Desk, G: Gate> Worker<'a, L, D, G> {
+    ghost use Rattle.std.specs.Prelude.{◌≡◌, IfOk};
+    ghost use Rattle.worker_loop.specs.Following.{Did, Follows};
+    ghost use Rattle.worker_loop.specs.Whole.{seen_of, IsLaterWorker, IsWhole};
+    ghost use Rattle.std.specs.Prelude.{[]};
+
     /// Does the chores that the gate gives: so many, or up to the first Stop. It backs off after a
     /// Turn in which no event was done.
     ///
@@ -85,7 +98,14 @@ impl<'a, L: Lines, D: Desk, G: Gate> Worker<'a, L, D, G> {
         rt: &R,
         board: &D::Board,
         turns: u32,
-    ) -> Result<(), WorkerFault> {
+    ) -> Result<(), WorkerFault>
+        requires fresh { G.given self.old.gate ≡ [] }
+        requires blank { self.old.journal.chores.items ≡ [] }
+        ensures follows { let a = seen_of L.put_to L.taken_from L.room D.made self.old in let b = seen_of L.put_to L.taken_from L.room D.made self.new in IfOk result (λ _. Did (λ g. Follows g self.old.router.number self.old.peers.items (G.given self.new.gate)) self.old.router.net a b) }
+        ensures whole { IfOk result (λ _. IsWhole turns (G.given self.new.gate)) }
+        ensures chores { IfOk result (λ _. self.new.journal.chores.items ≡ G.given self.new.gate) }
+        ensures same { IsLaterWorker L.wiring self.old self.new }
+    {
         let backoff = Backoff::new();
         for turn in 0..turns {
             let chore = self.next_chore(rt, turn)?;

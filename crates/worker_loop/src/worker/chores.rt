@@ -9,8 +9,18 @@ use std::sync::Wait;
 use world_core::Event;
 
 impl<'a, L: Lines, D: Desk, G: Gate> Worker<'a, L, D, G> {
+    ghost use Rattle.std.specs.Prelude.{◌≡◌, IfOk};
+    ghost use Rattle.worker_loop.specs.Following.{Did, Each, Meets, Turns, Obeys};
+    ghost use Rattle.worker_loop.specs.Whole.{seen_of, IsSameWorker, IsSameBut};
+    ghost use Rattle.std.specs.Prelude.{length, [], ◌∷◌, ◌++◌};
+
     // The next chore, written down.
-    pub(super) fn next_chore<R: Wait>(&mut self, rt: &R, turn: u32) -> Result<Chore, WorkerFault> {
+    pub(super) fn next_chore<R: Wait>(&mut self, rt: &R, turn: u32) -> Result<Chore, WorkerFault>
+        requires turn { turn ≡ length (G.given self.old.gate) }
+        ensures given { IfOk result (λ chore. G.given self.new.gate ≡ G.given self.old.gate ++ chore ∷ []) }
+        ensures chores { IfOk result (λ chore. self.new.journal.chores.items ≡ self.old.journal.chores.items ++ chore ∷ []) }
+        ensures rest { IsSameBut self.old self.new }
+    {
         self.journal.chores.reserve(1)?;
         let chore = self.gate.next(rt, self.router.number(), turn);
         self.journal.chores.extend_from_slice(&[chore])?;
@@ -18,7 +28,10 @@ impl<'a, L: Lines, D: Desk, G: Gate> Worker<'a, L, D, G> {
     }
 
     // One Put, one Take and one Handle with a peer are tried.
-    fn meet<R: Wait>(&mut self, rt: &R, peer: Asn) -> Result<(), WorkerFault> {
+    fn meet<R: Wait>(&mut self, rt: &R, peer: Asn) -> Result<(), WorkerFault>
+        ensures done { let a = seen_of L.put_to L.taken_from L.room D.made self.old in let b = seen_of L.put_to L.taken_from L.room D.made self.new in IfOk result (λ _. Did (λ g. Meets g self.old.router.number peer) self.old.router.net a b) }
+        ensures same { IsSameWorker L.wiring self.old self.new }
+    {
         self.try_put(rt, peer)?;
         self.try_take(rt, peer)?;
         let event = Event::Handle(self.router.number(), peer);
@@ -26,7 +39,10 @@ impl<'a, L: Lines, D: Desk, G: Gate> Worker<'a, L, D, G> {
     }
 
     // The same with each peer, rising.
-    fn meet_all<R: Wait>(&mut self, rt: &R) -> Result<(), WorkerFault> {
+    fn meet_all<R: Wait>(&mut self, rt: &R) -> Result<(), WorkerFault>
+        ensures done { let a = seen_of L.put_to L.taken_from L.room D.made self.old in let b = seen_of L.put_to L.taken_from L.room D.made self.new in IfOk result (λ _. Did (λ g. Each (Meets g self.old.router.number) self.old.peers.items) self.old.router.net a b) }
+        ensures same { IsSameWorker L.wiring self.old self.new }
+    {
         for place in 0..self.peers.len() {
             let peer = self.peers[place];
             self.meet(rt, peer)?;
@@ -35,7 +51,10 @@ impl<'a, L: Lines, D: Desk, G: Gate> Worker<'a, L, D, G> {
     }
 
     // A turn.
-    fn turn<R: Wait>(&mut self, rt: &R, board: &D::Board) -> Result<(), WorkerFault> {
+    fn turn<R: Wait>(&mut self, rt: &R, board: &D::Board) -> Result<(), WorkerFault>
+        ensures done { let a = seen_of L.put_to L.taken_from L.room D.made self.old in let b = seen_of L.put_to L.taken_from L.room D.made self.new in IfOk result (λ _. Did (λ g. Turns g self.old.router.number self.old.peers.items) self.old.router.net a b) }
+        ensures same { IsSameWorker L.wiring self.old self.new }
+    {
         self.meet_all(rt)?;
         let number = self.router.number();
         self.try_call(&Call::Decide, Event::Decide(number))?;
@@ -49,7 +68,10 @@ impl<'a, L: Lines, D: Desk, G: Gate> Worker<'a, L, D, G> {
         rt: &R,
         board: &D::Board,
         chore: Chore,
-    ) -> Result<(), WorkerFault> {
+    ) -> Result<(), WorkerFault>
+        ensures done { let a = seen_of L.put_to L.taken_from L.room D.made self.old in let b = seen_of L.put_to L.taken_from L.room D.made self.new in IfOk result (λ _. Did (λ g. Obeys g self.old.router.number self.old.peers.items chore) self.old.router.net a b) }
+        ensures same { IsSameWorker L.wiring self.old self.new }
+    {
         let number = self.router.number();
         match chore {
             Chore::Turn => self.turn(rt, board),

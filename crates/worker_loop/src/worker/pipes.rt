@@ -3,6 +3,7 @@
 use super::{Worker, WorkerFault, note, passed_over};
 use crate::around::{Desk, Gate, Lines};
 use ranked_policy::Asn;
+use router_model::laws::answers_are_steps;
 use router_model::{RouterError, Stepped};
 use std::sync::Wait;
 use world_core::Event;
@@ -22,8 +23,16 @@ fn lost(error: RouterError) -> WorkerFault {
 }
 
 impl<'a, L: Lines, D: Desk, G: Gate> Worker<'a, L, D, G> {
+    ghost use Rattle.std.specs.Prelude.{◌≡◌, IfOk};
+    ghost use Rattle.worker_loop.specs.Following.{Did, Puts, Takes};
+    ghost use Rattle.worker_loop.specs.Whole.{seen_of, IsSameWorker};
+
     // Tries to put the next item towards a peer.
-    pub(super) fn try_put<R: Wait>(&mut self, rt: &R, peer: Asn) -> Result<(), WorkerFault> {
+    pub(super) fn try_put<R: Wait>(&mut self, rt: &R, peer: Asn) -> Result<(), WorkerFault>
+        ensures done { let a = seen_of L.put_to L.taken_from L.room D.made self.old in let b = seen_of L.put_to L.taken_from L.room D.made self.new in IfOk result (λ _. Did (λ g. Puts g self.old.router.number peer) self.old.router.net a b) }
+        ensures same { IsSameWorker L.wiring self.old self.new }
+    {
+        answers_are_steps();
         let item = match self.router.next_item(peer) {
             Ok(Some(item)) => item,
             Ok(None) => return Ok(()),
@@ -43,7 +52,11 @@ impl<'a, L: Lines, D: Desk, G: Gate> Worker<'a, L, D, G> {
 
     // Tries to take the next item of a peer. Nothing is taken where a message of the peer waits, since
     // the router would refuse the item.
-    pub(super) fn try_take<R: Wait>(&mut self, rt: &R, peer: Asn) -> Result<(), WorkerFault> {
+    pub(super) fn try_take<R: Wait>(&mut self, rt: &R, peer: Asn) -> Result<(), WorkerFault>
+        ensures done { let a = seen_of L.put_to L.taken_from L.room D.made self.old in let b = seen_of L.put_to L.taken_from L.room D.made self.new in IfOk result (λ _. Did (λ g. Takes g self.old.router.number peer) self.old.router.net a b) }
+        ensures same { IsSameWorker L.wiring self.old self.new }
+    {
+        answers_are_steps();
         if !self.router.may_take(peer) {
             return Ok(());
         }
