@@ -1,0 +1,4 @@
+pub mod Acting
+pub mod Trying
+pub mod Chaining
+pub mod Scripts

@@ -2,7 +2,7 @@
 use Rattle.std.specs.Prelude.{ℕ, ◌≡◌, ◌<◌, ◌==◌, cond, List, [], ◌∷◌, ◌++◌, map}
 use Rattle.outbox.specs.declared.item.Item.{Item}
 use Rattle.outbox.specs.declared.item.What.{What}
-use Rattle.run_model.specs.Network.{Event, Journal, NetworkEvent, alone, puts, takes, offers}
+use Rattle.run_model.specs.Network.{Event, Journal, alone, puts, takes, offers}
 use Rattle.run_model.specs.Journals.{puts_towards, takes_from}
 use Rattle.run_model.specs.Stamps as stamps
 use Rattle.run_model.specs.Stamps.{StampedItem, Collected, FitsItem, without_stamp, stamped_offers}

@@ -1,12 +1,12 @@
 -- What a worker does for each chore, exactly.
-use Rattle.std.specs.Prelude.{ℕ, ◌+◌, ◌≡◌, ◌≤◌, max, Bool, true, false, ◌⊎◌, List, [], ◌∷◌, ◌++◌, length, Option, None, Some, Result}
+use Rattle.std.specs.Prelude.{ℕ, ◌+◌, ◌≡◌, ◌≤◌, max, Bool, true, false, ◌⊎◌, List, [], ◌∷◌, ◌++◌, length, Option, None, Some}
 use Rattle.ranked_policy.specs.Plans.{Plan}
 use Rattle.outbox.specs.declared.item.Item.{Item}
-use Rattle.run_model.specs.Network.{puts, takes, offers}
+use Rattle.run_model.specs.Network.{takes, offers}
 use Rattle.snap_marker.specs.Recordings.{RouterOffer}
 use Rattle.router_model.specs.declared.refusal.RouterError.{RouterError}
 use Rattle.router_model.specs.declared.refusal.RouterError.TheVariants as error
-use Rattle.router_model.specs.Settings.{Setting, ChoosesByRank}
+use Rattle.router_model.specs.Settings.{Setting, IsSetting}
 use Rattle.router_model.specs.Step.{next_offer}
 use Rattle.router_model.specs.Calls as calls
 use Rattle.router_model.specs.Calls.{Call, Put, Handle, Answer, Steps, Idle, Refuses, answer, stamp_of}
@@ -102,6 +102,6 @@ module _ (g : Setting) (u : ℕ) where
   abbrev pub Follows : List ℕ → List Chore → Stage
   Follows peers chores = Each (Obeys peers) chores
 
--- in every setting of the network that chooses by rank, some events are what was done
+-- in every setting of the network some events are what was done
 abbrev pub Did : (Setting → Stage) → Plan → Seen → Seen → Type 0
-Did P net a b = (g : Setting) → g.net ≡ net → ChoosesByRank g → (acts : List Act) × P g a acts b
+Did P net a b = (g : Setting) → g.net ≡ net → IsSetting g → (acts : List Act) × P g a acts b

@@ -19,4 +19,3 @@ pub use chore::Chore;
 pub use journal::{Entry, Journal};
 pub use script::ScriptGate;
 pub use worker::{Worker, WorkerFault};
-

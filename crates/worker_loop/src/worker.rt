@@ -82,6 +82,15 @@ fn note(events: &mut Vec<Entry>, stamp: u64, event: Event)
     events.extend_from_slice(&[Entry { stamp, event }]).unwrap();
 }
 
+// Backs off after a chore in which no event was done, the longer the more of them there were.
+fn pause(backoff: &Backoff, idle: bool) {
+    if idle {
+        backoff.snooze();
+    } else {
+        backoff.reset();
+    }
+}
+
 impl<'a, L: Lines, D: Desk, G: Gate> Worker<'a, L, D, G> {
     ghost use Rattle.std.specs.Prelude.{◌≡◌, IfOk};
     ghost use Rattle.worker_loop.specs.Following.{Did, Follows};
@@ -89,16 +98,11 @@ impl<'a, L: Lines, D: Desk, G: Gate> Worker<'a, L, D, G> {
     ghost use Rattle.std.specs.Prelude.{[]};
 
     /// Does the chores that the gate gives: so many, or up to the first Stop. It backs off after a
-    /// Turn in which no event was done.
+    /// chore in which no event was done.
     ///
     /// Refused [`WorkerFault::Refused`] where the router has no stamp or incarnation left or an offer
     /// is refused, and [`WorkerFault::Memory`] where a growth was; then the worker ended in the middle.
-    pub fn work<R: Wait>(
-        &mut self,
-        rt: &R,
-        board: &D::Board,
-        turns: u32,
-    ) -> Result<(), WorkerFault>
+    pub fn work<R: Wait>(&mut self, rt: &R, board: &D::Board, turns: u32) -> Result<(), WorkerFault>
         requires fresh { G.given self.old.gate ≡ [] }
         requires blank { self.old.journal.chores.items ≡ [] }
         ensures follows { let a = seen_of L.put_to L.taken_from L.room D.made self.old in let b = seen_of L.put_to L.taken_from L.room D.made self.new in IfOk result (λ _. Did (λ g. Follows g self.old.router.number self.old.peers.items (G.given self.new.gate)) self.old.router.net a b) }
@@ -110,15 +114,11 @@ impl<'a, L: Lines, D: Desk, G: Gate> Worker<'a, L, D, G> {
         for turn in 0..turns {
             let chore = self.next_chore(rt, turn)?;
             let before = self.journal.events.len();
-            self.obey(rt, board, chore)?;
-            if chore == Chore::Stop {
+            self.obey(rt, board, &chore)?;
+            if let Chore::Stop = chore {
                 return Ok(());
             }
-            if self.journal.events.len() == before {
-                backoff.snooze();
-            } else {
-                backoff.reset();
-            }
+            pause(&backoff, self.journal.events.len() == before);
         }
         Ok(())
     }

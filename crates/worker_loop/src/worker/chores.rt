@@ -1,16 +1,28 @@
 //! Chores, done.
 
+ghost use Rattle.std.specs.Prelude.{◌≡◌, ◌<◌, ◌++◌, ◌∷◌, [], vec_len, vec_capacity};
+
 use super::{Worker, WorkerFault};
 use crate::around::{Desk, Gate, Lines};
 use crate::chore::Chore;
 use ranked_policy::Asn;
 use router_core::Call;
+use router_model::Command;
 use std::sync::Wait;
 use world_core::Event;
 
+// A chore joins those of a journal that has room for it.
+fn write_down(chores: &mut Vec<Chore>, chore: &Chore)
+    requires { vec_len chores.old < vec_capacity chores.old }
+    ensures { chores.new.items ≡ chores.old.items ++ chore.now ∷ [] }
+{
+    chores.extend_from_slice(&[*chore]).unwrap();
+}
+
 impl<'a, L: Lines, D: Desk, G: Gate> Worker<'a, L, D, G> {
     ghost use Rattle.std.specs.Prelude.{◌≡◌, IfOk};
-    ghost use Rattle.worker_loop.specs.Following.{Did, Each, Meets, Turns, Obeys};
+    ghost use Rattle.worker_loop.specs.Following.{Did, Calls, Each, Meets, Turns, Obeys};
+    ghost use Rattle.router_model.specs.Calls as calls;
     ghost use Rattle.worker_loop.specs.Whole.{seen_of, IsSameWorker, IsSameBut};
     ghost use Rattle.std.specs.Prelude.{length, [], ◌∷◌, ◌++◌};
 
@@ -23,7 +35,7 @@ impl<'a, L: Lines, D: Desk, G: Gate> Worker<'a, L, D, G> {
     {
         self.journal.chores.reserve(1)?;
         let chore = self.gate.next(rt, self.router.number(), turn);
-        self.journal.chores.extend_from_slice(&[chore])?;
+        write_down(&mut self.journal.chores, &chore);
         Ok(chore)
     }
 
@@ -35,7 +47,8 @@ impl<'a, L: Lines, D: Desk, G: Gate> Worker<'a, L, D, G> {
         self.try_put(rt, peer)?;
         self.try_take(rt, peer)?;
         let event = Event::Handle(self.router.number(), peer);
-        self.try_call(&Call::Handle(peer), event)
+        self.try_call(&Call::Handle(peer), event)?;
+        Ok(())
     }
 
     // The same with each peer, rising.
@@ -59,7 +72,17 @@ impl<'a, L: Lines, D: Desk, G: Gate> Worker<'a, L, D, G> {
         let number = self.router.number();
         self.try_call(&Call::Decide, Event::Decide(number))?;
         self.try_call(&Call::Advertise, Event::Advertise(number))?;
-        self.try_offer(rt, board)
+        self.try_offer(rt, board)?;
+        Ok(())
+    }
+
+    // A command.
+    fn command(&mut self, command: &Command) -> Result<(), WorkerFault>
+        ensures done { let a = seen_of L.put_to L.taken_from L.room D.made self.old in let b = seen_of L.put_to L.taken_from L.room D.made self.new in IfOk result (λ _. Did (λ g. Calls g self.old.router.number (calls.Obey command.now)) self.old.router.net a b) }
+        ensures same { IsSameWorker L.wiring self.old self.new }
+    {
+        let event = Event::Command(self.router.number(), *command);
+        self.try_call(&Call::Obey(*command), event)
     }
 
     // One chore.
@@ -67,18 +90,16 @@ impl<'a, L: Lines, D: Desk, G: Gate> Worker<'a, L, D, G> {
         &mut self,
         rt: &R,
         board: &D::Board,
-        chore: Chore,
+        chore: &Chore,
     ) -> Result<(), WorkerFault>
-        ensures done { let a = seen_of L.put_to L.taken_from L.room D.made self.old in let b = seen_of L.put_to L.taken_from L.room D.made self.new in IfOk result (λ _. Did (λ g. Obeys g self.old.router.number self.old.peers.items chore) self.old.router.net a b) }
+        ensures done { let a = seen_of L.put_to L.taken_from L.room D.made self.old in let b = seen_of L.put_to L.taken_from L.room D.made self.new in IfOk result (λ _. Did (λ g. Obeys g self.old.router.number self.old.peers.items chore.now) self.old.router.net a b) }
         ensures same { IsSameWorker L.wiring self.old self.new }
     {
         let number = self.router.number();
         match chore {
             Chore::Turn => self.turn(rt, board),
             Chore::Tick => self.try_call(&Call::Tick, Event::Tick(number)),
-            Chore::Command(command) => {
-                self.try_call(&Call::Obey(command), Event::Command(number, command))
-            }
+            Chore::Command(command) => self.command(command),
             Chore::Stop => Ok(()),
         }
     }

@@ -11,11 +11,7 @@ impl<'a, L: Lines, D: Desk, G: Gate> Worker<'a, L, D, G> {
     ghost use Rattle.worker_loop.specs.Whole.{seen_of, IsSameWorker};
 
     // Makes the offer that waits in front, where one does.
-    pub(super) fn try_offer<R: Wait>(
-        &mut self,
-        rt: &R,
-        board: &D::Board,
-    ) -> Result<(), WorkerFault>
+    pub(super) fn try_offer<R: Wait>(&mut self, rt: &R, board: &D::Board) -> Result<(), WorkerFault>
         ensures done { let a = seen_of L.put_to L.taken_from L.room D.made self.old in let b = seen_of L.put_to L.taken_from L.room D.made self.new in IfOk result (λ _. Did (λ g. Offers g self.old.router.number) self.old.router.net a b) }
         ensures same { IsSameWorker L.wiring self.old self.new }
     {
@@ -23,8 +19,8 @@ impl<'a, L: Lines, D: Desk, G: Gate> Worker<'a, L, D, G> {
             return Ok(());
         };
         self.journal.events.reserve(1)?;
-        let offer = offer.copied(*self.journal.events.allocator())?;
-        let stamp = self.desk.offer(rt, board, self.router.stamp(), offer)?;
+        let copy = offer.copied(*self.journal.events.allocator())?;
+        let stamp = self.desk.offer(rt, board, self.router.stamp(), copy)?;
         self.router.offer_made(stamp);
         let event = Event::Offer(self.router.number());
         note(&mut self.journal.events, stamp, event);
