@@ -1,5 +1,5 @@
 -- Entries and origins, one more at a time.
-use Rattle.std.proofs.Common.{◌≡◌, ℕ, zero, suc, ◌+◌, ◌<◌, ◌≤◌, Bool, true, false, cond, List, [], ◌∷◌, ◌++◌, length, take, drop, get_or, refl, sym, ap, subst, ◌∙◌, arith, inl, inr, Result, Ok, Err, IfOk, Option, Some, None}
+use Rattle.std.proofs.Common.{◌≡◌, ℕ, zero, suc, ◌+◌, ◌-◌, ◌<◌, ◌≤◌, Bool, true, false, cond, List, [], ◌∷◌, ◌++◌, length, take, drop, get_or, refl, sym, ap, subst, ◌∙◌, arith, inl, inr, Result, Ok, Err, IfOk, Option, Some, None}
 use Rattle.std.specs.Prelude.{◌==◌, ◌&&◌, IsTrue, OnErr}
 use Rattle.std.specs.List.{All}
 use Rattle.std.proofs.lemmas.Bool.{cases_order}
@@ -13,10 +13,11 @@ use Rattle.stable_paths.specs.declared.verdict.Check.{Check}
 use Rattle.net_text.specs.declared.assignment.Entry.{Entry}
 use Rattle.net_text.specs.Words.{is_prefix}
 use Rattle.std.specs.Io.KnownBytes.{Appends}
-use Rattle.net_text.specs.Lexing.{lines_of}
+use Rattle.net_text.specs.Lexing.{Text, lines_of, before_section, behind_section}
 use Rattle.bgpnet.specs.Decoding.{Output, output}
 use Rattle.bgpnet.specs.Engine.{ReadsUpTo, AppendsFront, PrintedBy, PrintedFrontBy}
-use Rattle.bgpnet.specs.Checking.{Checks, CheckGives, LinesGive, paths_by, paths_of, at_prefix, MayStand, IsFirstStray, IsStableAt, IsFirstMove}
+use Rattle.bgpnet.specs.Inputs.{NetworkGives, InputGives, LinesGive, Prints}
+use Rattle.bgpnet.specs.Checking.{paths_by, paths_of, at_prefix, MayStand, IsFirstStray, IsStableAt, IsFirstMove}
 
 module _ {X : Type 0} where
   -- a list is what stands before an item, the item, and what stands behind it
@@ -101,30 +102,46 @@ pub if_ok : {X E : Type 0} (P Q : X → Type 0) (r : Result X E) → ((x : X) �
 if_ok P Q (Ok x) f h = f x h
 if_ok P Q (Err e) f h = tt
 
+-- and of two facts
+pub both_ok : {X E : Type 0} (P Q S : X → Type 0) (r : Result X E) → ((x : X) → P x → Q x → S x) → IfOk r P → IfOk r Q → IfOk r S
+both_ok P Q S (Ok x) f h k = f x h k
+both_ok P Q S (Err e) f h k = tt
+
 -- a verdict on a problem is one on the problem that it is
 pub verdict_of : (p : Problem) (net : Plan) (q : PrefixView) (paths : ℕ → List ℕ) (check : Check) → p ≡ at_prefix net q → IsVerdict p paths check → IsVerdict (at_prefix net q) paths check
 verdict_of p net q paths check e v = subst (λ (x : Problem). IsVerdict x paths check) e v
 
 -- ---- what is printed for what was read
 
--- for known octets of which these were read, up to the limit
-checks_input : (input items : List ℕ) (out : Output) → items ≡ take (length items) input → (length items ≤ 16777216 → items ≡ input) → CheckGives items out → Checks input out
-checks_input input items out front same (inl long) =
-    let size : length items ≤ length input = omega (arith, ap length front, length-take (length items) input) in
-    inl (inl (omega (arith, size, long.0), long.1))
-checks_input input items out front same (inr short) =
-    let e : items ≡ input = same short.0 in
-    inl (inr (subst (λ (xs : List ℕ). length xs ≤ 16777216) e short.0, subst (λ (xs : List ℕ). LinesGive (lines_of xs) out) e short.1))
+module _ (Gives : Plan → ℕ → List Text → Output → Type 0) (name : List ℕ) where
+  -- for known octets of which these were read, up to the limit
+  prints_input : (input items : List ℕ) (out : Output) → items ≡ take (length items) input → (length items ≤ 16777216 → items ≡ input) → InputGives Gives name items out → Prints Gives name input out
+  prints_input input items out front same (inl long) =
+      let size : length items ≤ length input = omega (arith, ap length front, length-take (length items) input) in
+      inl (inl (omega (arith, size, long.0), long.1))
+  prints_input input items out front same (inr short) =
+      let e : items ≡ input = same short.0 in
+      inl (inr (subst (λ (xs : List ℕ). length xs ≤ 16777216) e short.0, subst (λ (xs : List ℕ). LinesGive Gives name (lines_of xs) out) e short.1))
 
-pub checks_done : (known old new : Option (List ℕ)) (items text : List ℕ) (status : ℕ) → ReadsUpTo 16777216 known items → CheckGives items (output text status) → Appends old new text
-    → PrintedBy Checks known old new status
-checks_done None old new items text status read gives put = tt
-checks_done (Some input) old new items text status read gives put = (text, checks_input input items (output text status) read.0 read.1 gives, put)
+  -- for the two parts of a text
+  pub lines_give : (text : List ℕ) (front behind : List Text) (before : ℕ) (out : Output) → front ≡ before_section name (lines_of text) → behind ≡ behind_section name (lines_of text)
+      → before + length behind ≡ length (lines_of text) → NetworkGives Gives front before behind out → LinesGive Gives name (lines_of text) out
+  lines_give text front behind before out ef eb total h =
+      let size = ap length eb in
+      let n : before ≡ length (lines_of text) - length (behind_section name (lines_of text)) = omega (arith, size, total) in
+      subst (λ (f : List Text). NetworkGives Gives f (length (lines_of text) - length (behind_section name (lines_of text))) (behind_section name (lines_of text)) out) ef
+      (subst (λ (b : List Text). NetworkGives Gives front (length (lines_of text) - length (behind_section name (lines_of text))) b out) eb
+      (subst (λ (k : ℕ). NetworkGives Gives front k behind out) n h))
 
-pub checks_stopped : (known old new : Option (List ℕ)) (items text : List ℕ) (status : ℕ) → ReadsUpTo 16777216 known items → CheckGives items (output text status) → AppendsFront old new text
-    → PrintedFrontBy Checks known old new
-checks_stopped None old new items text status read gives put = tt
-checks_stopped (Some input) old new items text status read gives put = (output text status, checks_input input items (output text status) read.0 read.1 gives, put)
+  pub prints_done : (known old new : Option (List ℕ)) (items text : List ℕ) (status : ℕ) → ReadsUpTo 16777216 known items → InputGives Gives name items (output text status) → Appends old new text
+      → PrintedBy (Prints Gives name) known old new status
+  prints_done None old new items text status read gives put = tt
+  prints_done (Some input) old new items text status read gives put = (text, prints_input input items (output text status) read.0 read.1 gives, put)
+
+  pub prints_stopped : (known old new : Option (List ℕ)) (items text : List ℕ) (status : ℕ) → ReadsUpTo 16777216 known items → InputGives Gives name items (output text status) → AppendsFront old new text
+      → PrintedFrontBy (Prints Gives name) known old new
+  prints_stopped None old new items text status read gives put = tt
+  prints_stopped (Some input) old new items text status read gives put = (output text status, prints_input input items (output text status) read.0 read.1 gives, put)
 
 -- what holds, holds where a call stopped
 pub on_err : {A E X : Type 0} (r : Result A E) → X → OnErr r X

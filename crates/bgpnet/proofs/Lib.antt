@@ -2,6 +2,8 @@ pub mod DigitLemmas
 pub mod PrintingLemmas
 pub mod WritingLemmas
 pub mod CheckLemmas
+pub mod PlayLemmas
+pub mod PartLemmas
 pub mod PlaceLemmas
 pub mod BlankLemmas
 pub mod HexInputLemmas

@@ -1,5 +1,5 @@
 -- What is printed for a network and an assignment.
-use Rattle.std.specs.Prelude.{◌≡◌, ◌≢◌, ℕ, ◌<◌, ◌≤◌, ◌-◌, ◌==◌, ◌&&◌, ◌||◌, nat_lt, Bool, true, false, slice_index_or, List, [], ◌∷◌, ◌++◌, length, codes, Ok, if◌then◌else◌, ◌⊎◌}
+use Rattle.std.specs.Prelude.{◌≡◌, ◌≢◌, ℕ, ◌<◌, ◌==◌, ◌&&◌, ◌||◌, nat_lt, Bool, true, false, slice_index_or, List, [], ◌∷◌, ◌++◌, length, codes, Ok, if◌then◌else◌, ◌⊎◌}
 use Rattle.std.specs.List.{All}
 use Rattle.prefix_lanes.specs.Bits.{PrefixView}
 use Rattle.ranked_policy.specs.Plans.{Plan}
@@ -10,29 +10,12 @@ use Rattle.stable_paths.specs.Judging.{IsMoving}
 use Rattle.net_text.specs.declared.code.Code.{Code}
 use Rattle.net_text.specs.declared.code.Code.TheVariants as kinds
 use Rattle.net_text.specs.declared.assignment.Entry.{Entry}
-use Rattle.net_text.specs.Lexing.{Text, lines_of, before_section, behind_section}
-use Rattle.net_text.specs.Networks.{SpellsNetwork, RefusesNetwork}
+use Rattle.net_text.specs.Lexing.{Text}
 use Rattle.net_text.specs.Assignments.{assignment_reading, RefusesAssignment}
 use Rattle.net_text.specs.Words.{is_prefix}
-use Rattle.net_text.specs.Printing.{refused_line, unstable_line, stable_line}
-use Rattle.bgpnet.specs.Decoding.{Output, output, memory_output}
-
--- ---- texts
-
--- the code of a refusal
-abbrev pub code_text : Code → List ℕ
-code_text kinds.BadForm = codes "N1"
-code_text kinds.Unreadable = codes "N2"
-code_text kinds.UnknownRouter = codes "N3"
-code_text kinds.Repeated = codes "N4"
-code_text kinds.NotConnected = codes "N5"
-code_text kinds.OutOfLimit = codes "N6"
-code_text kinds.NotSimple = codes "N7"
-code_text kinds.BadPrefix = codes "N8"
-code_text kinds.Memory = codes "N9"
-
-abbrev pub refused : ℕ → List ℕ → Output
-refused at code = output (refused_line at code) 1
+use Rattle.net_text.specs.Printing.{unstable_line, stable_line}
+use Rattle.bgpnet.specs.Decoding.{Output, output}
+use Rattle.bgpnet.specs.Inputs.{code_text, refused, InputGives, Prints}
 
 -- ---- what entries say of a prefix
 
@@ -116,20 +99,10 @@ AssignmentGives net before lines out =
     ((at : ℕ) × (code : Code) × (code ≢ kinds.Memory) × RefusesAssignment net before lines at code × (out ≡ refused at (code_text code)))
     ⊎ ((entries : List Entry) × (assignment_reading net before lines ≡ Ok entries) × EntriesGive net entries out)
 
--- for the lines of a network, and those of an assignment behind them
-abbrev pub NetworkGives : List Text → ℕ → List Text → Output → Type 0
-NetworkGives front before behind out =
-    ((at : ℕ) × (code : Code) × (code ≢ kinds.Memory) × RefusesNetwork front at code × (out ≡ refused at (code_text code)))
-    ⊎ ((net : Plan) × SpellsNetwork front net × AssignmentGives net before behind out)
-
-abbrev pub LinesGive : List Text → Output → Type 0
-LinesGive lines out =
-    NetworkGives (before_section (codes "assignment") lines) (length lines - length (behind_section (codes "assignment") lines)) (behind_section (codes "assignment") lines) out
-
--- for an input, which may be too long
+-- for an input of a network and an assignment
 abbrev pub CheckGives : List ℕ → Output → Type 0
-CheckGives input out = (16777216 < length input × (out ≡ refused 0 (codes "N6"))) ⊎ ((length input ≤ 16777216) × LinesGive (lines_of input) out)
+CheckGives input out = InputGives AssignmentGives (codes "assignment") input out
 
 -- what the program prints: that, or that memory ran out
 abbrev pub Checks : List ℕ → Output → Type 0
-Checks input out = CheckGives input out ⊎ (out ≡ memory_output)
+Checks input out = Prints AssignmentGives (codes "assignment") input out

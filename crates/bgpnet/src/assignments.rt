@@ -8,23 +8,15 @@ ghost use Rattle.stable_paths.specs.Judging.{IsVerdict};
 ghost use Rattle.net_text.specs.Words.{is_prefix};
 ghost use Rattle.net_text.specs.Printing.{stable_line, unstable_line};
 ghost use Rattle.bgpnet.specs.Decoding.{output};
-ghost use Rattle.bgpnet.specs.Checking.{refused, is_before, IsPlace, HasNoPlace, AssignNothing, Assign, at_prefix, MayStand, IsFirstStray, VerdictGives, EntriesGive};
+ghost use Rattle.bgpnet.specs.Checking.{is_before, IsPlace, HasNoPlace, AssignNothing, Assign, at_prefix, MayStand, IsFirstStray, VerdictGives, EntriesGive};
 
-use crate::status::{DONE, REFUSED};
-use net_text::{Entry, refused_line, stable_line, unstable_line};
+use crate::refusals::refused_output;
+use crate::status::DONE;
+use net_text::{Entry, stable_line, unstable_line};
 use prefix_lanes::Prefix;
 use ranked_policy::{Asn, Network, Origin, Path};
 use stable_paths::{Assignment, Check, Instance, StableError, check, may_have};
 use std::alloc::{AllocError, Global};
-
-/// What is printed for a line that is refused, and the status.
-pub fn refused_output(alloc: Global, line: usize, code: &[u8]) -> Result<(Vec<u8>, u8), AllocError>
-    ensures { IfOk result (λ printed. output printed.0.items printed.1 ≡ refused line code.now) }
-{
-    let mut out = Vec::new(alloc);
-    refused_line(line, code, &mut out)?;
-    Ok((out, REFUSED))
-}
 
 // What is printed for a router that would move, and the status.
 fn unstable_output(

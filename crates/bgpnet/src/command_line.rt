@@ -6,6 +6,7 @@ ghost use Rattle.std.specs.List.{list_all};
 use crate::channel::{IoStopped, Sink, Source};
 use crate::engines::check::check_stream;
 use crate::engines::decode::decode_stream;
+use crate::engines::play::play_stream;
 use crate::engines::{want_of_memory, write_out};
 use crate::status::{DONE, USAGE};
 use bgp_codec::{Rule, Width};
@@ -20,6 +21,8 @@ enum Asked {
     Decode(Option<u16>),
     // Check an assignment.
     Check,
+    // Play a schedule.
+    Play,
     // A text to write, and the status to end with.
     Text(String, u8),
 }
@@ -49,6 +52,32 @@ A path is its routers, the router itself first and the origin last, or 'none'. A
 'rank' line prefers the shortest path, then the smaller numbers. Where no router would move the
 output is 'stable'. 'refused LINE CODE' names the first line that can't be read and what is wrong
 with it.";
+
+/// What the help of `play` says below its options: an example.
+pub const PLAY_HELP: &str = "\
+The input is a network, a line 'schedule', and the orders of the schedule:
+
+    router 1 10.0.0.1
+    router 2 10.0.0.2
+    link 1 2
+    origin 1 10.1.0.0/16
+    schedule
+    start 1 2
+    start 2 1
+    originate 1 10.1.0.0/16
+    rounds 40
+
+Both routers start their session and router 1 originates the prefix, so the output is
+
+    now
+    route 1 10.1.0.0/16 1
+    route 2 10.1.0.0/16 2-1
+
+An order is 'start U V', 'stop U V' or 'reset U V' for U's session with V, 'originate U PREFIX',
+'withdraw U PREFIX', 'snapshot U S', 'restart U'; one step of U: 'tick U', 'put U V', 'take U V',
+'handle U V', 'decide U', 'advertise U', 'offer U'; or 'rounds N', N turns of each router, or
+'ticks N', N seconds. 'refused LINE CODE' names the first line that can't be read, else the first
+order that is refused, and why.";
 
 // What is said of a sign before the number of `--peer`.
 const NOT_DIGITS: &str = "\
@@ -80,12 +109,21 @@ fn parse(alloc: Global, words: &[&str]) -> Result<Asked, Error> {
     let check = Command::new(alloc, "check")
         .about("Says whether an assignment of paths is stable")
         .after_help(CHECK_HELP);
+    let play = Command::new(alloc, "play")
+        .about("Plays a schedule of a network's routers")
+        .after_help(PLAY_HELP);
     let command = Command::new(alloc, "bgpnet")
-        .about("Decodes BGP-4 messages, and says whether paths are a stable assignment")
+        .about(
+            "Decodes BGP-4 messages, says whether paths are a stable assignment, plays schedules",
+        )
         .subcommand_required(true)
         .subcommand(decode)?
-        .subcommand(check)?;
+        .subcommand(check)?
+        .subcommand(play)?;
     let matches = command.try_get_matches_from(words)?;
+    if matches.subcommand_matches("play").is_some() {
+        return Ok(Asked::Play);
+    }
     if matches.subcommand_matches("check").is_some() {
         return Ok(Asked::Check);
     }
@@ -134,6 +172,7 @@ pub fn run_with<S: Source, T: Sink>(
             decode_stream(alloc, &rule, reader, writer)
         }
         Ok(Asked::Check) => check_stream(alloc, reader, writer),
+        Ok(Asked::Play) => play_stream(alloc, reader, writer),
         Ok(Asked::Text(text, status)) => {
             write_out(writer, text.as_bytes())?;
             Ok(status)

@@ -7,6 +7,7 @@ ghost use Rattle.bgpnet.specs.Engine.{ReadsUpTo, AppendsFront};
 pub mod check;
 pub mod decode;
 pub mod hex_input;
+pub mod play;
 
 use crate::channel::{IoStopped, Sink, Source};
 use crate::status::MEMORY;

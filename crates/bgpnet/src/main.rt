@@ -1,4 +1,4 @@
-//! `bgpnet`: decodes BGP-4 messages, and says whether paths are a stable assignment.
+//! `bgpnet`: decodes BGP-4 messages, says whether paths are a stable assignment, and plays schedules.
 //!
 //! The program reads its words, standard input and nothing else, and writes standard output.
 //! [`command_line`] reads the words and hands them to an engine of [`engines`]: a function over a
@@ -6,8 +6,11 @@
 //! standard input and output and ends with its status.
 //!
 //! The contract of `bgpnet decode` is that of `engines::decode::decode_stream`, that of
-//! `bgpnet check` that of `engines::check::check_stream`; the definitions stand in `specs/`: `Decoding` (the text of a stream), `Checking` (that of a check), `Engine` (what
-//! an engine may leave written). The lines themselves are `net_text`'s.
+//! `bgpnet check` that of `engines::check::check_stream`, that of `bgpnet play` that of
+//! `engines::play::play_stream`; the definitions stand in `specs/`: `Decoding` (the text of a
+//! stream), `Inputs` (a network and a section behind it), `Checking` (the text of a check),
+//! `Playing` (that of a schedule), `Engine` (what an engine may leave written). The lines
+//! themselves are `net_text`'s and `schedule_text`'s.
 #![tactic(auto)]
 
 mod assignments;
@@ -16,6 +19,9 @@ mod channel;
 mod command_line;
 mod digits;
 mod engines;
+mod refusals;
+mod schedules;
+mod snapshots;
 mod status;
 mod stream;
 

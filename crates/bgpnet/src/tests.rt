@@ -6,6 +6,7 @@ mod decode;
 mod examples;
 mod failures;
 mod gallery;
+mod play;
 mod updates;
 
 use crate::channel::Watched;
@@ -32,4 +33,10 @@ pub fn answer(
 pub fn says(alloc: Global, example: &Example) -> Result<(Vec<u8>, Option<u8>), AllocError> {
     let input = format!(in alloc; "{}{}", example.network, example.paths)?;
     answer(alloc, &["check"], input.as_bytes())
+}
+
+/// Whether `play` writes this for the input, with this status.
+pub fn plays(alloc: Global, input: &str, wanted: &str, status: u8) -> Result<bool, AllocError> {
+    let (text, ended) = answer(alloc, &["play"], input.as_bytes())?;
+    Ok(text.as_slice() == wanted.as_bytes() && ended == Some(status))
 }

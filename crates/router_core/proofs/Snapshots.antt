@@ -145,7 +145,7 @@ module _ (over : BestOverWords) (one : OneBest) (law : LinkedRoutersArePeers) (g
   pending_same : p.pending ≡ is_pending g r.number x
   pending_same = pending_is over one law g r c p.pending k.some k.none
 
-  part_same : part_of p ≡ recorded_part g r.number x
+  pub part_same : part_of p ≡ recorded_part g r.number x
   part_same =
       ap (λ (a : PrefixView → List ℕ). record (part_of p) { kept = a }) kept_same
       ∙ ap (λ (a : PrefixView → Bool). record (part_of p) { kept = x.kept; originated = a }) own_same

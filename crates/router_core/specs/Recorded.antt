@@ -8,14 +8,14 @@ use Rattle.snap_marker.specs.declared.part.KeptPath.{KeptPath}
 use Rattle.rib_tables.specs.Least.{HoldsOfAll}
 use Rattle.rib_tables.specs.Owners.{RibView, IsSettled, AllServed, IsPending}
 use Rattle.snap_marker.specs.declared.part.Part.{Part}
-use Rattle.snap_marker.specs.Parts.{Seen, seen}
+use Rattle.snap_marker.specs.Parts.{Seen, seen, part_of}
 use Rattle.router_model.specs.declared.refusal.RouterError.{RouterError}
 use Rattle.router_model.specs.declared.refusal.RouterError.TheVariants as error
 use Rattle.router_model.specs.declared.refusal.Stepped.{Stepped}
 use Rattle.router_model.specs.declared.refusal.Stepped.TheVariants as stepped
 use Rattle.router_model.specs.Settings.{Setting, ChoosesByRank}
 use Rattle.router_model.specs.Sides.{Side, marked, is_up}
-use Rattle.router_model.specs.Step.{awaits, records}
+use Rattle.router_model.specs.Step.{awaits, recorded_part, records}
 use Rattle.router_side.specs.SideOf.{side, HasRoomToMark}
 use Rattle.router_core.specs.declared.peers.Peer.{Peer}
 use Rattle.router_core.specs.Views.{RouterView, plain_of, listed}
@@ -62,6 +62,12 @@ pub record IsPart (origins : List Origin) (t : RibView) (ps : List Peer) (u s : 
   pub channels : map seen p.channels.items ≡ channels_of first ps
   pub some : p.pending ≡ true → IsPending t
   pub none : p.pending ≡ false → HoldsOfAll t.net.origins (IsSettled t) × AllServed t
+
+-- this is what the router would record now, in every setting of its network that chooses by rank
+pub record IsStateOf (x : RouterView) (p : Part) : Type 0 where
+  pub router : p.router ≡ x.number
+  pub number : p.number ≡ 0
+  pub state : (g : Setting) → g.net ≡ x.net → ChoosesByRank g → part_of p ≡ recorded_part g x.number (plain_of x).router
 
 -- the marker came from a peer, or a command
 abbrev pub IsPeer : List Peer → Option ℕ → Type 0

@@ -17,7 +17,7 @@ mod tables;
 mod telling;
 
 pub use outbox::{Item, PieceOctets, What};
-pub use router::{Call, Router};
+pub use router::{Call, GREATEST_STAMP, Router};
 pub use router_model::{Command, RouterError, Stepped};
 pub use snap_marker::Offer;
 

@@ -4,44 +4,38 @@ use Rattle.prefix_lanes.specs.Bits.{PrefixView}
 use Rattle.net_text.specs.Printing.{line, prefix_text, numbers_text, refused_line}
 use Rattle.router_model.specs.declared.refusal.RouterError.{RouterError}
 use Rattle.router_model.specs.declared.refusal.RouterError.TheVariants as error
-use Rattle.snap_marker.specs.declared.part.Cause.{Cause}
-use Rattle.snap_marker.specs.declared.part.Cause.TheVariants as cause
-use Rattle.snap_collector.specs.declared.outcome.Why.{Why}
-use Rattle.snap_collector.specs.declared.outcome.Why.TheVariants as why
-use Rattle.snap_collector.specs.declared.outcome.Outcome.{Outcome}
-use Rattle.snap_collector.specs.declared.outcome.Outcome.TheVariants as outcome
+use Rattle.run_model.specs.Offers.{Cause, NotUp, Closed, Superseded, Why, Pending, InFlight, Mismatch, Outcome, Waiting, Abandoned, Moving, Settled}
 use Rattle.world_core.specs.declared.schedule.StepFault.{StepFault}
 use Rattle.world_core.specs.declared.schedule.StepFault.TheVariants as fault
 
 -- ---- snapshots
 
 abbrev pub why_text : Why → List ℕ
-why_text why.Pending = codes "pending"
-why_text (why.InFlight v) = codes "inflight " ++ decimal v
-why_text (why.Mismatch v) = codes "mismatch " ++ decimal v
+why_text Pending = codes "pending"
+why_text (InFlight v) = codes "inflight " ++ decimal v
+why_text (Mismatch v) = codes "mismatch " ++ decimal v
 
 abbrev pub cause_text : Cause → List ℕ
-cause_text cause.NotUp = codes "notup"
-cause_text cause.Closed = codes "closed"
-cause_text cause.Superseded = codes "superseded"
+cause_text NotUp = codes "notup"
+cause_text Closed = codes "closed"
+cause_text Superseded = codes "superseded"
 
 -- how it came out: the router that is moving, and why; or the router and the peer by which it was abandoned, and why
 abbrev pub outcome_text : Outcome → List ℕ
-outcome_text outcome.Waiting = []
-outcome_text (outcome.Abandoned lost) =
-    codes "abandoned " ++ (decimal lost.router ++ (codes " " ++ (decimal lost.peer ++ (codes " " ++ cause_text lost.cause))))
-outcome_text (outcome.Moving u w) = codes "moving " ++ (decimal u ++ (codes " " ++ why_text w))
-outcome_text outcome.Settled = codes "settled"
+outcome_text Waiting = []
+outcome_text (Abandoned u v e c) = codes "abandoned " ++ (decimal u ++ (codes " " ++ (decimal v ++ (codes " " ++ cause_text c))))
+outcome_text (Moving u w) = codes "moving " ++ (decimal u ++ (codes " " ++ why_text w))
+outcome_text Settled = codes "settled"
 
 unfoldable pub snapshot_text : ℕ → Outcome → List ℕ
 snapshot_text s o = line (codes "snapshot " ++ (decimal s ++ (codes " " ++ outcome_text o)))
 
 -- one that is undecided has no line
 abbrev pub snapshot_line : ℕ → Outcome → List ℕ
-snapshot_line s outcome.Waiting = []
-snapshot_line s (outcome.Abandoned lost) = snapshot_text s (outcome.Abandoned lost)
-snapshot_line s (outcome.Moving u w) = snapshot_text s (outcome.Moving u w)
-snapshot_line s outcome.Settled = snapshot_text s outcome.Settled
+snapshot_line s Waiting = []
+snapshot_line s (Abandoned u v e c) = snapshot_text s (Abandoned u v e c)
+snapshot_line s (Moving u w) = snapshot_text s (Moving u w)
+snapshot_line s Settled = snapshot_text s Settled
 
 -- ---- routes
 

@@ -2,6 +2,8 @@
 //! changes nothing.
 
 ghost use Rattle.std.specs.Prelude.{◌≡◌, ◌++◌, OnOk, OnErr};
+ghost use Rattle.snap_marker.specs.Parts.{cause_of};
+ghost use Rattle.snap_collector.specs.Collecting.{why_of, outcome_of};
 ghost use Rattle.schedule_text.specs.Reports.{why_text, cause_text, outcome_text, snapshot_text, snapshot_line, route_line, now_line, stop_line, router_code, fault_code};
 
 use net_text::{Tail, put_path, refused_line};
@@ -15,7 +17,7 @@ use world_core::StepFault;
 
 // Writes why a snapshot is moving.
 fn put_why(out: &mut Tail, why: Why) -> Result<(), AllocError>
-    ensures text { OnOk result (out.new.text ≡ out.old.text ++ why_text why) }
+    ensures text { OnOk result (out.new.text ≡ out.old.text ++ why_text (why_of why)) }
     ensures front { out.new.front ≡ out.old.front }
 {
     match why {
@@ -33,7 +35,7 @@ fn put_why(out: &mut Tail, why: Why) -> Result<(), AllocError>
 
 // Why a recording was lost.
 fn cause_text(cause: Cause) -> &'static [u8]
-    ensures { result.now ≡ cause_text cause }
+    ensures { result.now ≡ cause_text (cause_of cause) }
 {
     match cause {
         Cause::NotUp => b"notup",
@@ -44,7 +46,7 @@ fn cause_text(cause: Cause) -> &'static [u8]
 
 // Writes how a snapshot was abandoned.
 fn put_lost(out: &mut Tail, lost: &Lost) -> Result<(), AllocError>
-    ensures text { OnOk result (out.new.text ≡ out.old.text ++ outcome_text (Outcome.Abandoned lost.now)) }
+    ensures text { OnOk result (out.new.text ≡ out.old.text ++ outcome_text (outcome_of (Outcome.Abandoned lost.now))) }
     ensures front { out.new.front ≡ out.old.front }
 {
     out.put_text(b"abandoned ")?;
@@ -57,7 +59,7 @@ fn put_lost(out: &mut Tail, lost: &Lost) -> Result<(), AllocError>
 
 // Writes how a snapshot came out.
 fn put_outcome(out: &mut Tail, outcome: &Outcome) -> Result<(), AllocError>
-    ensures text { OnOk result (out.new.text ≡ out.old.text ++ outcome_text outcome.now) }
+    ensures text { OnOk result (out.new.text ≡ out.old.text ++ outcome_text (outcome_of outcome.now)) }
     ensures front { out.new.front ≡ out.old.front }
 {
     match outcome {
@@ -75,7 +77,7 @@ fn put_outcome(out: &mut Tail, outcome: &Outcome) -> Result<(), AllocError>
 
 #[tactic(auto, unfolding(crate::specs::Reports::snapshot_text))]
 fn put_snapshot(out: &mut Tail, number: u32, outcome: &Outcome) -> Result<(), AllocError>
-    ensures text { OnOk result (out.new.text ≡ out.old.text ++ snapshot_text number outcome.now) }
+    ensures text { OnOk result (out.new.text ≡ out.old.text ++ snapshot_text number (outcome_of outcome.now)) }
     ensures front { out.new.front ≡ out.old.front }
 {
     out.put_text(b"snapshot ")?;
@@ -101,7 +103,7 @@ fn put_route(out: &mut Tail, router: Asn, prefix: &Prefix, path: &[Asn]) -> Resu
 /// Appends how a snapshot came out; nothing where it is undecided. It is refused only where memory
 /// was, and then changes nothing.
 pub fn snapshot_line(number: u32, outcome: &Outcome, out: &mut Vec<u8>) -> Result<(), AllocError>
-    ensures ok { OnOk result (out.new.items ≡ out.old.items ++ snapshot_line number outcome.now) }
+    ensures ok { OnOk result (out.new.items ≡ out.old.items ++ snapshot_line number (outcome_of outcome.now)) }
     ensures err { OnErr result (out.new.items ≡ out.old.items) }
 {
     if *outcome == Outcome::Waiting {

@@ -44,7 +44,7 @@ or_later : (b c : Bool) → c ≡ true → (b || c) ≡ true
 or_later true c h = refl
 or_later false c h = h
 
-decides_more : (members : List Member) (xs ys : List MadeOffer) → decides members xs ≡ true → decides members (xs ++ ys) ≡ true
+pub decides_more : (members : List Member) (xs ys : List MadeOffer) → decides members xs ≡ true → decides members (xs ++ ys) ≡ true
 decides_more members xs ys h = by (either (any_lost xs) (all_parts members xs) h)
   where
     by : (any_lost xs ≡ true) ⊎ (all_parts members xs ≡ true) → decides members (xs ++ ys) ≡ true

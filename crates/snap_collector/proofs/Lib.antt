@@ -3,3 +3,4 @@ pub mod Faults
 pub mod Deciding
 pub mod Books
 pub mod Routers
+pub mod Decided

@@ -1,5 +1,5 @@
 -- What a collector keeps: every offer that was made, by the number of its snapshot.
-use Rattle.std.specs.Prelude.{ℕ, ◌≡◌, ◌<◌, ◌==◌, ◌↔◌, Bool, cond, List, [], ◌∷◌, ◌++◌, map, filter, Vec, Option, None, Some, take, length}
+use Rattle.std.specs.Prelude.{ℕ, ◌≡◌, ◌<◌, ◌==◌, ◌↔◌, Bool, true, cond, List, [], ◌∷◌, ◌++◌, map, filter, Vec, Option, None, Some, take, length}
 use Rattle.std.specs.List.{All, AllPairs, Contains}
 use Rattle.ranked_policy.specs.Plans.{Plan, Linked, numbers}
 use Rattle.run_model.specs.Offers.{number_of}
@@ -51,6 +51,13 @@ HasPeers net m = AllPairs (λ u v. u < v) m.peers × ((v : ℕ) → Contains m.p
 pub record AreMembers (net : Plan) (members : List MemberOf) : Type 0 where
   pub routers : map (λ m. m.router) members ≡ numbers net.routers
   pub peers : All (HasPeers net) members
+
+-- ---- the numbers that are decided
+
+-- these are the numbers whose offers decide, rising
+pub record AreDecided (c : CollectorView) (numbers : List ℕ) : Type 0 where
+  pub rising : AllPairs (λ s t. s < t) numbers
+  pub exact : (s : ℕ) → Contains numbers s ↔ (decides (map member_of c.members) (made_for c s) ≡ true)
 
 -- ---- those that are kept: up to the first that decides
 

@@ -1,8 +1,10 @@
 //! Who keeps the offers of the routers of a network.
 
-ghost use Rattle.std.specs.Prelude.{◌≡◌, ◌≤◌, length, [], ◌∷◌, map, take, IfOk, OnOk, OnErr, option_copied};
+ghost use Rattle.std.specs.Prelude.{◌≡◌, ℕ, ◌<◌, ◌≤◌, ◌↔◌, length, [], ◌∷◌, map, take, vec_len, vec_capacity, IfOk, OnOk, OnErr, option_copied};
+ghost use Rattle.std.specs.List.{AllPairs, Contains};
+ghost use mathlib.Core.Logic.{◌⊎◌};
 ghost use Rattle.snap_collector.specs.Collecting.{made_by, made_in, member_of, outcome_of};
-ghost use Rattle.snap_collector.specs.Collector.{made_at, made_for, offers_at, entry_of, with_offers, first_part, AreKept, AreMembers, IsPartOf, kept_of};
+ghost use Rattle.snap_collector.specs.Collector.{made_at, made_for, offers_at, entry_of, with_offers, first_part, AreDecided, AreKept, AreMembers, IsPartOf, kept_of};
 ghost use Rattle.snap_collector.specs.Taking.{Takes};
 ghost use Rattle.snap_collector.specs.Verdicts.{verdict, decides};
 
@@ -28,11 +30,13 @@ pub struct Collector {
 
 impl Model for Collector {
     ghost use Rattle.std.specs.Prelude.{map};
-    ghost use Rattle.snap_collector.specs.Collector.{CollectorView, entry_of};
+    ghost use Rattle.snap_collector.specs.Collector.{CollectorView, AreDecided, entry_of};
 
     ghost Value = { CollectorView };
 
     ghost view = { λ c. record { members = c.members.items; offers = map entry_of c.offers.entries; decided = c.decided.items } };
+
+    ghost invariant = { λ c. AreDecided (record { members = c.members.items; offers = map entry_of c.offers.entries; decided = c.decided.items }) c.decided.items };
 }
 
 // The routers of a network with their peers, rising.
@@ -94,6 +98,18 @@ fn keep(
     Ok(())
 }
 
+// Puts a number to its place among rising ones, which have room for it; one that is there stays alone.
+fn note(numbers: &mut Vec<u32>, number: u32)
+    requires room { vec_len numbers.old < vec_capacity numbers.old }
+    requires rising { AllPairs (λ s t. s < t) numbers.old.items }
+    ensures rising { AllPairs (λ s t. s < t) numbers.new.items }
+    ensures more { (s : ℕ) → Contains numbers.new.items s ↔ (Contains numbers.old.items s ⊎ (s ≡ number)) }
+{
+    if let Err(at) = numbers.binary_search(&number) {
+        numbers.insert(at, number).unwrap();
+    }
+}
+
 // The first part of a router.
 fn first_part(offers: &[Offer], router: Asn) -> Option<&Part>
     ensures { option_copied result ≡ first_part offers.now router }
@@ -117,6 +133,7 @@ impl Collector {
         ensures nothing { IfOk result (λ c. made_for c ≡ (λ s. [])) }
         ensures members { IfOk result (λ c. AreMembers network.now c.members) }
     {
+        let _ = network.built();
         Ok(Collector {
             members: members_of(alloc, network)?,
             offers: BTreeMap::new(alloc),
@@ -132,12 +149,10 @@ impl Collector {
         ensures members { self.new.members ≡ self.old.members }
     {
         let number = offer.number();
-        let before = self.is_decided(number);
         self.decided.reserve(1)?;
         keep(*self.members.allocator(), &mut self.offers, offer)?;
-        if !before && decides(self.members.as_slice(), offers_for(&self.offers, number)) {
-            self.decided.push_reserved(number);
-            self.decided.sort_unstable();
+        if decides(self.members.as_slice(), offers_for(&self.offers, number)) {
+            note(&mut self.decided, number);
         }
         Ok(())
     }
@@ -171,7 +186,8 @@ impl Collector {
 
     /// The numbers of the snapshots that are decided, rising.
     pub fn decided(&self) -> &[u32]
-        ensures { result.now ≡ self.now.decided }
+        ensures value { result.now ≡ self.now.decided }
+        ensures decided { AreDecided self.now result.now }
     {
         self.decided.as_slice()
     }

@@ -9,3 +9,5 @@ pub mod Moving
 pub mod Worlds
 pub mod Orders
 pub mod Made
+pub mod Rising
+pub mod Members

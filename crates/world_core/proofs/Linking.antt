@@ -1,5 +1,5 @@
 -- The pipe from a peer is found where a link joins the two.
-use Rattle.std.proofs.Common.{◌≡◌, ℕ, zero, suc, ◌+◌, ◌<◌, ◌≤◌, ◌==◌, nat_eq, Bool, true, false, ◌&&◌, not, cond, List, [], ◌∷◌, length, map, filter, refl, ap, sym, ◌∙◌, arith, subst, get_or, ◌↔◌, inl, inr, Option, None, Some}
+use Rattle.std.proofs.Common.{◌≡◌, ℕ, zero, suc, ◌+◌, ◌<◌, ◌≤◌, ◌==◌, nat_eq, Bool, true, false, ◌&&◌, not, cond, List, [], ◌∷◌, length, map, filter, refl, ap, sym, ◌∙◌, arith, subst, ◌↔◌, inl, inr, Option, None, Some}
 use Rattle.std.specs.Prelude.{nat_lt, MatchOption, ◌||◌, IsTrue, Result, Ok, Err}
 use Rattle.std.specs.List.{position, position_or_len, list_any}
 use Rattle.std.proofs.lemmas.Bool.{eqb-true, eqb-false, eq-eqb}
@@ -64,7 +64,7 @@ passes_at p v x xs true true eb ec h f = (let same : x ≡ v = grind (arith, nat
 passes_at p v x xs false true eb ec h f = f (rw eb at h)
 passes_at p v x xs b false eb ec h f = f h
 
-passes : (p : ℕ → Bool) (v : ℕ) (xs : List ℕ) → list_any (nat_eq v) (filter p xs) ≡ true → p v ≡ true
+pub passes : (p : ℕ → Bool) (v : ℕ) (xs : List ℕ) → list_any (nat_eq v) (filter p xs) ≡ true → p v ≡ true
 passes p v [] h = absurd cc
 passes p v (x ∷ xs) h = passes_at p v x xs (nat_eq v x) (p x) refl refl h (passes p v xs)
 
@@ -142,11 +142,16 @@ same_bool true b f g = sym (f refl)
 same_bool false true f g = g refl
 same_bool false false f g = refl
 
+pub decides_linked : (net : Plan) (u v : ℕ) → (linked net u v ≡ true → Linked net.links u v) × (Linked net.links u v → linked net u v ≡ true)
+decides_linked net u v = (
+  λ t. let found = Any-from_list_any (joins u v) net.links t in (found.0, found.1, found.2, found.3, is_joined found.1 u v found.4),
+  λ found. list_any-from_Any (joins u v) net.links (found.0, found.1, found.2, found.3, joins_is found.1 u v found.4),
+)
+
 pub linked_is : (net : Plan) (u v : ℕ) (b : Bool) → (IsTrue b ↔ Linked net.links u v) → b ≡ linked net u v
 linked_is net u v b h =
     same_bool b (linked net u v)
-    (λ t. let found = h.0 t in list_any-from_Any (joins u v) net.links (found.0, found.1, found.2, found.3, joins_is found.1 u v found.4))
-    (λ t. let found = Any-from_list_any (joins u v) net.links t in h.1 (found.0, found.1, found.2, found.3, is_joined found.1 u v found.4))
+    (λ t. (decides_linked net u v).1 (h.0 t)) (λ t. h.1 ((decides_linked net u v).0 t))
 
 -- ---- who is no router has no peers
 

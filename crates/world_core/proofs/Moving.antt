@@ -1,30 +1,28 @@
 -- A put, a take and an offer, as steps of the world.
 use Rattle.std.proofs.Common.{◌≡◌, ℕ, ◌+◌, ◌==◌, Bool, true, false, ◌&&◌, cond, List, [], ◌∷◌, ◌++◌, map, refl, ap, sym, ◌∙◌, subst, get_or, set, Option, None, Some}
 use Rattle.std.specs.Prelude.{Result, Ok, Err, drop, slice_get, nat_lt, max}
-use Rattle.std.specs.List.{AllByRecursion}
 use Rattle.std.proofs.Math.Path.{fun_ext}
 use Rattle.std.proofs.lemmas.Bool.{eqb-true, eq-eqb}
-use Rattle.run_model.specs.Network.{alone, puts, takes, offers, offered_by}
+use Rattle.run_model.specs.Network.{puts, takes, offers}
 use Rattle.outbox.specs.declared.item.Item.{Item}
 use Rattle.outbox.specs.declared.item.What.{What}
 use Rattle.snap_marker.specs.Recordings.{RouterOffer}
 use Rattle.ranked_policy.specs.Plans.{Plan, IsNetwork}
 use Rattle.router_model.specs.declared.refusal.RouterError.TheVariants as error
 use Rattle.router_model.specs.declared.refusal.Stepped.{Stepped}
-use Rattle.router_model.specs.declared.refusal.Stepped.TheVariants as stepped
 use Rattle.router_model.specs.Settings.{Setting, ChoosesByRank, peers}
 use Rattle.router_model.specs.Laws.{AnswersAreSteps}
-use Rattle.router_model.specs.Step.{RouterEvent, after, next_offer}
-use Rattle.router_model.specs.Calls.{Stamped, Call, Put, Take, Answer, Steps, answer, stamp_of, stamped_after, offer_made, greatest_stamp}
+use Rattle.router_model.specs.Step.{after, next_offer}
+use Rattle.router_model.specs.Calls.{Stamped, Put, Take, answer, stamp_of, stamped_after, offer_made, greatest_stamp}
 use Rattle.router_core.specs.Views.{RouterView, plain_of, IsSame}
-use Rattle.snap_collector.specs.Collector.{CollectorView, made_for}
+use Rattle.snap_collector.specs.Collector.{AreMembers, CollectorView}
 use Rattle.world_core.specs.declared.inbox.Pipe.{Pipe}
 use Rattle.world_core.specs.declared.inbox.Inbox.{Inbox}
 use Rattle.world_core.specs.declared.schedule.Event.{Event}
 use Rattle.world_core.specs.declared.schedule.Event.TheVariants as schedule
 use Rattle.world_core.specs.declared.schedule.StepFault.{StepFault}
 use Rattle.world_core.specs.declared.schedule.StepFault.TheVariants.{Refused}
-use Rattle.world_core.specs.World.{World, WorldAnswer, Does, Nothing, Stops, Gives, of_answer, of_offer, called, taking_of, where_linked, where_router, world_after, piped, joined}
+use Rattle.world_core.specs.World.{World, Does, Stops, Gives, of_offer, called, taking_of, world_after, piped}
 use Rattle.world_core.specs.Views.{WorldView, plain_world, routers_of, pipes_of, pipes_to, items_from, IsAt, IsWhole, Answers, Entered, EntersPut, EntersTake, TakesFrom, EntersOffer, OffersTo}
 use Rattle.world_core.specs.Steps.{StandsAt, LinkAt}
 use Rattle.world_core.proofs.Places.{number_here, numbers_set, all_set, all_here, here, set_at}
@@ -219,6 +217,7 @@ whole_pipe x b a u i to k y old new p q run whole at pipe e n =
       inboxes = numbers_set (λ i. i.router) x.inboxes b to new pipe.link.here.inbox (pipe.router ∙ old_is) ∙ whole.inboxes;
       pipes = all_set (λ i. i.router) (λ i. map (λ p. p.peer) i.pipes.items ≡ peers x.net i.router) x.inboxes b to new pipe.link.here.inbox whole.pipes
           (ap (map (λ (p : Pipe). p.peer)) pipe.pipes ∙ numbers_set (λ p. p.peer) old.pipes.items a k q (pipe_at x b a to k old new p q pipe) (pipe_peer x b a to k old new p q pipe) ∙ was ∙ ap (peers x.net) (sym pipe.router));
+      members = whole.members;
     }
 
 -- ---- an offer
@@ -275,12 +274,13 @@ offer_steps x u i xr y kept board run r whole stand is enters same g e ranks =
     subst (λ b. Gives g r b w (schedule.Offer u) z) (sym (by_router g u (of_offer u at (next_offer (routers_of x u).router)) (stand.known g e)))
     (offered x u i xr y kept board at run r (next_offer (routers_of x u).router) (nat_lt greatest_stamp at) whole stand is refl h same g e)
 
-pub whole_offer : (x : WorldView) (u i : ℕ) (y : RouterView) (kept : CollectorView) (board : ℕ) (run : List Event) → IsWhole x → StandsAt x u i → y.number ≡ u → y.net ≡ x.net
+pub whole_offer : (x : WorldView) (u i : ℕ) (y : RouterView) (kept : CollectorView) (board : ℕ) (run : List Event) → IsWhole x → StandsAt x u i → y.number ≡ u → y.net ≡ x.net → kept.members ≡ x.collector.members
     → IsWhole (record x { routers = set x.routers i y; collector = kept; board = board; run = run })
-whole_offer x u i y kept board run whole at e n = record {
+whole_offer x u i y kept board run whole at e n same = record {
   network = whole.network;
   routers = numbers_set (λ r. r.number) x.routers u i y at.router e ∙ whole.routers;
   nets = all_set (λ r. r.number) (λ r. r.net ≡ x.net) x.routers u i y at.router whole.nets n;
   inboxes = whole.inboxes;
   pipes = whole.pipes;
+  members = subst (AreMembers x.net) (sym same) whole.members;
 }

@@ -14,7 +14,7 @@ use Rattle.world_core.specs.declared.schedule.Event.{Event}
 use Rattle.world_core.specs.declared.schedule.Event.TheVariants as schedule
 use Rattle.world_core.specs.declared.schedule.StepFault.{StepFault}
 use Rattle.world_core.specs.World.{World, WorldAnswer, Does, Nothing, Stops, Gives, world_of, onward, played, world_answer, world_after}
-use Rattle.world_core.specs.Orders.{StopsAt, IsObeyed, repeated}
+use Rattle.world_core.specs.Orders.{StopsAt, repeated}
 use Rattle.world_core.specs.Views.{WorldView, plain_world, Answers, Obeys}
 use Rattle.world_core.proofs.Worlds.{played_then, one_more, is_refused}
 

@@ -1,6 +1,6 @@
 -- What a router gave, as what a world gives.
-use Rattle.std.proofs.Common.{◌≡◌, ℕ, ◌+◌, ◌<◌, length, get_or, arith, ◌==◌, Bool, true, false, List, [], ◌∷◌, ◌++◌, refl, ap, sym, ◌∙◌, subst, Option, None, Some}
-use Rattle.std.specs.Prelude.{Result, Ok, Err, nat_lt, max, slice_get, drop}
+use Rattle.std.proofs.Common.{◌≡◌, ℕ, ◌+◌, ◌<◌, length, get_or, arith, Bool, true, false, List, [], ◌∷◌, ◌++◌, refl, ap, sym, ◌∙◌, subst, Option, None, Some}
+use Rattle.std.specs.Prelude.{Result, Ok, Err, nat_lt, max, slice_get}
 use Rattle.std.proofs.lemmas.Bool.{eq-eqb}
 use Rattle.run_model.specs.Network.{alone, puts, takes, offers}
 use Rattle.outbox.specs.declared.item.What.{What}
@@ -10,16 +10,13 @@ use Rattle.snap_marker.specs.Recordings.{RouterOffer}
 use Rattle.snap_collector.specs.Collector.{CollectorView, made_for}
 use Rattle.outbox.specs.declared.item.Item.{Item}
 use Rattle.router_model.specs.declared.refusal.RouterError.{RouterError}
-use Rattle.router_model.specs.declared.refusal.RouterError.TheVariants as error
 use Rattle.router_model.specs.declared.refusal.Stepped.{Stepped}
 use Rattle.router_model.specs.declared.refusal.Stepped.TheVariants as stepped
 use Rattle.router_model.specs.Settings.{Setting}
 use Rattle.router_model.specs.Step.{RouterEvent, next_offer}
-use Rattle.router_model.specs.Calls.{Stamped, Call, Put, Take, Answer, Steps, Idle, Refuses, answer, stamped_after, Gives, judged, put_event, bars, event_of, overflows_at, greatest_stamp, offer_made}
+use Rattle.router_model.specs.Calls.{Stamped, Call, Put, Answer, Steps, Idle, Refuses, answer, stamped_after, Gives, judged, put_event, bars, event_of, overflows_at, greatest_stamp, offer_made}
 use Rattle.router_core.specs.Views.{RouterView, plain_of, Shows}
 use Rattle.router_core.specs.Judging.{judged_as}
-use Rattle.world_core.specs.declared.schedule.StepFault.{StepFault}
-use Rattle.world_core.specs.declared.schedule.StepFault.TheVariants.{Memory}
 use Rattle.world_core.specs.declared.schedule.Event.{Event}
 use Rattle.world_core.specs.World.{piped, joined}
 use Rattle.world_core.specs.Views.{refusal, without_room, DoneOr, Entered, EntersOffer}

@@ -1,22 +1,20 @@
 -- What a router did, as a step of the world.
-use Rattle.std.proofs.Common.{◌≡◌, ℕ, zero, suc, ◌+◌, ◌<◌, ◌==◌, nat_eq, Bool, true, false, ◌&&◌, cond, List, [], ◌∷◌, ◌++◌, length, map, refl, ap, sym, ◌∙◌, arith, subst, get_or, set, Option, None, Some}
-use Rattle.std.specs.Prelude.{Result, Ok, Err, ◌||◌, drop, slice_get}
-use Rattle.std.specs.List.{AllByRecursion, Contains, list_any}
+use Rattle.std.proofs.Common.{◌≡◌, ℕ, zero, suc, ◌<◌, ◌==◌, nat_eq, Bool, true, false, cond, List, [], ◌∷◌, ◌++◌, length, refl, ap, sym, ◌∙◌, arith, subst, get_or, set}
+use Rattle.std.specs.Prelude.{Result, Ok, Err, ◌||◌}
+use Rattle.std.specs.List.{list_any}
 use Rattle.std.proofs.Math.Path.{fun_ext}
 use Rattle.std.proofs.lemmas.List.{append-nil}
 use Rattle.std.proofs.lemmas.Bool.{eqb-true, eq-eqb}
 use Rattle.std.proofs.lemmas.Bool.Decides.{nat_tests}
 use Rattle.std.proofs.lemmas.Map.Views.{Contains-from_any}
-use Rattle.run_model.specs.Network.{alone, puts, takes, offers, offered_by}
+use Rattle.run_model.specs.Network.{alone, puts, takes, offers}
 use Rattle.outbox.specs.declared.item.Item.{Item}
-use Rattle.outbox.specs.declared.item.What.{What}
 use Rattle.snap_marker.specs.Recordings.{MadeOffer}
 use Rattle.ranked_policy.specs.Plans.{Plan, IsNetwork, IsRouter, numbers}
 use Rattle.router_model.specs.declared.refusal.RouterError.{RouterError}
 use Rattle.router_model.specs.declared.refusal.RouterError.TheVariants as error
 use Rattle.router_model.specs.declared.refusal.Stepped.{Stepped}
-use Rattle.router_model.specs.declared.refusal.Stepped.TheVariants as stepped
-use Rattle.router_model.specs.Settings.{Setting, ChoosesByRank, is_router}
+use Rattle.router_model.specs.Settings.{Setting, is_router}
 use Rattle.router_model.specs.Laws.{AnswersAreSteps}
 use Rattle.router_model.specs.Step.{RouterEvent, after}
 use Rattle.router_model.specs.Calls.{Stamped, Call, Obey, Tick, Put, Take, Handle, Decide, Advertise, Answer, Steps, Idle, Refuses, answer, stamp_of, stamped_after, IsEventOf}
@@ -26,11 +24,11 @@ use Rattle.router_core.specs.Judging.{call_of}
 use Rattle.router_core.specs.Views.{RouterView, plain_of, IsSame}
 use Rattle.world_core.specs.declared.schedule.Event.{Event}
 use Rattle.world_core.specs.declared.schedule.StepFault.{StepFault}
-use Rattle.world_core.specs.declared.schedule.StepFault.TheVariants.{NoSuchRouter, Memory}
-use Rattle.world_core.specs.World.{World, WorldAnswer, Does, Nothing, Stops, Gives, of_answer, refused_by, called, where_router, world_after, piped, joined, board_after}
-use Rattle.world_core.specs.Views.{WorldView, plain_world, routers_of, new_stamped, pipes_of, IsAt, IsWhole, refusal, Entered, Enters}
+use Rattle.world_core.specs.declared.schedule.StepFault.TheVariants.{NoSuchRouter}
+use Rattle.world_core.specs.World.{World, WorldAnswer, Stops, Gives, of_answer, refused_by, called, where_router, world_after, joined}
+use Rattle.world_core.specs.Views.{WorldView, plain_world, routers_of, new_stamped, IsAt, IsWhole, refusal, Entered, Enters}
 use Rattle.world_core.specs.Steps.{StandsAt, IsOwn, Asks}
-use Rattle.world_core.proofs.Places.{is_below, number_here, numbers_set, all_set, all_here, here, set_at}
+use Rattle.world_core.proofs.Places.{number_here, numbers_set, all_set, all_here, here, set_at}
 
 -- ---- whether a router is there
 
@@ -156,6 +154,7 @@ whole_router x u i y run whole at e n = record {
   nets = all_set (λ r. r.number) (λ r. r.net ≡ x.net) x.routers u i y at.router whole.nets n;
   inboxes = whole.inboxes;
   pipes = whole.pipes;
+  members = whole.members;
 }
 
 pub own_asks : AnswersAreSteps → (x : WorldView) (u i : ℕ) (xr y : RouterView) (event : Event) (call : Call) (run : List Event) (r : Result Stepped StepFault)

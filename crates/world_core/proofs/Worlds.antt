@@ -6,7 +6,7 @@ use Rattle.std.proofs.Math.Seq.{take-suc}
 use Rattle.std.proofs.lemmas.List.{take-append-drop, length-take-le, take_all}
 use Rattle.std.specs.Prelude.{Result, Ok, Err}
 use Rattle.router_model.specs.declared.refusal.Stepped.{Stepped}
-use Rattle.router_model.specs.Settings.{Setting, IsSetting}
+use Rattle.router_model.specs.Settings.{Setting}
 use Rattle.ranked_policy.specs.Plans.{Plan}
 use Rattle.router_core.specs.Views.{RouterView, plain_of}
 use Rattle.snap_collector.specs.Collector.{CollectorView, made_for}

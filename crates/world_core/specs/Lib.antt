@@ -4,3 +4,4 @@ pub mod Keeping
 pub mod Schedules
 pub mod Views
 pub mod Steps
+pub mod Verdicts

@@ -1,14 +1,17 @@
 -- Whole schedules of two routers, played: the routes that they end with, and what they offer.
-use Rattle.std.specs.Prelude.{ℕ, ◌-◌, ◌≡◌, Bool, false, List, [], ◌∷◌, ◌++◌, length, Option, None, Some, Ok, Err}
+use Rattle.std.specs.Prelude.{ℕ, ◌-◌, ◌≡◌, ◌==◌, Bool, false, cond, List, [], ◌∷◌, ◌++◌, length, Option, None, Some, Ok, Err}
 use Rattle.run_model.specs.Offers.{Finished, Lost, Cause, Closed, Superseded}
 use Rattle.router_model.specs.declared.command.Command.TheVariants as command
 use Rattle.snap_marker.specs.Recordings.{RouterOffer, MadeOffer}
+use Rattle.router_model.specs.declared.refusal.RouterError.TheVariants as error
 use Rattle.world_core.specs.declared.schedule.Event.{Event}
 use Rattle.world_core.specs.declared.schedule.Event.TheVariants as schedule
 use Rattle.world_core.specs.declared.schedule.Order.TheVariants as order
+use Rattle.world_core.specs.declared.schedule.StepFault.TheVariants.{Refused}
+use Rattle.world_core.specs.declared.schedule.PlayFault.{PlayFault}
 use Rattle.world_core.specs.Orders.{events_of}
-use Rattle.world_core.specs.World.{Played, played, new_world}
-use Rattle.router_model.specs.Examples.{p, pair, setting}
+use Rattle.world_core.specs.World.{World, Played, played, new_world}
+use Rattle.router_model.specs.Examples.{p, pair, setting, fresh, greatest_shut}
 
 abbrev pub rounds : ℕ → List Event
 rounds n = events_of pair (order.Rounds n)
@@ -99,3 +102,23 @@ GreaterSupersedes =
     ≡ WasLost 1 1 2 1 Superseded ∷ WasWhole 2 1 false 0 ∷ [])
     × (offers_of 2 (schedule_a ++ schedule.Command 1 (command.Snapshot 1) ∷ schedule.Command 1 (command.Snapshot 2) ∷ rounds 10)
     ≡ WasWhole 2 2 false 0 ∷ WasWhole 1 2 false 0 ∷ [])
+
+-- an order that is refused in its middle: router 1 has no incarnation left, and the 120th tick of the session with router 2
+-- would dial one; the ticks before it stay done
+abbrev pub no_incarnation_left : World
+no_incarnation_left = record (new_world setting) { routers = λ u. cond (u == 1) greatest_shut (fresh u) }
+
+abbrev pub fault_of : Played → Option PlayFault
+fault_of (Ok w) = None
+fault_of (Err fault) = Some fault
+
+abbrev pub events_done : Played → ℕ
+events_done (Ok w) = length w.run
+events_done (Err fault) = 0
+
+abbrev pub ticked : ℕ → Played
+ticked n = played setting no_incarnation_left 0 (events_of pair (order.Ticks n))
+
+abbrev pub OrderStopsInItsMiddle : Type 0
+OrderStopsInItsMiddle =
+    (fault_of (ticked 200) ≡ Some (record { at = 238; why = Refused error.EpochEnd })) × (events_done (ticked 119) ≡ 238)

@@ -1,16 +1,15 @@
 -- What the parts of a step find and leave.
-use Rattle.std.specs.Prelude.{ℕ, ◌≡◌, ◌<◌, ◌&&◌, true, false, length, get_or, Result, Ok, Err, MatchResult}
+use Rattle.std.specs.Prelude.{ℕ, ◌≡◌, true, false, get_or, Result, MatchResult}
 use Rattle.router_model.specs.declared.refusal.Stepped.{Stepped}
-use Rattle.router_model.specs.Settings.{Setting, ChoosesByRank, linked, is_router}
+use Rattle.router_model.specs.Settings.{Setting, ChoosesByRank, is_router}
 use Rattle.router_model.specs.Calls.{Call, Obey, Tick, Put, Take, Handle, Decide, Advertise}
-use Rattle.world_core.specs.declared.inbox.Pipe.{Pipe}
 use Rattle.world_core.specs.declared.inbox.Inbox.{Inbox}
 use Rattle.world_core.specs.declared.schedule.Event.{Event}
 use Rattle.world_core.specs.declared.schedule.StepFault.{StepFault}
-use Rattle.world_core.specs.declared.schedule.StepFault.TheVariants.{NoSuchRouter, NoSuchLink}
+use Rattle.world_core.specs.declared.schedule.StepFault.TheVariants.{NoSuchRouter}
 use Rattle.world_core.specs.declared.state.State.{State}
 use Rattle.world_core.specs.World.{WorldAnswer, Stops, Gives, called, where_router, where_linked}
-use Rattle.world_core.specs.Views.{WorldView, plain_world, pipes_to, IsAt}
+use Rattle.world_core.specs.Views.{WorldView, plain_world, IsAt}
 
 abbrev pub view_of : State → WorldView
 view_of s = record {

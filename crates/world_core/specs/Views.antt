@@ -13,7 +13,7 @@ use Rattle.router_model.specs.State.{new_router}
 use Rattle.router_model.specs.Step.{RouterEvent, next_offer}
 use Rattle.router_model.specs.Calls.{Stamped, Call, Put, Take, Answer, Steps, Idle, Refuses, answer, stamped_after, offer_made}
 use Rattle.router_core.specs.Views.{RouterView, plain_of}
-use Rattle.snap_collector.specs.Collector.{CollectorView, made_for}
+use Rattle.snap_collector.specs.Collector.{CollectorView, AreMembers, made_for}
 use Rattle.world_core.specs.declared.inbox.Pipe.{Pipe}
 use Rattle.world_core.specs.declared.inbox.Inbox.{Inbox}
 use Rattle.world_core.specs.declared.schedule.Event.{Event}
@@ -89,6 +89,7 @@ pub record IsWhole (x : WorldView) : Type 0 where
   pub nets : AllByRecursion (λ r. r.net ≡ x.net) x.routers
   pub inboxes : map (λ i. i.router) x.inboxes ≡ numbers x.net.routers
   pub pipes : AllByRecursion (λ i. map (λ p. p.peer) i.pipes.items ≡ peers x.net i.router) x.inboxes
+  pub members : AreMembers x.net x.collector.members
 
 -- a router that did nothing
 abbrev pub IsNewRouter : Plan → RouterView → Type 0

@@ -6,7 +6,6 @@ use Rattle.run_model.specs.Network as runs
 use Rattle.run_model.specs.Network.{NetworkEvent, alone, puts, takes, offers}
 use Rattle.run_model.specs.Offers.{number_of}
 use Rattle.outbox.specs.declared.item.Item.{Item}
-use Rattle.outbox.specs.declared.item.What.{What}
 use Rattle.snap_marker.specs.Recordings.{RouterOffer, MadeOffer}
 use Rattle.router_model.specs.declared.refusal.RouterError.{RouterError}
 use Rattle.router_model.specs.declared.refusal.RouterError.TheVariants as error

@@ -8,13 +8,10 @@ ghost use Rattle.world_core.specs.Views.{refusal, without_room, Enters, EntersPu
 use crate::schedule::{Event, StepFault, join};
 use outbox::Item;
 use ranked_policy::Asn;
-use router_core::{Call, Router};
+use router_core::{Call, GREATEST_STAMP, Router};
 use router_model::{RouterError, Stepped};
 use snap_collector::Collector;
 use std::collections::VecDeque;
-
-/// The greatest stamp, 2^62.
-const GREATEST_STAMP: u64 = 0x4000_0000_0000_0000;
 
 // Does what a router is asked to do.
 fn perform(router: &mut Router<'_>, call: &Call) -> Result<Stepped, RouterError>
@@ -141,6 +138,7 @@ pub(crate) fn enter_offer(
     event: &Event,
 ) -> Result<Stepped, StepFault>
     ensures enters { EntersOffer result router.old run.old.items collector.old board.old event.now router.new run.new.items collector.new board.new }
+    ensures members { collector.new.members ≡ collector.old.members }
     ensures same { IsSame router.old router.new }
 {
     let Some(offer) = router.next_offer() else {

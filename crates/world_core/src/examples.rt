@@ -1,6 +1,6 @@
 //! Whole schedules of two routers, computed: routers 1 and 2 of one link, router 1 the origin of 10.1.0.0/16.
 
-ghost use Rattle.world_core.specs.Schedules.{RoutesArrive, RoutesComeBack, RestIsRecorded, FlightIsRecorded, CloseIsRecorded, GreaterSupersedes};
+ghost use Rattle.world_core.specs.Schedules.{RoutesArrive, RoutesComeBack, RestIsRecorded, FlightIsRecorded, CloseIsRecorded, GreaterSupersedes, OrderStopsInItsMiddle};
 
 /// Both start and router 1 originates: after 29 events both have the route. A reset and a start bring it back in the
 /// second incarnation.
@@ -16,4 +16,9 @@ pub fn snapshots_come_out()
     ensures flight { FlightIsRecorded }
     ensures close { CloseIsRecorded }
     ensures greater { GreaterSupersedes }
+{}
+
+/// An order that is refused in its middle: the ticks before the refused one are done.
+pub fn orders_stop_in_their_middle()
+    ensures { OrderStopsInItsMiddle }
 {}

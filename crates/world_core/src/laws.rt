@@ -1,11 +1,13 @@
 //! The laws of a world of routers, over every list of events.
 
 ghost use Rattle.world_core.specs.Keeping.{WhatIsPlayedIsARun, WhatIsPlayedIsReplayed, StepsAreReplayed, PlayedWorldsKeepTheirPromises, NothingWhereNoStepIs};
+ghost use Rattle.world_core.specs.Verdicts.{MembersAreOfTheNetwork, CollectorsJudgeTheirRuns, MembersAreTheRouters};
 
 use router_model::laws::{
     answers_are_steps, idle_where_nothing_may_come, linked_routers_are_peers,
 };
 use router_runs::updates_pass_in_order;
+use snap_collector::laws::{collected_are_kept, verdicts_are_outcomes};
 
 /// The events that a schedule did are a run of the network's routers, and the last state of the run has all that the world
 /// holds: routers, pipes and offers.
@@ -41,4 +43,26 @@ pub fn nothing_where_no_step_is()
     ensures { NothingWhereNoStepIs }
 {
     idle_where_nothing_may_come();
+}
+
+/// The members of a collector of a network are its routers, each with its peers, in the network that the laws of runs
+/// speak of.
+pub fn members_are_of_the_network()
+    ensures { MembersAreOfTheNetwork }
+{}
+
+/// The members of a collector of a network are its routers with their peers, both rising.
+pub fn members_are_the_routers()
+    ensures { MembersAreTheRouters }
+{
+    linked_routers_are_peers();
+}
+
+/// What the collector of a world says of a snapshot is how it comes out by all offers of the run that the world stands at
+/// the end of, those that came late among them.
+pub fn collectors_judge_their_runs()
+    ensures { CollectorsJudgeTheirRuns }
+{
+    verdicts_are_outcomes();
+    collected_are_kept();
 }

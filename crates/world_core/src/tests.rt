@@ -97,3 +97,51 @@ fn an_old_snapshot_is_refused(rt: HostRuntime) -> Result<(), Fail> {
     assert_eq!(rt; world.run().len(), 1);
     Ok(())
 }
+
+// Whether an order of one event is obeyed.
+fn does(world: &mut World<'_>, event: Event) -> bool {
+    world.obey(&Order::One(event)).is_ok()
+}
+
+// Both start and router 1 originates, each by its order.
+fn starts(world: &mut World<'_>, prefix: Prefix) -> bool {
+    does(world, Event::Command(1, Command::Start(2)))
+        && does(world, Event::Command(2, Command::Start(1)))
+        && does(world, Event::Command(1, Command::Originate(prefix)))
+}
+
+#[test]
+fn rounds_are_turns_of_every_router(rt: HostRuntime) -> Result<(), Fail> {
+    let prefix = Prefix::new(0x0a01_0000, 16).ok_or("a prefix")?;
+    let net = two_routers(rt.alloc(), prefix)?;
+    let mut world = World::new(rt.alloc(), &net)?;
+    assert!(rt; starts(&mut world, prefix));
+    assert!(rt; world.obey(&Order::Rounds(40)).is_ok());
+    assert_eq!(rt; world.run().len(), 29);
+    assert!(rt; keeps(&world, 1, &prefix, &[1]));
+    assert!(rt; keeps(&world, 2, &prefix, &[2, 1]));
+    Ok(())
+}
+
+#[test]
+fn a_refused_order_keeps_the_steps_before(rt: HostRuntime) -> Result<(), Fail> {
+    let prefix = Prefix::new(0x0a01_0000, 16).ok_or("a prefix")?;
+    let net = two_routers(rt.alloc(), prefix)?;
+    let mut world = World::new(rt.alloc(), &net)?;
+    let snapshot = Order::One(Event::Command(1, Command::Snapshot(1)));
+    assert!(rt; world.obey(&snapshot).is_ok());
+    let old = StepFault::Refused(RouterError::OldSnapshot { last: 1 });
+    assert!(rt; world.obey(&snapshot) == Err(old));
+    assert_eq!(rt; world.run().len(), 1);
+    Ok(())
+}
+
+#[test]
+fn ticks_pass_at_every_router(rt: HostRuntime) -> Result<(), Fail> {
+    let prefix = Prefix::new(0x0a01_0000, 16).ok_or("a prefix")?;
+    let net = two_routers(rt.alloc(), prefix)?;
+    let mut world = World::new(rt.alloc(), &net)?;
+    assert!(rt; world.obey(&Order::Ticks(2)).is_ok());
+    assert_eq!(rt; world.run().len(), 4);
+    Ok(())
+}

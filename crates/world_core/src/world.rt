@@ -1,10 +1,16 @@
 //! A world: a network of routers that does what a schedule names.
 
-ghost use Rattle.std.specs.Prelude.{◌≡◌, IfOk, IfErr, MatchOption};
+ghost use Rattle.std.specs.Prelude.{◌≡◌, map, IfOk, IfErr, MatchOption};
 ghost use Rattle.world_core.specs.declared.schedule.StepFault.TheVariants.{Memory};
+ghost use Rattle.snap_collector.specs.Collecting.{member_of};
+ghost use Rattle.snap_collector.specs.Collector.{AreMembers};
+ghost use Rattle.world_core.specs.Verdicts.{members_of, JudgesItsRuns};
 ghost use Rattle.world_core.specs.Views.{Opens, Answers, KeepsPromises, IsNoRouter, IsRouterOf};
 
-use crate::laws::{played_worlds_keep_their_promises, steps_are_replayed};
+use crate::laws::{
+    collectors_judge_their_runs, members_are_the_routers, played_worlds_keep_their_promises,
+    steps_are_replayed,
+};
 use crate::opening::opening;
 use crate::schedule::{Event, StepFault};
 use crate::state::State;
@@ -84,10 +90,15 @@ impl<'a> World<'a> {
         self.state.run.as_slice()
     }
 
-    /// The offers that were made.
+    /// The offers that were made. Its outcomes are those of the run that the world stands at the end of.
     pub fn collector(&self) -> &Collector
-        ensures { result.now ≡ self.now.collector }
+        ensures value { result.now ≡ self.now.collector }
+        ensures members { AreMembers self.now.net result.now.members }
+        ensures peers { map member_of result.now.members ≡ members_of self.now.net }
+        ensures verdicts { JudgesItsRuns self.now }
     {
+        members_are_the_routers();
+        collectors_judge_their_runs();
         &self.state.collector
     }
 }

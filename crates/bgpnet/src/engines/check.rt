@@ -4,31 +4,16 @@ ghost use Rattle.std.specs.Prelude.{◌≡◌, ◌≤◌, ◌^◌, ◌<◌, ◌+
 ghost use Rattle.net_text.specs.Lexing.{lines_of};
 ghost use Rattle.bgpnet.specs.Decoding.{output};
 ghost use Rattle.bgpnet.specs.Engine.{PrintedBy, PrintedFrontBy};
-ghost use Rattle.bgpnet.specs.Checking.{code_text, AssignmentGives, NetworkGives, CheckGives, Checks};
+ghost use Rattle.bgpnet.specs.Inputs.{NetworkGives};
+ghost use Rattle.bgpnet.specs.Checking.{AssignmentGives, CheckGives, Checks};
 
 use super::{INPUT_LIMIT, InputError, read_input, want_of_memory, write_out};
-use crate::assignments::{entries_output, refused_output};
+use crate::assignments::entries_output;
 use crate::channel::{IoStopped, Sink, Source};
-use net_text::{Code, Split, read_assignment, read_network, split_at_section};
+use crate::refusals::{refused_output, text_output};
+use net_text::{Split, read_assignment, read_network, split_at_section};
 use ranked_policy::Network;
 use std::alloc::{AllocError, Global};
-
-// The code of a refusal.
-fn code_text(code: Code) -> &'static [u8]
-    ensures { result.now ≡ code_text code }
-{
-    match code {
-        Code::BadForm => b"N1",
-        Code::Unreadable => b"N2",
-        Code::UnknownRouter => b"N3",
-        Code::Repeated => b"N4",
-        Code::NotConnected => b"N5",
-        Code::OutOfLimit => b"N6",
-        Code::NotSimple => b"N7",
-        Code::BadPrefix => b"N8",
-        Code::Memory => b"N9",
-    }
-}
 
 // What is printed for an assignment, so many lines standing before it.
 fn assignment_output(
@@ -42,28 +27,18 @@ fn assignment_output(
 {
     match read_assignment(alloc, text, before, network) {
         Ok(entries) => entries_output(alloc, network, entries.as_slice()),
-        Err(refused) => {
-            if refused.code == Code::Memory {
-                return Err(AllocError);
-            }
-            refused_output(alloc, refused.line, code_text(refused.code))
-        }
+        Err(refused) => text_output(alloc, &refused),
     }
 }
 
 // What is printed for a network and an assignment behind it.
 fn network_output(alloc: Global, split: &Split) -> Result<(Vec<u8>, u8), AllocError>
     requires { split.now.before + length split.now.behind.now < 2 ^ 64 }
-    ensures { IfOk result (λ printed. NetworkGives (lines_of split.now.front.now) split.now.before (lines_of split.now.behind.now) (output printed.0.items printed.1)) }
+    ensures { IfOk result (λ printed. NetworkGives AssignmentGives (lines_of split.now.front.now) split.now.before (lines_of split.now.behind.now) (output printed.0.items printed.1)) }
 {
     match read_network(alloc, split.front) {
         Ok(network) => assignment_output(alloc, &network, split.before, split.behind),
-        Err(refused) => {
-            if refused.code == Code::Memory {
-                return Err(AllocError);
-            }
-            refused_output(alloc, refused.line, code_text(refused.code))
-        }
+        Err(refused) => text_output(alloc, &refused),
     }
 }
 

@@ -3,13 +3,14 @@
 ghost use Rattle.std.specs.Prelude.{◌≡◌, ◌&&◌, [], ◌∷◌, ◌≤◌, map, MatchResult, IfOk, OnOk, OnErr};
 ghost use Rattle.rib_tables.specs.Words.{lists};
 ghost use Rattle.snap_marker.specs.Parts.{seen};
+ghost use Rattle.router_model.specs.declared.refusal.RouterError.TheVariants.{Memory};
 ghost use Rattle.router_model.specs.declared.command.Command.TheVariants.{Snapshot};
 ghost use Rattle.router_model.specs.Sides.{is_up, uses};
 ghost use Rattle.router_side.specs.SideOf.{side};
 ghost use Rattle.router_model.specs.Step.{awaits};
 ghost use Rattle.router_model.specs.Calls.{Obey, greatest_stamp};
 ghost use Rattle.router_core.specs.Views.{plain_of, Answers, IsFound, IsSame, TakesMark};
-ghost use Rattle.router_core.specs.Recorded.{paths_of, own_of, channels_of, down_in, Become, HaveRoomToMark, marked_if_up, IsPart, IsPeer, Records, RecordsAt};
+ghost use Rattle.router_core.specs.Recorded.{paths_of, own_of, channels_of, down_in, Become, HaveRoomToMark, marked_if_up, IsPart, IsPeer, IsStateOf, Records, RecordsAt};
 
 use super::{GREATEST_STAMP, Router};
 use crate::choices::the_best_is_the_route;
@@ -217,6 +218,36 @@ impl Router<'_> {
                 Ok(())
             }
         }
+    }
+
+    /// What the router would record of a snapshot now, as a copy: the path kept for each prefix, the
+    /// prefixes that it originates, the incarnation of each link, and whether a kept path is not the
+    /// route or an Established peer was not told of one. Its number is 0, which no snapshot has; its
+    /// channels are empty, and wait for their markers.
+    ///
+    /// Refused [`RouterError::Memory`] alone. The router stays as it was.
+    pub fn part_state(&mut self) -> Result<Part, RouterError>
+        ensures state { MatchResult result (IsStateOf self.old) (λ why. why ≡ Memory) }
+        ensures same { self.new ≡ self.old }
+    {
+        linked_routers_are_peers();
+        the_best_is_the_route(&self.tables);
+        let alloc = *self.peers.allocator();
+        let origins = self.network.origins();
+        let peers = self.peers.as_slice();
+        let made = part_now(
+            alloc,
+            self.number,
+            origins,
+            &mut self.tables,
+            peers,
+            0,
+            None,
+        );
+        let Ok(part) = made else {
+            return Err(RouterError::Memory);
+        };
+        Ok(part)
     }
 
     // Records a snapshot at a stamp that is left, by a command or by the marker of a first peer.

@@ -93,3 +93,20 @@ fn what_is_recorded_late_is_not_heard(rt: HostRuntime) -> Result<(), Fail> {
     assert!(rt; collector.part(5, 1).is_none());
     Ok(())
 }
+
+/// Loses the snapshot of a number.
+fn loses(collector: &mut Collector, number: u32) -> bool {
+    let mut lost = lost(2);
+    lost.number = number;
+    collector.offer(Offer::Lost(lost)) == Ok(Taken::Decided)
+}
+
+/// The numbers that are decided rise, in whatever order they came.
+#[test]
+fn decided_numbers_rise(rt: HostRuntime) -> Result<(), Fail> {
+    let mut collector = collector(rt.alloc())?;
+    let decided = loses(&mut collector, 9) && loses(&mut collector, 4) && loses(&mut collector, 7);
+    assert!(rt; decided);
+    assert_eq!(rt; collector.decided(), [4, 7, 9].as_slice());
+    Ok(())
+}

@@ -1,4 +1,4 @@
-use Rattle.std.proofs.Common.{◌∙◌, ap, refl, ◌++◌, ◌∷◌, []}
+use Rattle.std.proofs.Common.{◌∙◌, ap, ◌++◌, ◌∷◌, []}
 use Rattle.router_model.specs.Calls.{answer}
 use Rattle.router_core.specs.Judging.{call_of}
 use Rattle.router_core.specs.Views.{plain_of}

@@ -1,5 +1,5 @@
-use Rattle.std.proofs.Common.{◌≡◌, ◌∙◌, ◌+◌, ap, sym, arith, ◌++◌, ◌∷◌, [], false}
-use Rattle.std.specs.Prelude.{nat_lt, max, slice_get}
+use Rattle.std.proofs.Common.{◌≡◌, ◌∙◌, ◌+◌, ap, arith, ◌++◌, ◌∷◌, [], false}
+use Rattle.std.specs.Prelude.{nat_lt, max}
 use Rattle.std.proofs.lemmas.Bool.Decides.{nat_tests}
 use Rattle.router_model.specs.Calls.{greatest_stamp}
 use Rattle.snap_marker.specs.Parts.{offer_of}

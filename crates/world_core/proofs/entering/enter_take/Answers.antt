@@ -1,4 +1,4 @@
-use Rattle.std.proofs.Common.{◌∙◌, sym, refl, ap, ◌++◌, ◌∷◌, []}
+use Rattle.std.proofs.Common.{◌∙◌, refl, ap, ◌++◌, ◌∷◌, []}
 use Rattle.router_model.specs.Calls.{answer, Take}
 use Rattle.router_core.specs.Views.{plain_of}
 use Rattle.world_core.proofs.RouterAnswers.{front_is, wants_room, did_all, nothing_all, refused_all}

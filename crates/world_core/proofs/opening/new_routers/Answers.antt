@@ -1,7 +1,4 @@
-use Rattle.std.proofs.Common.{◌≡◌, ◌∙◌, ◌<◌, ◌++◌, ◌∷◌, [], List, ℕ, map, subst, sym, arith, length}
-use Rattle.std.specs.List.{AllByRecursion}
-use Rattle.ranked_policy.specs.declared.network.Router as network
-use Rattle.router_core.specs.declared.router.Router.{Router}
+use Rattle.std.proofs.Common.{◌∙◌, arith}
 use Rattle.world_core.specs.Views.{IsNewRouter}
 use Rattle.world_core.proofs.Made.{one_more, all_more}
 use Rattle.world_core.proofs.opening.new_routers.Goals as goal

@@ -1,4 +1,4 @@
-use Rattle.std.proofs.Common.{◌≡◌, ◌+◌, ◌<◌, suc, arith, subst, length, refl}
+use Rattle.std.proofs.Common.{◌≡◌, ◌+◌, ◌<◌, suc, arith, subst, length}
 use Rattle.world_core.specs.Views.{Reaches}
 use Rattle.world_core.proofs.Worlds.{reaches_first, reaches_next, plays_until}
 use Rattle.world_core.proofs.player.play.Goals as goal

@@ -1,6 +1,7 @@
 use Rattle.std.proofs.Common.{inr, refl}
-use Rattle.bgpnet.specs.Checking.{Checks}
-use Rattle.bgpnet.proofs.CheckLemmas.{checks_done, checks_stopped, on_err}
+use Rattle.std.specs.Prelude.{codes}
+use Rattle.bgpnet.specs.Checking.{AssignmentGives, Checks}
+use Rattle.bgpnet.proofs.CheckLemmas.{prints_done, prints_stopped, on_err}
 use Rattle.bgpnet.proofs.WritingLemmas.{memory_stopped_by, nothing_front_by}
 use Rattle.bgpnet.proofs.engines.check.check_stream.Goals as goal
 
@@ -16,10 +17,10 @@ returns-in-Err-clause-stopped g c = memory_stopped_by Checks (λ input. inr refl
 pub returns-in_err-write_out-in-Ok-check_output-clause-stopped : goal.returns-in_err-write_out-in-Ok-check_output-clause-stopped
 returns-in_err-write_out-in-Ok-check_output-clause-stopped g c =
     on_err c.from_residual.result
-    (checks_stopped _ _ _ c.in-Ok.input.items c.in-Ok-check_output.text.items c.in-Ok-check_output.status c.in-Ok.ensures.ok c.in-Ok-check_output.ensures
+    (prints_stopped AssignmentGives (codes "assignment") _ _ _ c.in-Ok.input.items c.in-Ok-check_output.text.items c.in-Ok-check_output.status c.in-Ok.ensures.ok c.in-Ok-check_output.ensures
     (rw c.as_slice.ensures.value at c.in_err-write_out-in-Ok-check_output.ensures.stopped))
 
 pub returns-in_ok-write_out-in-Ok-check_output-clause-done : goal.returns-in_ok-write_out-in-Ok-check_output-clause-done
 returns-in_ok-write_out-in-Ok-check_output-clause-done g c =
-    checks_done _ _ _ c.in-Ok.input.items c.in-Ok-check_output.text.items c.in-Ok-check_output.status c.in-Ok.ensures.ok c.in-Ok-check_output.ensures
+    prints_done AssignmentGives (codes "assignment") _ _ _ c.in-Ok.input.items c.in-Ok-check_output.text.items c.in-Ok-check_output.status c.in-Ok.ensures.ok c.in-Ok-check_output.ensures
     (rw c.as_slice.ensures.value at c.in_ok-write_out-in-Ok-check_output.ensures.ok)

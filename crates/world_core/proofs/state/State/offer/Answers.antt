@@ -19,4 +19,4 @@ pub returns-clause-whole : goal.returns-clause-whole
 returns-clause-whole c =
     let s = stands (view_of c.args.self.now) c.args.number c.in_ok-at.at c.index_mut.result.now c.requires.whole c.in_ok-at.ensures c.index_mut.ensures.value in
     whole_offer (view_of c.args.self.now) c.args.number c.in_ok-at.at c.enter_offer.new.router c.enter_offer.new.collector c.enter_offer.new.board c.enter_offer.new.run.items c.requires.whole c.in_ok-at.ensures
-    (c.enter_offer.ensures.same.number ∙ s.0) (c.enter_offer.ensures.same.net ∙ s.1)
+    (c.enter_offer.ensures.same.number ∙ s.0) (c.enter_offer.ensures.same.net ∙ s.1) c.enter_offer.ensures.members

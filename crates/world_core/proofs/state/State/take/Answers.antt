@@ -1,15 +1,12 @@
-use Rattle.std.proofs.Common.{◌∙◌, rules, refl, sym, ap, subst, ◌≡◌}
+use Rattle.std.proofs.Common.{◌∙◌, rules, refl, sym, subst}
 use Rattle.std.specs.Vec.{with_item}
 use Rattle.world_core.specs.declared.inbox.Inbox.{Inbox}
 use Rattle.world_core.specs.declared.inbox.Pipe.{Pipe}
-use Rattle.world_core.specs.declared.schedule.Event.TheVariants as schedule
-use Rattle.world_core.specs.World.{Gives, called, where_linked, Stops}
-use Rattle.world_core.specs.Views.{plain_world, IsAt}
+use Rattle.world_core.specs.Views.{IsAt}
 use Rattle.world_core.specs.Steps.{view_of}
 use Rattle.world_core.proofs.Places.{is_below}
-use Rattle.world_core.proofs.Linking.{link_turned}
 use Rattle.world_core.proofs.Stepping.{stands}
-use Rattle.world_core.proofs.Moving.{PipeAt, put_steps, take_steps, whole_pipe}
+use Rattle.world_core.proofs.Moving.{PipeAt, take_steps, whole_pipe}
 use Rattle.world_core.proofs.state.State.take.Goals as goal
 
 pub index_mut-requires : goal.index_mut-requires

@@ -1,7 +1,6 @@
-use Rattle.std.proofs.Common.{◌≡◌, ◌+◌, ◌-◌, ◌≤◌, arith, List, ◌++◌, ap, subst, sym, ◌∙◌}
+use Rattle.std.proofs.Common.{◌≡◌, ◌+◌, ◌-◌, arith, subst, ◌∙◌}
 use Rattle.std.specs.Prelude.{Ok, Err}
 use Rattle.std.proofs.lemmas.Result.{err_from_is_err_and}
-use Rattle.world_core.specs.declared.schedule.Event.{Event}
 use Rattle.world_core.specs.Orders.{round, repeated}
 use Rattle.world_core.specs.Views.{Obeys}
 use Rattle.world_core.proofs.Orders.{obeys_next, obeys_until, repeated_one, repeated_among}

@@ -1,4 +1,4 @@
-use Rattle.std.proofs.Common.{◌≡◌, ℕ, ◌+◌, ◌<◌, arith, length, map, List, [], ◌∷◌, ◌++◌, take, drop, get_or, ap, subst, sym, ◌∙◌, refl}
+use Rattle.std.proofs.Common.{◌+◌, ◌<◌, arith, length, List, [], ◌∷◌, take, drop, get_or, ap, subst, ◌∙◌, refl}
 use Rattle.std.specs.List.{flat_map}
 use Rattle.std.specs.Prelude.{Ok}
 use Rattle.std.proofs.lemmas.Result.{err_from_is_err_and}

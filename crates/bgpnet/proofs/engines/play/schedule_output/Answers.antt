@@ -1,0 +1,12 @@
+use Rattle.std.proofs.Common.{List, inr, subst}
+use Rattle.schedule_text.specs.declared.schedule.ScheduledOrder.{ScheduledOrder}
+use Rattle.bgpnet.specs.Decoding.{output}
+use Rattle.bgpnet.specs.Playing.{OrdersGive}
+use Rattle.bgpnet.proofs.CheckLemmas.{if_ok}
+use Rattle.bgpnet.proofs.engines.play.schedule_output.Goals as goal
+
+pub returns-in-Ok : goal.returns-in-Ok
+returns-in-Ok c =
+    if_ok _ _ c.orders_output.result
+    (λ printed gives. inr (c.in-Ok.orders.items, c.in-Ok.ensures.ok, subst (λ (orders : List ScheduledOrder). OrdersGive c.args.network.now orders (output printed.0.items printed.1)) c.as_slice.ensures.value gives))
+    c.orders_output.ensures

@@ -1,0 +1,20 @@
+use Rattle.std.proofs.Common.{sym, subst}
+use Rattle.bgpnet.specs.Decoding.{Output, output}
+use Rattle.bgpnet.specs.Playing.{OrdersGive}
+use Rattle.bgpnet.proofs.CheckLemmas.{if_ok, both_ok}
+use Rattle.bgpnet.proofs.PlayLemmas.{reported, halted}
+use Rattle.bgpnet.proofs.schedules.orders_output.Goals as goal
+
+pub returns-in-Ok-obey_all : goal.returns-in-Ok-obey_all
+returns-in-Ok-obey_all c =
+    if_ok _ _ c.report_output.result
+    (λ printed gives. reported c.args.network.now c.args.orders.now c.in-Ok.world c.obey_all.new.world (output printed.0.items printed.1) c.in-Ok.ensures.opens c.in-Ok-obey_all.ensures.obeyed gives)
+    c.report_output.ensures
+
+pub returns : goal.returns
+returns c =
+    both_ok _ _ _ c.stop_output.result
+    (λ printed kind is.
+    subst (λ (out : Output). OrdersGive c.args.network.now c.args.orders.now out) (sym is)
+    (halted c.args.network.now c.args.orders.now c.in-Ok.world c.obey_all.new.world c.in-Err.stop c.in-Ok.ensures.opens c.in-Err.ensures.obeyed kind))
+    c.stop_output.ensures.kind c.stop_output.ensures.output

@@ -1,0 +1,85 @@
+-- What is printed for a network and a schedule.
+use Rattle.std.specs.Prelude.{◌≡◌, ◌≢◌, ℕ, List, ◌∷◌, ◌++◌, Result, Ok, codes, MatchResult, ◌⊎◌}
+use Rattle.std.specs.List.{flat_map}
+use Rattle.ranked_policy.specs.Plans.{Plan}
+use Rattle.router_model.specs.Settings.{Setting, ChoosesByRank}
+use Rattle.world_core.specs.declared.schedule.Event.{Event}
+use Rattle.world_core.specs.declared.schedule.StepFault.TheVariants.{Memory}
+use Rattle.world_core.specs.World.{World, new_world, played}
+use Rattle.world_core.specs.Orders.{events_of, StopsAt}
+use Rattle.world_core.specs.Views.{WorldView, plain_world}
+use Rattle.world_core.specs.Verdicts.{members_of}
+use Rattle.net_text.specs.declared.code.Code.{Code}
+use Rattle.net_text.specs.declared.code.Code.TheVariants as kinds
+use Rattle.net_text.specs.Lexing.{Text}
+use Rattle.schedule_text.specs.declared.schedule.ScheduledOrder.{ScheduledOrder}
+use Rattle.schedule_text.specs.Schedules.{SpellsSchedule, RefusesSchedule}
+use Rattle.schedule_text.specs.Reports.{stop_line}
+use Rattle.bgpnet.specs.declared.schedules.Stop.{Stop}
+use Rattle.bgpnet.specs.Decoding.{Output, output}
+use Rattle.bgpnet.specs.Reporting.{AreDecided, snapshots_text, now_text}
+use Rattle.bgpnet.specs.Inputs.{code_text, refused, InputGives, Prints}
+
+-- ---- what is printed of a world
+
+-- the lines of the snapshots that are decided, by rising number, then the routes now
+abbrev pub ReportGives : Plan → World → Output → Type 0
+ReportGives net w out =
+    (decided : List ℕ) × AreDecided (members_of net) w.made decided
+    × (out ≡ output (snapshots_text net (members_of net) w.made decided ++ now_text net w) 0)
+
+-- ---- what orders lead to
+
+-- the events that they stand for, one after the other
+abbrev pub all_events : Plan → List ScheduledOrder → List Event
+all_events net orders = flat_map (λ o. events_of net o.order) orders
+
+-- all are done, from one world to the other
+abbrev pub LeadTo : Setting → World → List ScheduledOrder → World → Type 0
+LeadTo g w orders y = played g w 0 (all_events g.net orders) ≡ Ok y
+
+-- the first order that is refused, an event that it stands for being so; all before it are done
+pub record IsFirstRefused (g : Setting) (w : World) (orders : List ScheduledOrder) (stop : Stop) : Type 0 where
+  pub before : List ScheduledOrder
+  pub order : ScheduledOrder
+  pub behind : List ScheduledOrder
+  pub reached : World
+  pub left : World
+  pub at : ℕ
+  pub parts : orders ≡ before ++ order ∷ behind
+  pub stands : order.line ≡ stop.line
+  pub done : LeadTo g w before reached
+  pub stops : StopsAt g reached (events_of g.net order.order) at stop.why left
+
+-- what a call that obeys orders is to answer and to leave, in every setting of the network that chooses by rank
+abbrev pub Obeyed : Result (Unit {0}) Stop → WorldView → List ScheduledOrder → WorldView → Type 0
+Obeyed r x orders y =
+    (g : Setting) → g.net ≡ x.net → ChoosesByRank g
+    → MatchResult r (λ _. LeadTo g (plain_world x) orders (plain_world y)) (λ stop. IsFirstRefused g (plain_world x) orders stop)
+
+-- ---- what is printed
+
+abbrev pub stopped : Stop → Output
+stopped stop = output (stop_line stop.line stop.why) 1
+
+-- for the orders of a schedule, in every setting of the network that chooses by rank: the world that they lead to, or the first
+-- that is refused
+abbrev pub OrdersGive : Plan → List ScheduledOrder → Output → Type 0
+OrdersGive net orders out =
+    (g : Setting) → g.net ≡ net → ChoosesByRank g
+    → ((w : World) × LeadTo g (new_world g) orders w × ReportGives net w out)
+    ⊎ ((stop : Stop) × (stop.why ≢ Memory) × IsFirstRefused g (new_world g) orders stop × (out ≡ stopped stop))
+
+-- for the lines of a schedule, so many lines standing before them
+abbrev pub ScheduleGives : Plan → ℕ → List Text → Output → Type 0
+ScheduleGives net before lines out =
+    ((at : ℕ) × (code : Code) × (code ≢ kinds.Memory) × RefusesSchedule net before lines at code × (out ≡ refused at (code_text code)))
+    ⊎ ((orders : List ScheduledOrder) × SpellsSchedule net before lines orders × OrdersGive net orders out)
+
+-- for an input of a network and a schedule
+abbrev pub PlayGives : List ℕ → Output → Type 0
+PlayGives input out = InputGives ScheduleGives (codes "schedule") input out
+
+-- what the program prints: that, or that memory ran out
+abbrev pub Plays : List ℕ → Output → Type 0
+Plays input out = Prints ScheduleGives (codes "schedule") input out

@@ -1,0 +1,66 @@
+-- What is printed of a world: how its snapshots came out, and the routes that its routers keep.
+use Rattle.std.specs.Prelude.{◌≡◌, ℕ, ◌<◌, ◌==◌, ◌↔◌, true, cond, List, [], ◌∷◌, ◌++◌, Option, None, Some}
+use Rattle.std.specs.List.{flat_map, AllPairs, Contains}
+use Rattle.prefix_lanes.specs.Bits.{PrefixView}
+use Rattle.ranked_policy.specs.Plans.{Plan}
+use Rattle.ranked_policy.specs.declared.network.Origin.{Origin}
+use Rattle.run_model.specs.Offers.{Finished, Lost, Outcome, Waiting, Abandoned, Moving, Settled}
+use Rattle.snap_marker.specs.Recordings.{RouterOffer, RouterPart, MadeOffer}
+use Rattle.snap_collector.specs.Verdicts.{Member, decides, verdict}
+use Rattle.snap_collector.specs.Collector.{kept_of}
+use Rattle.world_core.specs.World.{World}
+use Rattle.schedule_text.specs.Reports.{snapshot_line, route_line, now_line}
+
+-- ---- routes
+
+-- the path that a router keeps for the prefix of each origin
+abbrev pub router_text : (PrefixView → List ℕ) → ℕ → List Origin → List ℕ
+router_text kept u origins = flat_map (λ o. route_line u o.prefix (kept o.prefix)) origins
+
+-- those of all routers, by rising number, then by address, then by length
+abbrev pub routes_text : Plan → World → List ℕ
+routes_text net w = flat_map (λ r. router_text (w.routers r.asn).router.kept r.asn net.origins) net.routers
+
+abbrev pub now_text : Plan → World → List ℕ
+now_text net w = now_line ++ routes_text net w
+
+-- ---- snapshots
+
+-- what a router recorded: its first part among these offers
+abbrev pub part_or : RouterOffer → Option RouterPart → Option RouterPart
+part_or (Finished s part) rest = Some part
+part_or (Lost s v e cause) rest = rest
+
+abbrev pub recorded : List MadeOffer → ℕ → Option RouterPart
+recorded [] u = None
+recorded (m ∷ ms) u = cond (u == m.router) (part_or m.offer (recorded ms u)) (recorded ms u)
+
+-- the path that it recorded for the prefix of each origin
+abbrev pub part_text : List Origin → ℕ → Option RouterPart → List ℕ
+part_text origins u None = []
+part_text origins u (Some part) = router_text part.kept u origins
+
+abbrev pub parts_text : Plan → List MadeOffer → List ℕ
+parts_text net offers = flat_map (λ r. part_text net.origins r.asn (recorded offers r.asn)) net.routers
+
+-- the routes of a snapshot that is settled
+abbrev pub settled_text : Plan → List MadeOffer → Outcome → List ℕ
+settled_text net offers Settled = parts_text net offers
+settled_text net offers Waiting = []
+settled_text net offers (Moving u why) = []
+settled_text net offers (Abandoned u v e cause) = []
+
+-- how a snapshot came out by the offers for it that decide it, and its routes where it is settled
+abbrev pub outcome_text : Plan → ℕ → List MadeOffer → Outcome → List ℕ
+outcome_text net s offers outcome = snapshot_line s outcome ++ settled_text net offers outcome
+
+abbrev pub snapshot_text : Plan → List Member → (ℕ → List MadeOffer) → ℕ → List ℕ
+snapshot_text net members made s = outcome_text net s (kept_of members (made s)) (verdict members (kept_of members (made s)))
+
+abbrev pub snapshots_text : Plan → List Member → (ℕ → List MadeOffer) → List ℕ → List ℕ
+snapshots_text net members made numbers = flat_map (snapshot_text net members made) numbers
+
+-- the numbers whose offers decide their snapshot, rising
+pub record AreDecided (members : List Member) (made : ℕ → List MadeOffer) (decided : List ℕ) : Type 0 where
+  pub rising : AllPairs (λ s t. s < t) decided
+  pub exact : (s : ℕ) → Contains decided s ↔ (decides members (made s) ≡ true)
