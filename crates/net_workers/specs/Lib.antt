@@ -1,0 +1,3 @@
+pub mod Lanes
+pub mod Ran
+pub mod Gathered

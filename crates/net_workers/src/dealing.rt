@@ -1,30 +1,58 @@
-//! Pipes that are dealt out to workers, and closed.
+//! Pipes that are dealt out to workers.
+
+ghost use Rattle.std.specs.Prelude.{◌≡◌, ◌<◌, [], length, IfOk};
+ghost use Rattle.std.specs.List.{AllByRecursion};
+ghost use Rattle.net_workers.specs.Lanes.{AreNew};
 
 use crate::ends::{Ends, Lane};
-use crate::record::Direction;
 use outbox::Item;
 use ranked_policy::{Asn, Network};
-use ruled_pipe::{PipeError, PutEnd, TakeEnd, close, with_ends};
+use ruled_pipe::{PutEnd, TakeEnd, with_ends};
 use std::alloc::{AllocError, Global};
-use std::sync::Wait;
 
 // The ends of a pipe.
-fn pipe(alloc: Global, room: usize) -> Result<(PutEnd<Item>, TakeEnd<Item>), AllocError> {
+fn pipe(alloc: Global, room: usize) -> Result<(PutEnd<Item>, TakeEnd<Item>), AllocError>
+    ensures put { IfOk result (λ ends. ends.0.items ≡ []) }
+    ensures take { IfOk result (λ ends. ends.1.items ≡ []) }
+{
     match with_ends(alloc, room) {
         Ok(ends) => Ok(ends),
-        Err(PipeError::Memory | PipeError::BadCapacity) => Err(AllocError),
+        Err(_) => Err(AllocError),
     }
 }
 
 // No lanes, for each of so many workers.
-fn no_lanes(alloc: Global, workers: usize) -> Result<Vec<Ends>, AllocError> {
+fn no_lanes(alloc: Global, workers: usize) -> Result<Vec<Ends>, AllocError>
+    ensures many { IfOk result (λ ends. length ends.items ≡ workers) }
+    ensures new { IfOk result (λ ends. AllByRecursion AreNew ends.items) }
+{
     let mut ends = Vec::new(alloc);
-    for _ in 0..workers {
+    for made in 0..workers {
+        let _ = made;
         ends.push(Ends {
             lanes: Vec::new(alloc),
         })?;
     }
     Ok(ends)
+}
+
+// A lane joins those of a worker.
+fn add(
+    ends: &mut [Ends],
+    at: usize,
+    peer: Asn,
+    out: PutEnd<Item>,
+    into: TakeEnd<Item>,
+) -> Result<(), AllocError>
+    requires below { at < length ends.old }
+    requires put { out.items ≡ [] }
+    requires taken { into.items ≡ [] }
+    requires new { AllByRecursion AreNew ends.old }
+    ensures many { length ends.new ≡ length ends.old }
+    ensures new { AllByRecursion AreNew ends.new }
+{
+    ends[at].lanes.push(Lane { peer, out, into })?;
+    Ok(())
 }
 
 // Joins two workers by two pipes, one in each direction.
@@ -34,82 +62,32 @@ fn join(
     room: usize,
     one: (usize, Asn),
     other: (usize, Asn),
-) -> Result<(), AllocError> {
+) -> Result<(), AllocError>
+    requires one { one.0 < length ends.old }
+    requires other { other.0 < length ends.old }
+    requires new { AllByRecursion AreNew ends.old }
+    ensures many { length ends.new ≡ length ends.old }
+    ensures new { AllByRecursion AreNew ends.new }
+{
     let (there, from_one) = pipe(alloc, room)?;
     let (back, from_other) = pipe(alloc, room)?;
-    ends[one.0].lanes.push(Lane {
-        peer: other.1,
-        out: there,
-        into: from_other,
-    })?;
-    ends[other.0].lanes.push(Lane {
-        peer: one.1,
-        out: back,
-        into: from_one,
-    })?;
-    Ok(())
+    add(ends, one.0, other.1, there, from_other)?;
+    add(ends, other.0, one.1, back, from_one)
 }
 
-/// The lanes of each worker of a network, by rising router and then by rising peer.
-pub(crate) fn deal(alloc: Global, network: &Network) -> Result<Vec<Ends>, AllocError> {
+/// The lanes of each worker of a network, by rising router.
+pub(crate) fn deal(alloc: Global, network: &Network) -> Result<Vec<Ends>, AllocError>
+    ensures many { IfOk result (λ ends. length ends.items ≡ length network.now.routers) }
+    ensures new { IfOk result (λ ends. AllByRecursion AreNew ends.items) }
+{
     let room = network.settings().pipe;
-    let routers = network.routers();
-    let mut ends = no_lanes(alloc, routers.len())?;
-    for at in 0..routers.len() {
-        for to in at + 1..routers.len() {
-            let (one, other) = (routers[at].asn, routers[to].asn);
-            if network.linked(one, other) {
-                join(alloc, ends.as_mut_slice(), room, (at, one), (to, other))?;
-            }
-        }
+    let mut ends = no_lanes(alloc, network.routers().len())?;
+    for link in network.links() {
+        let (Some(one), Some(other)) = (network.place(link.one), network.place(link.other)) else {
+            continue;
+        };
+        let (one, other) = ((one, link.one), (other, link.other));
+        join(alloc, ends.as_mut_slice(), room, one, other)?;
     }
     Ok(ends)
-}
-
-// Closes the two pipes of the last lanes of two workers.
-fn part<R: Wait>(
-    rt: &R,
-    ends: &mut [Ends],
-    tails: &mut Vec<Direction>,
-    one: (usize, Asn),
-    other: (usize, Asn),
-) -> Result<(), AllocError> {
-    tails.reserve(2)?;
-    let Some(near) = ends[one.0].lanes.pop() else {
-        return Ok(());
-    };
-    let Some(far) = ends[other.0].lanes.pop() else {
-        return Ok(());
-    };
-    tails.push_reserved(Direction {
-        from: one.1,
-        to: other.1,
-        tail: close(rt, near.out, far.into),
-    });
-    tails.push_reserved(Direction {
-        from: other.1,
-        to: one.1,
-        tail: close(rt, far.out, near.into),
-    });
-    Ok(())
-}
-
-/// The pipes of all workers, closed.
-pub(crate) fn close_all<R: Wait>(
-    rt: &R,
-    alloc: Global,
-    network: &Network,
-    ends: &mut [Ends],
-) -> Result<Vec<Direction>, AllocError> {
-    let routers = network.routers();
-    let mut tails = Vec::new(alloc);
-    for at in (0..routers.len()).rev() {
-        for to in (at + 1..routers.len()).rev() {
-            let (one, other) = (routers[at].asn, routers[to].asn);
-            if network.linked(one, other) {
-                part(rt, ends, &mut tails, (at, one), (to, other))?;
-            }
-        }
-    }
-    Ok(tails)
 }

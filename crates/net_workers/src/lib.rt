@@ -11,16 +11,14 @@
 mod dealing;
 mod ends;
 mod gathering;
+mod net;
 mod place;
 mod record;
 mod running;
 
 pub use ends::{Ends, Lane};
+pub use net::run_net;
 pub use offer_board::Made;
 pub use place::{Board, Place};
-pub use record::{Direction, Journal, Limits, MOST_TURNS, Record, RunFault};
-pub use running::run_net;
+pub use record::{Journal, Limits, MOST_TURNS, Record, RunFault, Worked};
 pub use worker_loop::{Chore, Entry, Gate, ScriptGate};
-
-#[cfg(test)]
-mod tests;

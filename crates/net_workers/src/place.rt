@@ -26,7 +26,11 @@ fn ended_by(error: CollectError) -> WorkerFault {
 }
 
 impl Desk for Place {
+    ghost use Rattle.offer_board.specs.Boards.{collected_in};
+
     type Board = Board;
+
+    ghost made = { λ d. collected_in d.made.items };
 
     fn offer<R: Wait>(
         &mut self,

@@ -1,10 +1,8 @@
 //! What the threads of a network did.
 
 use offer_board::Made;
-use outbox::Item;
 use ranked_policy::Asn;
 use router_core::Router;
-use ruled_pipe::Tail;
 use snap_collector::Collector;
 use std::alloc::AllocError;
 use thiserror::Error;
@@ -62,31 +60,24 @@ pub struct Journal {
     pub offers: Vec<Made>,
 }
 
-/// A pipe that was closed: what one router put towards another and that did not take.
+/// A router, with what its worker did.
 #[derive(Drop)]
-pub struct Direction {
-    /// Who put.
-    pub from: Asn,
-    /// Who took.
-    pub to: Asn,
-    /// What is left.
-    pub tail: Tail<Item>,
+pub struct Worked<'a, G> {
+    /// The router, as it is in the end.
+    pub router: Router<'a>,
+    /// What its worker was told, did and offered.
+    pub journal: Journal,
+    /// Its gate.
+    pub gate: G,
 }
 
-/// What the threads of a network did, and what they left. Routers, journals and gates stand by rising
-/// router.
+/// What the threads of a network did, and what they left.
 #[derive(Drop)]
 pub struct Record<'a, G> {
-    /// The routers.
-    pub routers: Vec<Router<'a>>,
-    /// What each worker did.
-    pub journals: Vec<Journal>,
-    /// The gates.
-    pub gates: Vec<G>,
-    /// The pipes, closed: one for each direction of each link.
-    pub tails: Vec<Direction>,
+    /// The routers, rising, each with its journal and its gate.
+    pub workers: Vec<Worked<'a, G>>,
     /// The collector.
     pub collector: Collector,
-    /// All events, by stamp, then by router.
+    /// The events of all journals, by stamp, then by router.
     pub gathered: Vec<Entry>,
 }

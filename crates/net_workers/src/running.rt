@@ -1,24 +1,28 @@
 //! Workers in threads of their own.
 
-use crate::dealing::{close_all, deal};
+ghost use Rattle.std.specs.Prelude.{◌≡◌, ◌<◌, ℕ, [], length, map, true, All, IfOk, IfNone, slice_index_or};
+ghost use Rattle.std.specs.List.{AllByRecursion};
+ghost use Rattle.ranked_policy.specs.Plans.{IsRouter, numbers};
+ghost use Rattle.router_model.specs.Settings.{linked, peers};
+ghost use Rattle.net_workers.specs.Lanes.{AreNew};
+ghost use Rattle.net_workers.specs.Ran.{IsFresh, IsNewRouter, Ran};
+
+use crate::dealing::deal;
 use crate::ends::Ends;
-use crate::gathering::gather;
 use crate::place::{Board, Place};
-use crate::record::{Journal, Limits, MOST_TURNS, Record, RunFault};
-use offer_board::{BoardState, made_by_same};
 use ranked_policy::{Asn, Network};
 use router_core::Router;
 use std::alloc::{AllocError, Global};
-use std::sync::{Mutex, Wait};
+use std::sync::Wait;
 use std::thread;
 use std::thread::Threads;
 use worker_loop::{Desk, Gate, Lines, Worker, WorkerFault};
 
-// A worker, and how it ended.
+/// A worker, and how it ended.
 #[derive(Drop)]
-struct Ended<'a, G> {
-    worker: Worker<'a, Ends, Place, G>,
-    fault: Option<WorkerFault>,
+pub(crate) struct Ended<'a, G> {
+    pub worker: Worker<'a, Ends, Place, G>,
+    pub fault: Option<WorkerFault>,
 }
 
 // A router of the network, as it starts.
@@ -26,23 +30,53 @@ fn new_router<'a>(
     alloc: Global,
     network: &'a Network,
     number: Asn,
-) -> Result<Router<'a>, AllocError> {
+) -> Result<Router<'a>, AllocError>
+    requires { IsRouter network.now.routers number }
+    ensures new { IfOk result (IsNewRouter network.now) }
+    ensures number { IfOk result (λ router. router.number ≡ number) }
+{
     match Router::new(alloc, network, number) {
         Ok(router) => Ok(router),
         Err(_) => Err(AllocError),
     }
 }
 
+// Whether a link joins two routers.
+fn is_peer(network: &Network, number: Asn, other: Asn) -> bool
+    ensures { result ≡ linked network.now number other }
+{
+    network.linked(number, other)
+}
+
+// The peers of a router, rising.
+fn peers_of(alloc: Global, network: &Network, number: Asn) -> Result<Vec<Asn>, AllocError>
+    ensures { IfOk result (λ made. made.items ≡ peers network.now number) }
+{
+    let mut made = Vec::new(alloc);
+    for router in network.routers() {
+        if is_peer(network, number, router.asn) {
+            made.push(router.asn)?;
+        }
+    }
+    Ok(made)
+}
+
 // A worker that did nothing yet.
-fn new_worker<'a, G: Drop>(
+fn new_worker<'a, G: Gate + Drop>(
     alloc: Global,
     network: &'a Network,
     number: Asn,
     lines: Ends,
     gate: G,
-) -> Result<Ended<'a, G>, AllocError> {
+) -> Result<Ended<'a, G>, AllocError>
+    requires router { IsRouter network.now.routers number }
+    requires lanes { AreNew lines }
+    requires gate { G.given gate ≡ [] }
+    ensures fresh { IfOk result (λ ended. IsFresh G.given network.now ended.worker) }
+    ensures number { IfOk result (λ ended. ended.worker.router.number ≡ number) }
+{
     let router = new_router(alloc, network, number)?;
-    let peers = network.peers(alloc, number)?.into_vec();
+    let peers = peers_of(alloc, network, number)?;
     let worker = Worker {
         router,
         peers,
@@ -59,18 +93,23 @@ fn new_worker<'a, G: Drop>(
     })
 }
 
-// The workers of a network, by rising router.
-fn new_workers<'a, G: Drop>(
+/// The workers of a network, by rising router.
+pub(crate) fn new_workers<'a, G: Gate + Drop>(
     alloc: Global,
     network: &'a Network,
     gates: Vec<G>,
-) -> Result<Vec<Ended<'a, G>>, AllocError> {
+) -> Result<Vec<Ended<'a, G>>, AllocError>
+    requires many { length gates.items ≡ length network.now.routers }
+    requires fresh { AllByRecursion (λ gate. G.given gate ≡ []) gates.items }
+    ensures numbers { IfOk result (λ made. map (λ e. e.worker.router.number) made.items ≡ numbers network.now.routers) }
+    ensures fresh { IfOk result (λ made. AllByRecursion (λ e. IsFresh G.given network.now e.worker) made.items) }
+{
     let mut ends = deal(alloc, network)?.into_iter();
     let mut gates = gates.into_iter();
     let mut workers = Vec::new(alloc);
     for router in network.routers() {
         let (Some(lines), Some(gate)) = (ends.next(), gates.next()) else {
-            return Ok(workers);
+            unreachable!()
         };
         workers.push(new_worker(alloc, network, router.asn, lines, gate)?)?;
     }
@@ -78,119 +117,34 @@ fn new_workers<'a, G: Drop>(
 }
 
 // Runs one worker.
-fn run_one<R: Wait, G: Gate>(rt: &R, board: &Board, turns: u32, ended: &mut Ended<'_, G>) {
+fn run_one<R: Wait, G: Gate>(rt: &R, board: &Board, turns: u32, ended: &mut Ended<'_, G>)
+    requires gate { G.given ended.old.worker.gate ≡ [] }
+    requires chores { ended.old.worker.journal.chores.items ≡ [] }
+    ensures { IfNone ended.new.fault (Ran G.given turns ended.old.worker ended.new.worker) }
+{
     ended.fault = ended.worker.work(rt, board, turns).err();
 }
 
-// Runs each worker in a thread of its own.
-fn run_all<'a, R, G>(rt: &R, board: &Board, turns: u32, workers: &mut [Ended<'a, G>])
+/// Runs each worker in a thread of its own, and ends as all have. A worker that ends without a fault
+/// did what its gate said.
+pub(crate) fn run_all<'a, R, G>(rt: &R, board: &Board, turns: u32, workers: &mut [Ended<'a, G>])
 where
     R: Threads + Wait + Sync,
     G: Gate + Send,
+    requires gates { All (λ e. G.given e.worker.gate ≡ []) workers.old }
+    requires chores { All (λ e. e.worker.journal.chores.items ≡ []) workers.old }
+    ensures many { length workers.new ≡ length workers.old }
+    ensures ran { (i : ℕ) (d : _) → i < length workers.old → IfNone (slice_index_or workers.new i d).fault
+        (Ran G.given turns (slice_index_or workers.old i d).worker (slice_index_or workers.new i d).worker) }
 {
     let threads = workers.len();
     if threads == 0 {
         return;
     }
-    thread::for_each_mut(rt, workers, threads, &|_, ended: &mut Ended<G>| {
-        run_one(rt, board, turns, ended)
-    });
-}
-
-// The fault of the least router that has one.
-fn first_fault<G>(workers: &[Ended<'_, G>]) -> Option<RunFault> {
-    for ended in workers {
-        match ended.fault {
-            Some(WorkerFault::Memory) => return Some(RunFault::Memory),
-            Some(WorkerFault::Refused) => {
-                return Some(RunFault::WorkerRefused {
-                    router: ended.worker.router.number(),
-                });
-            }
-            None => {}
-        }
-    }
-    None
-}
-
-// Whether the board has of each router the offers that its worker made.
-fn agrees<G>(board: &BoardState, workers: &[Ended<'_, G>]) -> bool {
-    for ended in workers {
-        let own = ended.worker.desk.made.as_slice();
-        if !made_by_same(board.offers(), ended.worker.router.number(), own) {
-            return false;
-        }
-    }
-    true
-}
-
-// What the workers of a board leave.
-fn recorded<'a, R: Wait, G: Drop>(
-    rt: &R,
-    alloc: Global,
-    network: &'a Network,
-    board: BoardState,
-    workers: Vec<Ended<'a, G>>,
-) -> Result<Record<'a, G>, AllocError> {
-    let mut routers = Vec::new(alloc);
-    let mut journals = Vec::new(alloc);
-    let mut gates = Vec::new(alloc);
-    let mut ends = Vec::new(alloc);
-    for ended in workers {
-        let worker = ended.worker;
-        routers.push(worker.router)?;
-        journals.push(Journal {
-            chores: worker.journal.chores,
-            events: worker.journal.events,
-            offers: worker.desk.made,
-        })?;
-        gates.push(worker.gate)?;
-        ends.push(worker.lines)?;
-    }
-    let tails = close_all(rt, alloc, network, ends.as_mut_slice())?;
-    let gathered = gather(alloc, journals.as_slice())?;
-    Ok(Record {
-        routers,
-        journals,
-        gates,
-        tails,
-        collector: board.into_collector(),
-        gathered,
-    })
-}
-
-/// Runs a network: each router in a thread of its own, at the word of its gate, and ends as all
-/// threads have. Gates stand by rising router, and have given no chore yet.
-///
-/// A worker ends at its first Stop, or after so many chores. Refused [`RunFault::BadLimits`] where the
-/// chores are not 1 to [`MOST_TURNS`] or there is not one gate for each router, before anything is
-/// done; with the fault of the least router that has one; [`RunFault::BoardDiffers`] where the offers
-/// of the board are not those of the journals, and [`RunFault::Memory`] where a growth was refused.
-/// After a fault the other workers go on to their own end, and nothing is handed back.
-pub fn run_net<'a, R, G>(
-    rt: &R,
-    alloc: Global,
-    network: &'a Network,
-    gates: Vec<G>,
-    limits: Limits,
-) -> Result<Record<'a, G>, RunFault>
-where
-    R: Threads + Wait + Sync,
-    G: Gate + Send + Drop,
-{
-    let turns = limits.turns;
-    if turns == 0 || turns > MOST_TURNS || gates.len() != network.routers().len() {
-        return Err(RunFault::BadLimits);
-    }
-    let board: Board = Mutex::new(BoardState::new(alloc, network)?);
-    let mut workers = new_workers(alloc, network, gates)?;
-    run_all(rt, &board, turns, workers.as_mut_slice());
-    if let Some(fault) = first_fault(workers.as_slice()) {
-        return Err(fault);
-    }
-    let board = board.into_inner();
-    if !agrees(&board, workers.as_slice()) {
-        return Err(RunFault::BoardDiffers);
-    }
-    Ok(recorded(rt, alloc, network, board, workers)?)
+    thread::for_each_mut(
+        rt,
+        workers,
+        threads,
+        &|_, ended: &mut Ended<G>| { run_one(rt, board, turns, ended) },
+    );
 }
