@@ -2,3 +2,4 @@ pub mod Acting
 pub mod Trying
 pub mod Chaining
 pub mod Scripts
+pub mod Doing

@@ -2,3 +2,4 @@ pub mod Acts
 pub mod Following
 pub mod Whole
 pub mod Script
+pub mod Laws

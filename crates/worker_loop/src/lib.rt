@@ -11,6 +11,7 @@
 mod around;
 mod chore;
 mod journal;
+pub mod laws;
 mod script;
 mod worker;
 
