@@ -1,3 +1,4 @@
 pub mod Lanes
-pub mod Ran
 pub mod Gathered
+pub mod Ran
+pub mod Runs

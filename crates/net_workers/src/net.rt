@@ -1,8 +1,8 @@
 //! A network that runs.
 
-ghost use Rattle.std.specs.Prelude.{◌≡◌, ◌<◌, ℕ, [], length, map, All, IfOk, IfNone, IfSome, slice_index_or, MatchOption};
+ghost use Rattle.std.specs.Prelude.{◌≡◌, ◌<◌, ℕ, [], length, map, true, All, IfOk, IfNone, IfSome, slice_index_or, MatchOption};
 ghost use Rattle.std.specs.List.{AllByRecursion};
-ghost use Rattle.ranked_policy.specs.Plans.{numbers};
+ghost use Rattle.net_workers.specs.Ran.{first_fault, worked_of, OffersOf, Passed, IsRecord};
 
 use crate::gathering::gather;
 use crate::place::Board;
@@ -13,10 +13,13 @@ use ranked_policy::Network;
 use std::alloc::{AllocError, Global};
 use std::sync::{Mutex, Wait};
 use std::thread::Threads;
+use worker_loop::laws::what_follows_is_done;
 use worker_loop::{Gate, WorkerFault};
 
 // The fault of the least router that has one.
-fn first_fault<G>(workers: &[Ended<'_, G>]) -> Option<RunFault> {
+fn first_fault<G>(workers: &[Ended<'_, G>]) -> Option<RunFault>
+    ensures { result ≡ first_fault workers.now }
+{
     for ended in workers {
         match ended.fault {
             Some(WorkerFault::Memory) => return Some(RunFault::Memory),
@@ -32,7 +35,9 @@ fn first_fault<G>(workers: &[Ended<'_, G>]) -> Option<RunFault> {
 }
 
 // Whether the board has of each router the offers that its worker made.
-fn agrees<G>(board: &BoardState, workers: &[Ended<'_, G>]) -> bool {
+fn agrees<G>(board: &BoardState, workers: &[Ended<'_, G>]) -> bool
+    ensures { result ≡ true → AllByRecursion (OffersOf board.now.offers) workers.now }
+{
     for ended in workers {
         let own = ended.worker.desk.made.as_slice();
         if !made_by_same(board.offers(), ended.worker.router.number(), own) {
@@ -46,7 +51,9 @@ fn agrees<G>(board: &BoardState, workers: &[Ended<'_, G>]) -> bool {
 fn worked<G: Drop>(
     alloc: Global,
     workers: Vec<Ended<'_, G>>,
-) -> Result<Vec<Worked<'_, G>>, AllocError> {
+) -> Result<Vec<Worked<'_, G>>, AllocError>
+    ensures { IfOk result (λ done. done.items ≡ map worked_of workers.entry.items) }
+{
     let mut done = Vec::new(alloc);
     for ended in workers {
         let worker = ended.worker;
@@ -82,7 +89,9 @@ where
     R: Threads + Wait + Sync,
     G: Gate + Send + Drop,
     requires fresh { AllByRecursion (λ gate. G.given gate ≡ []) gates.items }
+    ensures record { IfOk result (λ r. (p : Passed) × IsRecord G.given network.now limits.turns p r.workers.items r.collector r.gathered.items) }
 {
+    what_follows_is_done();
     let turns = limits.turns;
     if turns == 0 || turns > MOST_TURNS || gates.len() != network.routers().len() {
         return Err(RunFault::BadLimits);
