@@ -114,7 +114,7 @@ acts_are_journals g u known x y (a ∷ acts) (m, moves, rest) old same =
     let e = without_stamp a.event.event in
     let next : Logged = record { router = m.router; log = λ v. old.log v ++ says g u old.router e v } in
     let step : LoggedStep g u old e next =
-        record { known = known; step = subst (λ r. Step g u r e m.router) (sym same) moves.step; log = refl } in
+    record { known = known; step = subst (λ r. Step g u r e m.router) (sym same) moves.step; log = refl } in
     let tail = acts_are_journals g u known m y acts rest next refl in
     record { last = tail.last; journal = (next, step, tail.journal); router = tail.router }
 

@@ -1,7 +1,7 @@
 //! A gate that reads a list.
 
-ghost use Rattle.std.specs.Prelude.{◌≡◌, [], List, ℕ};
-ghost use Rattle.worker_loop.specs.Script.{chore_at, chores_of};
+ghost use Rattle.std.specs.Prelude.{◌≡◌, []};
+ghost use Rattle.worker_loop.specs.Script.{chore_at, given_by};
 
 use crate::around::Gate;
 use crate::chore::Chore;
@@ -18,7 +18,7 @@ pub struct ScriptGate {
 impl ScriptGate {
     /// A gate that has given nothing yet. It takes no memory.
     pub fn new(script: Vec<(u32, Chore)>) -> ScriptGate
-        ensures { chores_of result.script.items result.count ≡ [] }
+        ensures { given_by result ≡ [] }
     {
         ScriptGate { script, count: 0 }
     }
@@ -37,7 +37,7 @@ fn chore_at(script: &[(u32, Chore)], turn: u32) -> Chore
 }
 
 impl Gate for ScriptGate {
-    ghost given = { λ g. chores_of g.script.items g.count };
+    ghost given = { given_by };
 
     fn next<R: Wait>(&mut self, _rt: &R, _router: Asn, turn: u32) -> Chore {
         self.count = u64::from(turn) + 1;
