@@ -43,3 +43,4 @@ Takes old new o (Ok taken.Late) = (knows old o ≡ true) × (has_decided old o �
 Takes old new o (Err (refusal.Stranger u)) = (knows old o ≡ false) × (u ≡ router_of o) × (new ≡ old)
 Takes old new o (Err (refusal.Twice u)) = (knows old o ≡ true) × (has_decided old o ≡ false) × (has_heard old o ≡ true) × (u ≡ router_of o) × (new ≡ old)
 Takes old new o (Err refusal.Memory) = IsNew old o × (new ≡ old)
+Takes old new o (Err refusal.StampEnd) = ⊥

@@ -1,0 +1,11 @@
+-- so many were made, and nothing passed
+use Rattle.std.proofs.Common.{◌≡◌, length}
+use Rattle.std.specs.List.{AllByRecursion}
+use Rattle.net_workers.specs.Lanes.{AreNew}
+use Rattle.net_workers.proofs.dealing.no_lanes.Given as goal
+
+abbrev pub invariant-loop-made : goal.invariant-loop-made
+invariant-loop-made l = record {
+  many : length l.ends.items ≡ l.made;
+  new : AllByRecursion AreNew l.ends.items;
+}

@@ -1,0 +1,15 @@
+use Rattle.std.proofs.Common.{◌∙◌, ap, sym}
+use Rattle.router_model.specs.Settings.{peers}
+use Rattle.net_workers.proofs.running.new_worker.Goals as goal
+
+pub returns-clause-fresh : goal.returns-clause-fresh
+returns-clause-fresh g c = record {
+  net = c.in_ok-router.ensures.new.0;
+  router = c.in_ok-router.ensures.new.1;
+  peers = c.in_ok-peers.ensures ∙ ap (peers c.args.network.now) (sym c.in_ok-router.ensures.number);
+  lanes = c.requires.lanes;
+  made = c.new.ensures.items;
+  chores = c.new-2.ensures.chores;
+  events = c.new-2.ensures.events;
+  gate = c.requires.gate;
+}

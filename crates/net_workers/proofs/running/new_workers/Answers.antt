@@ -1,0 +1,27 @@
+use Rattle.std.proofs.Common.{◌∙◌, ◌≡◌, ◌<◌, arith, ap, subst, length, get_or, [], sym}
+use Rattle.std.specs.List.{AllByRecursion}
+use Rattle.ranked_policy.specs.Plans.{IsRouter}
+use Rattle.net_workers.specs.Lanes.{AreNew}
+use Rattle.net_workers.specs.Ran.{IsFresh}
+use Rattle.net_workers.proofs.Lists.{one_more, all_more, shorter, is_router}
+use Rattle.net_workers.proofs.running.new_workers.Goals as goal
+
+pub new_worker-requires-clause-router : goal.new_worker-requires-clause-router
+new_worker-requires-clause-router g c =
+    subst (λ rs. IsRouter rs c.router-item.result.asn) c.routers-router-items.ensures.value
+    (is_router c.routers-router-items.result.now c.loop-router.router-index c.router-item.result (omega (arith, c.loop-router-test.true)) c.router-item.is)
+
+pub loop-router-preserved : goal.loop-router-preserved
+loop-router-preserved g c =
+    let l = c.loop-router in
+    let items = c.in_ok-push.ensures.items in
+    record {
+      lanes = shorter _ _ c.in-Some-Some.lines l.router-index _ c.in-Some-Some.ensures.items l.invariant.lanes;
+      gates = shorter _ _ c.in-Some-Some.gate l.router-index _ c.in-Some-Some.ensures'.items l.invariant.gates;
+      new = (subst (AllByRecursion AreNew) c.in-Some-Some.ensures.items l.invariant.new).1;
+      given = (subst (AllByRecursion (λ gate. g.G.Gate.given gate ≡ [])) c.in-Some-Some.ensures'.items l.invariant.given).1;
+      numbers = rw items
+          (one_more (λ e. e.worker.router.number) (λ r. r.asn) l.workers.items c.in_ok-new_worker.field-0 c.routers-router-items.result.now l.router-index c.router-item.result (omega (arith, c.loop-router-test.true)) c.router-item.is c.in_ok-new_worker.ensures.number
+          ∙ l.invariant.numbers);
+      fresh = rw items (all_more (λ e. IsFresh g.G.Gate.given c.args.network.now e.worker) l.workers.items c.in_ok-new_worker.field-0 l.invariant.fresh c.in_ok-new_worker.ensures.fresh);
+    }

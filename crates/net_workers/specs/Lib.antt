@@ -1,0 +1,4 @@
+pub mod Lanes
+pub mod Gathered
+pub mod Ran
+pub mod Runs

@@ -1,0 +1,150 @@
+-- What each worker did from its first chore to its last.
+use Rattle.std.specs.Prelude.{ℕ, ◌≡◌, ◌<◌, ◌==◌, cond, List, [], ◌∷◌, map, filter, Option, None, Some}
+use Rattle.std.specs.List.{AllByRecursion}
+use Rattle.ranked_policy.specs.Plans.{IsRouter, numbers}
+use Rattle.snap_marker.specs.Recordings.{MadeOffer}
+use Rattle.snap_collector.specs.Collector.{CollectorView, AreMembers, made_for, with_offers}
+use Rattle.run_model.specs.Stamps.{Collected, Pairwise, offers_on}
+use Rattle.worker_loop.specs.declared.worker.WorkerFault.TheVariants as worker
+use Rattle.worker_loop.specs.declared.journal.Entry.{Entry}
+use Rattle.net_workers.specs.declared.record.RunFault.{RunFault}
+use Rattle.net_workers.specs.declared.record.RunFault.TheVariants as fault
+use Rattle.net_workers.specs.Gathered.{all_events, IsSorted}
+use Rattle.ranked_policy.specs.Plans.{Plan}
+use Rattle.router_model.specs.Settings.{Setting, IsSetting, peers}
+use Rattle.router_model.specs.State.{new_router}
+use Rattle.router_model.specs.Calls.{Stamped}
+use Rattle.router_core.specs.Views.{RouterView, plain_of}
+use Rattle.outbox.specs.declared.item.Item.{Item}
+use Rattle.run_model.specs.Stamps.{stamped_offers}
+use Rattle.worker_loop.specs.declared.chore.Chore.{Chore}
+use Rattle.worker_loop.specs.declared.worker.Worker.{Worker}
+use Rattle.worker_loop.specs.declared.worker.WorkerFault.{WorkerFault}
+use Rattle.worker_loop.specs.Acts.{Act, Seen, Does, entry_of}
+use Rattle.worker_loop.specs.Following.{Did, Follows}
+use Rattle.worker_loop.specs.Whole.{IsWhole, IsLaterWorker, seen_of}
+use Rattle.offer_board.specs.declared.board.Made.{Made}
+use Rattle.offer_board.specs.Boards.{collected_in}
+use Rattle.net_workers.specs.declared.ends.Ends.{Ends}
+use Rattle.net_workers.specs.declared.place.Place.{Place}
+use Rattle.net_workers.specs.declared.record.Worked.{Worked}
+use Rattle.net_workers.specs.declared.running.Ended.{Ended}
+use Rattle.net_workers.specs.Lanes.{put_of, taken_of, room_of, wires_of, AreNew}
+
+abbrev pub seen : {G : Type 0} → Worker Ends Place G → Seen
+seen w = seen_of (λ e. put_of e.lanes.items) (λ e. taken_of e.lanes.items) (λ e. room_of e.lanes.items) (λ d. collected_in d.made.items) w
+
+-- a router that did nothing
+abbrev pub setting_of : Plan → Setting
+setting_of net = record { net = net; best = λ u q originated words. [] }
+
+abbrev pub new_stamped : Plan → Stamped
+new_stamped net = record { router = new_router (setting_of net); stamp = 0 }
+
+abbrev pub IsNewRouter : Plan → RouterView → Type 0
+IsNewRouter net r = (r.net ≡ net) × (plain_of r ≡ new_stamped net)
+
+-- a worker that did nothing yet
+pub record IsFresh {G : Type 0} (given : G → List Chore) (plan : Plan) (w : Worker Ends Place G) : Type 0 where
+  pub net : w.router.net ≡ plan
+  pub router : plain_of w.router ≡ new_stamped plan
+  pub peers : w.peers.items ≡ peers plan w.router.number
+  pub lanes : AreNew w.lines
+  pub made : w.desk.made.items ≡ []
+  pub chores : w.journal.chores.items ≡ []
+  pub events : w.journal.events.items ≡ []
+  pub gate : given w.gate ≡ []
+
+-- from v to w a worker did what its gate said, and no more
+pub record Ran {G : Type 0} (given : G → List Chore) (turns : ℕ) (v w : Worker Ends Place G) : Type 0 where
+  pub chores : w.journal.chores.items ≡ given w.gate
+  pub whole : IsWhole turns (given w.gate)
+  pub follows : Did (λ g. Follows g v.router.number v.peers.items (given w.gate)) v.router.net (seen v) (seen w)
+  pub same : IsLaterWorker wires_of v w
+
+-- the items that each router put towards each other, and that it took from it
+pub record Passed : Type 0 where
+  pub put : ℕ → ℕ → List Item
+  pub taken : ℕ → ℕ → List Item
+
+-- the journal of a router from its opening on: its events are exactly those that follow from its chores, and lead it to where it
+-- is; and its offers are theirs
+pub record IsTold {G : Type 0} (given : G → List Chore) (g : Setting) (p : Passed) (w : Worked G) : Type 0 where
+  pub first : Seen
+  pub last : Seen
+  pub acts : List Act
+  pub follows : Follows g w.router.number (peers g.net w.router.number) (given w.gate) first acts last
+  pub opening : first.router ≡ new_stamped g.net
+  pub nothing_put : first.put ≡ (λ v. [])
+  pub nothing_taken : first.taken ≡ (λ v. [])
+  pub router : last.router ≡ plain_of w.router
+  pub put : last.put ≡ p.put w.router.number
+  pub taken : last.taken ≡ p.taken w.router.number
+  pub done : Does g w.router.number first acts last
+  pub events : map entry_of acts ≡ w.journal.events.items
+  pub offers : stamped_offers acts ≡ collected_in w.journal.offers.items
+
+-- what a router did: the chores are those that its gate gave, so many or up to the first Stop, and its journal follows them
+pub record HasWorked {G : Type 0} (given : G → List Chore) (plan : Plan) (turns : ℕ) (p : Passed) (w : Worked G) : Type 0 where
+  pub net : w.router.net ≡ plan
+  pub chores : w.journal.chores.items ≡ given w.gate
+  pub whole : IsWhole turns (given w.gate)
+  pub told : (g : Setting) → g.net ≡ plan → IsSetting g → IsTold given g p w
+
+-- ---- the record of a run
+
+-- what is handed back of a worker
+abbrev pub worked_of : {G : Type 0} → Ended G → Worked G
+worked_of e = record {
+  router = e.worker.router;
+  journal = record { chores = e.worker.journal.chores; events = e.worker.journal.events; offers = e.worker.desk.made };
+  gate = e.worker.gate;
+}
+
+-- why a worker that ended in the middle leaves no record
+abbrev pub fault_of : ℕ → Option WorkerFault → Option RunFault
+fault_of u None = None
+fault_of u (Some worker.Memory) = Some fault.Memory
+fault_of u (Some worker.Refused) = Some (fault.WorkerRefused u)
+
+abbrev pub or_else : Option RunFault → Option RunFault → Option RunFault
+or_else None other = other
+or_else (Some why) other = Some why
+
+-- the fault of the first that has one
+abbrev pub first_fault : {G : Type 0} → List (Ended G) → Option RunFault
+first_fault [] = None
+first_fault (e ∷ es) = or_else (fault_of e.worker.router.number e.fault) (first_fault es)
+
+-- the offers of a list that a router made are those of its journal
+abbrev pub OffersOf : {G : Type 0} → List Made → Ended G → Type 0
+OffersOf board e = filter (λ o. o.router == e.worker.router.number) (collected_in board) ≡ collected_in e.worker.desk.made.items
+
+-- the collector has all offers made, by their numbers, and these are, router by router, those of the journals, at rising stamps
+pub record Collects {G : Type 0} (plan : Plan) (workers : List (Worked G)) (c : CollectorView) : Type 0 where
+  pub offers : List (Collected MadeOffer)
+  pub rising : Pairwise (λ a b. a.stamp < b.stamp) offers
+  pub of : AllByRecursion (λ w. filter (λ o. o.router == w.router.number) offers ≡ collected_in w.journal.offers.items) workers
+  pub only : (u : ℕ) → (IsRouter plan.routers u → ⊥) → filter (λ o. o.router == u) offers ≡ []
+  pub made : made_for c ≡ with_offers (λ s. []) (offers_on offers)
+
+-- every router of the network worked, and the events are gathered
+pub record IsRecord {G : Type 0} (given : G → List Chore) (plan : Plan) (turns : ℕ) (p : Passed) (workers : List (Worked G)) (c : CollectorView) (gathered : List Entry) : Type 0 where
+  pub routers : map (λ w. w.router.number) workers ≡ numbers plan.routers
+  pub nobody : (u v : ℕ) → (IsRouter plan.routers u → ⊥) → (p.put u v ≡ []) × (p.taken u v ≡ [])
+  pub worked : AllByRecursion (HasWorked given plan turns p) workers
+  pub sorted : IsSorted (all_events workers) gathered
+  pub collects : Collects plan workers c
+  pub members : AreMembers plan c.members
+
+-- what the lanes of the workers have at the end
+abbrev pub put_by : {G : Type 0} → List (Ended G) → ℕ → ℕ → List Item
+put_by [] u v = []
+put_by (e ∷ es) u v = cond (e.worker.router.number == u) (put_of e.worker.lines.lanes.items v) (put_by es u v)
+
+abbrev pub taken_by : {G : Type 0} → List (Ended G) → ℕ → ℕ → List Item
+taken_by [] u v = []
+taken_by (e ∷ es) u v = cond (e.worker.router.number == u) (taken_of e.worker.lines.lanes.items v) (taken_by es u v)
+
+abbrev pub passed_by : {G : Type 0} → List (Ended G) → Passed
+passed_by es = record { put = put_by es; taken = taken_by es }

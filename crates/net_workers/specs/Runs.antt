@@ -1,0 +1,38 @@
+-- What the threads did is one run of the network.
+use Rattle.std.specs.Prelude.{ℕ, ◌≡◌, List, map}
+use mathlib.Core.List.{IsPrefix}
+use Rattle.std.specs.List.{AllByRecursion}
+use Rattle.ranked_policy.specs.Plans.{Plan}
+use Rattle.outbox.specs.declared.item.Item.{Item}
+use Rattle.run_model.specs.Stamps.{offers_on}
+use Rattle.router_model.specs.Settings.{Setting, IsSetting}
+use Rattle.router_runs.specs.Runs.{RunOrder, RunState, IsRunTo}
+use Rattle.router_core.specs.Views.{plain_of}
+use Rattle.snap_collector.specs.Collector.{CollectorView}
+use Rattle.world_core.specs.World.{named}
+use Rattle.worker_loop.specs.declared.chore.Chore.{Chore}
+use Rattle.worker_loop.specs.declared.journal.Entry.{Entry}
+use Rattle.net_workers.specs.declared.record.Worked.{Worked}
+use Rattle.net_workers.specs.Ran.{Passed, IsRecord}
+
+-- in each direction the items taken are the first of those put, one after another
+abbrev pub InTurn : Passed → Type 0
+InTurn p = (u v : ℕ) → IsPrefix (p.taken v u) (p.put u v)
+
+-- the gathered events are a run of the network, and its last state has the routers, the items that were put and taken, and the
+-- offers that the collector was made
+pub record IsRunOfThreads {G : Type 0} (g : Setting) (p : Passed) (workers : List (Worked G)) (gathered : List Entry) : Type 0 where
+  pub order : RunOrder
+  pub state : RunState
+  pub run : IsRunTo g order state
+  pub events : named order ≡ map (λ e. e.event) gathered
+  pub routers : AllByRecursion (λ w. (state.routers w.router.number).router ≡ (plain_of w.router).router) workers
+  pub put : (u v : ℕ) → state.put u v ≡ map (λ i. i.what) (p.put u v)
+  pub taken : (u v : ℕ) → state.taken u v ≡ map (λ i. i.what) (p.taken v u)
+
+-- so every record is one of a run
+abbrev pub RecordsAreRuns : {G : Type 0} → (G → List Chore) → Type 0
+RecordsAreRuns {G} given =
+    (plan : Plan) (turns : ℕ) (p : Passed) (workers : List (Worked G)) (c : CollectorView) (gathered : List Entry)
+    → (record_of : IsRecord given plan turns p workers c gathered) → InTurn p → (g : Setting) → g.net ≡ plan → IsSetting g
+    → (run : IsRunOfThreads g p workers gathered) × (run.state.offered ≡ offers_on record_of.collects.offers)

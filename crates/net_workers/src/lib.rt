@@ -1,0 +1,27 @@
+//! A network in threads: each router with a worker in a thread of its own, pipes between them, and one
+//! board for their offers.
+//!
+//! Its one contract: where [`run_net`] answers a record, what the threads did, put into one order by its
+//! stamps, is a run of the network's routers, and the record's routers, pipes and offers are those of
+//! its last state.
+//!
+//! Left out: that a thread gets on, that two of them run at once, and when anything arrives.
+#![tactic(auto)]
+
+mod dealing;
+mod ends;
+mod gathering;
+mod net;
+mod place;
+mod record;
+mod running;
+
+pub use ends::{Ends, Lane};
+pub use net::run_net;
+pub use offer_board::Made;
+pub use place::{Board, Place};
+pub use record::{Journal, Limits, MOST_TURNS, Record, RunFault, Worked};
+pub use worker_loop::{Chore, Entry, Gate, ScriptGate};
+
+#[cfg(test)]
+mod tests;

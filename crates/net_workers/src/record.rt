@@ -1,0 +1,83 @@
+//! What the threads of a network did.
+
+use offer_board::Made;
+use ranked_policy::Asn;
+use router_core::Router;
+use snap_collector::Collector;
+use std::alloc::AllocError;
+use thiserror::Error;
+use worker_loop::{Chore, Entry};
+
+/// The most chores that a worker may be given.
+pub const MOST_TURNS: u32 = 1_000_000;
+
+/// How long a network runs.
+#[derive(Clone, Copy, Debug, PartialEq, Eq)]
+pub struct Limits {
+    /// The most chores of each worker, 1 to [`MOST_TURNS`].
+    pub turns: u32,
+}
+
+/// Why a run has no record.
+#[derive(Clone, Copy, Debug, PartialEq, Eq, Error)]
+pub enum RunFault {
+    /// A growth was refused.
+    #[error("memory")]
+    Memory,
+    /// A router had no stamp or no incarnation left, or its offer was refused.
+    #[error("the worker of {router} was refused")]
+    WorkerRefused {
+        /// The router: the least, where there are several.
+        router: Asn,
+    },
+    /// The chores are not 1 to [`MOST_TURNS`], or there is not one gate for each router.
+    #[error("bad limits")]
+    BadLimits,
+    /// The offers of the board are not those of the journals.
+    #[error("the board differs from the journals")]
+    BoardDiffers,
+}
+
+impl From<AllocError> for RunFault {
+    ghost use Rattle.std.specs.Prelude.{◌≡◌};
+    ghost use Rattle.net_workers.specs.declared.record.RunFault.TheVariants.{Memory};
+
+    ghost from_gives = { λ _ fault. fault ≡ Memory };
+
+    fn from(_error: AllocError) -> RunFault {
+        RunFault::Memory
+    }
+}
+
+/// What a worker was told, did and offered, in its order.
+#[derive(Debug, Drop)]
+pub struct Journal {
+    /// The chores that its gate gave.
+    pub chores: Vec<Chore>,
+    /// The events that it did, with their stamps.
+    pub events: Vec<Entry>,
+    /// The offers that it made, with their stamps.
+    pub offers: Vec<Made>,
+}
+
+/// A router, with what its worker did.
+#[derive(Drop)]
+pub struct Worked<'a, G> {
+    /// The router, as it is in the end.
+    pub router: Router<'a>,
+    /// What its worker was told, did and offered.
+    pub journal: Journal,
+    /// Its gate.
+    pub gate: G,
+}
+
+/// What the threads of a network did, and what they left.
+#[derive(Drop)]
+pub struct Record<'a, G> {
+    /// The routers, rising, each with its journal and its gate.
+    pub workers: Vec<Worked<'a, G>>,
+    /// The collector.
+    pub collector: Collector,
+    /// The events of all journals, by stamp, then by router.
+    pub gathered: Vec<Entry>,
+}

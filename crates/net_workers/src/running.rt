@@ -1,0 +1,164 @@
+//! Workers in threads of their own.
+
+ghost use Rattle.std.specs.Prelude.{◌≡◌, ◌<◌, ℕ, [], length, map, true, All, IfOk, IfNone, slice_index_or};
+ghost use Rattle.std.specs.List.{AllByRecursion};
+ghost use Rattle.ranked_policy.specs.Plans.{IsRouter, numbers};
+ghost use Rattle.router_model.specs.Settings.{linked, peers};
+ghost use Rattle.net_workers.specs.Lanes.{AreNew};
+ghost use Rattle.net_workers.specs.Ran.{IsFresh, IsNewRouter, Ran};
+
+use crate::dealing::deal;
+use crate::ends::Ends;
+use crate::place::{Board, Place};
+use ranked_policy::{Asn, Network};
+use router_core::Router;
+use std::alloc::{AllocError, Global};
+use std::sync::Wait;
+use std::thread;
+use std::thread::Threads;
+use worker_loop::{Desk, Gate, Lines, Worker, WorkerFault};
+
+/// A worker, and how it ended.
+#[derive(Drop)]
+pub(crate) struct Ended<'a, G> {
+    pub worker: Worker<'a, Ends, Place, G>,
+    pub fault: Option<WorkerFault>,
+}
+
+// A router of the network, as it starts.
+fn new_router<'a>(
+    alloc: Global,
+    network: &'a Network,
+    number: Asn,
+) -> Result<Router<'a>, AllocError>
+    requires { IsRouter network.now.routers number }
+    ensures new { IfOk result (IsNewRouter network.now) }
+    ensures number { IfOk result (λ router. router.number ≡ number) }
+{
+    match Router::new(alloc, network, number) {
+        Ok(router) => Ok(router),
+        Err(_) => Err(AllocError),
+    }
+}
+
+// Whether a link joins two routers.
+fn is_peer(network: &Network, number: Asn, other: Asn) -> bool
+    ensures { result ≡ linked network.now number other }
+{
+    network.linked(number, other)
+}
+
+// The peers of a router, rising.
+fn peers_of(alloc: Global, network: &Network, number: Asn) -> Result<Vec<Asn>, AllocError>
+    ensures { IfOk result (λ made. made.items ≡ peers network.now number) }
+{
+    let mut made = Vec::new(alloc);
+    for router in network.routers() {
+        if is_peer(network, number, router.asn) {
+            made.push(router.asn)?;
+        }
+    }
+    Ok(made)
+}
+
+// A worker that did nothing yet.
+fn new_worker<'a, G: Gate + Drop>(
+    alloc: Global,
+    network: &'a Network,
+    number: Asn,
+    lines: Ends,
+    gate: G,
+) -> Result<Ended<'a, G>, AllocError>
+    requires router { IsRouter network.now.routers number }
+    requires lanes { AreNew lines }
+    requires gate { G.given gate ≡ [] }
+    ensures fresh { IfOk result (λ ended. IsFresh G.given network.now ended.worker) }
+    ensures number { IfOk result (λ ended. ended.worker.router.number ≡ number) }
+{
+    let router = new_router(alloc, network, number)?;
+    let peers = peers_of(alloc, network, number)?;
+    let worker = Worker {
+        router,
+        peers,
+        lines,
+        desk: Place {
+            made: Vec::new(alloc),
+        },
+        gate,
+        journal: worker_loop::Journal::new(alloc),
+    };
+    Ok(Ended {
+        worker,
+        fault: None,
+    })
+}
+
+/// The workers of a network, by rising router.
+pub(crate) fn new_workers<'a, G: Gate + Drop>(
+    alloc: Global,
+    network: &'a Network,
+    gates: Vec<G>,
+) -> Result<Vec<Ended<'a, G>>, AllocError>
+    requires many { length gates.items ≡ length network.now.routers }
+    requires fresh { AllByRecursion (λ gate. G.given gate ≡ []) gates.items }
+    ensures numbers { IfOk result (λ made. map (λ e. e.worker.router.number) made.items ≡ numbers network.now.routers) }
+    ensures fresh { IfOk result (λ made. AllByRecursion (λ e. IsFresh G.given network.now e.worker) made.items) }
+{
+    let mut ends = deal(alloc, network)?.into_iter();
+    let mut gates = gates.into_iter();
+    let mut workers = Vec::new(alloc);
+    for router in network.routers() {
+        let (Some(lines), Some(gate)) = (ends.next(), gates.next()) else {
+            unreachable!()
+        };
+        workers.push(new_worker(alloc, network, router.asn, lines, gate)?)?;
+    }
+    Ok(workers)
+}
+
+// Runs one worker.
+fn run_one<R: Wait, G: Gate>(rt: &R, board: &Board, turns: u32, ended: &mut Ended<'_, G>)
+    requires gate { G.given ended.old.worker.gate ≡ [] }
+    requires chores { ended.old.worker.journal.chores.items ≡ [] }
+    ensures { IfNone ended.new.fault (Ran G.given turns ended.old.worker ended.new.worker) }
+{
+    ended.fault = ended.worker.work(rt, board, turns).err();
+}
+
+// Runs each of these in a thread of its own.
+fn run_each<'a, R, G>(rt: &R, board: &Board, turns: u32, workers: &mut [Ended<'a, G>])
+where
+    R: Threads + Wait + Sync,
+    G: Gate + Send,
+    requires gates { All (λ e. G.given e.worker.gate ≡ []) workers.old }
+    requires chores { All (λ e. e.worker.journal.chores.items ≡ []) workers.old }
+    ensures many { length workers.new ≡ length workers.old }
+    ensures ran { (i : ℕ) (d : _) → i < length workers.old → IfNone (slice_index_or workers.new i d).fault
+        (Ran G.given turns (slice_index_or workers.old i d).worker (slice_index_or workers.new i d).worker) }
+{
+    let threads = workers.len();
+    if threads == 0 {
+        return;
+    }
+    thread::for_each_mut(
+        rt,
+        workers,
+        threads,
+        &|_, ended: &mut Ended<G>| { run_one(rt, board, turns, ended) },
+    );
+}
+
+/// Runs each worker in a thread of its own, and ends as all have. A worker that ends without a fault
+/// did what its gate said.
+pub(crate) fn run_all<'a, R, G>(rt: &R, board: &Board, turns: u32, workers: &mut Vec<Ended<'a, G>>)
+where
+    R: Threads + Wait + Sync,
+    G: Gate + Send,
+    requires gates { All (λ e. G.given e.worker.gate ≡ []) workers.old.items }
+    requires chores { All (λ e. e.worker.journal.chores.items ≡ []) workers.old.items }
+    ensures many { length workers.new.items ≡ length workers.old.items }
+    ensures ran { (i : ℕ) (d : _) → i < length workers.old.items → IfNone (slice_index_or workers.new.items i d).fault
+        (Ran G.given turns (slice_index_or workers.old.items i d).worker (slice_index_or workers.new.items i d).worker) }
+{
+    run_each(rt, board, turns, workers.as_mut_slice());
+}

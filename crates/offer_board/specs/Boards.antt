@@ -1,0 +1,59 @@
+-- What lies under the lock, as contracts see it.
+use Rattle.std.specs.Prelude.{ℕ, ◌≡◌, ◌≤◌, ◌<◌, ◌+◌, max, List, [], ◌∷◌, ◌++◌, map, Result, Ok, Err}
+use Rattle.std.specs.List.{AllByRecursion}
+use Rattle.run_model.specs.Stamps.{Collected, Pairwise}
+use Rattle.snap_marker.specs.Parts.{router_of}
+use Rattle.snap_marker.specs.Recordings.{MadeOffer}
+use Rattle.snap_marker.specs.declared.part.Offer.{Offer}
+use Rattle.snap_collector.specs.declared.answer.Taken.{Taken}
+use Rattle.snap_collector.specs.declared.answer.CollectError.{CollectError}
+use Rattle.snap_collector.specs.declared.answer.CollectError.TheVariants as refusal
+use Rattle.snap_collector.specs.Collecting.{made_by, member_of}
+use Rattle.snap_collector.specs.Collector.{CollectorView, made_for}
+use Rattle.snap_collector.specs.Laws.{IsKeptOf}
+use Rattle.snap_collector.specs.Taking.{Takes}
+use Rattle.offer_board.specs.declared.board.Made.{Made}
+
+-- no event has a greater stamp
+abbrev pub greatest_stamp : ℕ
+greatest_stamp = 4611686018427387904
+
+-- the collector, every offer that was made, late ones too, and the stamp of the last
+pub record BoardView : Type 0 where
+  pub collector : CollectorView
+  pub offers : List Made
+  pub stamp : ℕ
+
+-- an offer with its stamp and its router
+abbrev pub collected : Made → Collected MadeOffer
+collected m = record { stamp = m.stamp; router = router_of m.offer; offer = made_by m.offer }
+
+abbrev pub collected_in : List Made → List (Collected MadeOffer)
+collected_in offers = map collected offers
+
+-- the offers alone
+abbrev pub offers_in : List Made → List MadeOffer
+offers_in offers = map (λ m. made_by m.offer) offers
+
+-- stamps rise, none is above the last, and the collector keeps of each number what it is to keep of the offers
+pub record IsBoard (x : BoardView) : Type 0 where
+  pub rising : Pairwise (λ a b. a.stamp < b.stamp) (collected_in x.offers)
+  pub last : AllByRecursion (λ m. m.stamp ≤ x.stamp) x.offers
+  pub few : x.stamp ≤ greatest_stamp
+  pub kept : (s : ℕ) → IsKeptOf (map member_of x.collector.members) s (offers_in x.offers) (made_for x.collector s)
+
+-- an offer joins those that were made, with this stamp
+pub record Joins (x y : BoardView) (after : ℕ) (o : Offer) (taken : Taken) (at : ℕ) : Type 0 where
+  pub stamp : at ≡ max x.stamp after + 1
+  pub few : at ≤ greatest_stamp
+  pub offers : collected_in y.offers ≡ collected_in x.offers ++ record { stamp = at; router = router_of o; offer = made_by o } ∷ []
+  pub last : y.stamp ≡ at
+  pub takes : Takes x.collector y.collector o (Ok taken)
+
+-- what a router offers whose last event has this stamp
+abbrev pub Offers : BoardView → BoardView → ℕ → Offer → Result (Taken × ℕ) CollectError → Type 0
+Offers x y stamp o (Ok answer) = Joins x y stamp o answer.0 answer.1
+Offers x y stamp o (Err refusal.StampEnd) = (greatest_stamp < max x.stamp stamp + 1) × (y ≡ x)
+Offers x y stamp o (Err (refusal.Stranger u)) = Takes x.collector x.collector o (Err (refusal.Stranger u)) × (y ≡ x)
+Offers x y stamp o (Err (refusal.Twice u)) = Takes x.collector x.collector o (Err (refusal.Twice u)) × (y ≡ x)
+Offers x y stamp o (Err refusal.Memory) = y ≡ x

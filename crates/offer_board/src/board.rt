@@ -1,0 +1,111 @@
+//! What lies under the lock: the collector, and every offer that was made.
+
+ghost use Rattle.std.specs.Prelude.{◌≡◌, [], IfOk};
+ghost use Rattle.snap_collector.specs.Collector.{AreMembers};
+ghost use Rattle.offer_board.specs.Boards.{BoardView, IsBoard, Offers};
+
+use ranked_policy::Network;
+use snap_collector::laws::{kept_goes_on, nothing_is_kept};
+use snap_collector::{CollectError, Collector, Taken};
+use snap_marker::Offer;
+use std::alloc::{AllocError, Global};
+use std::marker::Model;
+
+/// The greatest stamp, 2^62.
+const GREATEST_STAMP: u64 = 0x4000_0000_0000_0000;
+
+/// An offer that was made, and the stamp of the event that made it.
+#[derive(Debug, Drop)]
+pub struct Made {
+    /// The stamp.
+    pub stamp: u64,
+    /// What was offered.
+    pub offer: Offer,
+}
+
+/// A collector, every offer made to it with its stamp, late ones too, and the last stamp.
+#[derive(Drop)]
+pub struct BoardState {
+    collector: Collector,
+    offers: Vec<Made>,
+    stamp: u64,
+}
+
+impl Model for BoardState {
+    ghost use Rattle.offer_board.specs.Boards.{BoardView, IsBoard};
+
+    ghost Value = { BoardView };
+
+    ghost view = { λ b. record { collector = b.collector; offers = b.offers.items; stamp = b.stamp } };
+
+    ghost invariant = { λ b. IsBoard (record { collector = b.collector; offers = b.offers.items; stamp = b.stamp }) };
+}
+
+impl BoardState {
+    /// The board of a network, with nothing offered. It is refused only where memory was.
+    pub fn new(alloc: Global, network: &Network) -> Result<BoardState, AllocError>
+        ensures nothing { IfOk result (λ board. board.offers ≡ []) }
+        ensures stamp { IfOk result (λ board. board.stamp ≡ 0) }
+        ensures members { IfOk result (λ board. AreMembers network.now board.collector.members) }
+    {
+        kept_goes_on();
+        nothing_is_kept();
+        Ok(BoardState {
+            collector: Collector::new(alloc, network)?,
+            offers: Vec::new(alloc),
+            stamp: 0,
+        })
+    }
+
+    /// Takes what a router offers, whose last event has the given stamp: the answer is what the
+    /// collector made of it, and the stamp of the offer, one above the router's last and the board's.
+    ///
+    /// Refused [`CollectError::StampEnd`] where that stamp would pass 2^62, and else as
+    /// [`Collector::offer`] refuses it; then the board is as it was.
+    pub fn offer(&mut self, stamp: u64, offer: Offer) -> Result<(Taken, u64), CollectError>
+        ensures offers { Offers self.old self.new stamp offer result }
+        ensures members { self.new.collector.members ≡ self.old.collector.members }
+    {
+        kept_goes_on();
+        let stamp = self.stamp.max(stamp).saturating_add(1);
+        if stamp > GREATEST_STAMP {
+            return Err(CollectError::StampEnd);
+        }
+        self.offers.reserve(1)?;
+        let copy = offer.copied(*self.offers.allocator())?;
+        let taken = self.collector.offer(offer)?;
+        self.offers.push_reserved(Made { stamp, offer: copy });
+        self.stamp = stamp;
+        Ok((taken, stamp))
+    }
+
+    /// Every offer that was made, the first first: their stamps rise.
+    pub fn offers(&self) -> &[Made]
+        ensures value { result.now ≡ self.now.offers }
+        ensures board { IsBoard self.now }
+    {
+        self.offers.as_slice()
+    }
+
+    /// The stamp of the last offer, 0 at first.
+    pub fn stamp(&self) -> u64
+        ensures { result ≡ self.now.stamp }
+    {
+        self.stamp
+    }
+
+    /// The collector.
+    pub fn collector(&self) -> &Collector
+        ensures { result.now ≡ self.now.collector }
+    {
+        &self.collector
+    }
+
+    /// The offers alone, the first first.
+    pub fn into_offers(self) -> Vec<Made>
+        ensures value { result.items ≡ self.offers }
+        ensures board { IsBoard self }
+    {
+        self.offers
+    }
+}

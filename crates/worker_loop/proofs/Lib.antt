@@ -1,0 +1,5 @@
+pub mod Acting
+pub mod Trying
+pub mod Chaining
+pub mod Scripts
+pub mod Doing

@@ -1,0 +1,13 @@
+-- the peers before this one were met
+use Rattle.std.proofs.Common.{take}
+use Rattle.worker_loop.specs.Following.{Did, Each, Meets}
+use Rattle.worker_loop.specs.Whole.{seen_of, IsSameWorker}
+use Rattle.worker_loop.proofs.worker.Worker.meet_all.Given as goal
+
+abbrev pub invariant-loop-place : goal.invariant-loop-place
+invariant-loop-place g l = record {
+  met : Did (λ k. Each (Meets k l.fn.self.router.number) (take l.place l.fn.self.peers.items)) l.fn.self.router.net
+      (seen_of g.L.Lines.put_to g.L.Lines.taken_from g.L.Lines.room g.D.Desk.made l.fn.self)
+      (seen_of g.L.Lines.put_to g.L.Lines.taken_from g.L.Lines.room g.D.Desk.made l.self);
+  same : IsSameWorker g.L.Lines.wiring l.fn.self l.self;
+}

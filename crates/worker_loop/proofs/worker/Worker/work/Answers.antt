@@ -1,0 +1,36 @@
+use Rattle.std.proofs.Common.{◌≢◌, ◌∙◌, ap, sym, ◌++◌, ◌∷◌, []}
+use Rattle.worker_loop.specs.declared.chore.Chore.TheVariants.{Stop}
+use Rattle.worker_loop.specs.Following.{Obeys}
+use Rattle.worker_loop.proofs.Chaining.{did_at, did_from, did_more, seen_same, same_on, next_same, all_more, one_longer, obeys_of}
+use Rattle.worker_loop.proofs.worker.Worker.work.Goals as goal
+
+pub returns-in-Stop-clause-follows : goal.returns-in-Stop-clause-follows
+returns-in-Stop-clause-follows g c =
+    let u = c.args.self.now.router.number in
+    let net = c.args.self.now.router.net in
+    let i = c.loop-turn.invariant in
+    let n = c.in_ok-chore.ensures in
+    let o = c.in_ok-obey.ensures in
+    did_more (λ k x. Obeys k u c.args.self.now.peers.items x) net _ _ c.in_ok-chore.chore _ _ _ (ap g.G.Gate.given o.same.gate ∙ n.given) i.follows
+    (did_from (λ k. Obeys k u c.args.self.now.peers.items c.in_ok-chore.chore) net _ _ _ (seen_same g.L.Lines.put_to g.L.Lines.taken_from g.L.Lines.room g.D.Desk.made _ _ n.rest)
+    (did_at (λ v k. Obeys k v c.args.self.now.peers.items c.in_ok-chore.chore) net _ u _ _ _ (next_same _ _ _ _ i.same n.rest).net (next_same _ _ _ _ i.same n.rest).number
+    (obeys_of _ _ _ _ _ _ _ (next_same _ _ _ _ i.same n.rest).peers o.done)))
+
+pub loop-turn-preserved : goal.loop-turn-preserved
+loop-turn-preserved g c =
+    let u = c.args.self.now.router.number in
+    let net = c.args.self.now.router.net in
+    let i = c.loop-turn.invariant in
+    let n = c.in_ok-chore.ensures in
+    let o = c.in_ok-obey.ensures in
+    let given = ap g.G.Gate.given o.same.gate ∙ n.given in
+    let here = next_same _ _ _ _ i.same n.rest in
+    record {
+      follows = did_more (λ k x. Obeys k u c.args.self.now.peers.items x) net _ _ c.in_ok-chore.chore _ _ _ given i.follows
+          (did_from (λ k. Obeys k u c.args.self.now.peers.items c.in_ok-chore.chore) net _ _ _ (seen_same g.L.Lines.put_to g.L.Lines.taken_from g.L.Lines.room g.D.Desk.made _ _ n.rest)
+          (did_at (λ v k. Obeys k v c.args.self.now.peers.items c.in_ok-chore.chore) net _ u _ _ _ here.net here.number (obeys_of _ _ _ _ _ _ _ here.peers o.done)));
+      counted = one_longer _ _ _ c.loop-turn.turn given i.counted;
+      goes_on = all_more (λ x. x ≢ Stop) _ _ _ given i.goes_on c.in_default.not-Stop;
+      chores = o.same.chores ∙ n.chores ∙ ap (λ l. l ++ c.in_ok-chore.chore ∷ []) i.chores ∙ sym given;
+      same = same_on _ _ _ _ here o.same.later;
+    }

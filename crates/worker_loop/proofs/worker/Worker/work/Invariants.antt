@@ -1,0 +1,17 @@
+-- the chores given so far were done, and none of them was to stop
+use Rattle.std.proofs.Common.{◌≡◌, ◌≢◌, length, All}
+use Rattle.worker_loop.specs.declared.chore.Chore.TheVariants.{Stop}
+use Rattle.worker_loop.specs.Following.{Did, Follows}
+use Rattle.worker_loop.specs.Whole.{seen_of, IsLaterWorker}
+use Rattle.worker_loop.proofs.worker.Worker.work.Given as goal
+
+abbrev pub invariant-loop-turn : goal.invariant-loop-turn
+invariant-loop-turn g l = record {
+  follows : Did (λ k. Follows k l.fn.self.router.number l.fn.self.peers.items (g.G.Gate.given l.self.gate)) l.fn.self.router.net
+      (seen_of g.L.Lines.put_to g.L.Lines.taken_from g.L.Lines.room g.D.Desk.made l.fn.self)
+      (seen_of g.L.Lines.put_to g.L.Lines.taken_from g.L.Lines.room g.D.Desk.made l.self);
+  counted : l.turn ≡ length (g.G.Gate.given l.self.gate);
+  goes_on : All (λ c. c ≢ Stop) (g.G.Gate.given l.self.gate);
+  chores : l.self.journal.chores.items ≡ g.G.Gate.given l.self.gate;
+  same : IsLaterWorker g.L.Lines.wiring l.fn.self l.self;
+}

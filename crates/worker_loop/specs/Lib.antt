@@ -1,0 +1,5 @@
+pub mod Acts
+pub mod Following
+pub mod Whole
+pub mod Script
+pub mod Laws

@@ -1,0 +1,75 @@
+-- A worker, and the chores that it was given.
+use Rattle.std.specs.Prelude.{ℕ, ◌≡◌, ◌≢◌, ◌≤◌, ◌⊎◌, List, [], ◌∷◌, ◌++◌, length, All, Result, Ok, Err}
+use Rattle.router_model.specs.declared.refusal.RouterError.{RouterError}
+use Rattle.router_model.specs.declared.refusal.RouterError.TheVariants as error
+use Rattle.router_model.specs.Step.{RouterEvent}
+use Rattle.router_model.specs.Calls.{Call, IsEventOf}
+use Rattle.world_core.specs.declared.schedule.Event.{Event}
+use Rattle.world_core.specs.World.{name_of}
+use Rattle.worker_loop.specs.declared.journal.Entry.{Entry}
+use Rattle.worker_loop.specs.declared.worker.WorkerFault.{WorkerFault}
+use Rattle.worker_loop.specs.declared.worker.WorkerFault.TheVariants as fault
+use Rattle.outbox.specs.declared.item.Item.{Item}
+use Rattle.run_model.specs.Stamps.{Collected}
+use Rattle.snap_marker.specs.Recordings.{MadeOffer}
+use Rattle.router_core.specs.Views.{plain_of}
+use Rattle.worker_loop.specs.declared.chore.Chore.{Chore}
+use Rattle.worker_loop.specs.declared.chore.Chore.TheVariants.{Stop}
+use Rattle.worker_loop.specs.declared.worker.Worker.{Worker}
+use Rattle.worker_loop.specs.Acts.{Seen}
+
+-- a worker as contracts see it, by what its lines and its desk show
+abbrev pub seen_of : {L D G : Type 0} → (L → ℕ → List Item) → (L → ℕ → List Item) → (L → ℕ → ℕ) → (D → List (Collected MadeOffer)) → Worker L D G → Seen
+seen_of put taken room made w = record {
+  router = plain_of w.router;
+  put = put w.lines;
+  taken = taken w.lines;
+  room = room w.lines;
+  made = made w.desk;
+  events = w.journal.events.items;
+}
+
+-- so many chores, or up to the first Stop
+abbrev pub IsWhole : ℕ → List Chore → Type 0
+IsWhole turns cs =
+    (All (λ c. c ≢ Stop) cs × (length cs ≡ turns))
+    ⊎ ((front : List Chore) × (cs ≡ front ++ Stop ∷ []) × All (λ c. c ≢ Stop) front × (length cs ≤ turns))
+
+abbrev pub entry : ℕ → Event → Entry
+entry stamp event = record { stamp = stamp; event = event }
+
+-- what a refusal of the router is to a worker
+abbrev pub passing : RouterError → Result (Unit {0}) WorkerFault
+passing error.NoSuchPeer = Ok tt
+passing error.NotOrigin = Ok tt
+passing (error.OldSnapshot last) = Ok tt
+passing (error.Blocked v) = Ok tt
+passing (error.Held v) = Ok tt
+passing error.StampEnd = Err fault.Refused
+passing error.EpochEnd = Err fault.Refused
+passing error.Memory = Err fault.Memory
+
+-- the event of a call
+abbrev pub IsNamedBy : Event → ℕ → Call → Type 0
+IsNamedBy event u call = (e : RouterEvent) → IsEventOf call e → event ≡ name_of u e
+
+-- which router, peers and lines a worker has
+pub record IsLaterWorker {L D G W : Type 0} (wiring : L → W) (a b : Worker L D G) : Type 0 where
+  pub net : b.router.net ≡ a.router.net
+  pub number : b.router.number ≡ a.router.number
+  pub peers : b.peers.items ≡ a.peers.items
+  pub lines : wiring b.lines ≡ wiring a.lines
+
+-- and its chores
+pub record IsSameWorker {L D G W : Type 0} (wiring : L → W) (a b : Worker L D G) : Type 0 where
+  pub later : IsLaterWorker wiring a b
+  pub gate : b.gate ≡ a.gate
+  pub chores : b.journal.chores.items ≡ a.journal.chores.items
+
+-- all but its gate and chores
+pub record IsSameBut {L D G : Type 0} (a b : Worker L D G) : Type 0 where
+  pub router : b.router ≡ a.router
+  pub peers : b.peers ≡ a.peers
+  pub lines : b.lines ≡ a.lines
+  pub desk : b.desk ≡ a.desk
+  pub events : b.journal.events.items ≡ a.journal.events.items

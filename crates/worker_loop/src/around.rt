@@ -1,0 +1,83 @@
+//! What a worker meets: its gate, its lines, and the desk at which it makes offers.
+
+ghost use Rattle.std.specs.Prelude.{◌≡◌, ◌<◌, ◌≤◌, ◌++◌, ◌∷◌, [], List, ℕ, length, OnOk, OnErr, IfErr, IfOk, MatchOption};
+ghost use Rattle.outbox.specs.declared.item.Item.{Item};
+ghost use Rattle.run_model.specs.Stamps.{Collected};
+ghost use Rattle.snap_collector.specs.Collecting.{made_by};
+ghost use Rattle.snap_marker.specs.Recordings.{MadeOffer};
+ghost use Rattle.router_model.specs.Calls.{greatest_stamp};
+ghost use Rattle.worker_loop.specs.declared.chore.Chore.{Chore};
+ghost use Rattle.worker_loop.specs.Acts.{grown, with_offer};
+
+use crate::chore::Chore;
+use crate::worker::WorkerFault;
+use outbox::Item;
+use ranked_policy::Asn;
+use snap_marker::Offer;
+use std::sync::Wait;
+
+/// Says what a worker is to do next. It may wait.
+pub trait Gate {
+    /// The chores given so far.
+    ghost given: { Self → List Chore };
+
+    /// The next chore of a router's worker, which was given `turn` chores so far.
+    fn next<R: Wait>(&mut self, rt: &R, router: Asn, turn: u32) -> Chore
+        requires { turn ≡ length (given self.old) }
+        ensures { given self.new ≡ given self.old ++ result ∷ [] };
+}
+
+/// The lines between a worker and those of its router's peers.
+pub trait Lines {
+    /// The items put towards each peer.
+    ghost put_to: { Self → ℕ → List Item };
+
+    /// The items taken from each peer.
+    ghost taken_from: { Self → ℕ → List Item };
+
+    /// The most items that the line to each peer holds: none where there is no line.
+    ghost room: { Self → ℕ → ℕ };
+
+    /// What no call changes: which lines these are.
+    ghost Wiring: { Type 0 };
+
+    ghost wiring: { Self → Wiring };
+
+    /// Puts an item towards a peer. It comes back only where as many were put as the line holds at
+    /// most.
+    fn put<R: Wait>(&mut self, rt: &R, peer: Asn, item: Item) -> Result<(), Item>
+        ensures ok { OnOk result (put_to self.new ≡ grown (put_to self.old) peer item) }
+        ensures err { OnErr result (put_to self.new ≡ put_to self.old) }
+        ensures full { OnErr result (room self.old peer ≤ length (put_to self.old peer)) }
+        ensures taken { taken_from self.new ≡ taken_from self.old }
+        ensures room { room self.new ≡ room self.old }
+        ensures wiring { wiring self.new ≡ wiring self.old };
+
+    /// Takes the next item of a peer, where it finds one.
+    fn take<R: Wait>(&mut self, rt: &R, peer: Asn) -> Option<Item>
+        ensures taken { MatchOption result (taken_from self.new ≡ taken_from self.old) (λ item. taken_from self.new ≡ grown (taken_from self.old) peer item) }
+        ensures put { put_to self.new ≡ put_to self.old }
+        ensures room { room self.new ≡ room self.old }
+        ensures wiring { wiring self.new ≡ wiring self.old };
+}
+
+/// Where a worker makes its offers.
+pub trait Desk {
+    /// What the desks of all workers share.
+    type Board;
+
+    /// The offers made here, with their stamps.
+    ghost made: { Self → List (Collected MadeOffer) };
+
+    /// Makes an offer of a router whose last event has the given stamp, and answers that of the offer.
+    fn offer<R: Wait>(
+        &mut self,
+        rt: &R,
+        board: &Self::Board,
+        stamp: u64,
+        offer: Offer,
+    ) -> Result<u64, WorkerFault>
+        ensures made { IfOk result (λ at. made self.new ≡ with_offer (made self.old) at (made_by offer)) }
+        ensures later { IfOk result (λ at. stamp < at) }
+        ensures few { IfOk result (λ at. at ≤ greatest_stamp) };
+}

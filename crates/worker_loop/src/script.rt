@@ -1,0 +1,46 @@
+//! A gate that reads a list.
+
+ghost use Rattle.std.specs.Prelude.{◌≡◌, []};
+ghost use Rattle.worker_loop.specs.Script.{chore_at, given_by};
+
+use crate::around::Gate;
+use crate::chore::Chore;
+use ranked_policy::Asn;
+use std::sync::Wait;
+
+/// Gives the first chore that is listed for a turn, else a Turn.
+#[derive(Debug, Drop)]
+pub struct ScriptGate {
+    script: Vec<(u32, Chore)>,
+    count: u64,
+}
+
+impl ScriptGate {
+    /// A gate that has given nothing yet. It takes no memory.
+    pub fn new(script: Vec<(u32, Chore)>) -> ScriptGate
+        ensures { given_by result ≡ [] }
+    {
+        ScriptGate { script, count: 0 }
+    }
+}
+
+// The first chore listed for a turn.
+fn chore_at(script: &[(u32, Chore)], turn: u32) -> Chore
+    ensures { result ≡ chore_at script.now turn }
+{
+    for line in script {
+        if line.0 == turn {
+            return line.1;
+        }
+    }
+    Chore::Turn
+}
+
+impl Gate for ScriptGate {
+    ghost given = { given_by };
+
+    fn next<R: Wait>(&mut self, _rt: &R, _router: Asn, turn: u32) -> Chore {
+        self.count = u64::from(turn) + 1;
+        chore_at(self.script.as_slice(), turn)
+    }
+}

@@ -1,0 +1,125 @@
+//! A worker.
+
+mod chores;
+mod offer;
+mod own;
+mod pipes;
+
+ghost use Rattle.std.specs.Prelude.{◌≡◌, ◌<◌, ◌++◌, ◌∷◌, [], vec_len, vec_capacity};
+ghost use Rattle.worker_loop.specs.Whole.{entry, passing};
+
+use crate::around::{Desk, Gate, Lines};
+use crate::chore::Chore;
+use crate::journal::{Entry, Journal};
+use crossbeam_utils::Backoff;
+use ranked_policy::Asn;
+use router_core::Router;
+use router_model::RouterError;
+use std::alloc::AllocError;
+use std::sync::Wait;
+use thiserror::Error;
+use world_core::Event;
+
+/// Why a worker ended before its last chore.
+#[derive(Clone, Copy, Debug, PartialEq, Eq, Error)]
+pub enum WorkerFault {
+    /// A growth was refused.
+    #[error("memory")]
+    Memory,
+    /// Its router had no stamp or no incarnation left, or its offer was refused.
+    #[error("refused")]
+    Refused,
+}
+
+impl From<AllocError> for WorkerFault {
+    ghost use Rattle.std.specs.Prelude.{◌≡◌};
+    ghost use Rattle.worker_loop.specs.declared.worker.WorkerFault.TheVariants.{Memory};
+
+    ghost from_gives = { λ _ fault. fault ≡ Memory };
+
+    fn from(_error: AllocError) -> WorkerFault {
+        WorkerFault::Memory
+    }
+}
+
+/// A router, with all that its worker meets and its journal.
+#[derive(Drop)]
+pub struct Worker<'a, L, D, G> {
+    /// The router.
+    pub router: Router<'a>,
+    /// The numbers of its peers, rising.
+    pub peers: Vec<Asn>,
+    /// The lines to its peers.
+    pub lines: L,
+    /// Its place at the board.
+    pub desk: D,
+    /// The gate that gives its chores.
+    pub gate: G,
+    /// What it did.
+    pub journal: Journal,
+}
+
+// What a refusal of the router is to a worker: some say only that there is nothing to do.
+fn passed_over(error: RouterError) -> Result<(), WorkerFault>
+    ensures { result ≡ passing error }
+{
+    match error {
+        RouterError::NoSuchPeer
+        | RouterError::NotOrigin
+        | RouterError::OldSnapshot { .. }
+        | RouterError::Blocked { .. }
+        | RouterError::Held { .. } => Ok(()),
+        RouterError::StampEnd | RouterError::EpochEnd => Err(WorkerFault::Refused),
+        RouterError::Memory => Err(WorkerFault::Memory),
+    }
+}
+
+// An event joins those of a journal that has room for it.
+fn note(events: &mut Vec<Entry>, stamp: u64, event: Event)
+    requires { vec_len events.old < vec_capacity events.old }
+    ensures { events.new.items ≡ events.old.items ++ entry stamp event ∷ [] }
+{
+    events.extend_from_slice(&[Entry { stamp, event }]).unwrap();
+}
+
+// Backs off after a chore in which no event was done, the longer the more of them there were.
+fn pause(backoff: &Backoff, idle: bool) {
+    if idle {
+        backoff.snooze();
+    } else {
+        backoff.reset();
+    }
+}
+
+impl<'a, L: Lines, D: Desk, G: Gate> Worker<'a, L, D, G> {
+    ghost use Rattle.std.specs.Prelude.{◌≡◌, IfOk};
+    ghost use Rattle.worker_loop.specs.Following.{Did, Follows};
+    ghost use Rattle.worker_loop.specs.Whole.{seen_of, IsLaterWorker, IsWhole};
+    ghost use Rattle.std.specs.Prelude.{[]};
+
+    /// Does the chores that the gate gives: so many, or up to the first Stop. It backs off after a
+    /// chore in which no event was done.
+    ///
+    /// Refused [`WorkerFault::Refused`] where the router has no stamp or incarnation left or an offer
+    /// is refused, and [`WorkerFault::Memory`] where a growth was; then the worker ended in the middle.
+    pub fn work<R: Wait>(&mut self, rt: &R, board: &D::Board, turns: u32) -> Result<(), WorkerFault>
+        requires fresh { G.given self.old.gate ≡ [] }
+        requires blank { self.old.journal.chores.items ≡ [] }
+        ensures follows { let a = seen_of L.put_to L.taken_from L.room D.made self.old in let b = seen_of L.put_to L.taken_from L.room D.made self.new in IfOk result (λ _. Did (λ g. Follows g self.old.router.number self.old.peers.items (G.given self.new.gate)) self.old.router.net a b) }
+        ensures whole { IfOk result (λ _. IsWhole turns (G.given self.new.gate)) }
+        ensures chores { IfOk result (λ _. self.new.journal.chores.items ≡ G.given self.new.gate) }
+        ensures same { IsLaterWorker L.wiring self.old self.new }
+    {
+        let backoff = Backoff::new();
+        for turn in 0..turns {
+            let chore = self.next_chore(rt, turn)?;
+            let before = self.journal.events.len();
+            self.obey(rt, board, &chore)?;
+            if let Chore::Stop = chore {
+                return Ok(());
+            }
+            pause(&backoff, self.journal.events.len() == before);
+        }
+        Ok(())
+    }
+}

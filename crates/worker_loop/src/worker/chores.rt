@@ -1,0 +1,106 @@
+//! Chores, done.
+
+ghost use Rattle.std.specs.Prelude.{◌≡◌, ◌<◌, ◌++◌, ◌∷◌, [], vec_len, vec_capacity};
+
+use super::{Worker, WorkerFault};
+use crate::around::{Desk, Gate, Lines};
+use crate::chore::Chore;
+use ranked_policy::Asn;
+use router_core::Call;
+use router_model::Command;
+use std::sync::Wait;
+use world_core::Event;
+
+// A chore joins those of a journal that has room for it.
+fn write_down(chores: &mut Vec<Chore>, chore: &Chore)
+    requires { vec_len chores.old < vec_capacity chores.old }
+    ensures { chores.new.items ≡ chores.old.items ++ chore.now ∷ [] }
+{
+    chores.extend_from_slice(&[*chore]).unwrap();
+}
+
+impl<'a, L: Lines, D: Desk, G: Gate> Worker<'a, L, D, G> {
+    ghost use Rattle.std.specs.Prelude.{◌≡◌, IfOk};
+    ghost use Rattle.worker_loop.specs.Following.{Did, Calls, Each, Meets, Turns, Obeys};
+    ghost use Rattle.router_model.specs.Calls as calls;
+    ghost use Rattle.worker_loop.specs.Whole.{seen_of, IsSameWorker, IsSameBut};
+    ghost use Rattle.std.specs.Prelude.{length, [], ◌∷◌, ◌++◌};
+
+    // The next chore, written down.
+    pub(super) fn next_chore<R: Wait>(&mut self, rt: &R, turn: u32) -> Result<Chore, WorkerFault>
+        requires turn { turn ≡ length (G.given self.old.gate) }
+        ensures given { IfOk result (λ chore. G.given self.new.gate ≡ G.given self.old.gate ++ chore ∷ []) }
+        ensures chores { IfOk result (λ chore. self.new.journal.chores.items ≡ self.old.journal.chores.items ++ chore ∷ []) }
+        ensures rest { IsSameBut self.old self.new }
+    {
+        self.journal.chores.reserve(1)?;
+        let chore = self.gate.next(rt, self.router.number(), turn);
+        write_down(&mut self.journal.chores, &chore);
+        Ok(chore)
+    }
+
+    // One Put, one Take and one Handle with a peer are tried.
+    fn meet<R: Wait>(&mut self, rt: &R, peer: Asn) -> Result<(), WorkerFault>
+        ensures done { let a = seen_of L.put_to L.taken_from L.room D.made self.old in let b = seen_of L.put_to L.taken_from L.room D.made self.new in IfOk result (λ _. Did (λ g. Meets g self.old.router.number peer) self.old.router.net a b) }
+        ensures same { IsSameWorker L.wiring self.old self.new }
+    {
+        self.try_put(rt, peer)?;
+        self.try_take(rt, peer)?;
+        let event = Event::Handle(self.router.number(), peer);
+        self.try_call(&Call::Handle(peer), event)?;
+        Ok(())
+    }
+
+    // The same with each peer, rising.
+    fn meet_all<R: Wait>(&mut self, rt: &R) -> Result<(), WorkerFault>
+        ensures done { let a = seen_of L.put_to L.taken_from L.room D.made self.old in let b = seen_of L.put_to L.taken_from L.room D.made self.new in IfOk result (λ _. Did (λ g. Each (Meets g self.old.router.number) self.old.peers.items) self.old.router.net a b) }
+        ensures same { IsSameWorker L.wiring self.old self.new }
+    {
+        for place in 0..self.peers.len() {
+            let peer = self.peers[place];
+            self.meet(rt, peer)?;
+        }
+        Ok(())
+    }
+
+    // A turn.
+    fn turn<R: Wait>(&mut self, rt: &R, board: &D::Board) -> Result<(), WorkerFault>
+        ensures done { let a = seen_of L.put_to L.taken_from L.room D.made self.old in let b = seen_of L.put_to L.taken_from L.room D.made self.new in IfOk result (λ _. Did (λ g. Turns g self.old.router.number self.old.peers.items) self.old.router.net a b) }
+        ensures same { IsSameWorker L.wiring self.old self.new }
+    {
+        self.meet_all(rt)?;
+        let number = self.router.number();
+        self.try_call(&Call::Decide, Event::Decide(number))?;
+        self.try_call(&Call::Advertise, Event::Advertise(number))?;
+        self.try_offer(rt, board)?;
+        Ok(())
+    }
+
+    // A command.
+    fn command(&mut self, command: &Command) -> Result<(), WorkerFault>
+        ensures done { let a = seen_of L.put_to L.taken_from L.room D.made self.old in let b = seen_of L.put_to L.taken_from L.room D.made self.new in IfOk result (λ _. Did (λ g. Calls g self.old.router.number (calls.Obey command.now)) self.old.router.net a b) }
+        ensures same { IsSameWorker L.wiring self.old self.new }
+    {
+        let event = Event::Command(self.router.number(), *command);
+        self.try_call(&Call::Obey(*command), event)
+    }
+
+    // One chore.
+    pub(super) fn obey<R: Wait>(
+        &mut self,
+        rt: &R,
+        board: &D::Board,
+        chore: &Chore,
+    ) -> Result<(), WorkerFault>
+        ensures done { let a = seen_of L.put_to L.taken_from L.room D.made self.old in let b = seen_of L.put_to L.taken_from L.room D.made self.new in IfOk result (λ _. Did (λ g. Obeys g self.old.router.number self.old.peers.items chore.now) self.old.router.net a b) }
+        ensures same { IsSameWorker L.wiring self.old self.new }
+    {
+        let number = self.router.number();
+        match chore {
+            Chore::Turn => self.turn(rt, board),
+            Chore::Tick => self.try_call(&Call::Tick, Event::Tick(number)),
+            Chore::Command(command) => self.command(command),
+            Chore::Stop => Ok(()),
+        }
+    }
+}

@@ -1,0 +1,51 @@
+//! What the router of a worker does alone.
+
+ghost use Rattle.router_core.specs.Judging.{call_of};
+ghost use Rattle.router_core.specs.Views.{Answers, IsSame};
+
+use super::{Worker, WorkerFault, note, passed_over};
+use crate::around::{Desk, Gate, Lines};
+use router_core::{Call, Router};
+use router_model::laws::answers_are_steps;
+use router_model::{RouterError, Stepped};
+use world_core::Event;
+
+// Does what a router is asked to do.
+fn perform(router: &mut Router<'_>, call: &Call) -> Result<Stepped, RouterError>
+    ensures answers { Answers result router.old (call_of call.now) router.new }
+    ensures same { IsSame router.old router.new }
+{
+    match call {
+        Call::Obey(command) => router.command(*command),
+        Call::Tick => router.tick(),
+        Call::Handle(peer) => router.handle(*peer),
+        Call::Decide => router.decide(),
+        Call::Advertise => router.advertise(),
+    }
+}
+
+impl<'a, L: Lines, D: Desk, G: Gate> Worker<'a, L, D, G> {
+    ghost use Rattle.std.specs.Prelude.{◌≡◌, IfOk};
+    ghost use Rattle.worker_loop.specs.Following.{Did, Calls};
+    ghost use Rattle.worker_loop.specs.Whole.{seen_of, IsSameWorker};
+    ghost use Rattle.router_core.specs.Judging.{call_of};
+    ghost use Rattle.worker_loop.specs.Whole.{IsNamedBy};
+
+    // Tries a call of the router.
+    pub(super) fn try_call(&mut self, call: &Call, event: Event) -> Result<(), WorkerFault>
+        requires named { IsNamedBy event self.old.router.number (call_of call.now) }
+        ensures done { let a = seen_of L.put_to L.taken_from L.room D.made self.old in let b = seen_of L.put_to L.taken_from L.room D.made self.new in IfOk result (λ _. Did (λ g. Calls g self.old.router.number (call_of call.now)) self.old.router.net a b) }
+        ensures same { IsSameWorker L.wiring self.old self.new }
+    {
+        answers_are_steps();
+        self.journal.events.reserve(1)?;
+        match perform(&mut self.router, call) {
+            Ok(Stepped::Did) => {
+                note(&mut self.journal.events, self.router.stamp(), event);
+                Ok(())
+            }
+            Ok(Stepped::Nothing) => Ok(()),
+            Err(error) => passed_over(error),
+        }
+    }
+}

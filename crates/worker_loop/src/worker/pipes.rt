@@ -1,0 +1,77 @@
+//! What the router of a worker puts and takes.
+
+use super::{Worker, WorkerFault, note, passed_over};
+use crate::around::{Desk, Gate, Lines};
+use ranked_policy::Asn;
+use router_model::laws::answers_are_steps;
+use router_model::{RouterError, Stepped};
+use std::sync::Wait;
+use world_core::Event;
+
+// Why a worker ends whose router refused an item that was taken off its line.
+fn lost(error: RouterError) -> WorkerFault {
+    match error {
+        RouterError::Memory => WorkerFault::Memory,
+        RouterError::NoSuchPeer
+        | RouterError::NotOrigin
+        | RouterError::OldSnapshot { .. }
+        | RouterError::Blocked { .. }
+        | RouterError::Held { .. }
+        | RouterError::StampEnd
+        | RouterError::EpochEnd => WorkerFault::Refused,
+    }
+}
+
+impl<'a, L: Lines, D: Desk, G: Gate> Worker<'a, L, D, G> {
+    ghost use Rattle.std.specs.Prelude.{◌≡◌, IfOk};
+    ghost use Rattle.worker_loop.specs.Following.{Did, Puts, Takes};
+    ghost use Rattle.worker_loop.specs.Whole.{seen_of, IsSameWorker};
+
+    // Tries to put the next item towards a peer.
+    pub(super) fn try_put<R: Wait>(&mut self, rt: &R, peer: Asn) -> Result<(), WorkerFault>
+        ensures done { let a = seen_of L.put_to L.taken_from L.room D.made self.old in let b = seen_of L.put_to L.taken_from L.room D.made self.new in IfOk result (λ _. Did (λ g. Puts g self.old.router.number peer) self.old.router.net a b) }
+        ensures same { IsSameWorker L.wiring self.old self.new }
+    {
+        answers_are_steps();
+        let item = match self.router.next_item(peer) {
+            Ok(Some(item)) => item,
+            Ok(None) => return Ok(()),
+            Err(error) => return passed_over(error),
+        };
+        self.journal.events.reserve(1)?;
+        match self.lines.put(rt, peer, item) {
+            Ok(()) => {
+                self.router.item_put(peer);
+                let event = Event::Put(self.router.number(), peer);
+                note(&mut self.journal.events, self.router.stamp(), event);
+                Ok(())
+            }
+            Err(_) => Ok(()),
+        }
+    }
+
+    // Tries to take the next item of a peer. Nothing is taken where a message of the peer waits, since
+    // the router would refuse the item.
+    pub(super) fn try_take<R: Wait>(&mut self, rt: &R, peer: Asn) -> Result<(), WorkerFault>
+        ensures done { let a = seen_of L.put_to L.taken_from L.room D.made self.old in let b = seen_of L.put_to L.taken_from L.room D.made self.new in IfOk result (λ _. Did (λ g. Takes g self.old.router.number peer) self.old.router.net a b) }
+        ensures same { IsSameWorker L.wiring self.old self.new }
+    {
+        answers_are_steps();
+        if !self.router.may_take(peer) {
+            return Ok(());
+        }
+        self.journal.events.reserve(1)?;
+        let Some(item) = self.lines.take(rt, peer) else {
+            return Ok(());
+        };
+        match self.router.take_item(peer, &item) {
+            Ok(Stepped::Did) => {
+                let event = Event::Take(self.router.number(), peer);
+                note(&mut self.journal.events, self.router.stamp(), event);
+                Ok(())
+            }
+            Ok(Stepped::Nothing) => Ok(()),
+            Err(error) => Err(lost(error)),
+        }
+    }
+}
