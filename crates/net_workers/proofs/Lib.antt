@@ -1,3 +1,5 @@
 pub mod Lanes
 pub mod Linking
 pub mod Lists
+pub mod Blocks
+pub mod Runs

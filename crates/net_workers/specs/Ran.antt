@@ -1,7 +1,7 @@
 -- What each worker did from its first chore to its last.
 use Rattle.std.specs.Prelude.{ℕ, ◌≡◌, ◌<◌, ◌==◌, cond, List, [], ◌∷◌, map, filter, Option, None, Some}
 use Rattle.std.specs.List.{AllByRecursion}
-use Rattle.ranked_policy.specs.Plans.{numbers}
+use Rattle.ranked_policy.specs.Plans.{IsRouter, numbers}
 use Rattle.snap_marker.specs.Recordings.{MadeOffer}
 use Rattle.snap_collector.specs.Collecting.{member_of}
 use Rattle.snap_collector.specs.Collector.{CollectorView, AreMembers, made_for}
@@ -124,10 +124,11 @@ OffersOf board e = filter (λ o. o.router == e.worker.router.number) (collected_
 
 -- what the collector keeps: of each number what it is to keep of all offers made, and these are, router by router, those of the
 -- journals, at rising stamps
-pub record Collects {G : Type 0} (workers : List (Worked G)) (c : CollectorView) : Type 0 where
+pub record Collects {G : Type 0} (plan : Plan) (workers : List (Worked G)) (c : CollectorView) : Type 0 where
   pub offers : List (Collected MadeOffer)
   pub rising : Pairwise (λ a b. a.stamp < b.stamp) offers
   pub of : AllByRecursion (λ w. filter (λ o. o.router == w.router.number) offers ≡ collected_in w.journal.offers.items) workers
+  pub only : (u : ℕ) → (IsRouter plan.routers u → ⊥) → filter (λ o. o.router == u) offers ≡ []
   pub kept : (s : ℕ) → IsKeptOf (map member_of c.members) s (offers_on offers) (made_for c s)
 
 -- every router of the network worked, and the events are gathered
@@ -135,7 +136,8 @@ pub record IsRecord {G : Type 0} (given : G → List Chore) (plan : Plan) (turns
   pub routers : map (λ w. w.router.number) workers ≡ numbers plan.routers
   pub worked : AllByRecursion (HasWorked given plan turns p) workers
   pub sorted : IsSorted (all_events workers) gathered
-  pub collects : Collects workers c
+  pub nobody : (u v : ℕ) → (IsRouter plan.routers u → ⊥) → (p.put u v ≡ []) × (p.taken u v ≡ [])
+  pub collects : Collects plan workers c
   pub members : AreMembers plan c.members
 
 -- what the lanes of the workers have at the end
