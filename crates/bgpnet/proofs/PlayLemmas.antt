@@ -6,21 +6,24 @@ use Rattle.std.proofs.lemmas.List.{append-nil, take_more, drop_more}
 use Rattle.std.proofs.lemmas.Grind.{flat_map-append}
 use Rattle.ranked_policy.specs.Plans.{Plan}
 use Rattle.snap_collector.specs.Collecting.{member_of}
-use Rattle.snap_collector.specs.Collector.{CollectorView, made_for}
+use Rattle.run_model.specs.Offers.{HasOutcome}
+use Rattle.snap_collector.specs.Collector.{CollectorView, made_for, kept_of}
 use Rattle.snap_collector.specs.Collector as collected
-use Rattle.snap_collector.specs.Verdicts.{Member}
+use Rattle.snap_collector.specs.Verdicts.{Member, verdict}
 use Rattle.router_model.specs.Settings.{Setting, ChoosesByRank}
+use Rattle.router_runs.specs.Model.{network_of}
 use Rattle.world_core.specs.declared.schedule.Event.{Event}
 use Rattle.world_core.specs.declared.schedule.StepFault.{StepFault}
 use Rattle.world_core.specs.declared.schedule.StepFault.TheVariants.{Memory}
 use Rattle.world_core.specs.World.{World, WorldAnswer, Does, Nothing, Stops, world_answer, world_after, world_of, onward, played}
 use Rattle.world_core.specs.Orders.{events_of, StopsAt}
-use Rattle.world_core.specs.Views.{WorldView, Opens, plain_world}
+use Rattle.world_core.specs.Views.{WorldView, Opens, KeepsPromises, plain_world}
+use Rattle.world_core.specs.Verdicts.{JudgesItsRuns, members_of}
 use Rattle.schedule_text.specs.declared.schedule.ScheduledOrder.{ScheduledOrder}
 use Rattle.bgpnet.specs.declared.schedules.Stop.{Stop}
 use Rattle.bgpnet.specs.Decoding.{Output, output}
-use Rattle.bgpnet.specs.Reporting.{AreDecided, snapshots_text}
-use Rattle.bgpnet.specs.Playing.{all_events, LeadTo, IsFirstRefused, Obeyed, ReportGives, OrdersGive, stopped}
+use Rattle.bgpnet.specs.Reporting.{AreDecided, snapshots_text, now_text}
+use Rattle.bgpnet.specs.Playing.{all_events, LeadTo, IsFirstRefused, Obeyed, Reports, OrdersGive, stopped}
 use Rattle.bgpnet.proofs.CheckLemmas.{parted}
 
 module _ (g : Setting) where
@@ -88,29 +91,47 @@ text_on {X} f xs i x old new all lt is put h =
     ∙ ap (λ (t : List ℕ). old ++ t) (sym (ap (flat_map f) (drop_more xs i x lt ∙ ap (λ (y : X). y ∷ drop (i + 1) xs) (sym is)))) ∙ h
 
 -- from a new world: what is printed where all orders were obeyed, and where one was refused
-pub reported : (net : Plan) (orders : List ScheduledOrder) (x y : WorldView) (out : Output) → Opens net x → Obeyed (Ok tt) x orders y → ReportGives net (plain_world y) out → OrdersGive net orders out
-reported net orders x y out opens obeyed gives = λ (g : Setting) (e : g.net ≡ net) (chooses : ChoosesByRank g).
-    inl (plain_world y, subst (λ (w : World). LeadTo g w orders (plain_world y)) (opens.1 g e) (obeyed g (e ∙ sym opens.0) chooses), gives)
+pub reported : (net : Plan) (orders : List ScheduledOrder) (x y : WorldView) (out : Output) → Opens net x → y.net ≡ x.net → Obeyed (Ok tt) x orders y → KeepsPromises y → Reports y out → OrdersGive net orders out
+reported net orders x y out opens same obeyed keeps gives = λ (g : Setting) (e : g.net ≡ net) (chooses : ChoosesByRank g).
+    let was = e ∙ sym opens.0 in
+    let is = was ∙ sym same in
+    inl (plain_world y, subst (λ (w : World). LeadTo g w orders (plain_world y)) (opens.1 g e) (obeyed g was chooses), keeps g is, gives g is)
 
 pub halted : (net : Plan) (orders : List ScheduledOrder) (x y : WorldView) (stop : Stop) → Opens net x → Obeyed (Err stop) x orders y → stop.why ≢ Memory → OrdersGive net orders (stopped stop)
 halted net orders x y stop opens obeyed kind = λ (g : Setting) (e : g.net ≡ net) (chooses : ChoosesByRank g).
     inr (stop, kind, subst (λ (w : World). IsFirstRefused g w orders stop) (opens.1 g e) (obeyed g (e ∙ sym opens.0) chooses), refl)
 
 -- the numbers that the collector calls decided are those whose offers decide
-pub decided_are : (k kept : CollectorView) (members : List Member) (numbers : List ℕ) → map member_of k.members ≡ members → k ≡ kept → collected.AreDecided k numbers → AreDecided members (made_for kept) numbers
+decided_are : (k kept : CollectorView) (members : List Member) (numbers : List ℕ) → map member_of k.members ≡ members → k ≡ kept → collected.AreDecided k numbers → AreDecided members (made_for kept) numbers
 decided_are k kept members numbers are same h =
     subst (λ (j : CollectorView). AreDecided members (made_for j) numbers) same
     (subst (λ (ms : List Member). AreDecided ms (made_for k) numbers) are (record { rising = h.rising; exact = h.exact }))
 
--- and so is what is printed of them
-pub snapshots_are : (net : Plan) (k kept : CollectorView) (members : List Member) (numbers : List ℕ) → map member_of k.members ≡ members → k ≡ kept
+-- what is printed of them
+snapshots_are : (net : Plan) (k kept : CollectorView) (members : List Member) (numbers : List ℕ) → map member_of k.members ≡ members → k ≡ kept
     → snapshots_text net (map member_of k.members) (made_for k) numbers ≡ snapshots_text net members (made_for kept) numbers
 snapshots_are net k kept members numbers are same =
     ap (λ (ms : List Member). snapshots_text net ms (made_for k) numbers) are ∙ ap (λ (j : CollectorView). snapshots_text net members (made_for j) numbers) same
 
 -- the parts of a report, one behind the other
-pub report_is : (none first second all snapshots decided now routes : List ℕ) → none ≡ [] → first ≡ none ++ snapshots → snapshots ≡ decided → second ≡ first ++ now → all ≡ second ++ routes
-    → output all 0 ≡ output (decided ++ (now ++ routes)) 0
-report_is none first second all snapshots decided now routes empty one same two three =
+pub report_is : (none first second all snapshots now routes : List ℕ) → none ≡ [] → first ≡ none ++ snapshots → second ≡ first ++ now → all ≡ second ++ routes
+    → output all 0 ≡ output (snapshots ++ (now ++ routes)) 0
+report_is none first second all snapshots now routes empty one two three =
     ap (λ (t : List ℕ). output t 0)
-    (three ∙ ap (λ (t : List ℕ). t ++ routes) (two ∙ ap (λ (t : List ℕ). t ++ now) (one ∙ ap (λ (t : List ℕ). t ++ snapshots) empty ∙ same)) ∙ append_assoc decided now routes)
+    (three ∙ ap (λ (t : List ℕ). t ++ routes) (two ∙ ap (λ (t : List ℕ). t ++ now) (one ∙ ap (λ (t : List ℕ). t ++ snapshots) empty)) ∙ append_assoc snapshots now routes)
+
+-- a report of a world, by what its collector says
+pub reports : (x : WorldView) (k : CollectorView) (numbers all : List ℕ) → k ≡ x.collector → map member_of k.members ≡ members_of x.net → collected.AreDecided k numbers → JudgesItsRuns x
+    → output all 0 ≡ output (snapshots_text x.net (map member_of k.members) (made_for k) numbers ++ now_text x.net (plain_world x)) 0 → Reports x (output all 0)
+reports x k numbers all same are decided judges printed = λ (g : Setting) (e : g.net ≡ x.net).
+    let here = are ∙ ap members_of (sym e) in
+    let kept = ap (λ (j : CollectorView). map member_of j.members) (sym same) ∙ here in
+    record {
+      decided = numbers;
+      are_decided = decided_are k x.collector (members_of g.net) numbers here same decided;
+      outcomes = λ state agrees s.
+          subst (λ (ms : List Member). HasOutcome (network_of g) s state.offered (verdict ms (kept_of ms (made_for x.collector s)))) kept (judges g e state agrees s);
+      printed =
+          printed ∙ ap (λ (n : Plan). output (snapshots_text n (map member_of k.members) (made_for k) numbers ++ now_text n (plain_world x)) 0) (sym e)
+          ∙ ap (λ (t : List ℕ). output (t ++ now_text g.net (plain_world x)) 0) (snapshots_are g.net k x.collector (members_of g.net) numbers here same);
+    }

@@ -2,10 +2,14 @@
 use Rattle.std.specs.Prelude.{◌≡◌, ◌≢◌, ℕ, List, ◌∷◌, ◌++◌, Result, Ok, codes, MatchResult, ◌⊎◌}
 use Rattle.std.specs.List.{flat_map}
 use Rattle.ranked_policy.specs.Plans.{Plan}
-use Rattle.router_model.specs.Settings.{Setting, ChoosesByRank}
+use Rattle.run_model.specs.Offers.{HasOutcome}
+use Rattle.router_model.specs.Settings.{Setting, IsSetting, ChoosesByRank}
+use Rattle.router_runs.specs.Model.{network_of}
+use Rattle.router_runs.specs.Runs.{RunState}
 use Rattle.world_core.specs.declared.schedule.Event.{Event}
 use Rattle.world_core.specs.declared.schedule.StepFault.TheVariants.{Memory}
-use Rattle.world_core.specs.World.{World, new_world, played}
+use Rattle.world_core.specs.World.{World, AgreesWith, new_world, played}
+use Rattle.world_core.specs.Keeping.{KeepsItsPromises}
 use Rattle.world_core.specs.Orders.{events_of, StopsAt}
 use Rattle.world_core.specs.Views.{WorldView, plain_world}
 use Rattle.world_core.specs.Verdicts.{members_of}
@@ -17,16 +21,22 @@ use Rattle.schedule_text.specs.Schedules.{SpellsSchedule, RefusesSchedule}
 use Rattle.schedule_text.specs.Reports.{stop_line}
 use Rattle.bgpnet.specs.declared.schedules.Stop.{Stop}
 use Rattle.bgpnet.specs.Decoding.{Output, output}
-use Rattle.bgpnet.specs.Reporting.{AreDecided, snapshots_text, now_text}
+use Rattle.bgpnet.specs.Reporting.{AreDecided, outcome, snapshots_text, now_text}
 use Rattle.bgpnet.specs.Inputs.{code_text, refused, InputGives, Prints}
 
 -- ---- what is printed of a world
 
--- the lines of the snapshots that are decided, by rising number, then the routes now
-abbrev pub ReportGives : Plan → World → Output → Type 0
-ReportGives net w out =
-    (decided : List ℕ) × AreDecided (members_of net) w.made decided
-    × (out ≡ output (snapshots_text net (members_of net) w.made decided ++ now_text net w) 0)
+-- the lines of the snapshots that are decided, by rising number, then the routes now; and what a line says of a snapshot is how it
+-- comes out in every run that the world stands at the end of
+pub record IsReport (g : Setting) (w : World) (out : Output) : Type 0 where
+  pub decided : List ℕ
+  pub are_decided : AreDecided (members_of g.net) w.made decided
+  pub outcomes : (state : RunState) → AgreesWith g w state → (s : ℕ) → HasOutcome (network_of g) s state.offered (outcome g.net w.made s)
+  pub printed : out ≡ output (snapshots_text g.net (members_of g.net) w.made decided ++ now_text g.net w) 0
+
+-- what is printed of the world of the code, in every setting of its network
+abbrev pub Reports : WorldView → Output → Type 0
+Reports x out = (g : Setting) → g.net ≡ x.net → IsReport g (plain_world x) out
 
 -- ---- what orders lead to
 
@@ -62,12 +72,12 @@ Obeyed r x orders y =
 abbrev pub stopped : Stop → Output
 stopped stop = output (stop_line stop.line stop.why) 1
 
--- for the orders of a schedule, in every setting of the network that chooses by rank: the world that they lead to, or the first
--- that is refused
+-- for the orders of a schedule, in every setting of the network that chooses by rank: a report of the world that they lead to, in
+-- which UPDATEs passed in order; or the first that is refused
 abbrev pub OrdersGive : Plan → List ScheduledOrder → Output → Type 0
 OrdersGive net orders out =
     (g : Setting) → g.net ≡ net → ChoosesByRank g
-    → ((w : World) × LeadTo g (new_world g) orders w × ReportGives net w out)
+    → ((w : World) × LeadTo g (new_world g) orders w × (IsSetting g → KeepsItsPromises g w) × IsReport g w out)
     ⊎ ((stop : Stop) × (stop.why ≢ Memory) × IsFirstRefused g (new_world g) orders stop × (out ≡ stopped stop))
 
 -- for the lines of a schedule, so many lines standing before them

@@ -9,6 +9,7 @@ use Rattle.snap_marker.specs.Recordings.{RouterOffer, RouterPart, MadeOffer}
 use Rattle.snap_collector.specs.Verdicts.{Member, decides, verdict}
 use Rattle.snap_collector.specs.Collector.{kept_of}
 use Rattle.world_core.specs.World.{World}
+use Rattle.world_core.specs.Verdicts.{members_of}
 use Rattle.schedule_text.specs.Reports.{snapshot_line, route_line, now_line}
 
 -- ---- routes
@@ -42,6 +43,10 @@ part_text origins u (Some part) = router_text part.kept u origins
 
 abbrev pub parts_text : Plan → List MadeOffer → List ℕ
 parts_text net offers = flat_map (λ r. part_text net.origins r.asn (recorded offers r.asn)) net.routers
+
+-- how a snapshot comes out, by the offers made
+abbrev pub outcome : Plan → (ℕ → List MadeOffer) → ℕ → Outcome
+outcome net made s = verdict (members_of net) (kept_of (members_of net) (made s))
 
 -- the routes of a snapshot that is settled
 abbrev pub settled_text : Plan → List MadeOffer → Outcome → List ℕ

@@ -2,10 +2,10 @@
 
 ghost use Rattle.std.specs.Prelude.{◌≡◌, ◌≢◌, ◌++◌, IfOk, OnOk, MatchResult};
 ghost use Rattle.router_core.specs.Views.{plain_of};
-ghost use Rattle.world_core.specs.Views.{plain_world};
+ghost use Rattle.world_core.specs.Views.{plain_world, KeepsPromises};
 ghost use Rattle.bgpnet.specs.Decoding.{output};
 ghost use Rattle.bgpnet.specs.Reporting.{router_text, routes_text};
-ghost use Rattle.bgpnet.specs.Playing.{Obeyed, ReportGives, stopped, OrdersGive};
+ghost use Rattle.bgpnet.specs.Playing.{Obeyed, Reports, stopped, OrdersGive};
 
 use crate::snapshots::put_snapshots;
 use crate::status::{DONE, REFUSED};
@@ -62,7 +62,7 @@ fn report_output(
     world: &World<'_>,
 ) -> Result<(Vec<u8>, u8), AllocError>
     requires { world.now.net ≡ network.now }
-    ensures { IfOk result (λ printed. ReportGives network.now (plain_world world.now) (output printed.0.items printed.1)) }
+    ensures { IfOk result (λ printed. Reports world.now (output printed.0.items printed.1)) }
 {
     let mut out = Vec::new(alloc);
     let collector = world.collector();
@@ -74,8 +74,10 @@ fn report_output(
 
 // Obeys the orders up to the first that is refused.
 fn obey_all(world: &mut World<'_>, orders: &[ScheduledOrder]) -> Result<(), Stop>
+    requires { KeepsPromises world.old }
     ensures obeyed { Obeyed result world.old orders.now world.new }
     ensures same { world.new.net ≡ world.old.net }
+    ensures promises { KeepsPromises world.new }
 {
     for scheduled in orders {
         if let Err(why) = world.obey(&scheduled.order) {

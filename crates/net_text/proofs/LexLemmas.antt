@@ -27,11 +27,11 @@ line_on : (x : ℕ) (xs : Text) → x ≢ 10 → lines_of (x ∷ xs) ≡ cond ((
 line_on x xs n = cond-false (x == 10) _ _ (ne_eqb x 10 n)
 
 -- no LF comes next
-line_more : (x : ℕ) (xs : Text) → x ≢ 10 → begins_with 10 xs ≡ false → lines_of (x ∷ xs) ≡ first_more x (lines_of xs)
+pub line_more : (x : ℕ) (xs : Text) → x ≢ 10 → begins_with 10 xs ≡ false → lines_of (x ∷ xs) ≡ first_more x (lines_of xs)
 line_more x xs n f = line_on x xs n ∙ cond-false ((x == 13) && begins_with 10 xs) _ _ (and_right (x == 13) (begins_with 10 xs) f)
 
 -- one LF comes next
-line_last : (x y : ℕ) (ys : Text) → x ≢ 10 → y ≡ 10 → lines_of (x ∷ y ∷ ys) ≡ without_return (x ∷ []) ∷ lines_of ys
+pub line_last : (x y : ℕ) (ys : Text) → x ≢ 10 → y ≡ 10 → lines_of (x ∷ y ∷ ys) ≡ without_return (x ∷ []) ∷ lines_of ys
 line_last x y ys n at =
     let behind : lines_of (y ∷ ys) ≡ [] ∷ lines_of ys = cond-true (y == 10) _ _ (eq-eqb y 10 at) in
     elim (cases_Bool (x == 13)) [

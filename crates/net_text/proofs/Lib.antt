@@ -1,4 +1,5 @@
 pub mod LexLemmas
+pub mod LayoutLemmas
 pub mod WordLemmas
 pub mod PathLemmas
 pub mod DraftLemmas

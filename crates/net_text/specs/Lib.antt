@@ -1,4 +1,5 @@
 pub mod Lexing
+pub mod Layout
 pub mod Words
 pub mod Taking
 pub mod Lines

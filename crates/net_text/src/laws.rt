@@ -3,6 +3,7 @@
 ghost use Rattle.ranked_policy.specs.Plans.{Plan};
 ghost use Rattle.net_text.specs.Lexing.{lines_of};
 ghost use Rattle.net_text.specs.declared.draft.Draft.{Draft};
+ghost use Rattle.net_text.specs.Layout.{WordsStandBetweenBlanks, LinesEndByLineFeeds};
 ghost use Rattle.net_text.specs.Laws.{FirstFaultDecidesNetworks, FirstFaultDecidesAssignments};
 
 /// A network text is refused at a line exactly where that line has the fault and no line before it
@@ -15,4 +16,14 @@ pub fn first_fault_decides_networks()
 /// it has one.
 pub fn first_fault_decides_assignments()
     ensures { FirstFaultDecidesAssignments }
+{}
+
+/// The words of a line are those that stand between its blanks, in their order, and no others.
+pub fn words_stand_between_blanks()
+    ensures { WordsStandBetweenBlanks }
+{}
+
+/// A line goes up to an LF, one CR before it aside; a last line needs none.
+pub fn lines_end_by_line_feeds()
+    ensures { LinesEndByLineFeeds }
 {}

@@ -3,3 +3,4 @@ pub mod Linking
 pub mod Lists
 pub mod Blocks
 pub mod Runs
+pub mod Records

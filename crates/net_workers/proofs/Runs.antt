@@ -34,7 +34,9 @@ use Rattle.worker_loop.specs.Laws.{ActsAreJournals, IsJournalTo, StampsRise}
 use Rattle.net_workers.specs.declared.record.Worked.{Worked}
 use Rattle.net_workers.specs.Gathered.{router_of, all_events}
 use Rattle.net_workers.specs.Ran.{Passed, IsTold, HasWorked, IsRecord}
-use Rattle.net_workers.specs.Runs.{InTurn, IsRunOfThreads, RecordsAreRuns}
+use Rattle.net_workers.specs.Runs.{InTurn, IsRunOfThreads, RecordsAreRuns, RecordsKeepTheirPromises}
+use Rattle.router_runs.specs.Promises.{UpdatesPassInOrder}
+use Rattle.router_runs.specs.Snapshots.{SnapshotsHoldInRuns}
 use Rattle.net_workers.proofs.Blocks.{Block, IsFit, acts_of, acts_by, routers_of, by, rises_map, own_acts, all_fit, routers_rise, own_rise, events_are}
 
 -- ---- lines of journals
@@ -312,3 +314,8 @@ records_are_runs {G} given journals rise sorting lifts stamped_law collectors th
       },
       refl,
     )
+
+pub records_keep_their_promises : {G : Type 0} (given : G → List Chore) → RecordsAreRuns given → UpdatesPassInOrder → SnapshotsHoldInRuns → RecordsKeepTheirPromises given
+records_keep_their_promises given runs_law order hold plan turns p workers c gathered is turn g net set =
+    let ran = (runs_law plan turns p workers c gathered is turn g net set).0 in
+    record { run = ran; in_order = λ u v e near. order g set ran.order ran.state ran.run u v e near; snapshots = hold g set ran.order ran.state ran.run }

@@ -3,9 +3,7 @@ use Rattle.std.specs.Prelude.{ℕ, ◌≡◌, ◌<◌, ◌==◌, cond, List, [],
 use Rattle.std.specs.List.{AllByRecursion}
 use Rattle.ranked_policy.specs.Plans.{IsRouter, numbers}
 use Rattle.snap_marker.specs.Recordings.{MadeOffer}
-use Rattle.snap_collector.specs.Collecting.{member_of}
-use Rattle.snap_collector.specs.Collector.{CollectorView, AreMembers, made_for}
-use Rattle.snap_collector.specs.Laws.{IsKeptOf}
+use Rattle.snap_collector.specs.Collector.{CollectorView, AreMembers, made_for, with_offers}
 use Rattle.run_model.specs.Stamps.{Collected, Pairwise, offers_on}
 use Rattle.worker_loop.specs.declared.worker.WorkerFault.TheVariants as worker
 use Rattle.worker_loop.specs.declared.journal.Entry.{Entry}
@@ -122,21 +120,20 @@ first_fault (e ∷ es) = or_else (fault_of e.worker.router.number e.fault) (firs
 abbrev pub OffersOf : {G : Type 0} → List Made → Ended G → Type 0
 OffersOf board e = filter (λ o. o.router == e.worker.router.number) (collected_in board) ≡ collected_in e.worker.desk.made.items
 
--- what the collector keeps: of each number what it is to keep of all offers made, and these are, router by router, those of the
--- journals, at rising stamps
+-- the collector has all offers made, by their numbers, and these are, router by router, those of the journals, at rising stamps
 pub record Collects {G : Type 0} (plan : Plan) (workers : List (Worked G)) (c : CollectorView) : Type 0 where
   pub offers : List (Collected MadeOffer)
   pub rising : Pairwise (λ a b. a.stamp < b.stamp) offers
   pub of : AllByRecursion (λ w. filter (λ o. o.router == w.router.number) offers ≡ collected_in w.journal.offers.items) workers
   pub only : (u : ℕ) → (IsRouter plan.routers u → ⊥) → filter (λ o. o.router == u) offers ≡ []
-  pub kept : (s : ℕ) → IsKeptOf (map member_of c.members) s (offers_on offers) (made_for c s)
+  pub made : made_for c ≡ with_offers (λ s. []) (offers_on offers)
 
 -- every router of the network worked, and the events are gathered
 pub record IsRecord {G : Type 0} (given : G → List Chore) (plan : Plan) (turns : ℕ) (p : Passed) (workers : List (Worked G)) (c : CollectorView) (gathered : List Entry) : Type 0 where
   pub routers : map (λ w. w.router.number) workers ≡ numbers plan.routers
+  pub nobody : (u v : ℕ) → (IsRouter plan.routers u → ⊥) → (p.put u v ≡ []) × (p.taken u v ≡ [])
   pub worked : AllByRecursion (HasWorked given plan turns p) workers
   pub sorted : IsSorted (all_events workers) gathered
-  pub nobody : (u v : ℕ) → (IsRouter plan.routers u → ⊥) → (p.put u v ≡ []) × (p.taken u v ≡ [])
   pub collects : Collects plan workers c
   pub members : AreMembers plan c.members
 

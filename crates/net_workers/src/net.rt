@@ -2,14 +2,19 @@
 
 ghost use Rattle.std.specs.Prelude.{◌≡◌, ◌<◌, ℕ, [], length, map, true, All, IfOk, IfNone, IfSome, slice_index_or, MatchOption};
 ghost use Rattle.std.specs.List.{AllByRecursion};
+ghost use Rattle.ranked_policy.specs.Plans.{IsRouter};
+ghost use Rattle.snap_marker.specs.Parts.{router_of};
+ghost use Rattle.snap_collector.specs.Collector.{AreMembers, made_for, with_offers};
+ghost use Rattle.offer_board.specs.Boards.{offers_in};
 ghost use Rattle.net_workers.specs.Ran.{first_fault, worked_of, OffersOf, Passed, IsRecord};
 
 use crate::gathering::gather;
 use crate::place::Board;
 use crate::record::{Journal, Limits, MOST_TURNS, Record, RunFault, Worked};
 use crate::running::{Ended, new_workers, run_all};
-use offer_board::{BoardState, made_by_same};
+use offer_board::{BoardState, Made, made_by_same};
 use ranked_policy::Network;
+use snap_collector::Collector;
 use std::alloc::{AllocError, Global};
 use std::sync::{Mutex, Wait};
 use std::thread::Threads;
@@ -47,6 +52,18 @@ fn agrees<G>(board: &BoardState, workers: &[Ended<'_, G>]) -> bool
     true
 }
 
+// Whether the offers are by routers of the network.
+fn are_known(network: &Network, offers: &[Made]) -> bool
+    ensures { result ≡ true → AllByRecursion (λ o. IsRouter network.now.routers (router_of o.offer)) offers.now }
+{
+    for made in offers {
+        if !network.has_router(made.offer.router()) {
+            return false;
+        }
+    }
+    true
+}
+
 // What the workers did.
 fn worked<G: Drop>(
     alloc: Global,
@@ -70,6 +87,19 @@ fn worked<G: Drop>(
     Ok(done)
 }
 
+// The collector of these offers. It is made anew, since of what lay under a lock nothing is known but
+// what its type says.
+fn collect(alloc: Global, network: &Network, offers: Vec<Made>) -> Result<Collector, AllocError>
+    ensures made { IfOk result (λ c. made_for c ≡ with_offers (λ s. []) (offers_in offers.items)) }
+    ensures members { IfOk result (λ c. AreMembers network.now c.members) }
+{
+    let mut collector = Collector::new(alloc, network)?;
+    for made in offers {
+        collector.record(made.offer)?;
+    }
+    Ok(collector)
+}
+
 /// Runs a network: each router in a thread of its own, at the word of its gate, and ends as all
 /// threads have. Gates stand by rising router, and have given no chore yet.
 ///
@@ -89,7 +119,7 @@ where
     R: Threads + Wait + Sync,
     G: Gate + Send + Drop,
     requires fresh { AllByRecursion (λ gate. G.given gate ≡ []) gates.items }
-    ensures record { IfOk result (λ r. (p : Passed) × IsRecord G.given network.now limits.turns p r.workers.items r.collector r.gathered.items) }
+    ensures recorded { IfOk result (λ r. (p : Passed) × IsRecord G.given network.now limits.turns p r.workers.items r.collector r.gathered.items) }
 {
     what_follows_is_done();
     let turns = limits.turns;
@@ -98,19 +128,21 @@ where
     }
     let board: Board = Mutex::new(BoardState::new(alloc, network)?);
     let mut workers = new_workers(alloc, network, gates)?;
-    run_all(rt, &board, turns, workers.as_mut_slice());
-    if let Some(fault) = first_fault(workers.as_slice()) {
-        return Err(fault);
+    run_all(rt, &board, turns, &mut workers);
+    match first_fault(workers.as_slice()) {
+        Some(fault) => return Err(fault),
+        None => {}
     }
     let board = board.into_inner();
-    if !agrees(&board, workers.as_slice()) {
+    if !are_known(network, board.offers()) || !agrees(&board, workers.as_slice()) {
         return Err(RunFault::BoardDiffers);
     }
     let workers = worked(alloc, workers)?;
     let gathered = gather(alloc, workers.as_slice())?;
+    let collector = collect(alloc, network, board.into_offers())?;
     Ok(Record {
         workers,
-        collector: board.into_collector(),
+        collector,
         gathered,
     })
 }

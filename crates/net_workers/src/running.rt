@@ -125,9 +125,8 @@ fn run_one<R: Wait, G: Gate>(rt: &R, board: &Board, turns: u32, ended: &mut Ende
     ended.fault = ended.worker.work(rt, board, turns).err();
 }
 
-/// Runs each worker in a thread of its own, and ends as all have. A worker that ends without a fault
-/// did what its gate said.
-pub(crate) fn run_all<'a, R, G>(rt: &R, board: &Board, turns: u32, workers: &mut [Ended<'a, G>])
+// Runs each of these in a thread of its own.
+fn run_each<'a, R, G>(rt: &R, board: &Board, turns: u32, workers: &mut [Ended<'a, G>])
 where
     R: Threads + Wait + Sync,
     G: Gate + Send,
@@ -147,4 +146,19 @@ where
         threads,
         &|_, ended: &mut Ended<G>| { run_one(rt, board, turns, ended) },
     );
+}
+
+/// Runs each worker in a thread of its own, and ends as all have. A worker that ends without a fault
+/// did what its gate said.
+pub(crate) fn run_all<'a, R, G>(rt: &R, board: &Board, turns: u32, workers: &mut Vec<Ended<'a, G>>)
+where
+    R: Threads + Wait + Sync,
+    G: Gate + Send,
+    requires gates { All (λ e. G.given e.worker.gate ≡ []) workers.old.items }
+    requires chores { All (λ e. e.worker.journal.chores.items ≡ []) workers.old.items }
+    ensures many { length workers.new.items ≡ length workers.old.items }
+    ensures ran { (i : ℕ) (d : _) → i < length workers.old.items → IfNone (slice_index_or workers.new.items i d).fault
+        (Ran G.given turns (slice_index_or workers.old.items i d).worker (slice_index_or workers.new.items i d).worker) }
+{
+    run_each(rt, board, turns, workers.as_mut_slice());
 }

@@ -101,10 +101,11 @@ impl BoardState {
         &self.collector
     }
 
-    /// The collector alone.
-    pub fn into_collector(self) -> Collector
-        ensures { result ≡ self.collector }
+    /// The offers alone, the first first.
+    pub fn into_offers(self) -> Vec<Made>
+        ensures value { result.items ≡ self.offers }
+        ensures board { IsBoard self }
     {
-        self.collector
+        self.offers
     }
 }

@@ -6,7 +6,7 @@ pub mod Judged
 pub mod PlanLemmas
 pub mod TableLemmas
 pub mod Reached
-pub mod PeerLemmas
 pub mod WaysOn
 mod TestLemmas
 pub mod PlaceLemmas
+mod WayLemmas

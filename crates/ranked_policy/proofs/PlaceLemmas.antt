@@ -88,11 +88,11 @@ by_prefix_at p q Equal Less m n = inr (m, n)
 by_prefix_at p q Equal Equal m n = λ i. record { addr = m i; len = n i }
 by_prefix_at p q Equal Greater m n = inr (sym m, n)
 
-by_prefix : (p q : PrefixView) (o : Ordering) → compared p q ≡ o → MatchOrdering o (IsBefore p q) (p ≡ q) (IsBefore q p)
+pub by_prefix : (p q : PrefixView) (o : Ordering) → compared p q ≡ o → MatchOrdering o (IsBefore p q) (p ≡ q) (IsBefore q p)
 by_prefix p q o is = subst (λ x. MatchOrdering x (IsBefore p q) (p ≡ q) (IsBefore q p)) is
     (by_prefix_at p q (nat_cmp p.addr q.addr) (nat_cmp p.len q.len) (ranked p.addr q.addr (nat_cmp p.addr q.addr) refl) (ranked p.len q.len (nat_cmp p.len q.len) refl))
 
-prefix_higher : (p r q : PrefixView) → IsBefore p r → ordering_index (compared p q) ≤ ordering_index (compared r q)
+pub prefix_higher : (p r q : PrefixView) → IsBefore p r → ordering_index (compared p q) ≤ ordering_index (compared r q)
 prefix_higher p r q l = at (compared p q) (compared r q) (by_prefix p q (compared p q) refl) (by_prefix r q (compared r q) refl)
   where
     at : (o s : Ordering) → MatchOrdering o (IsBefore p q) (p ≡ q) (IsBefore q p) → MatchOrdering s (IsBefore r q) (r ≡ q) (IsBefore q r) → ordering_index o ≤ ordering_index s

@@ -1,13 +1,13 @@
 -- A path that is a router and the way on from it, by its parts.
-use Rattle.std.proofs.Common.{◌≡◌, ◌≢◌, ℕ, zero, suc, ◌<◌, ◌≤◌, false, true, List, [], ◌∷◌, ◌++◌, length, get_or, drop, refl, sym, ap, subst, ◌∙◌, arith, inl, inr, ◌⊎◌}
-use Rattle.std.specs.Prelude.{◌↔◌, Option, Some, IsTrue}
-use Rattle.std.specs.List.{AllPairs, Contains}
+use Rattle.std.proofs.Common.{◌≡◌, ◌≢◌, ℕ, zero, suc, ◌<◌, ◌≤◌, false, List, [], ◌∷◌, ◌++◌, length, get_or, drop, refl, sym, ap, subst, ◌∙◌, arith, inl, inr}
+use Rattle.std.specs.Prelude.{◌↔◌}
+use Rattle.std.specs.List.{Contains}
 use Rattle.std.proofs.lemmas.List.Elements.{Contains-get_or}
 use Rattle.std.specs.Prelude.{◌==◌}
 use Rattle.std.proofs.lemmas.Bool.{eq-eqb}
 use Rattle.ranked_policy.proofs.Loops.{contains_any}
 use Rattle.ranked_policy.specs.Paths.{IsSimple, EndsWith}
-use Rattle.ranked_policy.specs.Orders.{ComesEarlier, IsShorter}
+use Rattle.ranked_policy.specs.Orders.{IsShorter}
 use Rattle.ranked_policy.specs.Laws.{Earlier, earlier_from_comes, comes_from_earlier}
 
 pub onward_parts : (path rest : List ℕ) (r : ℕ) → 1 ≤ length path → get_or path 0 0 ≡ r → (drop 1 path ≡ rest) ↔ (path ≡ r ∷ rest)

@@ -1,19 +1,21 @@
 //! A network that is built line by line.
 
-ghost use Rattle.std.specs.Prelude.{◌≡◌, ◌≢◌, ◌<◌, ◌↔◌, [], IsTrue, IsSome, IfSome, IfOk, OnOk, IfErr, OnErr, MatchResult};
-ghost use Rattle.std.specs.List.{All, Any, Contains};
+ghost use Rattle.std.specs.Prelude.{◌≡◌, ◌≢◌, ◌<◌, ◌↔◌, ℕ, [], IsTrue, IsSome, IfSome, IfOk, OnOk, IfErr, OnErr, MatchResult};
+ghost use Rattle.std.specs.List.{All, AllPairs, Any, Contains};
 ghost use Rattle.ranked_policy.specs.Plans.{IsPlan, IsNetwork, IsRouter, IsOrigin, IsNamed, Linked};
 ghost use Rattle.ranked_policy.specs.Adding.{IsRefused, MeetsAll, SettingsMeet, RouterMeets, LinkMeets, OriginMeets, RuleMeets, NetworkMeets, AddsRouter, AddsOrigin, AddsRule, empty_plan, with_link};
+ghost use Rattle.ranked_policy.specs.Ways.{HasWay};
 
 use crate::connected::is_connected;
 use crate::items::Items;
-use crate::judging::{is_linked, is_settings, judge_link, judge_origin, judge_router, judge_rule};
+use crate::judging::{is_settings, judge_link, judge_origin, judge_router, judge_rule};
 use crate::network::{Link, Network, Origin, Router, Rule, Settings};
 use crate::path::{Asn, Path};
 use crate::places::{
     find_prefix, find_router, is_origin, place_of_prefix, place_of_router, router_of,
 };
 use crate::refusal::NetError;
+use crate::ways::Ways;
 use prefix_lanes::Prefix;
 use std::alloc::Global;
 use std::marker::Model;
@@ -26,16 +28,19 @@ pub struct NetBuilder {
     routers: Vec<Router>,
     links: Vec<Link>,
     origins: Vec<Origin>,
+    // The links from either end.
+    ways: Ways,
 }
 
 impl Model for NetBuilder {
     ghost use Rattle.ranked_policy.specs.Plans.{Plan, IsPlan};
+    ghost use Rattle.ranked_policy.specs.Ways.{AreWays};
 
     ghost Value = { Plan };
 
     ghost view = { λ b. record { settings = b.settings; routers = b.routers.items; links = b.links.items; origins = b.origins.items } };
 
-    ghost invariant = { λ b. IsPlan (record { settings = b.settings; routers = b.routers.items; links = b.links.items; origins = b.origins.items }) };
+    ghost invariant = { λ b. IsPlan (record { settings = b.settings; routers = b.routers.items; links = b.links.items; origins = b.origins.items }) × AreWays b.links.items b.ways };
 }
 
 impl NetBuilder {
@@ -54,6 +59,7 @@ impl NetBuilder {
             routers: Vec::new(alloc),
             links: Vec::new(alloc),
             origins: Vec::new(alloc),
+            ways: Ways::new(alloc),
         })
     }
 
@@ -87,9 +93,13 @@ impl NetBuilder {
         if let Err(error) = judge_link(self.routers.as_slice(), self.links.as_slice(), a, b) {
             return Err(error);
         }
-        if let Err(_) = self.links.push(Link { one: a, other: b }) {
+        if let Err(_) = self.links.reserve(1) {
             return Err(NetError::Memory);
         }
+        if let Err(_) = self.ways.join(a, b) {
+            return Err(NetError::Memory);
+        }
+        self.links.push_reserved(Link { one: a, other: b });
         Ok(())
     }
 
@@ -181,6 +191,15 @@ impl NetBuilder {
         self.links.as_slice()
     }
 
+    /// The links of a router, each from it to a peer, by rising peer.
+    pub fn links_of(&self, asn: Asn) -> &[Link]
+        ensures from { All (λ link. link.one ≡ asn) result.now }
+        ensures rising { AllPairs (λ link later. link.other < later.other) result.now }
+        ensures exact { (v : ℕ) → (HasWay result.now asn v ↔ Linked self.now.links asn v) }
+    {
+        self.ways.of(asn)
+    }
+
     /// The prefixes with their origins, by address, then by length; each prefix once.
     pub fn origins(&self) -> &[Origin]
         ensures value { result.now ≡ self.now.origins }
@@ -200,7 +219,7 @@ impl NetBuilder {
     pub fn linked(&self, a: Asn, b: Asn) -> bool
         ensures { IsTrue result ↔ Linked self.now.links a b }
     {
-        is_linked(self.links.as_slice(), a, b)
+        self.ways.has(a, b)
     }
 
     /// Whether the router is the origin of the prefix.

@@ -27,6 +27,7 @@ mod places;
 mod policy;
 mod refusal;
 mod table;
+mod ways;
 
 pub use builder::NetBuilder;
 pub use items::Items;

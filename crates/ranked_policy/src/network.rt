@@ -80,9 +80,10 @@ impl Model for Network {
 
 impl Network {
     ghost use Rattle.std.specs.Prelude.{◌≡◌, ◌<◌, ◌↔◌, ℕ, IsTrue, IsSome, IfSome, IfOk, length};
-    ghost use Rattle.std.specs.List.{AllPairs, Contains, HoldsAt};
+    ghost use Rattle.std.specs.List.{All, AllPairs, Contains, HoldsAt};
     ghost use Rattle.ranked_policy.specs.Plans.{IsNetwork, IsRouter, IsOrigin, IsNamed, Linked};
     ghost use Rattle.ranked_policy.specs.Policies.{IsTable, IsTableOf};
+    ghost use Rattle.ranked_policy.specs.Ways.{HasWay};
 
     /// The network that was built.
     pub(crate) fn from_builder(built: NetBuilder) -> Network
@@ -122,6 +123,16 @@ impl Network {
         ensures network { IsNetwork self.now }
     {
         self.built.links()
+    }
+
+    /// The links of a router, each from it to a peer, by rising peer; none where there is no such
+    /// router. They are found by a binary search, and take no memory.
+    pub fn links_of(&self, asn: Asn) -> &[Link]
+        ensures from { All (λ link. link.one ≡ asn) result.now }
+        ensures rising { AllPairs (λ link later. link.other < later.other) result.now }
+        ensures exact { (v : ℕ) → (HasWay result.now asn v ↔ Linked self.now.links asn v) }
+    {
+        self.built.links_of(asn)
     }
 
     /// The prefixes with their origins, by address, then by length; each prefix once.
@@ -189,7 +200,7 @@ impl Network {
         ensures rising { IfOk result (λ peers. AllPairs (λ u v. u < v) peers) }
         ensures exact { IfOk result (λ peers. (v : ℕ) → (Contains peers v ↔ Linked self.now.links asn v)) }
     {
-        peers_of(alloc, self.routers(), self.links(), asn)
+        peers_of(alloc, self.links_of(asn))
     }
 
     /// The policies of a router.

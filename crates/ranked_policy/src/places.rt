@@ -38,12 +38,29 @@ fn order_of(prefix: &Prefix) -> (u32, u8)
     (prefix.addr(), prefix.len())
 }
 
-// The place of the router with this number.
+// The place that the number has where all are consecutive, if it stands there.
+fn consecutive_place(routers: &[Router], asn: Asn) -> Option<usize>
+    ensures { IfSome result (λ i. (i < length routers.now) × HoldsAt (λ r. r.asn ≡ asn) routers.now i) }
+{
+    let first = routers.first()?;
+    let place = asn.checked_sub(first.asn)? as usize;
+    if place < routers.len() && routers[place].asn == asn {
+        Some(place)
+    } else {
+        None
+    }
+}
+
+// The place of the router with this number. Most networks number theirs without a gap, so that place
+// is looked at before it is searched for.
 pub(crate) fn find_router(routers: &[Router], asn: Asn) -> Option<usize>
     requires { AllPairs (λ u v. u < v) (numbers routers.now) }
     ensures some { IsSome result ↔ IsRouter routers.now asn }
     ensures value { IfSome result (λ i. (i < length routers.now) × HoldsAt (λ r. r.asn ≡ asn) routers.now i) }
 {
+    if let Some(place) = consecutive_place(routers, asn) {
+        return Some(place);
+    }
     match place_of_router(routers, asn) {
         Ok(place) => Some(place),
         Err(_) => None,

@@ -456,6 +456,19 @@ fn readers(rt: HostRuntime) -> Result<(), Fail> {
 }
 
 #[test]
+fn links_of_a_router(rt: HostRuntime) -> Result<(), Fail> {
+    let net = finished(disagree(rt.alloc())?)?;
+    let links = [
+        Link { one: 2, other: 1 },
+        Link { one: 2, other: 3 },
+        Link { one: 2, other: 4 },
+    ];
+    assert_eq!(rt; net.links_of(2), links.as_slice());
+    assert_eq!(rt; net.links_of(5).len(), 0);
+    Ok(())
+}
+
+#[test]
 fn questions(rt: HostRuntime) -> Result<(), Fail> {
     let net = finished(disagree(rt.alloc())?)?;
     let sixteen = prefix(0x0a01_0000, 16)?;

@@ -16,14 +16,9 @@ use Rattle.session_fsm.specs.declared.event.FsmEvent.{FsmEvent}
 use Rattle.session_fsm.specs.declared.event.FsmEvent.TheVariants as event
 use Rattle.session_fsm.specs.declared.actions.Action.{Action}
 use Rattle.session_fsm.specs.declared.actions.Action.TheVariants as action
+use Rattle.router_model.specs.Recording.{left_of, DraftsLeaveEstablished}
 use Rattle.router_model.specs.Sides as sides
 use Rattle.router_model.specs.Sides.{Side, Draft, draft_of, AtHand, NoMessage, HasFault, HasUpdate, does, does_all, meets, obeys, obeys_all, comes, dials, shuts, fits, joins, is_connecting, is_established, is_up, met, reset, second, expires, signed, handled}
-
--- the incarnation that is left: by whether the session was up, and whether it is
-abbrev pub left_of : Bool → Bool → ℕ → Option ℕ
-left_of true true e = None
-left_of true false e = Some e
-left_of false now e = None
 
 -- ---- actions without Down leave nothing
 
@@ -418,3 +413,22 @@ reset_left o s up =
     let off = stopped_is o s up (established_is s.session.state up) in
     comes_quiet o NoMessage (met o s event.ManualStop) event.ManualStart (started (met o s event.ManualStop).session.state (met o s event.ManualStop).session refl)
     ∙ (met_left o s event.ManualStop ∙ (ap (λ b. left_of b (is_established (met o s event.ManualStop).session.state) s.link.epoch) up ∙ ap (λ b. left_of true b s.link.epoch) off))
+
+-- where the session was not up, neither the stop nor the start leaves anything
+reset_quiet : (o : Message) (s : Side) → is_up s ≡ false → (reset o s).left ≡ None
+reset_quiet o s down =
+    comes_quiet o NoMessage (met o s event.ManualStop) event.ManualStart (started (met o s event.ManualStop).session.state (met o s event.ManualStop).session refl)
+    ∙ (met_left o s event.ManualStop ∙ ap (λ b. left_of b (is_established (met o s event.ManualStop).session.state) s.link.epoch) down)
+
+reset_of : (o : Message) (s : Side) (b : Bool) → is_up s ≡ b → (reset o s).left ≡ left_of b false s.link.epoch
+reset_of o s true h = reset_left o s h
+reset_of o s false h = reset_quiet o s h
+
+pub drafts_leave_established : DraftsLeaveEstablished
+drafts_leave_established o s = record {
+  met_by = met_left o s;
+  reset_is = reset_of o s (is_up s) refl;
+  second_is = second_left o s;
+  signed_by = signed_left o s;
+  handled_by = λ h e. handled_left o h s e;
+}

@@ -19,8 +19,8 @@ use Rattle.router_model.specs.Settings.{Setting, linked, peers}
 use Rattle.router_model.specs.Sides.{Side, Draft, AtHand, NoMessage, HasFault, HasUpdate, carried, told, marked, uses, front, at_hand, event_of, without_front, is_up, is_established}
 use Rattle.router_model.specs.State.{Router, open_of, rule_of, undecided, untold, route}
 use Rattle.router_model.specs.Step.{RouterEvent, Obeys, Ticks, Handles, Decides, Advertises, after, seen, close_at, or_first, first_close, keeping, telling_to, telling_of, put_from, records, is_greater, heeds, meets_at, resets_at, second_at, signed_at, handled_at}
-use Rattle.router_model.specs.Recording.{IsRecording, LeavingLosesTheRecording}
-use Rattle.router_model.proofs.Leaving.{left_of, met_left, handled_left, second_left, signed_left, reset_left}
+use Rattle.router_model.specs.Recording.{IsRecording, LeavingLosesTheRecording, left_of}
+use Rattle.router_model.proofs.Leaving.{met_left, handled_left, second_left, signed_left, reset_left}
 use Rattle.router_model.proofs.Peers.{is_peer, stays}
 
 -- ---- what a close does to a recording

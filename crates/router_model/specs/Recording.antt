@@ -1,11 +1,14 @@
 -- What the steps of one router do to its recordings of snapshots.
-use Rattle.std.specs.Prelude.{ℕ, ◌≡◌, ◌<◌, ◌≤◌, true, false, ◌++◌, [], ◌∷◌, None, Some}
+use Rattle.std.specs.Prelude.{ℕ, ◌≡◌, ◌<◌, ◌≤◌, Bool, true, false, ◌++◌, [], ◌∷◌, Option, None, Some}
 use mathlib.Core.Logic.{◌⊎◌}
+use Rattle.bgp_codec.specs.declared.message.Message.{Message}
+use Rattle.link_epoch.specs.declared.link_end.Sign.{Sign}
+use Rattle.session_fsm.specs.declared.event.FsmEvent.{FsmEvent}
 use Rattle.ranked_policy.specs.Plans.{IsNetwork}
 use Rattle.run_model.specs.Offers.{Finished, Lost, Closed, IsIn}
 use Rattle.snap_marker.specs.Recordings.{RouterPart, Recording, Snapshots}
 use Rattle.router_model.specs.Settings.{Setting, linked}
-use Rattle.router_model.specs.Sides.{is_up}
+use Rattle.router_model.specs.Sides.{Side, AtHand, comes, draft_of, is_established, is_up, met, reset, second, signed}
 use Rattle.router_model.specs.State.{Router}
 use Rattle.router_model.specs.Step.{RouterEvent, Step}
 
@@ -41,3 +44,24 @@ pub record GoesOn (x y : Snapshots) : Type 0 where
 
 abbrev pub RecordingsGoOn : Type 0
 RecordingsGoOn = (g : Setting) (u : ℕ) (x y : Router) (e : RouterEvent) → Step g u x e y → GoesOn x.snapshots y.snapshots
+
+-- ---- what the draft of a session's event leaves
+
+-- the incarnation that is left: by whether the session was up, and whether it is
+abbrev pub left_of : Bool → Bool → ℕ → Option ℕ
+left_of true true e = None
+left_of true false e = Some e
+left_of false now e = None
+
+-- a draft leaves the incarnation exactly where the session was Established and is not any more; a reset leaves it that was up
+pub record LeavesEstablished (own_open : Message) (s : Side) : Type 0 where
+  pub met_by : (e : FsmEvent) → (met own_open s e).left ≡ left_of (is_up s) (is_established (met own_open s e).session.state) s.link.epoch
+  pub reset_is : (reset own_open s).left ≡ left_of (is_up s) false s.link.epoch
+  pub second_is : (second own_open s).left ≡ left_of (is_up s) (is_established (second own_open s).session.state) s.link.epoch
+  pub signed_by : (x : Sign) → (signed own_open s x).left ≡ left_of (is_up s) (is_established (signed own_open s x).session.state) s.link.epoch
+  pub handled_by : (h : AtHand) (e : FsmEvent)
+      → (comes own_open h (draft_of s.session s.link) e).left
+      ≡ left_of (is_up s) (is_established (comes own_open h (draft_of s.session s.link) e).session.state) s.link.epoch
+
+abbrev pub DraftsLeaveEstablished : Type 0
+DraftsLeaveEstablished = (own_open : Message) (s : Side) → LeavesEstablished own_open s

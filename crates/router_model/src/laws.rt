@@ -1,7 +1,7 @@
 //! What the definitions of one router say together. Each is the contract of a function without work of its own.
 
 ghost use Rattle.router_model.specs.Laws.{StepsAppendWhatTheySay, AnswersAreSteps, IdleWhereNothingMayCome, LinkedRoutersArePeers, SentIsWhatIsSaid, AnyItemIsTaken, WhatWaitsIsHandled, RouterPutsCommute, PutsLeaveWhatIsSaid};
-ghost use Rattle.router_model.specs.Recording.{LeavingLosesTheRecording, RecordingsGoOn};
+ghost use Rattle.router_model.specs.Recording.{DraftsLeaveEstablished, LeavingLosesTheRecording, RecordingsGoOn};
 
 /// Where the session with a peer leaves Established while a snapshot is recorded, its loss is queued by the least such
 /// peer, in the incarnation that was left, and the recording ends (`loses`). Otherwise numbers rise, what is recorded goes
@@ -9,6 +9,12 @@ ghost use Rattle.router_model.specs.Recording.{LeavingLosesTheRecording, Recordi
 pub fn leaving_loses_the_recording()
     ensures loses { LeavingLosesTheRecording }
     ensures goes_on { RecordingsGoOn }
+{}
+
+/// What an event makes of a session leaves its incarnation exactly where the session was Established
+/// and is not any more; a reset leaves it wherever the session was Established.
+pub fn drafts_leave_established()
+    ensures { DraftsLeaveEstablished }
 {}
 
 /// A link joins two routers of the network, whichever it names first, and each is among the peers of the other.

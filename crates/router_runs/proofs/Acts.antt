@@ -24,7 +24,7 @@ use Rattle.router_runs.proofs.Lower.{Laws}
 module _ (laws : Laws) where
   -- ---- the moves of events
 
-  moves_all : model.Side Message → List (SessionEvent Message) → List (Move Message)
+  abbrev pub moves_all : model.Side Message → List (SessionEvent Message) → List (Move Message)
   moves_all x [] = []
   moves_all x (e ∷ es) = moves_of x.end e ++ moves_all (side_after x e) es
 
@@ -36,9 +36,8 @@ module _ (laws : Laws) where
   afters_append [] ns a = refl
   afters_append (m ∷ ms) ns a = afters_append ms ns (links.after a m)
 
-  all_moves : (es : List (SessionEvent Message)) (x : model.Side Message) (b : End Message) → MayComeAll x b es → Fits x.state x.end → EndFacts x.end b → EndFacts b x.end
+  pub all_moves : (es : List (SessionEvent Message)) (x : model.Side Message) (b : End Message) → MayComeAll x b es → Fits x.state x.end → EndFacts x.end b → EndFacts b x.end
       → MayInTurn x.end b (moves_all x es) × (afters x.end (moves_all x es) ≡ (sides_after x es).end)
-  unfolding moves_all
   all_moves [] x b may f g k = (tt, refl)
   all_moves (e ∷ es) x b may f g k =
       let l = laws.leads x b e f g k may.0 in
@@ -117,13 +116,18 @@ module _ (laws : Laws) where
     pub leads : afters a moves ≡ c
     pub quiet : AllQuiet moves
 
-  pub quiet_does : (s t : Side) (new past : List (Entry Message)) (a b : End Message) → Stands s a b → (d : Does s t new past a b) → SaysNoUpdate new → HasNoMark past → QuietMoves a b (sides_after (model_side s a) d.events).end
-  quiet_does s t new past a b x d p q =
+  pub all_quiet : (s t : Side) (new past : List (Entry Message)) (a b : End Message) → Stands s a b → (d : Does s t new past a b) → SaysNoUpdate new → HasNoMark past → AllQuiet (moves_all (model_side s a) d.events)
+  all_quiet s t new past a b x d p q =
       let ms = moves_all (model_side s a) d.events in
       let l = all_moves d.events (model_side s a) b d.may x.fits x.mine x.theirs in
       let says : new ≡ appended_by a ms = append_cancel_left a.appended new (appended_by a ms) (sym d.appends ∙ (ap (λ c. c.appended) (sym l.1) ∙ appends ms a)) in
       let gone : past ≡ taken_by ms = append_cancel_left a.taken past (taken_by ms) (sym d.takes ∙ (ap (λ c. c.taken) (sym l.1) ∙ takes ms a)) in
-      record { moves = ms; may = l.0; leads = l.1; quiet = quiet_moves ms a (subst SaysNoUpdate says p) (subst HasNoMark gone q) }
+      quiet_moves ms a (subst SaysNoUpdate says p) (subst HasNoMark gone q)
+
+  pub quiet_does : (s t : Side) (new past : List (Entry Message)) (a b : End Message) → Stands s a b → (d : Does s t new past a b) → SaysNoUpdate new → HasNoMark past → QuietMoves a b (sides_after (model_side s a) d.events).end
+  quiet_does s t new past a b x d p q =
+      let l = all_moves d.events (model_side s a) b d.may x.fits x.mine x.theirs in
+      record { moves = moves_all (model_side s a) d.events; may = l.0; leads = l.1; quiet = all_quiet s t new past a b x d p q }
 
   -- ---- moves as events of the network
 
@@ -132,7 +136,7 @@ module _ (laws : Laws) where
     acts [] = []
     acts (m ∷ ms) = record { router = u; event = Acts (Moves v m) } ∷ acts ms
 
-    plain : (m : Move Message) → IsQuiet m → IsPlain m × routes.TellsNoUpdate (network_of g) (Moves v m)
+    pub plain : (m : Move Message) → IsQuiet m → IsPlain m × routes.TellsNoUpdate (network_of g) (Moves v m)
     plain Dials q = (tt, tt)
     plain (Tells m) q = (tt, rw q refl)
     plain (Marks n) q = absurd q

@@ -1,6 +1,6 @@
 -- Each event of a router, on its side towards one peer.
-use Rattle.std.proofs.Common.{◌≡◌, ℕ, ◌==◌, Bool, true, false, ◌&&◌, ◌||◌, not, cond, List, [], ◌∷◌, ◌++◌, refl, ap, sym, ◌∙◌, subst, arith, append_assoc, Option, None, Some, inl, inr, ◌⊎◌}
-use Rattle.std.specs.Prelude.{◌<◌, nat_lt, Ok, nat_eq, Result, if◌then◌else◌}
+use Rattle.std.proofs.Common.{◌≡◌, ℕ, ◌==◌, Bool, true, false, ◌&&◌, ◌||◌, cond, List, [], ◌∷◌, ◌++◌, refl, ap, sym, ◌∙◌, subst, arith, Option, None, Some, inl, inr, ◌⊎◌}
+use Rattle.std.specs.Prelude.{Ok, nat_eq, Result, if◌then◌else◌}
 use Rattle.std.specs.List.{list_any, find}
 use mathlib.Core.List.{IsPrefix}
 use Rattle.std.proofs.lemmas.List.{append-nil}
@@ -14,34 +14,29 @@ use Rattle.bgp_codec.specs.declared.update.Update.{Update}
 use Rattle.bgp_codec.specs.Header.{header_fault}
 use Rattle.bgp_codec.specs.Spelling.{written}
 use Rattle.bgp_framing.specs.Held.{is_waiting}
-use Rattle.link_epoch.specs.Ends.{LinkView, is_awaited, next_number, dialled}
-use Rattle.link_epoch.specs.declared.link_end.Phase.TheVariants as phase
 use Rattle.link_epoch.specs.declared.link_end.Sign.TheVariants as sign
-use Rattle.session_fsm.specs.Table.{SessionView}
-use Rattle.session_fsm.specs.declared.state.State.{State}
-use Rattle.session_fsm.specs.declared.state.State.TheVariants as state
 use Rattle.session_fsm.specs.declared.event.FsmEvent.TheVariants.{ManualStart, ManualStop}
 use Rattle.ranked_policy.specs.Plans.{IsNetwork}
-use Rattle.run_model.specs.Links.{Entry, Dial, Says, Mark, Shut, End}
+use Rattle.run_model.specs.Links.{Dial, Says, Mark, Shut, End}
 use Rattle.run_model.specs.Octets.{Passing, Control, octets_of, passing}
 use Rattle.run_model.specs.Network.{alone, puts, takes, offers, taken_from}
 use Rattle.router_model.specs.declared.command.Command.{Command}
 use Rattle.router_model.specs.declared.command.Command.TheVariants as command
 use Rattle.outbox.specs.declared.item.What.{What}
 use Rattle.outbox.specs.declared.item.What.TheVariants as item
-use Rattle.router_model.specs.Sides.{rest_behind, acted_with, fits, Side, Draft, AtHand, NoMessage, at_hand, front, carried, draft_of, met, reset, handled, without_front, fed, uses, told, marked, is_up, comes, meets, obeys}
+use Rattle.router_model.specs.Sides.{rest_behind, Side, Draft, AtHand, NoMessage, at_hand, front, carried, handled, without_front, fed, uses, told, marked, is_up}
 use Rattle.snap_marker.specs.Recordings.{ends_channel}
 use Rattle.router_model.specs.Settings.{identifier, Setting, linked, peers, prefixes}
 use Rattle.router_model.specs.State.{Router, rule_of, untold, undecided, route, is_untold}
 use Rattle.router_model.specs.Step.{overflows_taking, RouterEvent, Obeys, Ticks, Handles, Decides, Advertises, May, after, says, says_where, says_update, says_by, says_of_taken, overflows, overflows_by, meets_at, resets_at, second_at, signed_at, handled_at, heeds, is_greater, records, keeping, telling_to, telling_of, put_from, obeyed, taken}
 use Rattle.outbox.specs.Items.{passes}
 use Rattle.router_model.specs.Laws.{all_passes}
-use Rattle.router_runs.specs.Reading.{sides_after, model_side, phase_of, phase_in, state_of}
+use Rattle.router_runs.specs.Reading.{sides_after, model_side, phase_of, state_of}
 use Rattle.router_runs.specs.Doing.{Stands, Does, Row}
 use Rattle.router_runs.specs.Kept.{Advances}
 use Rattle.router_runs.proofs.Doing.{no_event, then_does}
-use Rattle.router_runs.proofs.Moving.{answers_is}
-use Rattle.router_runs.proofs.Rows.{phase_fits, at, at_own, own_event}
+use Rattle.router_runs.proofs.Rows.{own_event}
+use Rattle.router_runs.proofs.Resetting.{reset_event}
 use Rattle.router_runs.proofs.Handling.{handled_event}
 use Rattle.router_runs.proofs.Signing.{dial_event, shut_event, mark_taken, mark_event, told_event}
 use Rattle.router_runs.proofs.Stepping.{Before, own_end, same_number, swapped, plus_nothing, idles, where_row, by_does, stop_event, second_event, Ready, decides, ready, then_takes, where_taken}
@@ -49,96 +44,6 @@ use Rattle.router_runs.proofs.Octets.{fed_same, found, front_ok, rest_ok, cleare
 use Rattle.router_runs.proofs.Lower.{Laws}
 
 module _ (laws : Laws) where
-  -- ---- a reset
-
-  record Restarts (o : Open) (d e : Draft) : Type 0 where
-    session : e.session ≡ (comes (OpenMsg o) NoMessage (draft_of d.session d.link) ManualStart).session
-    link : e.link ≡ (comes (OpenMsg o) NoMessage (draft_of d.session d.link) ManualStart).link
-    dials : e.link ≡ dialled d.link
-    says : e.says ≡ d.says ++ (comes (OpenMsg o) NoMessage (draft_of d.session d.link) ManualStart).says
-    drops : e.drops ≡ d.drops
-    over : (comes (OpenMsg o) NoMessage (draft_of d.session d.link) ManualStart).overflows ≡ false
-
-  from_idle : (c f : Bool) (o : Open) (d : Draft) (session : SessionView) → is_awaited d.link ≡ c → fits (next_number d.link) ≡ f
-      → (comes (OpenMsg o) NoMessage (record d { session = record session { state = state.Idle } }) ManualStart).overflows ≡ false
-      → Restarts o (record d { session = record session { state = state.Idle } }) (comes (OpenMsg o) NoMessage (record d { session = record session { state = state.Idle } }) ManualStart)
-  unfolding comes meets obeys
-  from_idle true true o d session aw fit over =
-      let low = rw aw at fit in
-      record { session = rw (aw, low) refl; link = rw (aw, low) refl; dials = rw (aw, low) refl; says = rw (aw, low) (append_assoc d.says (Dial d.link.heard ∷ []) (Says d.link.heard (OpenMsg o) ∷ [])); drops = rw (aw, low) refl; over = rw (aw, low) refl }
-  from_idle false true o d session aw fit over =
-      let low = rw aw at fit in
-      record { session = rw (aw, low) refl; link = rw (aw, low) refl; dials = rw (aw, low) refl; says = rw (aw, low) refl; drops = rw (aw, low) refl; over = rw (aw, low) refl }
-  from_idle true false o d session aw fit over = absurd (let low = rw aw at fit in let k = rw (aw, low) at over in cc k)
-  from_idle false false o d session aw fit over = absurd (let low = rw aw at fit in let k = rw (aw, low) at over in cc k)
-
-  -- what a stop leaves
-  record Stopped (st : State) (s : Side) (d : Draft) : Type 0 where
-    idle : record d { session = record d.session { state = state.Idle } } ≡ d
-    link : is_awaited d.link ≡ is_awaited s.link
-    drops : phase_in st ≡ phase.Joined → d.drops ≡ true
-
-  stopped_is : (st : State) (o : Open) (s : Side) → Stopped st s (met (OpenMsg o) (at st s) ManualStop)
-  unfolding comes meets obeys
-  stopped_is state.Idle o s = record { idle = refl; link = refl; drops = λ j. absurd (cc j) }
-  stopped_is state.Connect o s = record { idle = refl; link = refl; drops = λ j. absurd (cc j) }
-  stopped_is state.Active o s = record { idle = refl; link = refl; drops = λ j. absurd (cc j) }
-  stopped_is state.OpenSent o s = record { idle = refl; link = refl; drops = λ j. refl }
-  stopped_is state.OpenConfirm o s = record { idle = refl; link = refl; drops = λ j. refl }
-  stopped_is state.Established o s = record { idle = refl; link = refl; drops = λ j. refl }
-
-  acted_none : (c : Bool) (e : ℕ) (history : ℕ → List Update) → acted_with c NoMessage e history ≡ history
-  acted_none true e history = refl
-  acted_none false e history = refl
-
-  joined_by : (c : Bool) → cond c phase.Joined phase.Offered ≡ phase.Joined → c ≡ true
-  joined_by true h = refl
-  joined_by false h = absurd (cc h)
-
-  not_awaited : (l : LinkView) → l.heard ≡ l.epoch → is_awaited l ≡ true → ⊥
-  not_awaited l same h = at (nat_lt l.epoch l.heard) refl h
-    where
-      at : (c : Bool) → nat_lt l.epoch l.heard ≡ c → (nat_lt l.epoch l.heard && not l.heard_is_shut) ≡ true → ⊥
-      at true is h = (let above : l.epoch < l.heard = grind (arith, nat_tests, is) in omega (arith, above, same))
-      at false is h = (let k = rw is at h in cc k)
-
-  does_like : (s t r : Side) (new more : List (Entry Message)) (a b : End Message) → Does s t new [] a b → t.session.state ≡ r.session.state → t.link ≡ r.link → t.acted ≡ r.acted → t.sent ≡ r.sent → new ≡ more → Does s r more [] a b
-  does_like s t r new more a b d state link acted sent same =
-      subst (λ w. Does s r w [] a b) (append-nil new ∙ same) (then_does laws s t r new [] [] [] a b d (λ c appends takes y. no_event laws t r c b y (ap state_of state) link acted sent))
-
-  reset_row : (o : Open) (s : Side) (a b : End Message) → Stands s a b → (s.link.phase ≡ phase.Joined → s.link.heard ≡ s.link.epoch) → Stopped s.session.state s (met (OpenMsg o) s ManualStop) → (reset (OpenMsg o) s).overflows ≡ false
-      → Row s NoMessage (reset (OpenMsg o) s) a b
-  reset_row o s a b x own stopped over =
-      let d : Draft = met (OpenMsg o) s ManualStop in
-      let k : Restarts o d (reset (OpenMsg o) s) =
-      subst (λ (i : Draft). (comes (OpenMsg o) NoMessage i ManualStart).overflows ≡ false → Restarts o i (comes (OpenMsg o) NoMessage i ManualStart)) stopped.idle
-      (λ over'. from_idle (is_awaited d.link) (fits (next_number d.link)) o d d.session refl refl over') over in
-      let mid : Side = carried NoMessage s d in
-      let first = stop_event laws o s a b x in
-      let next : Draft = met (OpenMsg o) mid ManualStart in
-      let awaited : (reset (OpenMsg o) s).link.phase ≡ phase.Joined → is_awaited s.link ≡ true = λ j. sym stopped.link ∙ joined_by (is_awaited d.link) (ap (λ l. l.phase) (sym k.dials) ∙ j) in
-      record {
-        does = does_like s (carried NoMessage mid next) (carried NoMessage s (reset (OpenMsg o) s)) (d.says ++ next.says) (reset (OpenMsg o) s).says a b
-            (then_does laws s mid (carried NoMessage mid next) d.says [] next.says [] a b first.does (λ c appends takes y. (own_event laws ManualStart tt o mid c b y k.over).does))
-            (ap (λ i. i.state) (sym k.session)) (sym k.link)
-            (acted_none next.acts next.link.epoch mid.acted ∙ (acted_none d.acts d.link.epoch s.acted ∙ sym (acted_none (reset (OpenMsg o) s).acts (reset (OpenMsg o) s).link.epoch s.acted))) refl (sym k.says);
-        joined = λ j. inr (
-          (λ was. not_awaited s.link (own was) (awaited j)),
-          answers_is laws s a x.reads ∙ awaited j,
-        );
-        apart = λ n. elim (decides laws s.link.phase) [
-          | inl j ↦ inr (k.drops ∙ stopped.drops (sym (phase_fits laws s a b x) ∙ j))
-          | inr m ↦ inl m
-        ];
-      }
-
-  reset_event : (o : Open) (s : Side) (a b : End Message) → Stands s a b → (s.link.phase ≡ phase.Joined → s.link.heard ≡ s.link.epoch) → (reset (OpenMsg o) s).overflows ≡ false → Row s NoMessage (reset (OpenMsg o) s) a b
-  reset_event o s a b x own over =
-      reset_row o s a b x own (subst (λ (t : Side). Stopped s.session.state t (met (OpenMsg o) t ManualStop)) (at_own laws s a b x) (like s.session.state s)) over
-    where
-      like : (st : State) (t : Side) → Stopped st (at st t) (met (OpenMsg o) (at st t) ManualStop)
-      like st t = (let k = stopped_is st o t in record { idle = k.idle; link = k.link; drops = k.drops })
-
   -- ---- a message is handled
 
   -- what stands in front reads as a message
@@ -218,11 +123,11 @@ module _ (laws : Laws) where
   takes_marker v true p c e n s before a b up k there =
       let r = there refl in
       then_takes laws v s (cond p (cond c (marked n s) s) s) before a b (Mark e n) (says_where p (says_where c (Mark s.link.epoch n ∷ []))) k r refl ((marker_keeps p c n s).1 ∙ r.none)
-      (λ z y next. then_does laws s s (cond p (cond c (marked n s) s) s) [] (Mark e n ∷ []) (says_where p (says_where c (Mark s.link.epoch n ∷ []))) [] z b (mark_taken laws s e n z b y next) (λ z' appends takes y'. marker_does p c n s z' b up y'))
+      (λ z y next. then_does laws s s (cond p (cond c (marked n s) s) s) [] (Mark e n ∷ []) (says_where p (says_where c (Mark s.link.epoch n ∷ []))) [] z b (inl refl) (mark_taken laws s e n z b y next) (λ z' appends takes y'. marker_does p c n s z' b up y'))
   takes_marker v false p c e n s before a b up k there =
       by_does laws v s (cond p (cond c (marked n s) s) s) (says_where p (says_where c (Mark s.link.epoch n ∷ []))) before a b k (sym (marker_keeps p c n s).0) (sym (marker_keeps p c n s).1) (marker_does p c n s a b up k.stands)
 
-  untold_up : (l c : Bool) (f : Option PrefixView) (q : PrefixView) → cond (l && c) f None ≡ Some q → c ≡ true
+  pub untold_up : (l c : Bool) (f : Option PrefixView) (q : PrefixView) → cond (l && c) f None ≡ Some q → c ≡ true
   untold_up true true f q h = refl
   untold_up true false f q h = absurd (cc h)
   untold_up false c f q h = absurd (cc h)
@@ -309,7 +214,7 @@ module _ (laws : Laws) where
         (λ h. at_peer (λ i. Row (x.sides v) NoMessage (meets_at g u x i ManualStop) a b) v w h (stop_event laws (own_open g u) (x.sides v) a b k.stands))
     commanded (command.Reset w) over is =
         where_row laws v (v == w) (x.sides v) (resets_at g u x w) before a b k is
-        (λ h. at_peer (λ i. (resets_at g u x i).overflows ≡ false → Row (x.sides v) NoMessage (resets_at g u x i) a b) v w h (λ fits'. reset_event (own_open g u) (x.sides v) a b k.stands k.own fits') over)
+        (λ h. at_peer (λ i. (resets_at g u x i).overflows ≡ false → Row (x.sides v) NoMessage (resets_at g u x i) a b) v w h (λ fits'. reset_event laws (own_open g u) (x.sides v) a b k.stands k.own fits') over)
     commanded (command.Originate q) over is = idles laws v (x.sides v) (x.sides v) before a b k refl refl refl refl refl
     commanded (command.Withdraw q) over is = idles laws v (x.sides v) (x.sides v) before a b k refl refl refl refl refl
     commanded (command.Snapshot s) over is = marks v (linked g.net u v && is_up (x.sides v)) s (x.sides v) before a b (λ h. up_by (linked g.net u v) (is_up (x.sides v)) h) k

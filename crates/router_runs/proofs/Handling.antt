@@ -1,5 +1,5 @@
 -- Rows of the table of session events that handle a message.
-use Rattle.std.proofs.Common.{◌≡◌, ◌≢◌, ℕ, ◌==◌, Bool, true, false, ◌&&◌, cond, List, [], ◌∷◌, ◌++◌, length, slice_get, refl, ap, sym, ◌∙◌, subst, arith, Option, None, Some}
+use Rattle.std.proofs.Common.{◌≡◌, ◌≢◌, ℕ, ◌==◌, Bool, true, false, ◌&&◌, cond, List, [], ◌∷◌, ◌++◌, length, slice_get, refl, ap, sym, ◌∙◌, subst, arith, Option, None, Some, inl, inr}
 use Rattle.std.specs.Prelude.{Ok}
 use Rattle.std.proofs.lemmas.List.{append-nil}
 use Rattle.std.proofs.lemmas.Bool.Decides.{nat_tests}
@@ -36,7 +36,7 @@ module _ (laws : Laws) where
   pub then_drops : (s t : Side) (new : List (Entry Message)) (e : ℕ) (m : Message) (a b : End Message) → t.link.phase ≡ phase.Shut → IsNext a b (Says e m)
       → Does s t new [] a b → Does s t (new ++ []) (Says e m ∷ []) a b
   then_drops s t new e m a b shut next d =
-      then_does laws s t t new [] [] (Says e m ∷ []) a b d
+      then_does laws s t t new [] [] (Says e m ∷ []) a b (inr (inl refl)) d
       (λ c appends takes y. pass_one t c b (Says e m) y (later a c b (Says e m) takes next)
       (λ j. absurd (let p : c.phase ≡ links.Closed = y.reads.phase ∙ ap phase_of shut in cc (p, j))) refl (rw shut refl) refl)
 

@@ -152,7 +152,7 @@ module _ (laws : Laws) where
         }
 
     module _ (old : RunState) (k : Kept g old) (d : NetworkEvent Own What MadeOffer) (own : Logged) (step : LoggedStep g d.router (old.routers d.router) d.event own) where
-      reads_front : (w : ℕ) → d.event ≡ alone (Handles w) → (m : Message) × (front (rule_of w) ((old.routers d.router).router.sides w).held ≡ Ok m)
+      pub reads_front : (w : ℕ) → d.event ≡ alone (Handles w) → (m : Message) × (front (rule_of w) ((old.routers d.router).router.sides w).held ≡ Ok m)
       reads_front w is =
           let u : ℕ = d.router in
           let may : May g u (old.routers u).router (alone (Handles w)) = subst (May g u (old.routers u).router) is step.step.may in

@@ -8,6 +8,7 @@ pub mod Handling
 pub mod Signing
 pub mod Octets
 pub mod Stepping
+pub mod Resetting
 pub mod Events
 pub mod Running
 pub mod Streams
@@ -18,3 +19,25 @@ pub mod Keeping
 pub mod Leaving
 pub mod Losing
 pub mod Acts
+mod Quieting
+mod Hanging
+mod Using
+mod Going
+mod Turning
+pub mod Words
+pub mod Stability
+mod Hearing
+pub mod Markers
+pub mod Believing
+mod Locally
+mod SessionSteps
+mod Marking
+mod Parting
+mod Beginning
+mod Alike
+mod MarkerSteps
+mod Lifting
+mod TableSteps
+pub mod NextEvent
+mod Mirroring
+mod LocalSteps

@@ -190,14 +190,19 @@ module _ (laws : Laws) where
       }
 
   -- an entry that is no message is taken, and whatever was dropped passed before it
+  pub control_passed : (x : Entry Message) (messages : List (Entry Message)) (items : List (Passing Message)) (s : Side) (a c : End Message) → (k : Holds s items a) → passing written messages ≡ k.rest
+      → c.taken ≡ a.taken ++ (messages ++ x ∷ []) → passing written (x ∷ []) ≡ Control x ∷ [] → items ++ Control x ∷ [] ≡ passing written c.taken ++ []
+  control_passed x messages items s a c k are takes one =
+      ap (λ w. w ++ Control x ∷ []) k.passed ∙ (append_assoc (passing written a.taken) k.rest (Control x ∷ [])
+      ∙ (ap (λ w. passing written a.taken ++ w) (ap (λ w. w ++ Control x ∷ []) (sym are) ∙ (ap (λ w. passing written messages ++ w) (sym one) ∙ sym (passing_more laws written messages (x ∷ []))))
+      ∙ (sym (passing_more laws written a.taken (messages ++ x ∷ [])) ∙ (ap (passing written) (sym takes) ∙ sym (append-nil (passing written c.taken))))))
+
   pub holds_control : (t : Side) (x : Entry Message) (messages : List (Entry Message)) (items : List (Passing Message)) (s : Side) (a c : End Message) → (k : Holds s items a) → passing written messages ≡ k.rest
       → c.taken ≡ a.taken ++ (messages ++ x ∷ []) → passing written (x ∷ []) ≡ Control x ∷ [] → t.held ≡ [] → Holds t (items ++ Control x ∷ []) c
   holds_control t x messages items s a c k are takes one none = record {
     rest = [];
     only = tt;
-    passed = ap (λ w. w ++ Control x ∷ []) k.passed ∙ (append_assoc (passing written a.taken) k.rest (Control x ∷ [])
-        ∙ (ap (λ w. passing written a.taken ++ w) (ap (λ w. w ++ Control x ∷ []) (sym are) ∙ (ap (λ w. passing written messages ++ w) (sym one) ∙ sym (passing_more laws written messages (x ∷ []))))
-        ∙ (sym (passing_more laws written a.taken (messages ++ x ∷ [])) ∙ (ap (passing written) (sym takes) ∙ sym (append-nil (passing written c.taken))))));
+    passed = control_passed x messages items s a c k are takes one;
     joined = λ j. ap (octets_of t.link.epoch) (sym none);
     apart = λ n. none;
   }

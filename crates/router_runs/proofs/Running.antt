@@ -72,7 +72,7 @@ module _ (laws : Laws) where
   all_more (x ∷ xs) ys = ap (λ w. passes x ++ w) (all_more xs ys) ∙ sym (append_assoc (passes x) (all_passes xs) (all_passes ys))
 
   -- an end that is joined has heard its own number
-  own_number : (u v : ℕ) (s t : Side) (log other : List (Entry Message)) (items back : List What) → u ≢ v → LinkKept u v s t log other items back → s.link.phase ≡ phase.Joined → s.link.heard ≡ s.link.epoch
+  pub own_number : (u v : ℕ) (s t : Side) (log other : List (Entry Message)) (items back : List What) → u ≢ v → LinkKept u v s t log other items back → s.link.phase ≡ phase.Joined → s.link.heard ≡ s.link.epoch
   own_number u v s t log other items back apart k j =
       let l = sessions_make_a_link_run laws k.steps k.run in
       let e : End Message = ends_after opening (all_moves first_sides k.steps) u v in

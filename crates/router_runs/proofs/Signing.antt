@@ -1,5 +1,5 @@
 -- Rows of the table of session events that take a dial, a close, or a marker; and messages that are dropped.
-use Rattle.std.proofs.Common.{◌≡◌, ◌≢◌, ℕ, ◌==◌, ◌<◌, Bool, true, false, ◌&&◌, cond, List, [], ◌∷◌, ◌++◌, length, slice_get, refl, ap, sym, ◌∙◌, subst, arith, append_assoc, Option, None, Some}
+use Rattle.std.proofs.Common.{◌≡◌, ◌≢◌, ℕ, ◌==◌, ◌<◌, Bool, true, false, ◌&&◌, cond, List, [], ◌∷◌, ◌++◌, length, slice_get, refl, ap, sym, ◌∙◌, subst, arith, append_assoc, Option, None, Some, inl, inr}
 use Rattle.std.specs.Prelude.{nat_lt}
 use Rattle.std.proofs.lemmas.Bool.Decides.{nat_tests}
 use Rattle.bgp_codec.specs.declared.message.Message.{Message}
@@ -193,7 +193,7 @@ module _ (laws : Laws) where
   then_shut : (s : Side) (session : SessionView) (left : Option ℕ) (e : ℕ) (a b : End Message) → IsNext a b (Shut e) → (e == s.link.heard) ≡ true
       → Does s (hung_side s session) (Shut s.link.epoch ∷ []) [] a b → Does s (carried NoMessage s (ended s session left)) (Shut s.link.epoch ∷ []) (Shut e ∷ []) a b
   then_shut s session left e a b next hit d =
-      then_does laws s (hung_side s session) (carried NoMessage s (ended s session left)) (Shut s.link.epoch ∷ []) [] [] (Shut e ∷ []) a b d
+      then_does laws s (hung_side s session) (carried NoMessage s (ended s session left)) (Shut s.link.epoch ∷ []) [] [] (Shut e ∷ []) a b (inr (inl refl)) d
       (λ c appends takes y. by_event laws (hung_side s session) (carried NoMessage s (ended s session left)) c b (Passes (Shut e)) (Takes (Shut e) ∷ []) y
       (later laws a c b (Shut e) takes next, λ j. absurd (let p : c.phase ≡ links.Closed = y.reads.phase in cc (p, j))) refl refl (rw hit refl) refl refl)
 
@@ -311,6 +311,6 @@ module _ (laws : Laws) where
   drops_all (Mark e k ∷ ms) only s a b rest x n is = absurd only
   drops_all (Shut e ∷ ms) only s a b rest x n is = absurd only
   drops_all (Says e m ∷ ms) only s a b rest x n is =
-      then_does laws s s s [] (Says e m ∷ []) [] ms a b
+      then_does laws s s s [] (Says e m ∷ []) [] ms a b (inl refl)
       (pass_one laws s a b (Says e m) x (at_place a.taken (Says e m) (ms ++ rest) b.appended is) (λ j. absurd (closed_off s.link.phase n (sym x.reads.phase ∙ j))) refl (unused s.link.phase (s.link.epoch == e) m e s.acted n) refl)
       (λ c appends takes y. drops_all ms only s c b rest y n (ap (λ l. l ++ (ms ++ rest)) takes ∙ (append_assoc a.taken (Says e m ∷ []) (ms ++ rest) ∙ is)))

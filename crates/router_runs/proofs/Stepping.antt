@@ -106,7 +106,7 @@ module _ (laws : Laws) where
   -- the same from a side that differs in its timers
   timer_row : (s : Side) (d : Draft) (a b : End Message) → Row (record s { session = ticked s.session }) NoMessage d a b → Row s NoMessage d a b
   timer_row s d a b r = record {
-    does = record { events = r.does.events; may = r.does.may; state = r.does.state; stands = r.does.stands; appends = r.does.appends; takes = r.does.takes };
+    does = record { events = r.does.events; may = r.does.may; state = r.does.state; stands = r.does.stands; appends = r.does.appends; takes = r.does.takes; leaves = r.does.leaves };
     joined = r.joined;
     apart = r.apart;
   }
@@ -181,7 +181,7 @@ module _ (laws : Laws) where
       → Advances s t new before (Control x ∷ []) a b
   then_takes v s t before a b x new k r one none next =
       let d : Does s t new (r.messages ++ x ∷ []) a b =
-      then_does laws s s t [] r.messages new (x ∷ []) a b r.does
+      then_does laws s s t [] r.messages new (x ∷ []) a b (inl refl) r.does
       (λ c appends takes y. next c y (at_place laws c.taken x r.front.0 b.appended (ap (λ l. l ++ x ∷ r.front.0) takes
       ∙ (append_assoc a.taken r.messages (x ∷ r.front.0) ∙ (ap (λ w. a.taken ++ w) (sym (append_assoc r.messages (x ∷ []) r.front.0)) ∙ (sym (append_assoc a.taken (r.messages ++ x ∷ []) r.front.0) ∙ r.front.1)))))) in
       record { past = r.messages ++ x ∷ []; does = d; holds = holds_control laws t x r.messages before s a (sides_after (model_side s a) d.events).end k.holds r.are d.takes one none }

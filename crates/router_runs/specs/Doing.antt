@@ -1,12 +1,13 @@
 -- Events of a session that a step of one side is in the laws of runs.
-use Rattle.std.specs.Prelude.{◌≡◌, ◌≢◌, true, false, List, [], ◌∷◌, ◌++◌, Ok}
+use Rattle.std.specs.Prelude.{◌≡◌, ◌≢◌, Bool, true, false, ◌&&◌, ◌||◌, not, List, [], ◌∷◌, ◌++◌, Ok}
 use mathlib.Core.Logic.{◌⊎◌}
 use Rattle.bgp_codec.specs.declared.message.Message.{Message}
 use Rattle.link_epoch.specs.declared.link_end.Phase.TheVariants as phase
 use Rattle.run_model.specs.Links.{Entry, Says, End, answers}
-use Rattle.run_model.specs.Sessions.{SessionEvent, Fits}
+use Rattle.run_model.specs.Sessions as model
+use Rattle.run_model.specs.Sessions.{SessionEvent, SessionState, Fits, side_after}
 use Rattle.run_model.specs.Facts.{EndFacts}
-use Rattle.router_model.specs.Sides.{Side, Draft, AtHand, at_hand, carried, without_front}
+use Rattle.router_model.specs.Sides.{Side, Draft, AtHand, at_hand, carried, without_front, is_up}
 use Rattle.router_runs.specs.Reading.{Reads, MayComeAll, sides_after, state_of, model_side}
 
 -- a side is this end, whose peer's end is b, and what holds of both in every run holds
@@ -16,6 +17,35 @@ pub record Stands (s : Side) (a b : End Message) : Type 0 where
   pub mine : EndFacts a b
   pub theirs : EndFacts b a
 
+-- ---- events that leave Established
+
+abbrev pub is_up_in : SessionState → Bool
+is_up_in model.Idle = false
+is_up_in model.Connect = false
+is_up_in model.Active = false
+is_up_in model.OpenSent = false
+is_up_in model.OpenConfirm = false
+is_up_in model.Established = true
+
+abbrev pub closes : SessionEvent Message → Bool
+closes (model.Starts m) = false
+closes (model.Retries m) = false
+closes (model.Confirms e m) = false
+closes (model.Yields e m) = false
+closes (model.AcceptsOpen m k) = false
+closes (model.AcceptsKeepalive m) = false
+closes (model.Accepts m) = false
+closes (model.Speaks m) = false
+closes (model.SendsMarker s) = false
+closes (model.Closes ms) = true
+closes model.Fails = false
+closes (model.Passes x) = false
+
+-- one of these events closes a session that is up
+abbrev pub leaves_in : model.Side Message → List (SessionEvent Message) → Bool
+leaves_in x [] = false
+leaves_in x (e ∷ es) = (is_up_in x.state && closes e) || leaves_in (side_after x e) es
+
 -- from one side to the other by events of its session, which append and take these entries
 pub record Does (s t : Side) (new past : List (Entry Message)) (a b : End Message) : Type 0 where
   pub events : List (SessionEvent Message)
@@ -24,6 +54,7 @@ pub record Does (s t : Side) (new past : List (Entry Message)) (a b : End Messag
   pub stands : Stands t (sides_after (model_side s a) events).end b
   pub appends : (sides_after (model_side s a) events).end.appended ≡ a.appended ++ new
   pub takes : (sides_after (model_side s a) events).end.taken ≡ a.taken ++ past
+  pub leaves : leaves_in (model_side s a) events ≡ (is_up s && not (is_up t))
 
 -- a draft that takes nothing: it stays joined and drops nothing, or joins by a dial of its own, or is not joined
 pub record Row (s : Side) (h : AtHand) (d : Draft) (a b : End Message) : Type 0 where

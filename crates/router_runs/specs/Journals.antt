@@ -1,6 +1,5 @@
 -- What routers' journals show of a run: every causal order of them is one.
 use Rattle.std.specs.Prelude.{ℕ, List}
-use Rattle.run_model.specs.Network.{Journal}
 use Rattle.run_model.specs.Journals.{IsJournal}
 use Rattle.run_model.specs.CausalOrder.{IsCausalOrder, closing, TakesHaveTheirPuts}
 use Rattle.outbox.specs.declared.item.What.{What}

@@ -7,7 +7,9 @@ use Rattle.run_model.specs.Links.{JoinedHeardItsOwn}
 use Rattle.run_model.specs.Sessions.{SessionRunsGoOn, SessionsMakeALinkRun}
 use Rattle.run_model.specs.Octets.{NextControlIsNextEntry, HeldBeginsNextMessage, DroppedOctetsAreMessages}
 use Rattle.run_model.specs.Streams.{BeginningsPass, OctetsBeginWhatIsSaid, UsedOctetsWereTaken, NoStaleOctetAtAnEnd, NoneDroppedAtAnEnd}
-use Rattle.run_model.specs.Facts.{EndFactsHold, MovesKeepFacts, NotDialledIsNotShut, PastStaysPast, SessionEventsLeadOn, EntriesAddUp}
+use Rattle.run_model.specs.Facts.{EndFactsHold, MovesKeepFacts, UpByFit, NotDialledIsNotShut, PastStaysPast, SessionEventsLeadOn, EntriesAddUp}
+use Rattle.stable_paths.specs.Promises.{StableIsTheModels}
+use Rattle.router_model.specs.Recording.{DraftsLeaveEstablished}
 use Rattle.router_model.specs.Laws.{LinkedRoutersArePeers, StepsAppendWhatTheySay}
 
 pub record LawsBelow : Type 0 where
@@ -24,6 +26,7 @@ pub record LawsBelow : Type 0 where
   pub heard : JoinedHeardItsOwn Message
   -- sessions
   pub leads : SessionEventsLeadOn Message
+  pub up : UpByFit Message
   pub on : SessionRunsGoOn Message
   pub run : SessionsMakeALinkRun Message
   -- octets
@@ -38,3 +41,6 @@ pub record LawsBelow : Type 0 where
   -- routers
   pub links : LinkedRoutersArePeers
   pub appends : StepsAppendWhatTheySay
+  pub left : DraftsLeaveEstablished
+  -- choices
+  pub stable : StableIsTheModels Message

@@ -10,3 +10,5 @@ pub mod LawsBelow
 pub mod Journals
 pub mod Model
 pub mod Acts
+pub mod Mirrors
+pub mod SnapshotLaws

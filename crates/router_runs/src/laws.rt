@@ -10,13 +10,15 @@ ghost use Rattle.router_runs.specs.Snapshots.{CloseLosesTheRecording};
 use bgp_codec::Message;
 use bgp_codec::laws::{a_peers_writing_is_read, header_is_its_front, written_has_a_header};
 use router_model::laws::{
-    leaving_loses_the_recording, linked_routers_are_peers, steps_append_what_they_say,
+    drafts_leave_established, leaving_loses_the_recording, linked_routers_are_peers,
+    steps_append_what_they_say,
 };
 use run_model::{
     Framing, end_facts_hold, entries_add_up, joined_heard_its_own, moves_keep_end_facts,
     no_octet_is_stale, octets_are_entries, octets_of_an_incarnation, session_events_lead_on,
     sessions_are_link_runs,
 };
+use stable_paths::laws::stable_is_the_models;
 
 /// Frames of BGP-4 (RFC 4271 section 4.1): octets with a good header whose Length is their number.
 struct Frames;
@@ -26,7 +28,7 @@ impl Framing for Frames {
 }
 
 /// What the crates below say of link ends, sessions, octets and the steps of one router.
-fn laws_below()
+pub(crate) fn laws_below()
     ensures { LawsBelow }
 {
     header_is_its_front();
@@ -43,6 +45,8 @@ fn laws_below()
     octets_of_an_incarnation::<Message>();
     linked_routers_are_peers();
     steps_append_what_they_say();
+    drafts_leave_established();
+    stable_is_the_models::<Message>();
 }
 
 /// Every message that a router may say is written as a frame, and each of its peers reads it back.

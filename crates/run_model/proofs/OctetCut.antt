@@ -1,7 +1,7 @@
 -- Octets that were taken inside a cut were appended inside.
 use Rattle.std.proofs.Common.{◌≡◌, ℕ, suc, ◌==◌, Bool, true, false, cond, List, [], ◌∷◌, ◌++◌, Some, refl, ap, sym, ◌∙◌, arith, append_assoc, subst, inl, inr, ◌⊎◌}
 use mathlib.Core.List.{IsPrefix}
-use Rattle.run_model.specs.Links.{Entry, End, Mark, Marks, after, incarnation, is_up, taking}
+use Rattle.run_model.specs.Links.{Entry, End, Mark, Marks, after, incarnation, is_up, taking, greatest_dial}
 use Rattle.run_model.specs.Octets.{Passing, passing, OnlyOctets}
 use Rattle.run_model.specs.Recordings.{Recorder, Act, Moves, EndsChannel, IgnoresMarker, Begins, Follows, Finishes, with_end, marked, recorder_after}
 use Rattle.run_model.specs.Routes.{Network, NetworkStep, records, first_routers, IsNetworkRun, IsRunOf, reached}
@@ -63,8 +63,8 @@ module _ {M : Type 0} where
 
 module _ {M P W : Type 0} where
   -- so a copy of an end that was up ends with the marker
-  copy_marked : (g : Network M P W) (ts : List (NetworkStep M P W)) → IsRunOf g ts → (u s y : ℕ) (c : ℕ → End M) → (reached g ts u).recorder.copy s ≡ Some c → is_up (c y) ≡ true
-      → (before : List (Entry M)) × (e : ℕ) × ((c y).appended ≡ before ++ Mark e s ∷ [])
+  pub copy_marked : (g : Network M P W) (ts : List (NetworkStep M P W)) → IsRunOf g ts → (u s y : ℕ) (c : ℕ → End M) → (reached g ts u).recorder.copy s ≡ Some c → is_up (c y) ≡ true
+      → (before : List (Entry M)) × (e : ℕ) × ((c y).appended ≡ before ++ Mark e s ∷ []) × (e ≡ greatest_dial before)
   copy_marked g ts r u s y c is up =
       let d = was_recorded g ts u s c is in
       let run : IsNetworkRun g (first_routers g) (d.0 ++ step_of u d.2 ∷ d.1) = subst (IsNetworkRun g (first_routers g)) d.3 r in
@@ -73,7 +73,7 @@ module _ {M P W : Type 0} where
       let same : (recorder_after x d.2).ends ≡ c = some_same (recorder_after x d.2).ends c ((reached g ts u).recorder.copy s) (ap (λ l. (reached g l u).recorder.copy s) d.3 ∙ stands.0) is in
       let m = recorded_marked x d.2 s y d.4 in
       let here : c y ≡ marked s m.0 = sym (ap (λ (f : ℕ → End M). f y) same) ∙ m.1 in
-      (m.0.appended, incarnation m.0, ap (λ (i : End M). i.appended) here ∙ ends_marked s m.0 (subst (λ (i : End M). is_up i ≡ true) here up))
+      (m.0.appended, incarnation m.0, ap (λ (i : End M). i.appended) here ∙ ends_marked s m.0 (subst (λ (i : End M). is_up i ≡ true) here up), refl)
 
   pub taken_octets_are_inside : TakenOctetsAreInside M P W
   taken_octets_are_inside g net ts r s all inside cut written u v link held only none is =

@@ -8,15 +8,18 @@ use Rattle.run_model.specs.Recordings.{Finishes, recorder_after}
 use Rattle.run_model.specs.Routes.{Network, Routers, Event, Acts, NetworkStep, router_after, advanced, routers_after, IsRunOf, reached, first_routers}
 use Rattle.run_model.specs.Places.{IsCutOfLink, RecordsAt, step_of, after_own, end_inside}
 use Rattle.run_model.specs.NetworkLinks.{reached_end, moves_between}
-use Rattle.run_model.specs.Steps.{NetworkEndFactsHold, CopiesAreACut, CopiesAreTheState, heard_with, heard_in, LinkEndsKeepEnough}
+use Rattle.run_model.specs.Steps.{NetworkEndFactsHold, CopiesAreACut, CopiesAreTheState, heard_with, heard_in, LinkEndsKeepEnough, MarkersAreObeyed, CopiesAreMarked}
+use Rattle.run_model.specs.Offers.{IsIn}
+use Rattle.run_model.proofs.MarkerFacts.{is_mark, has_mark}
+use Rattle.run_model.proofs.RecordingRuns.{holds_start}
 use Rattle.run_model.proofs.LinkFacts.{EndFacts}
 use Rattle.run_model.proofs.IncarnationRuns.{all_facts}
 use Rattle.run_model.proofs.NetworkLinkRuns.{network_runs_are_link_runs}
-use Rattle.run_model.proofs.SettledFacts.{some_same}
+use Rattle.run_model.proofs.SettledFacts.{some_same, facts_run}
 use Rattle.run_model.proofs.PlaceFacts.{records_its_state}
 use Rattle.run_model.proofs.CutPlaces.{recorded_at_one_place}
 use Rattle.run_model.proofs.WholeCut.{recordings_make_a_cut}
-use Rattle.run_model.proofs.OctetCut.{taken_octets_are_inside}
+use Rattle.run_model.proofs.OctetCut.{taken_octets_are_inside, copy_marked}
 use Rattle.std.proofs.lemmas.Bool.Decides.{nat_tests}
 
 module _ {M P W : Type 0} where
@@ -170,3 +173,36 @@ module _ {M P W : Type 0} where
       let h = heard_so a.taken 0 false sound in
       let low : max 0 (greatest_dial a.taken) ≡ greatest_dial a.taken = omega arith in
       (h.0 ∙ low, h.1 ∙ (or_false (has_shut (max 0 (greatest_dial a.taken)) a.taken) ∙ ap (λ i. has_shut i a.taken) low), dial_number a)
+
+-- ---- markers that were taken
+
+found_later : (b : Bool) (h : Bool) → h ≡ true → cond b true h ≡ true
+found_later true h e = refl
+found_later false h e = e
+
+module _ {M : Type 0} where
+  is_here : (x : Entry M) (n s : ℕ) → Mark n s ≡ x → is_mark n s x ≡ true
+  is_here x n s same =
+      let a : (n == n) ≡ true = grind (arith, nat_tests) in
+      let b : (s == s) ≡ true = grind (arith, nat_tests) in
+      subst (λ (y : Entry M). is_mark n s y ≡ true) same (rw (a, b) refl)
+
+  in_last : (x : Entry M) (xs : List (Entry M)) → IsIn x (xs ++ x ∷ [])
+  in_last x [] = inl refl
+  in_last x (y ∷ xs) = inr (in_last x xs)
+
+  has_one : (n s : ℕ) (xs : List (Entry M)) → IsIn (Mark n s) xs → has_mark n s xs ≡ true
+  has_one n s [] h = absurd h
+  has_one n s (x ∷ xs) (inl now) = rw (is_here x n s now) refl
+  has_one n s (x ∷ xs) (inr later) = found_later (is_mark n s x) (has_mark n s xs) (has_one n s xs later)
+
+module _ {M P W : Type 0} where
+  pub markers_are_obeyed : MarkersAreObeyed M P W
+  markers_are_obeyed g ts r u v apart joined s h =
+      ((facts_run g ts (first_routers g) (holds_start g.linked) r).locals u v apart).obeyed s joined (has_one (incarnation (reached_end g ts u v)) s (reached_end g ts u v).taken h)
+
+  pub copies_are_marked : CopiesAreMarked M P W
+  copies_are_marked g ts r u s v c is up =
+      let m = copy_marked g ts r u s v c is up in
+      let same : m.1 ≡ incarnation (c v) = (let a = m.3 in let b = greatest_dial-append m.0 (Mark m.1 s ∷ []) in let d = ap greatest_dial m.2 in omega (arith, a, b, d)) in
+      subst (λ e. IsIn (Mark e s) (c v).appended) same (subst (IsIn (Mark m.1 s)) (sym m.2) (in_last (Mark m.1 s) m.0))

@@ -1,14 +1,15 @@
 -- What a state of a run gives to the next event of one router: of its ends and its recordings.
-use Rattle.std.specs.Prelude.{ℕ, ◌≡◌, ◌≢◌, ◌==◌, nat_lt, Bool, true, false, cond, List, [], ◌∷◌, ◌++◌, Some}
+use Rattle.std.specs.Prelude.{ℕ, ◌≡◌, ◌≢◌, ◌==◌, ◌≤◌, nat_lt, Bool, true, false, cond, List, [], ◌∷◌, ◌++◌, Some}
 use mathlib.Core.Logic.{◌⊎◌}
 use mathlib.Core.List.{IsPrefix}
-use Rattle.run_model.specs.Links.{Entry, Dial, Says, Mark, Shut, End, has_shut, incarnation, heard_number, dialling, next_incarnation}
+use Rattle.run_model.specs.Links.{Entry, Dial, Says, Mark, Shut, End, Joined, has_shut, is_up, incarnation, heard_number, dialling, next_incarnation}
 use Rattle.run_model.specs.Facts.{EndFacts}
 use Rattle.run_model.specs.Octets.{Passing, passing, OnlyOctets}
 use Rattle.run_model.specs.Recordings.{Act, Finishes}
 use Rattle.run_model.specs.Routes.{Network, IsNetwork, NetworkStep, records, HasAllParts, IsRunOf, reached}
 use Rattle.run_model.specs.Places.{IsCutOfLink, step_of}
 use Rattle.run_model.specs.NetworkLinks.{reached_end}
+use Rattle.run_model.specs.Offers.{IsIn}
 
 -- in every run of the network the facts of link ends hold of both ends of each link: among them that what an end took is a
 -- beginning of what its peer appended
@@ -16,6 +17,13 @@ abbrev pub NetworkEndFactsHold : (M P W : Type 0) → Type 0
 NetworkEndFactsHold M P W =
     (g : Network M P W) (ts : List (NetworkStep M P W)) → IsRunOf g ts → (u v : ℕ) → u ≢ v
     → EndFacts (reached_end g ts u v) (reached_end g ts v u)
+
+-- an end that is joined took no marker of its own incarnation whose number is above the last that its router recorded: markers
+-- are obeyed as they are taken
+abbrev pub MarkersAreObeyed : (M P W : Type 0) → Type 0
+MarkersAreObeyed M P W =
+    (g : Network M P W) (ts : List (NetworkStep M P W)) → IsRunOf g ts → (u v : ℕ) → u ≢ v → (reached_end g ts u v).phase ≡ Joined
+    → (s : ℕ) → IsIn (Mark (incarnation (reached_end g ts u v)) s) (reached_end g ts u v).taken → s ≤ (reached g ts u).recorder.last
 
 -- of a snapshot that every router finished, the copies of the ends are what a consistent cut leaves of each link; and octets
 -- that were taken by then, handled or not, had been appended by then
@@ -30,6 +38,12 @@ CopiesAreACut M P W =
     → ((cu v).taken ≡ (cv u).appended → held ≡ [])
     → IsPrefix (passing written (cu v).taken ++ held) (passing written ((reached g ts v).recorder.ends u).appended)
     → IsPrefix (passing written (cu v).taken ++ held) (passing written (cv u).appended))
+
+-- an end that was up as its router recorded has sent its marker
+abbrev pub CopiesAreMarked : (M P W : Type 0) → Type 0
+CopiesAreMarked M P W =
+    (g : Network M P W) (ts : List (NetworkStep M P W)) → IsRunOf g ts → (u s v : ℕ) (c : ℕ → End M)
+    → (reached g ts u).recorder.copy s ≡ Some c → is_up (c v) ≡ true → IsIn (Mark (incarnation (c v)) s) (c v).appended
 
 -- one event of a router is several of the model: where behind the one that records it at most finishes, the copies are the
 -- router's state after all of them

@@ -1,5 +1,5 @@
 //! What a state of a run gives to the next event of one router.
-ghost use Rattle.run_model.specs.Steps.{NetworkEndFactsHold, CopiesAreACut, CopiesAreTheState, LinkEndsKeepEnough};
+ghost use Rattle.run_model.specs.Steps.{NetworkEndFactsHold, CopiesAreACut, CopiesAreMarked, CopiesAreTheState, LinkEndsKeepEnough, MarkersAreObeyed};
 
 /// In every run of the network the facts of link ends hold of both ends of each link: what an end took is a beginning of
 /// what its peer appended, each message has the number dialled before it, an end joins only what its peer dialled, and it
@@ -12,13 +12,15 @@ pub fn states_of_runs<M, P, W>()
 {}
 
 /// What stands as recorded of a snapshot that every router finished is a consistent cut with its channels, octets included
-/// (`cut`); and it is the router's state after the whole event that recorded (`state`).
+/// (`cut`); and it is the router's state after the whole event that recorded (`state`). Each end that was up has sent its marker by then
+/// (`marked`).
 ///
 /// Premises: each event is one that `MayHappen` allows; for `cut` that links lead both ways, that the snapshot has a part
 /// of every router, and for the octets that a router holds none where it took all that had been appended; for `state`
 /// that behind the act that records a number the event of the router at most finishes it.
 pub fn copies_are_a_cut<M, P, W>()
     ensures cut { CopiesAreACut M P W }
+    ensures marked { CopiesAreMarked M P W }
     ensures state { CopiesAreTheState M P W }
 {}
 
@@ -28,4 +30,12 @@ pub fn copies_are_a_cut<M, P, W>()
 /// Premises: each event is one that `MayHappen` allows.
 pub fn link_ends_keep_enough<M, P, W>()
     ensures { LinkEndsKeepEnough M P W }
+{}
+
+/// In every run of the network an end that is joined took no marker of its own incarnation whose number is above the last
+/// that its router recorded.
+///
+/// Premises: each event is one that `MayHappen` allows.
+pub fn markers_are_obeyed<M, P, W>()
+    ensures { MarkersAreObeyed M P W }
 {}

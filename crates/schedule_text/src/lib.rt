@@ -8,13 +8,14 @@
 //! end, [`route_line`] a router's path for a prefix, [`stop_line`] that a run refused the order of a
 //! line. A refused call leaves the buffer's octets as they were.
 //!
-//! The definitions stand in `specs/`: `Schedules` (keywords, their operands, whole texts),
-//! `Reports` (lines of a run).
+//! The definitions stand in `specs/`: `Schedules` (keywords, their operands, whole texts), `Sayings`
+//! (which words say which order), `Reports` (lines of a run). [`laws`] has what they say together.
 //!
 //! Left out: what orders do.
 #![tactic(auto)]
 
 mod keyword;
+pub mod laws;
 mod operands;
 mod report;
 mod schedule;

@@ -1,10 +1,12 @@
 -- The first of a router's choices, one link more at a time.
 use Rattle.std.proofs.Common.{◌≡◌, ◌≢◌, ℕ, Option, Some, None, List, [], ◌∷◌, ◌++◌, sym, ap, subst, ◌∙◌, arith, inl, inr, ◌⊎◌}
-use Rattle.std.specs.Prelude.{MatchOption}
+use Rattle.std.specs.Prelude.{MatchOption, ◌↔◌}
+use Rattle.std.specs.List.{All}
 use Rattle.prefix_lanes.specs.Bits.{PrefixView}
 use Rattle.ranked_policy.specs.declared.network.Link.{Link}
 use Rattle.ranked_policy.specs.Orders.{IsStrictTotalOrder}
-use Rattle.ranked_policy.specs.Plans.{Joins}
+use Rattle.ranked_policy.specs.Plans.{Joins, Linked}
+use Rattle.ranked_policy.specs.Ways.{HasWay}
 use Rattle.ranked_policy.specs.Policies.{Table, IsPermitted, IsPreferred}
 use Rattle.stable_paths.specs.Stable.{IsChoice, IsFirstOrNone}
 use Rattle.stable_paths.proofs.ListLemmas.{same_or_not, any_split, any_more, any_last}
@@ -149,9 +151,29 @@ nothing_found next links prefix paths table (Some x) old new all e is first = ab
 nothing_found next links prefix paths table None old new all e is first =
     subst (λ (ls : List Link). IsFirstOrNone ls prefix paths table new) (sym all) (subst (IsFirstOrNone links prefix paths table) (sym is) first)
 
--- a link of others gives no choice
-pub passed_by : (next links : List Link) (prefix : PrefixView) (paths : ℕ → List ℕ) (table : Table) (link : Link) (old new : List ℕ) (router : ℕ) → next ≡ links ++ link ∷ [] → router ≡ table.router
-    → ((v : ℕ) → Joins link router v → ⊥) → new ≡ old → IsFirstOrNone links prefix paths table old → IsFirstOrNone next prefix paths table new
-passed_by next links prefix paths table link old new router all same none is first =
-    let stay = stays prefix paths table links link old (λ path over. none over.peer (subst (λ (n : ℕ). Joins link n over.peer) (sym same) over.joins)) first in
-    subst (λ (ls : List Link). IsFirstOrNone ls prefix paths table new) (sym all) (subst (IsFirstOrNone (links ++ link ∷ []) prefix paths table) (sym is) stay)
+-- a choice over links is one over others that lead to its peer
+choice_over : (links other : List Link) (prefix : PrefixView) (paths : ℕ → List ℕ) (table : Table) (path : List ℕ) → ((v : ℕ) → Linked links table.router v → Linked other table.router v)
+    → IsChoice links prefix paths table path → IsChoice other prefix paths table path
+choice_over links other prefix paths table path on c = record { peer = c.peer; linked = on c.peer c.linked; some = c.some; goes_on = c.goes_on; permitted = c.permitted }
+
+-- the first over links that lead to the same peers
+pub same_links : (links other : List Link) (prefix : PrefixView) (paths : ℕ → List ℕ) (table : Table) (best : List ℕ) → ((v : ℕ) → (Linked links table.router v ↔ Linked other table.router v))
+    → IsFirstOrNone links prefix paths table best → IsFirstOrNone other prefix paths table best
+same_links links other prefix paths table best same (inl first) =
+    inl (record { choice = choice_over links other prefix paths table best (λ v. (same v).0) first.choice; before = λ p c apart. first.before p (choice_over other links prefix paths table p (λ v. (same v).1) c) apart })
+same_links links other prefix paths table best same (inr none) = inr (none.0, λ p c. none.1 p (choice_over other links prefix paths table p (λ v. (same v).1) c))
+
+-- ways from one router lead where its links do
+pub way_links : (ways links : List Link) (u : ℕ) → All (λ link. link.one ≡ u) ways → ((v : ℕ) → (HasWay ways u v ↔ Linked links u v)) → (v : ℕ) → (Linked ways u v ↔ Linked links u v)
+way_links ways links u from exact v = (
+  λ l. (exact v).0 (way_of l),
+  λ l. (let w = (exact v).1 l in (w.0, w.1, w.2, w.3, inl w.4)),
+)
+  where
+    way_of : Linked ways u v → HasWay ways u v
+    way_of l = elim l.4 [
+      | inl there ↦ (l.0, l.1, l.2, l.3, there)
+      | inr back ↦
+          let one : l.1.one ≡ u = subst (λ k. k.one ≡ u) l.3 (from l.0 l.1 l.2) in
+          (l.0, l.1, l.2, l.3, (one, back.1 ∙ (sym one ∙ back.0)))
+    ]

@@ -85,12 +85,6 @@ origin_here p table net prefix r en ep er eo = (
       (subst (λ (q : PrefixView). IsOrigin net.origins table.router q) (sym ep) (subst (λ (os : List Origin). IsOrigin os table.router p.prefix) (eo ∙ sym (ap (λ (n : Plan). n.origins) en)) o)),
 )
 
--- the first over all links of the network
-pub first_at : (p : Problem) (paths : ℕ → List ℕ) (table : Table) (best : List ℕ) (links : List Link) (prefix : PrefixView) → links ≡ p.net.links → prefix ≡ p.prefix
-    → IsFirstOrNone links prefix paths table best → IsFirstOrNone p.net.links p.prefix paths table best
-first_at p paths table best links prefix el ep first =
-    subst (λ (q : PrefixView). IsFirstOrNone p.net.links q paths table best) ep (subst (λ (ls : List Link). IsFirstOrNone ls prefix paths table best) el first)
-
 -- ---- one best
 
 pub best_once : EachPolicyIsAnOrder → (p : Problem) → IsProblem p → (paths : ℕ → List ℕ) (t : Table) (a b : List ℕ) → IsTable t → IsBestOf p paths t a → IsBestOf p paths t b → a ≡ b

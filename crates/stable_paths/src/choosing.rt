@@ -13,21 +13,8 @@ use crate::instance::Instance;
 use crate::refusal::StableError;
 use prefix_lanes::Prefix;
 use ranked_policy::laws::each_policy_is_an_order;
-use ranked_policy::{Asn, Chosen, Link, Path, Policy, PolicyTable};
+use ranked_policy::{Asn, Chosen, Path, Policy, PolicyTable};
 use std::alloc::Global;
-
-// The router at the other end of a link, where the link touches this one.
-fn peer_over(link: &Link, router: Asn) -> Option<Asn>
-    ensures { MatchOption result ((v : ℕ) → Joins link.now router v → ⊥) (λ peer. Joins link.now router peer) }
-{
-    if link.one == router {
-        Some(link.other)
-    } else if link.other == router {
-        Some(link.one)
-    } else {
-        None
-    }
-}
 
 // Whether a path is permitted and there is none yet, or it is preferred to the one there is.
 fn is_taken(policy: &Chosen, choice: &Path, best: &Path) -> bool
@@ -82,11 +69,9 @@ pub(crate) fn best_of(
     }
     let policy = table.for_prefix(prefix);
     let mut best = Path::new(alloc);
-    for link in network.links() {
-        if let Some(peer) = peer_over(link, router) {
-            if let Some(choice) = better(alloc, table, &policy, peer, assignment, &best)? {
-                best = choice;
-            }
+    for link in network.links_of(router) {
+        if let Some(choice) = better(alloc, table, &policy, link.other, assignment, &best)? {
+            best = choice;
         }
     }
     Ok(best)

@@ -7,6 +7,7 @@ use Rattle.router_model.specs.State.{Router}
 use Rattle.router_model.specs.Step.{RouterEvent}
 use Rattle.router_model.specs.Laws.{AnswersAreSteps, LinkedRoutersArePeers}
 use Rattle.router_runs.specs.Promises.{UpdatesPassInOrder}
+use Rattle.router_runs.specs.Snapshots.{SnapshotsHoldInRuns}
 use Rattle.world_core.specs.declared.schedule.Event.{Event}
 use Rattle.world_core.specs.World.{World, WorldAnswer, Does, Nothing, Stops, new_world, world_answer, world_after, world_of, onward, played, IsReplayed, IsRunOfWorld}
 use Rattle.world_core.specs.Keeping.{PlayedWorldsKeepTheirPromises, WhatIsPlayedIsReplayed, StepsAreReplayed}
@@ -55,11 +56,11 @@ what_is_played_is_replayed g events w h = replayed g events (new_world g) w 0 re
 
 -- ---- its promises
 
-module _ (answers_are_steps : AnswersAreSteps) (peers : LinkedRoutersArePeers) (in_order : UpdatesPassInOrder) where
+module _ (answers_are_steps : AnswersAreSteps) (peers : LinkedRoutersArePeers) (in_order : UpdatesPassInOrder) (hold : SnapshotsHoldInRuns) where
   pub worlds_keep_their_promises : PlayedWorldsKeepTheirPromises
   worlds_keep_their_promises g set events w h =
       let run = what_is_played_is_a_run answers_are_steps g set events w h in
-      record { run = run; in_order = λ u v e link. in_order_of run u v e link }
+      record { run = run; in_order = λ u v e link. in_order_of run u v e link; snapshots = λ order state r agrees. hold g set order state r }
     where
       in_order_of : (run : IsRunOfWorld g w) (u v e : ℕ) → linked g.net u v ≡ true → IsPrefix (((w.routers v).router.sides u).acted e) (((w.routers u).router.sides v).sent e)
       in_order_of run u v e link =

@@ -8,6 +8,7 @@ pub mod Linking
 pub mod Moving
 pub mod Worlds
 pub mod Orders
+pub mod Resting
 pub mod Made
 pub mod Rising
 pub mod Members

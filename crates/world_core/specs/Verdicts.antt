@@ -1,14 +1,17 @@
 -- How the snapshots of a run come out by the collector of its world.
 use Rattle.std.specs.Prelude.{ℕ, ◌≡◌, List, map}
 use Rattle.ranked_policy.specs.Plans.{Plan, IsNetwork, numbers}
-use Rattle.run_model.specs.Offers.{Outcome, HasOutcome}
+use Rattle.run_model.specs.Network as runs
+use Rattle.run_model.specs.Offers.{Outcome, Settled, HasOutcome}
+use Rattle.snap_marker.specs.Recordings.{RouterPart}
 use Rattle.snap_collector.specs.declared.members.Member.{Member as MemberOf}
 use Rattle.snap_collector.specs.Collecting.{member_of}
 use Rattle.snap_collector.specs.Collector.{CollectorView, AreMembers, made_for, kept_of}
 use Rattle.snap_collector.specs.Verdicts.{Member, IsOver, verdict}
-use Rattle.router_model.specs.Settings.{Setting, peers}
+use Rattle.router_model.specs.Settings.{Setting, IsSetting, peers}
 use Rattle.router_runs.specs.Model.{network_of}
-use Rattle.router_runs.specs.Runs.{RunState}
+use Rattle.router_runs.specs.Runs.{RunOrder, RunState, IsRunTo, logged_steps}
+use Rattle.router_runs.specs.Snapshots.{HaveMade, IsBelievable}
 use Rattle.world_core.specs.World.{AgreesWith}
 use Rattle.world_core.specs.Views.{WorldView, IsWhole, plain_world}
 
@@ -34,6 +37,13 @@ abbrev pub JudgesItsRuns : WorldView → Type 0
 JudgesItsRuns x =
     (g : Setting) → g.net ≡ x.net → (state : RunState) → AgreesWith g (plain_world x) state → (s : ℕ)
     → HasOutcome (network_of g) s state.offered (judged x.collector s)
+
+-- a snapshot that is judged settled can be believed, at each place of a run that the world stands at the end of
+abbrev pub SettledCanBeBelieved : WorldView → Type 0
+SettledCanBeBelieved x =
+    (g : Setting) → g.net ≡ x.net → IsSetting g → (before later : RunOrder) (at state : RunState) → IsRunTo g before at
+    → runs.Run (logged_steps g) at later state → AgreesWith g (plain_world x) state → (s : ℕ) → judged x.collector s ≡ Settled
+    → (parts : ℕ → RouterPart) → HaveMade g state s parts → IsBelievable g before later at state s parts
 
 abbrev pub CollectorsJudgeTheirRuns : Type 0
 CollectorsJudgeTheirRuns = (x : WorldView) → IsWhole x → JudgesItsRuns x

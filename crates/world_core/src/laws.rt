@@ -6,7 +6,7 @@ ghost use Rattle.world_core.specs.Verdicts.{MembersAreOfTheNetwork, CollectorsJu
 use router_model::laws::{
     answers_are_steps, idle_where_nothing_may_come, linked_routers_are_peers,
 };
-use router_runs::updates_pass_in_order;
+use router_runs::{snapshots_of_runs, updates_pass_in_order};
 use snap_collector::laws::{collected_are_kept, verdicts_are_outcomes};
 
 /// The events that a schedule did are a run of the network's routers, and the last state of the run has all that the world
@@ -28,13 +28,16 @@ pub fn steps_are_replayed()
 {}
 
 /// Every world that was played stands at the end of a run, and in it the UPDATEs that each router acted on in an
-/// incarnation of a session are a beginning of those that its peer sent in it: in order, once each.
+/// incarnation of a session are a beginning of those that its peer sent in it: in order, once each. The snapshots of each run
+/// that it stands at the end of are consistent cuts, and the paths of one that is settled are a stable path assignment, which
+/// stays while the run is quiet.
 pub fn played_worlds_keep_their_promises()
     ensures { PlayedWorldsKeepTheirPromises }
 {
     answers_are_steps();
     linked_routers_are_peers();
     updates_pass_in_order();
+    snapshots_of_runs();
 }
 
 /// An event answers that there is nothing to do only where no step of the network has its name; or all outboxes of a router

@@ -37,13 +37,17 @@ impl<'a> World<'a> {
         }
     }
 
-    // So many rounds.
+    // So many rounds. Behind one in which nothing was done all others do nothing.
     fn rounds(&mut self, times: u32) -> Result<(), StepFault>
         ensures obeys { Obeys result self.old (repeated times (round self.old.net)) self.new }
         ensures same { self.new.net ≡ self.old.net }
     {
         for _ in 0..times {
+            let before = self.run().len();
             self.round()?;
+            if self.run().len() == before {
+                return Ok(());
+            }
         }
         Ok(())
     }

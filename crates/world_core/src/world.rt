@@ -4,7 +4,7 @@ ghost use Rattle.std.specs.Prelude.{◌≡◌, map, IfOk, IfErr, MatchOption};
 ghost use Rattle.world_core.specs.declared.schedule.StepFault.TheVariants.{Memory};
 ghost use Rattle.snap_collector.specs.Collecting.{member_of};
 ghost use Rattle.snap_collector.specs.Collector.{AreMembers};
-ghost use Rattle.world_core.specs.Verdicts.{members_of, JudgesItsRuns};
+ghost use Rattle.world_core.specs.Verdicts.{members_of, JudgesItsRuns, SettledCanBeBelieved};
 ghost use Rattle.world_core.specs.Views.{Opens, Answers, KeepsPromises, IsNoRouter, IsRouterOf};
 
 use crate::laws::{
@@ -17,6 +17,7 @@ use crate::state::State;
 use ranked_policy::{Asn, Network};
 use router_core::Router;
 use router_model::Stepped;
+use router_runs::snapshots_of_runs;
 use snap_collector::Collector;
 use std::alloc::Global;
 use std::marker::Model;
@@ -90,15 +91,19 @@ impl<'a> World<'a> {
         self.state.run.as_slice()
     }
 
-    /// The offers that were made. Its outcomes are those of the run that the world stands at the end of.
+    /// The offers that were made. Its outcomes are those of the run that the world stands at the end of; the parts of a
+    /// snapshot that it judges settled are a stable path assignment, recorded in a consistent cut, and stay while the
+    /// run is quiet.
     pub fn collector(&self) -> &Collector
         ensures value { result.now ≡ self.now.collector }
         ensures members { AreMembers self.now.net result.now.members }
         ensures peers { map member_of result.now.members ≡ members_of self.now.net }
         ensures verdicts { JudgesItsRuns self.now }
+        ensures settled { SettledCanBeBelieved self.now }
     {
         members_are_the_routers();
         collectors_judge_their_runs();
+        snapshots_of_runs();
         &self.state.collector
     }
 }

@@ -15,6 +15,7 @@ returns-in-Err-clause-obeyed c = λ g e chooses.
 pub loop-scheduled-preserved : goal.loop-scheduled-preserved
 loop-scheduled-preserved c = record {
   same = c.in_default.ensures.same ∙ c.loop-scheduled.invariant.same;
+  promises = c.in_default.ensures.promises;
   done = λ g e chooses.
       let here = e ∙ sym c.loop-scheduled.invariant.same in
       lead_on g _ (plain_world c.loop-scheduled.world) (plain_world c.obey.new.self) c.args.orders.now c.loop-scheduled.scheduled-index c.scheduled-item.result c.loop-scheduled.world.net

@@ -8,7 +8,7 @@ use Rattle.bgpnet.proofs.schedules.orders_output.Goals as goal
 pub returns-in-Ok-obey_all : goal.returns-in-Ok-obey_all
 returns-in-Ok-obey_all c =
     if_ok _ _ c.report_output.result
-    (λ printed gives. reported c.args.network.now c.args.orders.now c.in-Ok.world c.obey_all.new.world (output printed.0.items printed.1) c.in-Ok.ensures.opens c.in-Ok-obey_all.ensures.obeyed gives)
+    (λ printed gives. reported c.args.network.now c.args.orders.now c.in-Ok.world c.obey_all.new.world (output printed.0.items printed.1) c.in-Ok.ensures.opens c.obey_all.ensures.same c.in-Ok-obey_all.ensures.obeyed c.obey_all.ensures.promises gives)
     c.report_output.ensures
 
 pub returns : goal.returns

@@ -1,5 +1,4 @@
-use Rattle.std.proofs.Common.{eqb, Decides, false, refl, sym, ◌∙◌, ap, not}
-use Rattle.std.specs.Prelude.{IsTrue}
+use Rattle.std.proofs.Common.{eqb, Decides, sym, ◌∙◌, ap, not}
 use Rattle.std.specs.List.{Contains}
 use Rattle.std.proofs.lemmas.List.Elements.{contains_decides, Decides-contains}
 use Rattle.std.proofs.lemmas.Bool.Decides.{Decides-eqb, not_from_Decides}

@@ -1,7 +1,6 @@
-use Rattle.ranked_policy.proofs.PeerLemmas.{ArePeers}
-use Rattle.std.proofs.Common.{take}
+use Rattle.std.proofs.Common.{◌≡◌, map, take}
 use Rattle.ranked_policy.proofs.peers.peers_of.Given as goal
 
--- the linked routers so far
-abbrev pub invariant-loop-router : goal.invariant-loop-router
-invariant-loop-router l = ArePeers (take l.router-index l.routers) l.links l.asn l.peers.items
+-- those of the links so far
+abbrev pub invariant-loop-link : goal.invariant-loop-link
+invariant-loop-link l = l.peers.items ≡ map (λ link. link.other) (take l.link-index l.links)

@@ -13,6 +13,7 @@ returns c = record {
   entries = c.entries_add_up.ensures;
   heard = c.joined_heard_its_own.ensures;
   leads = c.session_events_lead_on.ensures.leads;
+  up = c.session_events_lead_on.ensures.up;
   on = c.sessions_are_link_runs.ensures.on;
   run = c.sessions_are_link_runs.ensures.run;
   held = c.octets_are_entries.ensures.held;
@@ -25,4 +26,6 @@ returns c = record {
   used = c.octets_of_an_incarnation.ensures.used;
   links = c.linked_routers_are_peers.ensures;
   appends = c.steps_append_what_they_say.ensures;
+  left = c.drafts_leave_established.ensures;
+  stable = c.stable_is_the_models.ensures;
 }

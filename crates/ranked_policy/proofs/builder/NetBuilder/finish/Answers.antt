@@ -5,7 +5,7 @@ use Rattle.ranked_policy.proofs.Judged.{refused_unconnected, not_empty}
 use Rattle.ranked_policy.proofs.builder.NetBuilder.finish.Goals as goal
 
 pub is_connected-requires-clause-known : goal.is_connected-requires-clause-known
-is_connected-requires-clause-known c = rw (c.as_slice-2.ensures.value, c.as_slice-3.ensures.value) c.self.invariant.links.known
+is_connected-requires-clause-known c = rw (c.as_slice-2.ensures.value, c.as_slice-3.ensures.value) c.self.invariant.0.links.known
 
 pub returns-then-not-is_connected-clause-refused : goal.returns-then-not-is_connected-clause-refused
 returns-then-not-is_connected-clause-refused c =
@@ -18,7 +18,7 @@ pub from_builder-requires : goal.from_builder-requires
 from_builder-requires c =
     let says = rw (c.as_slice-2.ensures.value, c.as_slice-3.ensures.value) at c.is_connected.ensures in
     rw (← c.self.view_is) (record {
-      plan = c.self.invariant;
+      plan = c.self.invariant.0;
       some = rw c.as_slice.ensures.value at (not_empty (length c.as_slice.result.now) c.is_empty.result c.is_empty.ensures c.if-is_empty.false);
       connected = says.0 c.if-not-is_connected.false;
     })

@@ -30,10 +30,12 @@ invariant_of-self-2 c =
     let met = rw (c.as_slice.ensures.value, c.as_slice-2.ensures.value) at c.in_default.ensures in
     let origins = c.self.inside.origins.items in
     let place = c.in-Err-place_of_prefix.place in
-    rw c.in_default-insert.ensures.items
-    (plan_origin (record { settings = c.self.inside.settings; routers = c.self.inside.routers.items; links = c.self.inside.links.items; origins = origins })
-    (take place origins) (drop place origins) c.args.asn c.args.prefix (sym (take-append-drop place origins)) c.self.invariant c.len-bits.ensures.canonical (met UnknownRouter) (met Limit)
-    (rw c.as_slice-3.ensures.value at c.in-Err-place_of_prefix.ensures.before) (rw c.as_slice-3.ensures.value at c.in-Err-place_of_prefix.ensures.behind))
+    rw c.in_default-insert.ensures.items (
+      plan_origin (record { settings = c.self.inside.settings; routers = c.self.inside.routers.items; links = c.self.inside.links.items; origins = origins })
+          (take place origins) (drop place origins) c.args.asn c.args.prefix (sym (take-append-drop place origins)) c.self.invariant.0 c.len-bits.ensures.canonical (met UnknownRouter) (met Limit)
+          (rw c.as_slice-3.ensures.value at c.in-Err-place_of_prefix.ensures.before) (rw c.as_slice-3.ensures.value at c.in-Err-place_of_prefix.ensures.behind),
+      c.self.invariant.1,
+    )
 
 pub returns-clause-met : goal.returns-clause-met
 returns-clause-met c = rw (← c.self.view_is) (rw (c.as_slice.ensures.value, c.as_slice-2.ensures.value) at c.in_default.ensures)

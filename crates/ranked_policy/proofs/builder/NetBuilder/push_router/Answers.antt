@@ -20,10 +20,12 @@ invariant_of-self-2 c =
     let met = rw c.as_slice.ensures.value at c.in_default.ensures in
     let routers = c.self.inside.routers.items in
     let place = c.in-Err-place_of_router.place in
-    rw (c.in_default-insert.ensures.items, c.new-rules.ensures)
-    (plan_router (record { settings = c.self.inside.settings; routers = routers; links = c.self.inside.links.items; origins = c.self.inside.origins.items })
-    (take place routers) (drop place routers) c.args.asn c.args.id (sym (take-append-drop place routers)) c.self.invariant (met Repeated) (met Limit) (met BadNumber)
-    (rw c.as_slice-2.ensures.value at c.in-Err-place_of_router.ensures.before) (rw c.as_slice-2.ensures.value at c.in-Err-place_of_router.ensures.behind))
+    rw (c.in_default-insert.ensures.items, c.new-rules.ensures) (
+      plan_router (record { settings = c.self.inside.settings; routers = routers; links = c.self.inside.links.items; origins = c.self.inside.origins.items })
+          (take place routers) (drop place routers) c.args.asn c.args.id (sym (take-append-drop place routers)) c.self.invariant.0 (met Repeated) (met Limit) (met BadNumber)
+          (rw c.as_slice-2.ensures.value at c.in-Err-place_of_router.ensures.before) (rw c.as_slice-2.ensures.value at c.in-Err-place_of_router.ensures.behind),
+      c.self.invariant.1,
+    )
 
 pub returns-clause-met : goal.returns-clause-met
 returns-clause-met c = rw (← c.self.view_is) (rw c.as_slice.ensures.value at c.in_default.ensures)

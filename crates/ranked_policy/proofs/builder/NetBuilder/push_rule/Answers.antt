@@ -33,10 +33,12 @@ invariant_of-self-2 c =
     let room = (met Limit).1 c.in-Ok.place r found.0 (found.1 r) in
     let ranked : AreRanked (numbers routers) c.args.asn paths =
     ranked_from (numbers routers) c.args.asn paths (met NotSimple) (met TooLong) (met Repeated).0 (met UnknownRouter).1 (met Limit).0 in
-    rw (c.in_default-push.ensures.ok, c.from_vec-paths.ensures)
-    (plan_rule_at (record { settings = c.self.inside.settings; routers = routers; links = c.self.inside.links.items; origins = c.self.inside.origins.items }) c.in-Ok.place r c.args.prefix paths found.0
-    c.index_mut.ensures.value c.self.invariant c.len-bits.ensures.canonical (rw (← c.index_mut.ensures.value) at fresh) (rw (← c.index_mut.ensures.value) at room)
-    (subst (λ u. AreRanked (numbers routers) u paths) (sym is) ranked))
+    rw (c.in_default-push.ensures.ok, c.from_vec-paths.ensures) (
+      plan_rule_at (record { settings = c.self.inside.settings; routers = routers; links = c.self.inside.links.items; origins = c.self.inside.origins.items }) c.in-Ok.place r c.args.prefix paths found.0
+          c.index_mut.ensures.value c.self.invariant.0 c.len-bits.ensures.canonical (rw (← c.index_mut.ensures.value) at fresh) (rw (← c.index_mut.ensures.value) at room)
+          (subst (λ u. AreRanked (numbers routers) u paths) (sym is) ranked),
+      c.self.invariant.1,
+    )
 
 pub returns-clause-ok : goal.returns-clause-ok
 returns-clause-ok c =

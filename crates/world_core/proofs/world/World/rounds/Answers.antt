@@ -1,9 +1,10 @@
-use Rattle.std.proofs.Common.{◌≡◌, ◌+◌, ◌-◌, arith, subst, ◌∙◌}
+use Rattle.std.proofs.Common.{◌≡◌, ◌+◌, ◌-◌, length, arith, ap, sym, subst, ◌∙◌}
 use Rattle.std.specs.Prelude.{Ok, Err}
 use Rattle.std.proofs.lemmas.Result.{err_from_is_err_and}
 use Rattle.world_core.specs.Orders.{round, repeated}
 use Rattle.world_core.specs.Views.{Obeys}
 use Rattle.world_core.proofs.Orders.{obeys_next, obeys_until, repeated_one, repeated_among}
+use Rattle.world_core.proofs.Resting.{obeys_still}
 use Rattle.world_core.proofs.world.World.rounds.Goals as goal
 
 pub returns-in_err-round-clause-obeys : goal.returns-in_err-round-clause-obeys
@@ -36,3 +37,14 @@ returns-clause-obeys c =
     let l = c.loop in
     let end : l.counter ≡ c.args.times = omega (arith, c.loop-test.false) in
     subst (λ k. Obeys (Ok tt) c.args.self.now (repeated k (round c.args.self.now.net)) l.self) end l.invariant.done
+
+pub returns-then-run-before-clause-obeys : goal.returns-then-run-before-clause-obeys
+returns-then-run-before-clause-obeys c =
+    let x = c.args.self.now in
+    let l = c.loop in
+    let once = round x.net in
+    let left = c.args.times - (l.counter + 1) in
+    let all : (l.counter + 1) + left ≡ c.args.times = omega (arith, c.loop-test.true) in
+    obeys_still x l.self c.round.new.self once l.counter left c.args.times all l.invariant.net l.invariant.done
+    (subst (λ n. Obeys (Ok tt) l.self (round n) c.round.new.self) l.invariant.net c.in_ok-round.ensures.obeys)
+    (sym (ap length c.run.ensures) ∙ c.if-run-before.true ∙ ap length c.run-before.ensures)
