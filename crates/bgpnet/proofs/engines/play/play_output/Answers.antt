@@ -8,7 +8,7 @@ pub returns : goal.returns
 returns c =
     if_ok _ _ c.network_output.result
     (λ printed gives. inr (
-      omega (arith, c.if-len-gt-INPUT_LIMIT.false, c.len.ensures),
+      omega (arith, c.len.ensures),
       lines_give ScheduleGives (codes "schedule") c.args.input.items _ _ _ _
           (rw c.as_slice.ensures.value at c.split_at_section-split.ensures.front) (rw c.as_slice.ensures.value at c.split_at_section-split.ensures.behind) (rw c.as_slice.ensures.value at c.split_at_section-split.ensures.before) gives,
     ))
