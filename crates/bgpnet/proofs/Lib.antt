@@ -4,6 +4,7 @@ pub mod WritingLemmas
 pub mod CheckLemmas
 pub mod PlayLemmas
 pub mod PartLemmas
+pub mod SettledLemmas
 pub mod PlaceLemmas
 pub mod BlankLemmas
 pub mod HexInputLemmas

@@ -18,13 +18,14 @@ use Rattle.world_core.specs.declared.schedule.StepFault.TheVariants.{Memory}
 use Rattle.world_core.specs.World.{World, WorldAnswer, Does, Nothing, Stops, world_answer, world_after, world_of, onward, played}
 use Rattle.world_core.specs.Orders.{events_of, StopsAt}
 use Rattle.world_core.specs.Views.{WorldView, Opens, KeepsPromises, plain_world}
-use Rattle.world_core.specs.Verdicts.{JudgesItsRuns, members_of}
+use Rattle.world_core.specs.Verdicts.{JudgesItsRuns, SettledCanBeBelieved, members_of}
 use Rattle.schedule_text.specs.declared.schedule.ScheduledOrder.{ScheduledOrder}
 use Rattle.bgpnet.specs.declared.schedules.Stop.{Stop}
 use Rattle.bgpnet.specs.Decoding.{Output, output}
 use Rattle.bgpnet.specs.Reporting.{AreDecided, snapshots_text, now_text}
 use Rattle.bgpnet.specs.Playing.{all_events, LeadTo, IsFirstRefused, Obeyed, Reports, OrdersGive, stopped}
 use Rattle.bgpnet.proofs.CheckLemmas.{parted}
+use Rattle.bgpnet.proofs.SettledLemmas.{can_be_believed}
 
 module _ (g : Setting) where
   -- the place of the first event is told where one is refused alone
@@ -121,9 +122,9 @@ report_is none first second all snapshots now routes empty one two three =
     (three ∙ ap (λ (t : List ℕ). t ++ routes) (two ∙ ap (λ (t : List ℕ). t ++ now) (one ∙ ap (λ (t : List ℕ). t ++ snapshots) empty)) ∙ append_assoc snapshots now routes)
 
 -- a report of a world, by what its collector says
-pub reports : (x : WorldView) (k : CollectorView) (numbers all : List ℕ) → k ≡ x.collector → map member_of k.members ≡ members_of x.net → collected.AreDecided k numbers → JudgesItsRuns x
+pub reports : (x : WorldView) (k : CollectorView) (numbers all : List ℕ) → k ≡ x.collector → map member_of k.members ≡ members_of x.net → collected.AreDecided k numbers → JudgesItsRuns x → SettledCanBeBelieved x → KeepsPromises x
     → output all 0 ≡ output (snapshots_text x.net (map member_of k.members) (made_for k) numbers ++ now_text x.net (plain_world x)) 0 → Reports x (output all 0)
-reports x k numbers all same are decided judges printed = λ (g : Setting) (e : g.net ≡ x.net).
+reports x k numbers all same are decided judges belief keeps printed = λ (g : Setting) (e : g.net ≡ x.net).
     let here = are ∙ ap members_of (sym e) in
     let kept = ap (λ (j : CollectorView). map member_of j.members) (sym same) ∙ here in
     record {
@@ -131,6 +132,9 @@ reports x k numbers all same are decided judges printed = λ (g : Setting) (e : 
       are_decided = decided_are k x.collector (members_of g.net) numbers here same decided;
       outcomes = λ state agrees s.
           subst (λ (ms : List Member). HasOutcome (network_of g) s state.offered (verdict ms (kept_of ms (made_for x.collector s)))) kept (judges g e state agrees s);
+      settled = λ set s settled.
+          can_be_believed g (plain_world x) s settled (keeps g e set) (λ before later at last run goes agrees parts made.
+          belief g e set before later at last run goes agrees s (ap (λ (ms : List Member). verdict ms (kept_of ms (made_for x.collector s))) kept ∙ settled) parts made);
       printed =
           printed ∙ ap (λ (n : Plan). output (snapshots_text n (map member_of k.members) (made_for k) numbers ++ now_text n (plain_world x)) 0) (sym e)
           ∙ ap (λ (t : List ℕ). output (t ++ now_text g.net (plain_world x)) 0) (snapshots_are g.net k x.collector (members_of g.net) numbers here same);

@@ -1,11 +1,14 @@
 -- What is printed for a network and a schedule.
-use Rattle.std.specs.Prelude.{◌≡◌, ◌≢◌, ℕ, List, ◌∷◌, ◌++◌, Result, Ok, codes, MatchResult, ◌⊎◌}
+use Rattle.std.specs.Prelude.{◌≡◌, ◌≢◌, ℕ, true, List, ◌∷◌, ◌++◌, Some, Result, Ok, codes, MatchResult, ◌⊎◌}
 use Rattle.std.specs.List.{flat_map}
 use Rattle.ranked_policy.specs.Plans.{Plan}
-use Rattle.run_model.specs.Offers.{HasOutcome}
-use Rattle.router_model.specs.Settings.{Setting, IsSetting, ChoosesByRank}
+use Rattle.run_model.specs.Network.{Run}
+use Rattle.run_model.specs.Offers.{HasOutcome, Settled}
+use Rattle.snap_marker.specs.Recordings.{RouterPart}
+use Rattle.router_model.specs.Settings.{Setting, IsSetting, ChoosesByRank, is_router}
 use Rattle.router_runs.specs.Model.{network_of}
-use Rattle.router_runs.specs.Runs.{RunState}
+use Rattle.router_runs.specs.Runs.{RunOrder, RunState, IsRunTo, logged_steps}
+use Rattle.router_runs.specs.Snapshots.{AreStable, IsBelievable}
 use Rattle.world_core.specs.declared.schedule.Event.{Event}
 use Rattle.world_core.specs.declared.schedule.StepFault.TheVariants.{Memory}
 use Rattle.world_core.specs.World.{World, AgreesWith, new_world, played}
@@ -21,10 +24,19 @@ use Rattle.schedule_text.specs.Schedules.{SpellsSchedule, RefusesSchedule}
 use Rattle.schedule_text.specs.Reports.{stop_line}
 use Rattle.bgpnet.specs.declared.schedules.Stop.{Stop}
 use Rattle.bgpnet.specs.Decoding.{Output, output}
-use Rattle.bgpnet.specs.Reporting.{AreDecided, outcome, snapshots_text, now_text}
+use Rattle.bgpnet.specs.Reporting.{AreDecided, deciding, outcome, recorded, snapshots_text, now_text}
 use Rattle.bgpnet.specs.Inputs.{code_text, refused, InputGives, Prints}
 
 -- ---- what is printed of a world
+
+-- the routes that are printed of a settled snapshot: every router recorded them, they are a stable path assignment for each prefix,
+-- and they are what a consistent cut leaves of every run that the world stands at the end of, and stay while that is quiet
+pub record CanBeBelieved (g : Setting) (w : World) (s : ℕ) : Type 0 where
+  pub parts : ℕ → RouterPart
+  pub printed : (u : ℕ) → is_router g u ≡ true → recorded (deciding g.net w.made s) u ≡ Some (parts u)
+  pub stable : AreStable g parts
+  pub believed : (before later : RunOrder) (at last : RunState) → IsRunTo g before at → Run (logged_steps g) at later last → AgreesWith g w last
+      → IsBelievable g before later at last s parts
 
 -- the lines of the snapshots that are decided, by rising number, then the routes now; and what a line says of a snapshot is how it
 -- comes out in every run that the world stands at the end of
@@ -32,6 +44,7 @@ pub record IsReport (g : Setting) (w : World) (out : Output) : Type 0 where
   pub decided : List ℕ
   pub are_decided : AreDecided (members_of g.net) w.made decided
   pub outcomes : (state : RunState) → AgreesWith g w state → (s : ℕ) → HasOutcome (network_of g) s state.offered (outcome g.net w.made s)
+  pub settled : IsSetting g → (s : ℕ) → outcome g.net w.made s ≡ Settled → CanBeBelieved g w s
   pub printed : out ≡ output (snapshots_text g.net (members_of g.net) w.made decided ++ now_text g.net w) 0
 
 -- what is printed of the world of the code, in every setting of its network

@@ -44,9 +44,12 @@ part_text origins u (Some part) = router_text part.kept u origins
 abbrev pub parts_text : Plan → List MadeOffer → List ℕ
 parts_text net offers = flat_map (λ r. part_text net.origins r.asn (recorded offers r.asn)) net.routers
 
--- how a snapshot comes out, by the offers made
+-- the offers that decide a snapshot, and how it comes out by them
+abbrev pub deciding : Plan → (ℕ → List MadeOffer) → ℕ → List MadeOffer
+deciding net made s = kept_of (members_of net) (made s)
+
 abbrev pub outcome : Plan → (ℕ → List MadeOffer) → ℕ → Outcome
-outcome net made s = verdict (members_of net) (kept_of (members_of net) (made s))
+outcome net made s = verdict (members_of net) (deciding net made s)
 
 -- the routes of a snapshot that is settled
 abbrev pub settled_text : Plan → List MadeOffer → Outcome → List ℕ

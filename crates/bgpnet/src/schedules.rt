@@ -61,7 +61,8 @@ fn report_output(
     network: &Network,
     world: &World<'_>,
 ) -> Result<(Vec<u8>, u8), AllocError>
-    requires { world.now.net ≡ network.now }
+    requires same { world.now.net ≡ network.now }
+    requires promises { KeepsPromises world.now }
     ensures { IfOk result (λ printed. Reports world.now (output printed.0.items printed.1)) }
 {
     let mut out = Vec::new(alloc);

@@ -1,5 +1,7 @@
 pub mod LexLemmas
 pub mod LayoutLemmas
+pub mod AddingLemmas
+pub mod DeclaringLemmas
 pub mod WordLemmas
 pub mod PathLemmas
 pub mod DraftLemmas

@@ -5,6 +5,7 @@ pub mod Taking
 pub mod Lines
 pub mod Steps
 pub mod Networks
+pub mod Declaring
 pub mod Assignments
 pub mod Laws
 pub mod Printing

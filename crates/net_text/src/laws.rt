@@ -3,6 +3,7 @@
 ghost use Rattle.ranked_policy.specs.Plans.{Plan};
 ghost use Rattle.net_text.specs.Lexing.{lines_of};
 ghost use Rattle.net_text.specs.declared.draft.Draft.{Draft};
+ghost use Rattle.net_text.specs.Declaring.{NetworksHaveWhatIsNamed};
 ghost use Rattle.net_text.specs.Layout.{WordsStandBetweenBlanks, LinesEndByLineFeeds};
 ghost use Rattle.net_text.specs.Laws.{FirstFaultDecidesNetworks, FirstFaultDecidesAssignments};
 
@@ -26,4 +27,10 @@ pub fn words_stand_between_blanks()
 /// A line goes up to an LF, one CR before it aside; a last line needs none.
 pub fn lines_end_by_line_feeds()
     ensures { LinesEndByLineFeeds }
+{}
+
+/// The network that a text spells has the routers, the links and the origins that its lines name, and
+/// no others.
+pub fn networks_have_what_is_named()
+    ensures { NetworksHaveWhatIsNamed }
 {}

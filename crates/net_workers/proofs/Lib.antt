@@ -1,4 +1,6 @@
 pub mod Lanes
 pub mod Linking
 pub mod Lists
+pub mod Blocks
+pub mod Runs
 pub mod Records

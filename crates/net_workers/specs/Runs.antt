@@ -1,12 +1,14 @@
 -- What the threads did is one run of the network.
-use Rattle.std.specs.Prelude.{ℕ, ◌≡◌, List, map}
+use Rattle.std.specs.Prelude.{ℕ, ◌≡◌, true, List, map}
 use mathlib.Core.List.{IsPrefix}
 use Rattle.std.specs.List.{AllByRecursion}
 use Rattle.ranked_policy.specs.Plans.{Plan}
 use Rattle.outbox.specs.declared.item.Item.{Item}
 use Rattle.run_model.specs.Stamps.{offers_on}
-use Rattle.router_model.specs.Settings.{Setting, IsSetting}
-use Rattle.router_runs.specs.Runs.{RunOrder, RunState, IsRunTo}
+use Rattle.router_model.specs.Settings.{Setting, IsSetting, linked}
+use Rattle.router_runs.specs.Runs.{RunOrder, RunState, IsRunTo, side_of}
+use Rattle.router_runs.specs.Promises.{PassesInOrder}
+use Rattle.router_runs.specs.Snapshots.{SnapshotsHold}
 use Rattle.router_core.specs.Views.{plain_of}
 use Rattle.snap_collector.specs.Collector.{CollectorView}
 use Rattle.world_core.specs.World.{named}
@@ -36,3 +38,14 @@ RecordsAreRuns {G} given =
     (plan : Plan) (turns : ℕ) (p : Passed) (workers : List (Worked G)) (c : CollectorView) (gathered : List Entry)
     → (record_of : IsRecord given plan turns p workers c gathered) → InTurn p → (g : Setting) → g.net ≡ plan → IsSetting g
     → (run : IsRunOfThreads g p workers gathered) × (run.state.offered ≡ offers_on record_of.collects.offers)
+
+-- and the promises of runs hold of it
+pub record KeepsPromises {G : Type 0} (g : Setting) (p : Passed) (workers : List (Worked G)) (gathered : List Entry) : Type 0 where
+  pub run : IsRunOfThreads g p workers gathered
+  pub in_order : (u v e : ℕ) → linked g.net u v ≡ true → PassesInOrder run.state u v e × IsPrefix ((side_of run.state v u).acted e) ((side_of run.state u v).sent e)
+  pub snapshots : SnapshotsHold g run.order run.state
+
+abbrev pub RecordsKeepTheirPromises : {G : Type 0} → (G → List Chore) → Type 0
+RecordsKeepTheirPromises {G} given =
+    (plan : Plan) (turns : ℕ) (p : Passed) (workers : List (Worked G)) (c : CollectorView) (gathered : List Entry)
+    → IsRecord given plan turns p workers c gathered → InTurn p → (g : Setting) → g.net ≡ plan → IsSetting g → KeepsPromises g p workers gathered

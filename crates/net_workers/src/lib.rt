@@ -11,6 +11,7 @@
 mod dealing;
 mod ends;
 mod gathering;
+pub mod laws;
 mod net;
 mod place;
 mod record;

@@ -9,7 +9,7 @@ use Rattle.std.proofs.lemmas.List.Kept.{AllPairs-filter}
 use Rattle.prefix_lanes.specs.Bits.{PrefixView}
 use Rattle.ranked_policy.specs.Plans.{Plan, Linked, numbers}
 use Rattle.rib_tables.specs.Least.{HoldsOfAll, IsLeastWithout}
-use Rattle.rib_tables.specs.Owners.{IsServed}
+use Rattle.rib_tables.specs.Owners.{AllServed, IsServed}
 use Rattle.outbox.specs.Items.{octets_waiting}
 use Rattle.router_model.specs.Settings.{linked, peers}
 use Rattle.router_model.specs.Calls.{outbox_limit}
@@ -62,6 +62,11 @@ drop_all (p ∷ ps) (suc i) le = drop_all ps i (omega (arith, le))
 
 none_on : (test : ℕ → Bool) (ps : List Peer) (i : ℕ) → length ps ≤ i → find test (numbers_from ps i) ≡ None
 none_on test ps i le = ap (λ (ws : List Peer). find test (map (λ (w : Peer). w.number) ws)) (drop_all ps i le)
+
+element : (ps : List Peer) (i : ℕ) → i < length ps → (p : Peer) × (p ≡ get_or ps i p)
+element [] i lt = absurd (omega (arith, lt))
+element (p ∷ ps) zero lt = (p, refl)
+element (p ∷ ps) (suc i) lt = element ps i (omega (arith, lt))
 
 -- ---- one after the other
 
@@ -146,3 +151,17 @@ module _ (x : RouterView) (sound : IsSound x) where
       is_next free blocked k =
           let room : has_room_at x p.number ≡ true = rw (waits, octets, free) refl in
           (may_tell, sym (all_numbers (has_room_at x)) ∙ sym k.rooms ∙ find_on (has_room_at x) x.peers i p lt is ∙ rw room refl)
+
+  -- where each peer was told all, none of those before a place waits
+  idle_through : AllServed x.tables → (i : ℕ) → i ≤ length x.peers → Looked x i None
+  idle_through all zero l = looked_none x
+  idle_through all (suc i) l =
+      let inside : i < length x.peers = omega (arith, l) in
+      let here = element x.peers i inside in
+      let next : i + 1 ≡ suc i = omega arith in
+      subst (λ n. Looked x n None) next (past_idle i here.0 inside here.1 (all here.0.number) None (idle_through all i (omega (arith, l))))
+
+  pub nobody_waits : AllServed x.tables → IsNext x next.Nobody
+  nobody_waits all =
+      let k = idle_through all (length x.peers) (omega arith) in
+      (nobody_has_room (length x.peers) None k (omega arith), first_waits (length x.peers) None k (omega arith))

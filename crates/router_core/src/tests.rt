@@ -4,7 +4,14 @@ use ranked_policy::{Asn, NetBuilder, Network, Settings};
 use std::alloc::{AllocError, Global};
 use std::test::Fail;
 
+mod carried;
 mod choosing;
+mod judging;
+mod offering;
+mod recording;
+mod strays;
+mod walking;
+mod whole;
 
 // Router 1 has identifier 10.0.0.1, router 2 has 10.0.0.2, a link joins them, and 1 is the origin of
 // 10.1.0.0/16.
@@ -55,30 +62,7 @@ fn take(router: &mut Router<'_>, what: What) -> Result<Stepped, RouterError> {
 }
 
 fn router_takes(router: &mut Router<'_>, stamp: u64, what: What) -> Result<Stepped, RouterError> {
-    match what {
-        What::Mark(_, _) => Ok(Stepped::Nothing),
-        What::Dial(number) => router.take_item(
-            2,
-            &Item {
-                stamp,
-                what: What::Dial(number),
-            },
-        ),
-        What::Shut(number) => router.take_item(
-            2,
-            &Item {
-                stamp,
-                what: What::Shut(number),
-            },
-        ),
-        What::Piece(epoch, octets) => router.take_item(
-            2,
-            &Item {
-                stamp,
-                what: What::Piece(epoch, octets),
-            },
-        ),
-    }
+    router.take_item(2, &Item { stamp, what })
 }
 
 fn piece(alloc: Global, epoch: u32, tail: &[u8]) -> Result<What, Fail> {
@@ -309,71 +293,5 @@ fn a_reset_dials_anew(rt: HostRuntime) -> Result<(), Fail> {
     assert!(rt; puts_dial(&mut one, 1) && puts_shut(&mut one, 1));
     assert!(rt; puts_dial(&mut one, 2) && puts_shut(&mut one, 2));
     assert!(rt; puts_nothing(&mut one));
-    Ok(())
-}
-
-// ---- two routers by hand
-
-// Carries one item from one router to the other.
-fn carries(
-    from: &mut Router<'_>,
-    to: &mut Router<'_>,
-    u: Asn,
-    v: Asn,
-) -> Result<bool, RouterError> {
-    let Some(item) = from.next_item(v)? else {
-        return Ok(false);
-    };
-    if to.take_item(u, &item) != Ok(Stepped::Did) {
-        return Ok(false);
-    }
-    from.item_put(v);
-    Ok(true)
-}
-
-// One turn of both: each way one item, one message; then each decides and tells.
-fn turn(one: &mut Router<'_>, two: &mut Router<'_>) -> Result<(), RouterError> {
-    carries(one, two, 1, 2)?;
-    carries(two, one, 2, 1)?;
-    one.handle(2)?;
-    two.handle(1)?;
-    one.decide()?;
-    two.decide()?;
-    one.advertise()?;
-    two.advertise()?;
-    Ok(())
-}
-
-fn turns(one: &mut Router<'_>, two: &mut Router<'_>, n: u32) -> Result<(), RouterError> {
-    for _ in 0..n {
-        turn(one, two)?;
-    }
-    Ok(())
-}
-
-// Both start, and router 1 originates its prefix.
-fn begins(one: &mut Router<'_>, two: &mut Router<'_>, prefix: Prefix) -> Result<(), RouterError> {
-    one.command(Command::Start(2))?;
-    two.command(Command::Start(1))?;
-    one.command(Command::Originate(prefix))?;
-    Ok(())
-}
-
-// Both have their routes after some turns, at this cut.
-fn settle(alloc: Global, cut: usize, n: u32) -> Result<bool, Fail> {
-    let net = two_routers(alloc, cut)?;
-    let prefix = Prefix::new(0x0a01_0000, 16).ok_or("a prefix")?;
-    let mut one = router(alloc, &net, 1)?;
-    let mut two = router(alloc, &net, 2)?;
-    begins(&mut one, &mut two, prefix)?;
-    turns(&mut one, &mut two, n)?;
-    Ok(one.kept(&prefix) == [1].as_slice() && two.kept(&prefix) == [2, 1].as_slice())
-}
-
-#[test]
-fn two_routers_have_their_routes(rt: HostRuntime) -> Result<(), Fail> {
-    assert!(rt; settle(rt.alloc(), 4096, 40)?);
-    assert!(rt; settle(rt.alloc(), 18, 100)?);
-    assert!(rt; settle(rt.alloc(), 1, 400)?);
     Ok(())
 }

@@ -56,6 +56,9 @@ impl Router<'_> {
     pub(super) fn next_to_tell(&self) -> Next
         ensures { IsNext self.now result }
     {
+        if !self.tables.is_awaited() {
+            return Next::Nobody;
+        }
         let mut blocked = None;
         for at in 0..self.peers.len() {
             let peer = &self.peers[at];

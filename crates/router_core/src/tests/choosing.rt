@@ -1,7 +1,7 @@
 use super::*;
 
 // Router 1 has links to 2 and 3, and is the origin of 10.0.0.0/8 and of 10.1.0.0/16.
-fn three_routers(alloc: Global) -> Result<Network, Fail> {
+pub(super) fn three_routers(alloc: Global) -> Result<Network, Fail> {
     let settings = Settings {
         hold: 90,
         restart: 0,
@@ -22,11 +22,11 @@ fn three_routers(alloc: Global) -> Result<Network, Fail> {
     }
 }
 
-fn least() -> Result<Prefix, Fail> {
+pub(super) fn least() -> Result<Prefix, Fail> {
     Ok(Prefix::new(0x0a00_0000, 8).ok_or("a prefix")?)
 }
 
-fn greatest() -> Result<Prefix, Fail> {
+pub(super) fn greatest() -> Result<Prefix, Fail> {
     Ok(Prefix::new(0x0a01_0000, 16).ok_or("a prefix")?)
 }
 
@@ -59,20 +59,24 @@ fn the_least_prefix_is_decided_first(rt: HostRuntime) -> Result<(), Fail> {
 }
 
 // The OPEN of router 2 or 3.
-fn open_of(number: u8) -> [u8; 13] {
+pub(super) fn open_of(number: u8) -> [u8; 13] {
     [
         0x00, 0x1d, 0x01, 0x04, 0x00, number, 0x00, 0x5a, 0x0a, 0x00, 0x00, number, 0x00,
     ]
 }
 
 // Takes an item of a peer, and handles the message that it brings.
-fn hears(router: &mut Router<'_>, peer: Asn, what: What) -> Result<Stepped, RouterError> {
+pub(super) fn hears(
+    router: &mut Router<'_>,
+    peer: Asn,
+    what: What,
+) -> Result<Stepped, RouterError> {
     router.take_item(peer, &Item { stamp: 0, what })?;
     router.handle(peer)
 }
 
 // The session with a peer becomes Established, by what the peer says.
-fn comes_up(alloc: Global, router: &mut Router<'_>, number: u8) -> Result<(), Fail> {
+pub(super) fn comes_up(alloc: Global, router: &mut Router<'_>, number: u8) -> Result<(), Fail> {
     let peer = Asn::from(number);
     router.command(Command::Start(peer))?;
     hears(router, peer, What::Dial(1))?;
@@ -84,7 +88,7 @@ fn comes_up(alloc: Global, router: &mut Router<'_>, number: u8) -> Result<(), Fa
 }
 
 // Puts all that waits towards a peer, of which there is little.
-fn drains(router: &mut Router<'_>, peer: Asn) -> Result<(), RouterError> {
+pub(super) fn drains(router: &mut Router<'_>, peer: Asn) -> Result<(), RouterError> {
     for _ in 0..8 {
         let Some(_) = router.next_item(peer)? else {
             return Ok(());
@@ -126,5 +130,68 @@ fn a_full_outbox_blocks(rt: HostRuntime) -> Result<(), Fail> {
     assert_eq!(rt; one.advertise(), Err(RouterError::Blocked { peer: 2 }));
     drains(&mut one, 2)?;
     assert_eq!(rt; one.advertise(), Ok(Stepped::Did));
+    Ok(())
+}
+
+// Router 1, whose sessions are Established, and which was put all that it said.
+pub(super) fn ready(alloc: Global, net: &Network) -> Result<Router<'_>, Fail> {
+    let mut one = router(alloc, net, 1)?;
+    comes_up(alloc, &mut one, 2)?;
+    comes_up(alloc, &mut one, 3)?;
+    drains(&mut one, 2)?;
+    drains(&mut one, 3)?;
+    Ok(one)
+}
+
+// Whether something waits towards a peer.
+fn waits(router: &Router<'_>, peer: Asn) -> bool {
+    match router.next_item(peer) {
+        Ok(Some(_)) => true,
+        Ok(None) | Err(_) => false,
+    }
+}
+
+// What is kept of a prefix is told to one peer more: whether it was.
+fn tells(router: &mut Router<'_>) -> bool {
+    router.advertise() == Ok(Stepped::Did)
+}
+
+// Router 2 is told first, then router 3, then nobody.
+fn tells_in_order(one: &mut Router<'_>) -> bool {
+    let nobody = !waits(one, 2) && !waits(one, 3);
+    let first = tells(one) && waits(one, 2) && !waits(one, 3);
+    let then = tells(one) && waits(one, 3);
+    nobody && first && then && one.advertise() == Ok(Stepped::Nothing)
+}
+
+#[test]
+fn the_least_peer_is_told_first(rt: HostRuntime) -> Result<(), Fail> {
+    let net = three_routers(rt.alloc())?;
+    let mut one = ready(rt.alloc(), &net)?;
+    assert_eq!(rt; one.advertise(), Ok(Stepped::Nothing));
+    one.command(Command::Originate(least()?))?;
+    one.decide()?;
+    assert!(rt; tells_in_order(&mut one));
+    Ok(())
+}
+
+// A prefix is originated once, its path is set once, and nobody is there to be told.
+fn originates_once(one: &mut Router<'_>, prefix: Prefix) -> bool {
+    one.command(Command::Originate(prefix)) == Ok(Stepped::Did)
+        && one.command(Command::Originate(prefix)) == Ok(Stepped::Nothing)
+        && one.decide() == Ok(Stepped::Did)
+        && one.decide() == Ok(Stepped::Nothing)
+        && one.advertise() == Ok(Stepped::Nothing)
+}
+
+#[test]
+fn what_is_originated_is_not_originated_again(rt: HostRuntime) -> Result<(), Fail> {
+    let net = two_routers(rt.alloc(), 4096)?;
+    let mut one = router(rt.alloc(), &net, 1)?;
+    let mut two = router(rt.alloc(), &net, 2)?;
+    let prefix = greatest()?;
+    assert!(rt; originates_once(&mut one, prefix));
+    let foreign = two.command(Command::Originate(prefix));
+    assert_eq!(rt; foreign, Err(RouterError::NotOrigin));
     Ok(())
 }

@@ -1,7 +1,7 @@
 //! What a collector of the two linked routers answers, offer by offer.
 
 use crate::tests::{lost, part};
-use crate::{CollectError, Collector, Outcome, Taken};
+use crate::{CollectError, Collector, Outcome, Taken, Why};
 use ranked_policy::{NetBuilder, Network, Settings};
 use snap_marker::Offer;
 use std::alloc::Global;
@@ -108,5 +108,18 @@ fn decided_numbers_rise(rt: HostRuntime) -> Result<(), Fail> {
     let decided = loses(&mut collector, 9) && loses(&mut collector, 4) && loses(&mut collector, 7);
     assert!(rt; decided);
     assert_eq!(rt; collector.decided(), [4, 7, 9].as_slice());
+    Ok(())
+}
+
+/// Two parts that name two incarnations of the link.
+#[test]
+fn two_incarnations_are_moving(rt: HostRuntime) -> Result<(), Fail> {
+    let alloc = rt.alloc();
+    let mut collector = collector(alloc)?;
+    let one = collector.offer(part(alloc, 1, false, 7, 0)?)?;
+    let two = collector.offer(part(alloc, 2, false, 8, 0)?)?;
+    assert!(rt; one == Taken::Kept && two == Taken::Decided);
+    let why = Why::Mismatch(2);
+    assert_eq!(rt; collector.outcome(5), Outcome::Moving { router: 1, why });
     Ok(())
 }

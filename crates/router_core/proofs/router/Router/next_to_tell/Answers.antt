@@ -6,7 +6,7 @@ use Rattle.router_model.specs.Calls.{outbox_limit}
 use Rattle.router_side.specs.SideOf.{side}
 use Rattle.router_core.specs.declared.router.choose.Next.TheVariants as next
 use Rattle.router_core.specs.Views.{RouterView, IsNext}
-use Rattle.router_core.proofs.Nexts.{is_linked, past_idle, past_full, is_next}
+use Rattle.router_core.proofs.Nexts.{is_linked, past_idle, past_full, is_next, nobody_waits}
 use Rattle.router_core.proofs.router.Router.next_to_tell.Goals as goal
 
 pub waiting-requires : goal.waiting-requires
@@ -38,3 +38,8 @@ returns-then-octets_waiting-lt-OUTBOX_LIMIT c =
     let q = c.in-Some.prefix in
     subst (λ (x : RouterView). IsNext x (next.Peer c.loop-at.at q)) c.self.view_is
     (is_next r c.self.invariant c.loop-at.at p lt c.index-peer.ensures q c.in-Some.ensures free c.loop-at.blocked c.loop-at.invariant)
+
+pub returns-then-not-is_awaited : goal.returns-then-not-is_awaited
+returns-then-not-is_awaited c =
+    let r : RouterView = record { net = c.self.inside.network.now; number = c.self.inside.number; own_open = c.self.inside.own_open; peers = c.self.inside.peers.items; tables = c.self.inside.tables; marks = c.self.inside.marks; stamp = c.self.inside.stamp } in
+    subst (λ (x : RouterView). IsNext x next.Nobody) c.self.view_is (nobody_waits r c.self.invariant (c.is_awaited.ensures.none c.if-not-is_awaited.true))

@@ -1,0 +1,70 @@
+//! What the threads of a network did is one run of it. The law is the contract of a function without work
+//! of its own.
+
+ghost use Rattle.net_workers.specs.Runs.{RecordsAreRuns, RecordsKeepTheirPromises};
+
+use router_runs::{NetworkRouters, snapshots_of_runs, updates_pass_in_order};
+use run_model::orders::{
+    JournalLines, WholeLines, causal_orders_end_alike, gathered_events_are_stamped, gathering_lifts,
+    sorting_by_stamp_gathers, stamps_change_no_item, stamps_give_the_collectors_order,
+    threads_are_a_run,
+};
+use worker_loop::Gate;
+use worker_loop::laws::{acts_are_journals, stamps_rise};
+
+/// The lines of journals. No value of it is made.
+struct Lines;
+
+impl JournalLines for Lines {
+    ghost use Rattle.worker_loop.specs.declared.journal.Entry.{Entry};
+    ghost use Rattle.net_workers.specs.Gathered.{router_of};
+
+    ghost Line = { Entry };
+
+    ghost stamp = { λ e. e.stamp };
+
+    ghost router = { λ e. router_of e.event };
+}
+
+/// The events of which they are the lines, with their items. No value of it is made.
+struct Events;
+
+impl WholeLines for Events {
+    ghost use Rattle.worker_loop.specs.declared.journal.Entry.{Entry};
+    ghost use Rattle.worker_loop.specs.Acts.{Act, entry_of};
+    ghost use Rattle.net_workers.specs.Gathered.{router_of};
+
+    ghost Whole = { Act };
+
+    ghost Line = { Entry };
+
+    ghost line = { entry_of };
+
+    ghost stamp = { λ e. e.stamp };
+
+    ghost router = { λ e. router_of e.event };
+}
+
+/// Every record is one of a run of the network: the gathered events are that run, and its last state has the routers, the
+/// items that were put and taken, and the offers of the record (`runs`). So all promises of runs hold of it: UPDATEs passed
+/// in order, and what is settled is a stable path assignment that stays (`promises`).
+///
+/// Premises: the record is one ([`crate::run_net`]), and in each direction the items that were taken are the first of those that
+/// were put, one after another; the network is one, routers choose by rank. It does not say that two threads ever ran at
+/// once, nor that anything arrives.
+pub fn records_are_runs<G: Gate>()
+    ensures runs { RecordsAreRuns G.given }
+    ensures promises { RecordsKeepTheirPromises G.given }
+{
+    acts_are_journals();
+    stamps_rise();
+    sorting_by_stamp_gathers::<Lines>();
+    gathering_lifts::<Events>();
+    gathered_events_are_stamped::<NetworkRouters>();
+    stamps_give_the_collectors_order::<NetworkRouters>();
+    threads_are_a_run::<NetworkRouters>();
+    causal_orders_end_alike::<NetworkRouters>();
+    stamps_change_no_item::<NetworkRouters>();
+    updates_pass_in_order();
+    snapshots_of_runs();
+}
