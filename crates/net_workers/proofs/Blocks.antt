@@ -43,11 +43,11 @@ rises_map f n [] r = λ i j d le l. absurd (omega (arith, l))
 rises_map f n (x ∷ xs) r =
     IsNonDecreasingBy-from_default n (map f (x ∷ xs)) (f x)
     (λ i j le l.
-        let inside : j < length (x ∷ xs) = omega (arith, l, length-map xs f) in
-        let a = ap n (get_or-map f (x ∷ xs) i x (f x) (omega (arith, le, inside))) in
-        let b = ap n (get_or-map f (x ∷ xs) j x (f x) inside) in
-        let c = r i j x le inside in
-        omega (arith, a, b, c))
+    let inside : j < length (x ∷ xs) = omega (arith, l, length-map xs f) in
+    let a = ap n (get_or-map f (x ∷ xs) i x (f x) (omega (arith, le, inside))) in
+    let b = ap n (get_or-map f (x ∷ xs) j x (f x) inside) in
+    let c = r i j x le inside in
+    omega (arith, a, b, c))
 
 pub rises_append : {X : Type 0} (n : X → ℕ) (m : ℕ) (xs ys : List X) → IsNonDecreasingBy n xs → IsNonDecreasingBy n ys → All (λ x. n x ≤ m) xs → All (λ y. m ≤ n y) ys → IsNonDecreasingBy n (xs ++ ys)
 rises_append n m xs ys rx ry low high i j d le l = elim (cases_lt j (length xs)) [

@@ -250,7 +250,7 @@ module _ {G : Type 0} (given : G → List Chore) (plan : Plan) (turns : ℕ) (p 
       let ns : List ℕ = map (λ v. v.router.number) ws in (
         ap (λ c. (cond c to.last (finish ws all.1 known.1 w.router.number)).router) (eq-eqb w.router.number w.router.number refl) ∙ (to.router ∙ ap (λ s. s.router) all.0.router),
         beyond ws (finish ws all.1 known.1) w.router.number to.last (λ k d l. rising 0 (suc k) d (omega arith) (omega (arith, l)))
-        (finals ws all.1 known.1 (λ i j d l k. rising (suc i) (suc j) d (omega (arith, l)) (omega (arith, k)))),
+            (finals ws all.1 known.1 (λ i j d l k. rising (suc i) (suc j) d (omega (arith, l)) (omega (arith, k)))),
       )
 
 -- ---- all together
@@ -294,11 +294,11 @@ records_are_runs {G} given journals rise sorting lifts stamped_law collectors th
     let board : List (Collected MadeOffer) = is.collects.offers in
     let same_offers : (u : ℕ) → filter (λ o. o.router == u) (stamped_offers ms) ≡ filter (λ o. o.router == u) board =
     λ u.
-        offers_by u ms ∙ (ap stamped_offers (in_order.journals u ∙ own u)
-        ∙ offers_at given plan turns p g net set journals rise board workers all is.collects.of u (elim (who u) [
-          | inl at ↦ inr (subst (λ l. Contains l u) (sym numbers_are) at)
-          | inr none ↦ inl (is.collects.only u (outside u none))
-        ])) in
+    offers_by u ms ∙ (ap stamped_offers (in_order.journals u ∙ own u)
+    ∙ offers_at given plan turns p g net set journals rise board workers all is.collects.of u (elim (who u) [
+      | inl at ↦ inr (subst (λ l. Contains l u) (sym numbers_are) at)
+      | inr none ↦ inl (is.collects.only u (outside u none))
+    ])) in
     let offered : stamped_offers ms ≡ board = collectors board ms stamped.rise is.collects.rising same_offers in
     let last : ℕ → Logged = finish given plan turns p g net set journals rise workers all known in
     let ran = threads g (λ u. new_logged g) last journal board ms (leads given plan turns p g net set journals rise workers all known) stamped offered in

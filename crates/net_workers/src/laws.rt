@@ -5,9 +5,9 @@ ghost use Rattle.net_workers.specs.Runs.{RecordsAreRuns, RecordsKeepTheirPromise
 
 use router_runs::{NetworkRouters, snapshots_of_runs, updates_pass_in_order};
 use run_model::orders::{
-    JournalLines, WholeLines, causal_orders_end_alike, gathered_events_are_stamped, gathering_lifts,
-    sorting_by_stamp_gathers, stamps_change_no_item, stamps_give_the_collectors_order,
-    threads_are_a_run,
+    JournalLines, WholeLines, causal_orders_end_alike, gathered_events_are_stamped,
+    gathering_lifts, sorting_by_stamp_gathers, stamps_change_no_item,
+    stamps_give_the_collectors_order, threads_are_a_run,
 };
 use worker_loop::Gate;
 use worker_loop::laws::{acts_are_journals, stamps_rise};
