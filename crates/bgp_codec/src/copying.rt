@@ -24,7 +24,7 @@ fn copied_path(alloc: Global, path: &Items<Segment>) -> Result<Items<Segment>, A
     ensures { IfOk result (λ copy. copy ≡ path.now) }
 {
     let mut copy = Vec::new(alloc);
-    copy.reserve(path.as_slice().len())?;
+    copy.reserve_exact(path.as_slice().len())?;
     for segment in path.as_slice() {
         copy.push(Segment {
             kind: segment.kind,
@@ -38,7 +38,7 @@ fn copied_others(alloc: Global, others: &Items<Raw>) -> Result<Items<Raw>, Alloc
     ensures { IfOk result (λ copy. copy ≡ others.now) }
 {
     let mut copy = Vec::new(alloc);
-    copy.reserve(others.as_slice().len())?;
+    copy.reserve_exact(others.as_slice().len())?;
     for raw in others.as_slice() {
         copy.push(Raw {
             flags: raw.flags,

@@ -47,7 +47,7 @@ impl<T> Items<T> {
     pub(crate) fn reserve(&mut self, more: usize) -> Result<(), AllocError>
         ensures { self.new ≡ self.old }
     {
-        self.items.reserve(more)?;
+        self.items.reserve_exact(more)?;
         Ok(())
     }
 

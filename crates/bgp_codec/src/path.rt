@@ -129,7 +129,7 @@ pub(crate) fn read_path(alloc: Global, octets: &[u8]) -> Result<Items<Segment>, 
     ensures { Gives (λ path. path) result (path_reading octets.now) }
 {
     let mut segments = Vec::new(alloc);
-    segments.reserve(count_values(octets, 2))?;
+    segments.reserve_exact(count_values(octets, 2))?;
     let mut left = octets;
     'segments: while !left.is_empty() {
         let (segment, rest) = read_segment(alloc, left)?;

@@ -68,7 +68,7 @@ pub(crate) fn read_prefixes(alloc: Global, octets: &[u8]) -> Result<Items<Prefix
     ensures { Gives (λ prefixes. prefixes) result (prefixes_reading octets.now) }
 {
     let mut prefixes = Vec::new(alloc);
-    prefixes.reserve(count_prefixes(octets))?;
+    prefixes.reserve_exact(count_prefixes(octets))?;
     let mut left = octets;
     'prefixes: while !left.is_empty() {
         let (prefix, rest) = read_prefix(alloc, left)?;

@@ -10,13 +10,13 @@ use Rattle.bgp_framing.specs.Held.{Held, IsNext, is_waiting, with_octets}
 
 -- the checks of a header look at its first nineteen octets alone
 module _ (front : HeaderIsItsFront) where
-  header_fault-take : (n : ℕ) (octets : List ℕ) → 19 ≤ n → header_fault (take n octets) ≡ header_fault octets
+  pub header_fault-take : (n : ℕ) (octets : List ℕ) → 19 ≤ n → header_fault (take n octets) ≡ header_fault octets
   header_fault-take n octets h = (front n octets h).same_fault
 
-  length_field-take : (n : ℕ) (octets : List ℕ) → 19 ≤ n → length_field (take n octets) ≡ length_field octets
+  pub length_field-take : (n : ℕ) (octets : List ℕ) → 19 ≤ n → length_field (take n octets) ≡ length_field octets
   length_field-take n octets h = (front n octets h).same_length
 
-  good_len : (octets : List ℕ) → header_fault octets ≡ None → (19 ≤ length_field octets) × (length_field octets ≤ 4096)
+  pub good_len : (octets : List ℕ) → header_fault octets ≡ None → (19 ≤ length_field octets) × (length_field octets ≤ 4096)
   good_len octets e = (front 19 octets (omega arith)).bounds e
 
   fault_same : (held first : List ℕ) → first ≡ take 19 held → header_fault first ≡ header_fault held

@@ -11,7 +11,7 @@ use Rattle.bgp_framing.specs.Frames.{Splits, SplitsOnce, SplitsInPieces, SplitsB
 use Rattle.std.specs.Prelude.{slice_range}
 use Rattle.bgp_framing.specs.Held.{HasFrame, NextIsFirst}
 use Rattle.bgp_framing.specs.declared.framer.Next.TheVariants.{Whole, More, Bad}
-use Rattle.bgp_framing.proofs.FrontLemmas.{is_whole}
+use Rattle.bgp_framing.proofs.FrontLemmas.{header_fault-take, length_field-take, is_whole}
 
 all-append : (fs gs : List (List ℕ)) → AllByRecursion IsFrame fs → AllByRecursion IsFrame gs → AllByRecursion IsFrame (fs ++ gs)
 all-append [] gs p q = q
@@ -33,17 +33,7 @@ pub record HasFront (octets frame : List ℕ) : Type 0 where
   pub field : length_field octets ≡ length frame
   pub enough : length frame ≤ length octets
 
--- the checks of a header look at its first nineteen octets alone
 module _ (front : HeaderIsItsFront) where
-  header_fault-take : (n : ℕ) (octets : List ℕ) → 19 ≤ n → header_fault (take n octets) ≡ header_fault octets
-  header_fault-take n octets h = (front n octets h).same_fault
-
-  length_field-take : (n : ℕ) (octets : List ℕ) → 19 ≤ n → length_field (take n octets) ≡ length_field octets
-  length_field-take n octets h = (front n octets h).same_length
-
-  good_len : (octets : List ℕ) → header_fault octets ≡ None → (19 ≤ length_field octets) × (length_field octets ≤ 4096)
-  good_len octets e = (front 19 octets (omega arith)).bounds e
-
   pub front_of : (octets frame more : List ℕ) → IsFrame frame → octets ≡ frame ++ more → HasFront octets frame
   front_of octets frame more is e =
       let n = length frame in
@@ -51,8 +41,8 @@ module _ (front : HeaderIsItsFront) where
       let size : length octets ≡ n + length more = ap length e ∙ length-append frame more in
       record {
         long = omega (arith, size, is.has_header);
-        good = sym (header_fault-take n octets is.has_header) ∙ ap header_fault cut ∙ is.good;
-        field = sym (length_field-take n octets is.has_header) ∙ ap length_field cut ∙ sym is.whole;
+        good = sym (header_fault-take front n octets is.has_header) ∙ ap header_fault cut ∙ is.good;
+        field = sym (length_field-take front n octets is.has_header) ∙ ap length_field cut ∙ sym is.whole;
         enough = omega (arith, size);
       }
 
@@ -98,7 +88,7 @@ module _ (front : HeaderIsItsFront) where
             | inl whole ↦
                 let wide : 19 ≤ length octets = leb-true 19 (length octets) long in
                 let enough : length_field octets ≤ length octets = leb-true (length_field octets) (length octets) whole in
-                let w = is_whole front octets (take 19 octets) (length_field octets) wide refl (header_fault-take 19 octets (omega arith) ∙ good) (sym (length_field-take 19 octets (omega arith))) enough in
+                let w = is_whole front octets (take 19 octets) (length_field octets) wide refl (header_fault-take front 19 octets (omega arith) ∙ good) (sym (length_field-take front 19 octets (omega arith))) enough in
                 inl (length_field octets, enough, w.2)
           ]
         ]
@@ -178,7 +168,7 @@ module _ (front : HeaderIsItsFront) where
   pub field_of_frame : (held : List ℕ) (n : ℕ) → n ≤ length held → IsFrame (take n held) → length_field held ≡ n
   field_of_frame held n h is =
       let len : length (take n held) ≡ n = omega (arith, length-take n held) in
-      sym (length_field-take n held (omega (arith, len, is.has_header))) ∙ sym is.whole ∙ len
+      sym (length_field-take front n held (omega (arith, len, is.has_header))) ∙ sym is.whole ∙ len
 
   rest_len : (rest : List ℕ) (b : Bool) → nat_le 19 (length rest) ≡ b → BeginsWithNone rest → IsPartial rest ⊎ ((f : Fault) × (19 ≤ length rest) × (header_fault rest ≡ Some f))
   rest_len rest false short none = inl (inl (leb-false 19 (length rest) short))
@@ -189,7 +179,7 @@ module _ (front : HeaderIsItsFront) where
         | inl good ↦ elim (bool_cases (nat_le (length_field rest) (length rest))) [
           | inl enough ↦ absurd (
               let n : length_field rest ≤ length rest = leb-true (length_field rest) (length rest) enough in
-              let w = is_whole front rest (take 19 rest) (length_field rest) l refl (header_fault-take 19 rest (omega arith) ∙ good) (sym (length_field-take 19 rest (omega arith))) n in
+              let w = is_whole front rest (take 19 rest) (length_field rest) l refl (header_fault-take front 19 rest (omega arith) ∙ good) (sym (length_field-take front 19 rest (omega arith))) n in
               none (take (length_field rest) rest) (drop (length_field rest) rest) w.2 (sym (take-append-drop (length_field rest) rest)))
           | inr few ↦ inl (inr (l, good, leb-false (length_field rest) (length rest) few))
         ]
@@ -207,6 +197,6 @@ module _ (front : HeaderIsItsFront) where
     λ fault more long bad.
         let front_is : take 19 (octets ++ more) ≡ take 19 octets = take-append-le 19 octets more long in
         let here : header_fault (octets ++ more) ≡ Some fault =
-        sym (header_fault-take 19 (octets ++ more) (omega arith)) ∙ ap header_fault front_is ∙ header_fault-take 19 octets (omega arith) ∙ bad in
+        sym (header_fault-take front 19 (octets ++ more) (omega arith)) ∙ ap header_fault front_is ∙ header_fault-take front 19 octets (omega arith) ∙ bad in
         (here, fault_splits (octets ++ more) fault here),
   )

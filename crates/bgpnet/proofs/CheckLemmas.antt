@@ -1,6 +1,6 @@
 -- Entries and origins, one more at a time.
 use Rattle.std.proofs.Common.{◌≡◌, ℕ, zero, suc, ◌+◌, ◌-◌, ◌<◌, ◌≤◌, Bool, true, false, cond, List, [], ◌∷◌, ◌++◌, length, take, drop, get_or, refl, sym, ap, subst, ◌∙◌, arith, inl, inr, Result, Ok, Err, IfOk, Option, Some, None}
-use Rattle.std.specs.Prelude.{◌==◌, ◌&&◌, IsTrue, OnErr}
+use Rattle.std.specs.Prelude.{◌==◌, ◌&&◌, codes, IsTrue, OnErr, ◌⊎◌}
 use Rattle.std.specs.List.{All}
 use Rattle.std.proofs.lemmas.Bool.{cases_order}
 use Rattle.std.proofs.lemmas.List.{take_more, drop_more, take_all, take-append-drop, length-take, get_or-take}
@@ -14,9 +14,9 @@ use Rattle.net_text.specs.declared.assignment.Entry.{Entry}
 use Rattle.net_text.specs.Words.{is_prefix}
 use Rattle.std.specs.Io.KnownBytes.{Appends}
 use Rattle.net_text.specs.Lexing.{Text, lines_of, before_section, behind_section}
-use Rattle.bgpnet.specs.Decoding.{Output, output}
+use Rattle.bgpnet.specs.Decoding.{Output, output, memory_output}
 use Rattle.bgpnet.specs.Engine.{ReadsUpTo, AppendsFront, PrintedBy, PrintedFrontBy}
-use Rattle.bgpnet.specs.Inputs.{NetworkGives, InputGives, LinesGive, Prints}
+use Rattle.bgpnet.specs.Inputs.{NetworkGives, InputGives, LinesGive, Prints, refused}
 use Rattle.bgpnet.specs.Checking.{paths_by, paths_of, at_prefix, MayStand, IsFirstStray, IsStableAt, IsFirstMove}
 
 module _ {X : Type 0} where
@@ -113,16 +113,34 @@ verdict_of p net q paths check e v = subst (λ (x : Problem). IsVerdict x paths 
 
 -- ---- what is printed for what was read
 
-module _ (Gives : Plan → ℕ → List Text → Output → Type 0) (name : List ℕ) where
+-- an input may be too long
+abbrev pub WithinLimit : (List ℕ → Output → Type 0) → List ℕ → Output → Type 0
+WithinLimit Gives input out = (16777216 < length input × (out ≡ refused 0 (codes "N6"))) ⊎ ((length input ≤ 16777216) × Gives input out)
+
+abbrev pub OrMemory : (List ℕ → Output → Type 0) → List ℕ → Output → Type 0
+OrMemory Gives input out = WithinLimit Gives input out ⊎ (out ≡ memory_output)
+
+module _ (Gives : List ℕ → Output → Type 0) where
   -- for known octets of which these were read, up to the limit
-  prints_input : (input items : List ℕ) (out : Output) → items ≡ take (length items) input → (length items ≤ 16777216 → items ≡ input) → InputGives Gives name items out → Prints Gives name input out
-  prints_input input items out front same (inl long) =
+  limited_input : (input items : List ℕ) (out : Output) → items ≡ take (length items) input → (length items ≤ 16777216 → items ≡ input) → WithinLimit Gives items out → OrMemory Gives input out
+  limited_input input items out front same (inl long) =
       let size : length items ≤ length input = omega (arith, ap length front, length-take (length items) input) in
       inl (inl (omega (arith, size, long.0), long.1))
-  prints_input input items out front same (inr short) =
+  limited_input input items out front same (inr short) =
       let e : items ≡ input = same short.0 in
-      inl (inr (subst (λ (xs : List ℕ). length xs ≤ 16777216) e short.0, subst (λ (xs : List ℕ). LinesGive Gives name (lines_of xs) out) e short.1))
+      inl (inr (subst (λ (xs : List ℕ). length xs ≤ 16777216) e short.0, subst (λ (xs : List ℕ). Gives xs out) e short.1))
 
+  pub limited_done : (known old new : Option (List ℕ)) (items text : List ℕ) (status : ℕ) → ReadsUpTo 16777216 known items → WithinLimit Gives items (output text status) → Appends old new text
+      → PrintedBy (OrMemory Gives) known old new status
+  limited_done None old new items text status read gives put = tt
+  limited_done (Some input) old new items text status read gives put = (text, limited_input input items (output text status) read.0 read.1 gives, put)
+
+  pub limited_stopped : (known old new : Option (List ℕ)) (items text : List ℕ) (status : ℕ) → ReadsUpTo 16777216 known items → WithinLimit Gives items (output text status) → AppendsFront old new text
+      → PrintedFrontBy (OrMemory Gives) known old new
+  limited_stopped None old new items text status read gives put = tt
+  limited_stopped (Some input) old new items text status read gives put = (output text status, limited_input input items (output text status) read.0 read.1 gives, put)
+
+module _ (Gives : Plan → ℕ → List Text → Output → Type 0) (name : List ℕ) where
   -- for the two parts of a text
   pub lines_give : (text : List ℕ) (front behind : List Text) (before : ℕ) (out : Output) → front ≡ before_section name (lines_of text) → behind ≡ behind_section name (lines_of text)
       → before + length behind ≡ length (lines_of text) → NetworkGives Gives front before behind out → LinesGive Gives name (lines_of text) out
@@ -135,13 +153,13 @@ module _ (Gives : Plan → ℕ → List Text → Output → Type 0) (name : List
 
   pub prints_done : (known old new : Option (List ℕ)) (items text : List ℕ) (status : ℕ) → ReadsUpTo 16777216 known items → InputGives Gives name items (output text status) → Appends old new text
       → PrintedBy (Prints Gives name) known old new status
-  prints_done None old new items text status read gives put = tt
-  prints_done (Some input) old new items text status read gives put = (text, prints_input input items (output text status) read.0 read.1 gives, put)
+  prints_done known old new items text status read gives put =
+      limited_done (λ input out. LinesGive Gives name (lines_of input) out) known old new items text status read gives put
 
   pub prints_stopped : (known old new : Option (List ℕ)) (items text : List ℕ) (status : ℕ) → ReadsUpTo 16777216 known items → InputGives Gives name items (output text status) → AppendsFront old new text
       → PrintedFrontBy (Prints Gives name) known old new
-  prints_stopped None old new items text status read gives put = tt
-  prints_stopped (Some input) old new items text status read gives put = (output text status, prints_input input items (output text status) read.0 read.1 gives, put)
+  prints_stopped known old new items text status read gives put =
+      limited_stopped (λ input out. LinesGive Gives name (lines_of input) out) known old new items text status read gives put
 
 -- what holds, holds where a call stopped
 pub on_err : {A E X : Type 0} (r : Result A E) → X → OnErr r X

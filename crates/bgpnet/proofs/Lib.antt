@@ -5,6 +5,8 @@ pub mod CheckLemmas
 pub mod PlayLemmas
 pub mod PartLemmas
 pub mod SettledLemmas
+pub mod RunLemmas
+pub mod GateLemmas
 pub mod PlaceLemmas
 pub mod BlankLemmas
 pub mod HexInputLemmas

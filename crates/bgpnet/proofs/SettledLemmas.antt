@@ -57,10 +57,10 @@ is_recorded : (ms : List MadeOffer) (u : ℕ) → has_part ms u (λ part. true) 
 is_recorded [] u h = absurd cc
 is_recorded (m ∷ ms) u h = some_at u m.offer ms (u == m.router) h (is_recorded ms u)
 
-nothing_recorded : RouterPart
+abbrev pub nothing_recorded : RouterPart
 nothing_recorded = record { kept = λ q. []; originated = λ q. false; incarnation = λ v. 0; pending = false; channel = λ v. [] }
 
-abbrev the_part : Option RouterPart → RouterPart
+abbrev pub the_part : Option RouterPart → RouterPart
 the_part None = nothing_recorded
 the_part (Some p) = p
 
@@ -106,35 +106,47 @@ in_offered s (m ∷ ms) x h = for_by s m ms x (is_for s m) refl (in_offered s ms
 
 -- ---- all of it
 
-module _ (g : Setting) (w : World) (s : ℕ) (settled : outcome g.net w.made s ≡ Settled) where
-  abbrev parts_of : ℕ → RouterPart
-  parts_of u = the_part (recorded (deciding g.net w.made s) u)
+-- the offers for each number are those of all that were made
+abbrev pub AreOffersOf : (ℕ → List MadeOffer) → List MadeOffer → Type 0
+AreOffersOf made offered = (t : ℕ) → made t ≡ filter (is_for t) offered
 
-  printed_is : (u : ℕ) → is_router g u ≡ true → recorded (deciding g.net w.made s) u ≡ Some (parts_of u)
+-- what each router recorded by these offers
+abbrev pub parts_in : List MadeOffer → ℕ → RouterPart
+parts_in ms u = the_part (recorded ms u)
+
+module _ (g : Setting) (made : ℕ → List MadeOffer) (s : ℕ) (settled : outcome g.net made s ≡ Settled) where
+  abbrev parts_of : ℕ → RouterPart
+  parts_of = parts_in (deciding g.net made s)
+
+  pub printed_is : (u : ℕ) → is_router g u ≡ true → recorded (deciding g.net made s) u ≡ Some (parts_of u)
   printed_is u i =
-      let ms = deciding g.net w.made s in
+      let ms = deciding g.net made s in
       let members = members_of g.net in
       let all = whole (all_parts members ms) (first_fault members ms) (no_loss ms (whole_or_waiting (all_parts members ms) (first_fault members ms)) settled) in
       let p = is_recorded ms u (part_of_each (numbers g.net.routers) (peers g.net) ms u all i) in
       the_same (recorded ms u) p.0 p.1
 
-  have_made : (state : RunState) → AgreesWith g w state → HaveMade g state s parts_of
-  have_made state agrees u i =
-      let at = is_made (deciding g.net w.made s) u (parts_of u) (printed_is u i) in
+  pub have_made : (state : RunState) → AreOffersOf made state.offered → HaveMade g state s parts_of
+  have_made state of u i =
+      let at = is_made (deciding g.net made s) u (parts_of u) (printed_is u i) in
       let x = made_of u (Finished at.0 (parts_of u)) in
-      let all = in_all (members_of g.net) [] (w.made s) x at.1 in
-      let k = in_offered s state.offered x (subst (IsIn x) (agrees.offers_made s) all) in
+      let all = in_all (members_of g.net) [] (made s) x at.1 in
+      let k = in_offered s state.offered x (subst (IsIn x) (of s) all) in
       let number : at.0 ≡ s = eqb-true at.0 s k.1 in
       subst (λ (n : ℕ). IsIn (made_of u (Finished n (parts_of u))) state.offered) number k.0
 
+-- of a world
+module _ (g : Setting) (w : World) (s : ℕ) (settled : outcome g.net w.made s ≡ Settled) where
   pub can_be_believed : KeepsItsPromises g w
       → ((before later : RunOrder) (at last : RunState) → IsRunTo g before at → Run (logged_steps g) at later last → AgreesWith g w last → (parts : ℕ → RouterPart) → HaveMade g last s parts → IsBelievable g before later at last s parts)
       → CanBeBelieved g w s
   can_be_believed keeps belief =
       let k = keeps.run in
+      let parts = parts_in (deciding g.net w.made s) in
+      let made = have_made g w.made s settled in
       record {
-        parts = parts_of;
-        printed = printed_is;
-        stable = (belief k.order [] k.state k.state k.run refl k.agrees parts_of (have_made k.state k.agrees)).stable;
-        believed = λ before later at last run goes agrees. belief before later at last run goes agrees parts_of (have_made last agrees);
+        parts = parts;
+        printed = printed_is g w.made s settled;
+        stable = (belief k.order [] k.state k.state k.run refl k.agrees parts (made k.state k.agrees.offers_made)).stable;
+        believed = λ before later at last run goes agrees. belief before later at last run goes agrees parts (made last agrees.offers_made);
       }

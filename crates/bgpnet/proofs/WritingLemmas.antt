@@ -4,7 +4,7 @@ use Rattle.std.specs.Prelude.{OnErr}
 use Rattle.bgp_codec.specs.declared.rule.Rule.{Rule}
 use Rattle.bgpnet.specs.declared.channel.IoStopped.{IoStopped}
 use Rattle.bgpnet.specs.Decoding.{Output, memory_output, Prints}
-use Rattle.bgpnet.specs.Engine.{AppendsFront, PrintedFront, PrintedFrontBy}
+use Rattle.bgpnet.specs.Engine.{AppendsFront, PrintedFront, PrintedFrontBy, WrittenFrontBy}
 use Rattle.std.specs.Io.KnownBytes.{Appends}
 use Rattle.std.proofs.KnownBytes.{Appends-trans, Appends-nil}
 
@@ -33,3 +33,8 @@ nothing_front rule known old = nothing_front_by (Prints rule) (λ input. inr ref
 
 pub memory_stopped : (rule : Rule) (known old new : Option (List ℕ)) (r : Result ℕ IoStopped) → OnErr r (AppendsFront old new (codes "memory\n")) → OnErr r (PrintedFront rule known old new)
 memory_stopped rule known old new r h = memory_stopped_by (Prints rule) (λ input. inr refl) known old new r h
+
+-- the same, of what no reader gave
+pub memory_written : (IsPrinted : Output → Type 0) → IsPrinted memory_output → (old new : Option (List ℕ)) (r : Result ℕ IoStopped) → OnErr r (AppendsFront old new (codes "memory\n")) → OnErr r (WrittenFrontBy IsPrinted old new)
+memory_written IsPrinted short old new (Ok status) h = tt
+memory_written IsPrinted short old new (Err stopped) h = (memory_output, short, h)

@@ -12,6 +12,14 @@ ReadsUpTo limit known items = IfSome known (λ input. (items ≡ take (length it
 abbrev pub AppendsFront : Option (List ℕ) → Option (List ℕ) → List ℕ → Type 0
 AppendsFront old new text = (n : ℕ) × Appends old new (take n text)
 
+-- a whole output of these was appended, with this status
+abbrev pub WrittenBy : (Output → Type 0) → Option (List ℕ) → Option (List ℕ) → ℕ → Type 0
+WrittenBy IsPrinted old new status = (text : List ℕ) × IsPrinted (output text status) × Appends old new text
+
+-- a beginning of one of these was appended
+abbrev pub WrittenFrontBy : (Output → Type 0) → Option (List ℕ) → Option (List ℕ) → Type 0
+WrittenFrontBy IsPrinted old new = (out : Output) × IsPrinted out × AppendsFront old new out.text
+
 -- a whole output that is printed for these known octets was appended, with this status
 abbrev pub PrintedBy : (List ℕ → Output → Type 0) → Option (List ℕ) → Option (List ℕ) → Option (List ℕ) → ℕ → Type 0
 PrintedBy IsPrinted known old new status = IfSome known (λ input. (text : List ℕ) × IsPrinted input (output text status) × Appends old new text)

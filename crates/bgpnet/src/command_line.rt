@@ -4,15 +4,19 @@ ghost use Rattle.std.specs.Prelude.{◌≡◌, ◌&&◌, nat_le, true, ◌⊎◌
 ghost use Rattle.std.specs.List.{list_all};
 
 use crate::channel::{IoStopped, Sink, Source};
+use crate::chores::RunOptions;
 use crate::engines::check::check_stream;
 use crate::engines::decode::decode_stream;
 use crate::engines::play::play_stream;
+use crate::engines::run::run_stream;
 use crate::engines::{want_of_memory, write_out};
 use crate::status::{DONE, USAGE};
 use bgp_codec::{Rule, Width};
 use clap::error::ErrorKind;
-use clap::{Arg, Command, Error};
+use clap::{Arg, ArgMatches, Command, Error};
 use std::alloc::{AllocError, Global};
+use std::sync::Wait;
+use std::thread::Threads;
 
 // What the words ask for.
 #[derive(Debug, Drop)]
@@ -23,6 +27,8 @@ enum Asked {
     Check,
     // Play a schedule.
     Play,
+    // Run a network in threads.
+    Run(RunOptions),
     // A text to write, and the status to end with.
     Text(String, u8),
 }
@@ -79,12 +85,31 @@ An order is 'start U V', 'stop U V' or 'reset U V' for U's session with V, 'orig
 'ticks N', N seconds. 'refused LINE CODE' names the first line that can't be read, else the first
 order that is refused, and why.";
 
-// What is said of a sign before the number of `--peer`.
-const NOT_DIGITS: &str = "\
-error: invalid value for '--peer <AS>': a number is decimal digits alone
+/// What the help of `run` says below its options: an example.
+pub const RUN_HELP: &str = "\
+The input is a network:
 
-For more information, try '--help'.
-";
+    router 1 10.0.0.1
+    router 2 10.0.0.2
+    link 1 2
+    origin 1 10.1.0.0/16
+
+Each router runs in a thread of its own: it starts its sessions, originates its prefixes, and then
+takes turns, N chores in all. The least router takes the snapshots 1 to K, evenly spaced. Where one
+of them found the network at rest, the output is the routes of the first that did
+
+    route 1 10.1.0.0/16 1
+    route 2 10.1.0.0/16 2-1
+
+and 'unsettled' where none did, which says nothing about the network. 'refused LINE CODE' names the
+first line that can't be read and what is wrong with it; 'refused 0 G3' says that N leaves no room
+for the snapshots, or is not 1 to 1000000.";
+
+// The chores of each router where `--turns` does not say them.
+const TURNS: u32 = 20_000;
+
+// The snapshots where `--snapshots` does not say them.
+const SNAPSHOTS: u32 = 20;
 
 // Whether all octets are decimal digits.
 fn are_digits(text: &[u8]) -> bool
@@ -97,15 +122,75 @@ fn are_digits(text: &[u8]) -> bool
     are_digits
 }
 
-fn parse(alloc: Global, words: &[&str]) -> Result<Asked, Error> {
+// What is said of a sign before the number of an option, where it has one.
+fn sign_of(
+    alloc: Global,
+    found: &ArgMatches,
+    id: &str,
+    shown: &str,
+) -> Result<Option<String>, AllocError> {
+    match found.get_str(id) {
+        Some(number) if !are_digits(number.as_bytes()) => {
+            let text = format!(in alloc;
+                "error: invalid value for '{shown}': a number is decimal digits alone\n\n\
+                For more information, try '--help'.\n"
+            )?;
+            Ok(Some(text))
+        }
+        Some(_) | None => Ok(None),
+    }
+}
+
+fn asked_decode(alloc: Global, found: &ArgMatches) -> Result<Asked, AllocError> {
+    match sign_of(alloc, found, "peer", "--peer <AS>")? {
+        Some(text) => Ok(Asked::Text(text, USAGE)),
+        None => Ok(Asked::Decode(found.get_one::<u16>("peer"))),
+    }
+}
+
+fn asked_run(alloc: Global, found: &ArgMatches) -> Result<Asked, AllocError> {
+    if let Some(text) = sign_of(alloc, found, "turns", "--turns <N>")? {
+        return Ok(Asked::Text(text, USAGE));
+    }
+    if let Some(text) = sign_of(alloc, found, "snapshots", "--snapshots <K>")? {
+        return Ok(Asked::Text(text, USAGE));
+    }
+    Ok(Asked::Run(RunOptions {
+        turns: found.get_one::<u32>("turns").unwrap_or(TURNS),
+        snapshots: found.get_one::<u32>("snapshots").unwrap_or(SNAPSHOTS),
+    }))
+}
+
+fn decode_command<'a>(alloc: Global) -> Result<Command<'a>, AllocError> {
     let peer = Arg::new(alloc, "peer")
         .long("peer")
         .value_name("AS")
         .value_parser(clap::value_parser!(u16).range(1..))
         .help("Checks an OPEN's number against AS, 1 to 65535");
-    let decode = Command::new(alloc, "decode")
+    Command::new(alloc, "decode")
         .about("Prints the messages of a stream in hex")
-        .arg(peer)?;
+        .arg(peer)
+}
+
+fn run_command<'a>(alloc: Global) -> Result<Command<'a>, AllocError> {
+    let turns = Arg::new(alloc, "turns")
+        .long("turns")
+        .value_name("N")
+        .value_parser(clap::value_parser!(u32))
+        .help("The chores of each router, 1 to 1000000 [default: 20000]");
+    let snapshots = Arg::new(alloc, "snapshots")
+        .long("snapshots")
+        .value_name("K")
+        .value_parser(clap::value_parser!(u32).range(1..=1000))
+        .help("The snapshots that are taken, 1 to 1000 [default: 20]");
+    Command::new(alloc, "run")
+        .about("Runs a network in threads")
+        .after_help(RUN_HELP)
+        .arg(turns)?
+        .arg(snapshots)
+}
+
+fn parse(alloc: Global, words: &[&str]) -> Result<Asked, Error> {
     let check = Command::new(alloc, "check")
         .about("Says whether an assignment of paths is stable")
         .after_help(CHECK_HELP);
@@ -114,12 +199,14 @@ fn parse(alloc: Global, words: &[&str]) -> Result<Asked, Error> {
         .after_help(PLAY_HELP);
     let command = Command::new(alloc, "bgpnet")
         .about(
-            "Decodes BGP-4 messages, says whether paths are a stable assignment, plays schedules",
+            "Decodes BGP-4 messages, says whether paths are a stable assignment, plays schedules, \
+            runs networks",
         )
         .subcommand_required(true)
-        .subcommand(decode)?
+        .subcommand(decode_command(alloc)?)?
         .subcommand(check)?
-        .subcommand(play)?;
+        .subcommand(play)?
+        .subcommand(run_command(alloc)?)?;
     let matches = command.try_get_matches_from(words)?;
     if matches.subcommand_matches("play").is_some() {
         return Ok(Asked::Play);
@@ -127,14 +214,12 @@ fn parse(alloc: Global, words: &[&str]) -> Result<Asked, Error> {
     if matches.subcommand_matches("check").is_some() {
         return Ok(Asked::Check);
     }
-    let Some(found) = matches.subcommand_matches("decode") else {
-        return Ok(Asked::Decode(None));
-    };
-    match found.get_str("peer") {
-        Some(number) if !are_digits(number.as_bytes()) => {
-            Ok(Asked::Text(String::from_str(alloc, NOT_DIGITS)?, USAGE))
-        }
-        _ => Ok(Asked::Decode(found.get_one::<u16>("peer"))),
+    if let Some(found) = matches.subcommand_matches("run") {
+        return Ok(asked_run(alloc, found)?);
+    }
+    match matches.subcommand_matches("decode") {
+        Some(found) => Ok(asked_decode(alloc, found)?),
+        None => Ok(Asked::Decode(None)),
     }
 }
 
@@ -154,12 +239,17 @@ fn read_words(alloc: Global, words: &[&str]) -> Result<Asked, AllocError> {
 }
 
 /// Runs the program on the words behind its name, and answers its status.
-pub fn run_with<S: Source, T: Sink>(
+pub fn run_with<R, S, T>(
+    rt: &R,
     alloc: Global,
     words: &[&str],
     reader: &mut S,
     writer: &mut T,
 ) -> Result<u8, IoStopped>
+where
+    R: Threads + Wait + Sync,
+    S: Source,
+    T: Sink,
     ensures unfailed { OnOk result ((S.failed reader.new ≡ S.failed reader.old) × (T.failed writer.new ≡ T.failed writer.old)) }
     ensures failed { OnErr result ((S.failed reader.new ≡ true) ⊎ (T.failed writer.new ≡ true)) }
 {
@@ -173,6 +263,7 @@ pub fn run_with<S: Source, T: Sink>(
         }
         Ok(Asked::Check) => check_stream(alloc, reader, writer),
         Ok(Asked::Play) => play_stream(alloc, reader, writer),
+        Ok(Asked::Run(options)) => run_stream(rt, alloc, &options, reader, writer),
         Ok(Asked::Text(text, status)) => {
             write_out(writer, text.as_bytes())?;
             Ok(status)

@@ -8,6 +8,7 @@ pub mod check;
 pub mod decode;
 pub mod hex_input;
 pub mod play;
+pub mod run;
 
 use crate::channel::{IoStopped, Sink, Source};
 use crate::status::MEMORY;

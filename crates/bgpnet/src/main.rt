@@ -1,4 +1,5 @@
-//! `bgpnet`: decodes BGP-4 messages, says whether paths are a stable assignment, and plays schedules.
+//! `bgpnet`: decodes BGP-4 messages, says whether paths are a stable assignment, plays schedules of a
+//! network, and runs a network in threads.
 //!
 //! The program reads its words, standard input and nothing else, and writes standard output.
 //! [`command_line`] reads the words and hands them to an engine of [`engines`]: a function over a
@@ -7,31 +8,40 @@
 //!
 //! The contract of `bgpnet decode` is that of `engines::decode::decode_stream`, that of
 //! `bgpnet check` that of `engines::check::check_stream`, that of `bgpnet play` that of
-//! `engines::play::play_stream`; the definitions stand in `specs/`: `Decoding` (the text of a
-//! stream), `Inputs` (a network and a section behind it), `Checking` (the text of a check),
-//! `Playing` (that of a schedule), `Engine` (what an engine may leave written). The lines
-//! themselves are `net_text`'s and `schedule_text`'s.
+//! `engines::play::play_stream`, that of `bgpnet run` that of `engines::run::run_stream`; the
+//! definitions stand in `specs/`: `Decoding` (the text of a stream), `Inputs` (a network and a
+//! section behind it), `Checking` (the text of a check), `Playing` (that of a schedule), `Running`
+//! (that of a network in threads), `Gates` (what its routers are told), `Engine` (what an engine may
+//! leave written). The lines themselves are `net_text`'s and `schedule_text`'s.
 #![tactic(auto)]
 
 mod assignments;
 mod blanks;
 mod channel;
+mod chores;
 mod command_line;
 mod digits;
 mod engines;
+mod gates;
 mod refusals;
 mod schedules;
+mod settled;
 mod snapshots;
 mod status;
 mod stream;
+mod threads;
 
-use channel::{IoStopped, Sink, Watched};
+use channel::{IoStopped, Sink, Source, Watched};
 use command_line::run_with;
 use engines::{want_of_memory, write_out};
+use std::alloc::Global;
 use std::process::ExitCode;
+use std::sync::Wait;
+use std::thread::Threads;
 use std::{env, io};
 
 // Why the words behind the program's name were not read.
+#[derive(Debug, Drop)]
 enum WordsError {
     Memory,
     NotText,
@@ -49,9 +59,20 @@ fn words_of(rt: &HostRuntime) -> Result<Vec<String>, WordsError> {
     }
 }
 
-// Runs the program on the standard input.
-fn run<T: Sink>(rt: &HostRuntime, writer: &mut T) -> Result<u8, IoStopped> {
-    let words = match words_of(rt) {
+// Runs the program on these words.
+fn run<R, S, T>(
+    rt: &R,
+    alloc: Global,
+    words: Result<Vec<String>, WordsError>,
+    reader: &mut S,
+    writer: &mut T,
+) -> Result<u8, IoStopped>
+where
+    R: Threads + Wait + Sync,
+    S: Source,
+    T: Sink,
+{
+    let words = match words {
         Ok(words) => words,
         Err(WordsError::Memory) => return want_of_memory(writer),
         Err(WordsError::NotText) => {
@@ -59,19 +80,17 @@ fn run<T: Sink>(rt: &HostRuntime, writer: &mut T) -> Result<u8, IoStopped> {
             return Ok(status::USAGE);
         }
     };
-    let lent: Result<Vec<&str>, _> = words.iter().map(|word| word.as_str()).collect(rt.alloc());
+    let lent: Result<Vec<&str>, _> = words.iter().map(|word| word.as_str()).collect(alloc);
     match lent {
-        Ok(lent) => {
-            let mut reader = Watched::new(rt.stdin());
-            run_with(rt.alloc(), lent.as_slice(), &mut reader, writer)
-        }
+        Ok(lent) => run_with(rt, alloc, lent.as_slice(), reader, writer),
         Err(_) => want_of_memory(writer),
     }
 }
 
 fn main(rt: HostRuntime) -> ExitCode {
+    let mut reader = Watched::new(rt.stdin());
     let mut writer = Watched::new(io::writer(&rt));
-    match run(&rt, &mut writer) {
+    match run(&rt, rt.alloc(), words_of(&rt), &mut reader, &mut writer) {
         Ok(status) => ExitCode::from(status),
         Err(_) => ExitCode::from(status::STOPPED),
     }

@@ -2,7 +2,7 @@
 
 ghost use Rattle.std.specs.Prelude.{◌≡◌, ◌≢◌, ◌++◌, IfOk, OnOk, MatchResult};
 ghost use Rattle.router_core.specs.Views.{plain_of};
-ghost use Rattle.world_core.specs.Views.{plain_world, KeepsPromises};
+ghost use Rattle.world_core.specs.Views.{plain_world, Opens, KeepsPromises};
 ghost use Rattle.bgpnet.specs.Decoding.{output};
 ghost use Rattle.bgpnet.specs.Reporting.{router_text, routes_text};
 ghost use Rattle.bgpnet.specs.Playing.{Obeyed, Reports, stopped, OrdersGive};
@@ -13,6 +13,7 @@ use ranked_policy::{Asn, Network, Origin};
 use router_core::Router;
 use schedule_text::{ScheduledOrder, now_line, route_line, stop_line};
 use std::alloc::{AllocError, Global};
+use std::mem::forget;
 use world_core::{StepFault, World};
 
 /// An order that was refused.
@@ -104,6 +105,23 @@ fn stop_output(alloc: Global, stop: Stop) -> Result<(Vec<u8>, u8), AllocError>
     Ok((out, REFUSED))
 }
 
+// What is printed for orders in a world in which nothing was done.
+fn world_output(
+    alloc: Global,
+    network: &Network,
+    world: &mut World<'_>,
+    orders: &[ScheduledOrder],
+) -> Result<(Vec<u8>, u8), AllocError>
+    requires opens { Opens network.now world.old }
+    requires promises { KeepsPromises world.old }
+    ensures { IfOk result (λ printed. OrdersGive network.now orders.now (output printed.0.items printed.1)) }
+{
+    match obey_all(world, orders) {
+        Ok(()) => report_output(alloc, network, world),
+        Err(stop) => stop_output(alloc, stop),
+    }
+}
+
 /// What is printed for the orders of a schedule, and the status.
 pub fn orders_output(
     alloc: Global,
@@ -115,8 +133,8 @@ pub fn orders_output(
     let Ok(mut world) = World::new(alloc, network) else {
         return Err(AllocError);
     };
-    match obey_all(&mut world, orders) {
-        Ok(()) => report_output(alloc, network, &world),
-        Err(stop) => stop_output(alloc, stop),
-    }
+    let printed = world_output(alloc, network, &mut world, orders);
+    // What the world holds is many small blocks, and goes with the process, which ends behind this.
+    forget(world);
+    printed
 }

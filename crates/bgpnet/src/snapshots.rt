@@ -57,8 +57,8 @@ fn put_recorded(
     }
 }
 
-// Appends the routes of the parts of a snapshot.
-fn put_parts(
+/// Appends the routes of the parts of a snapshot.
+pub fn put_parts(
     network: &Network,
     collector: &Collector,
     number: u32,

@@ -96,6 +96,27 @@ pub fn next_word(line: &[u8]) -> Option<(&[u8], &[u8])>
     Some(left.split_at(word_len(left)))
 }
 
+/// The word of a line, where it has no other.
+pub fn one_word(line: &[u8]) -> Option<&[u8]>
+    ensures some { IfSome result (λ a. words_of line.now ≡ a.now ∷ []) }
+    ensures none { IfNone result (length (words_of line.now) ≢ 1) }
+{
+    let (word, rest) = next_word(line)?;
+    if let Some(_) = next_word(rest) {
+        return None;
+    }
+    Some(word)
+}
+
+/// The two words of a line, where it has no other.
+pub fn two_words(line: &[u8]) -> Option<(&[u8], &[u8])>
+    ensures some { IfSome result (λ p. words_of line.now ≡ p.0.now ∷ p.1.now ∷ []) }
+    ensures none { IfNone result (length (words_of line.now) ≢ 2) }
+{
+    let (word, rest) = next_word(line)?;
+    Some((word, one_word(rest)?))
+}
+
 /// Whether the line has no word, or its first word begins a comment.
 pub fn is_skipped(line: &[u8]) -> bool
     ensures { result ≡ is_skipped line.now }

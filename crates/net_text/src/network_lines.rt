@@ -1,6 +1,6 @@
 //! The lines of a network text: each is judged, and then adds to the network.
 
-ghost use Rattle.std.specs.Prelude.{◌≡◌, ◌≢◌, ◌<◌, ◌≤◌, ◌==◌, ◌||◌, [], ◌∷◌, true, false, length, map, IfSome, IfNone};
+ghost use Rattle.std.specs.Prelude.{◌≡◌};
 ghost use Rattle.std.specs.List.{list_any, count_by};
 ghost use Rattle.ranked_policy.specs.Plans.{touches};
 ghost use Rattle.net_text.specs.Lexing.{words_of};
@@ -10,34 +10,13 @@ ghost use Rattle.net_text.specs.Steps.{Steps};
 
 use crate::code::Code;
 use crate::draft::Draft;
-use crate::lexing::{is_ascii, is_skipped, next_word, same};
+use crate::lexing::{is_ascii, is_skipped, next_word, one_word, same, two_words};
 use crate::paths::{MAX_PATHS, are_distinct, are_short, count_words, judge_rule_paths, take_paths};
 use crate::settings::{Setting, judge_setting, naming, setting_of, was_named};
 use crate::words::{asn_word, id_word, is_named, is_prefix, prefix_word, router_word};
 use prefix_lanes::Prefix;
 use ranked_policy::{Asn, Link, Router, Rule};
 use std::alloc::Global;
-
-// The word, where there is no other.
-fn one_word(words: &[u8]) -> Option<&[u8]>
-    ensures some { IfSome result (λ a. words_of words.now ≡ a.now ∷ []) }
-    ensures none { IfNone result (length (words_of words.now) ≢ 1) }
-{
-    let (word, rest) = next_word(words)?;
-    if let Some(_) = next_word(rest) {
-        return None;
-    }
-    Some(word)
-}
-
-// The two words, where there is no other.
-fn two_words(words: &[u8]) -> Option<(&[u8], &[u8])>
-    ensures some { IfSome result (λ p. words_of words.now ≡ p.0.now ∷ p.1.now ∷ []) }
-    ensures none { IfNone result (length (words_of words.now) ≢ 2) }
-{
-    let (word, rest) = next_word(words)?;
-    Some((word, one_word(rest)?))
-}
 
 // What a line of a setting says.
 fn read_setting(draft: &mut Draft, setting: Setting, words: &[u8]) -> Result<(), Code>

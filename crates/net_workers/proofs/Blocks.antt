@@ -1,17 +1,14 @@
 -- The journals of routers that stand one after another, by rising router.
-use Rattle.std.proofs.Common.{◌≡◌, ℕ, suc, ◌+◌, ◌-◌, ◌<◌, ◌≤◌, ◌==◌, Bool, true, false, cond, List, [], ◌∷◌, ◌++◌, map, length, get_or, refl, sym, ap, subst, ◌∙◌, arith, inl, inr, length-append, eqb-true, eq-eqb}
+use Rattle.std.proofs.Common.{◌≡◌, ℕ, suc, ◌-◌, ◌<◌, ◌≤◌, ◌==◌, Bool, true, false, cond, List, [], ◌∷◌, ◌++◌, map, length, refl, ap, subst, ◌∙◌, arith, inl, inr, length-append, eqb-true, eq-eqb}
 use Rattle.std.specs.Prelude.{filter}
 use Rattle.std.specs.List.{All, AllPairs, AllByRecursion}
 use Rattle.std.specs.List.Sorted.{IsNonDecreasingBy}
-use Rattle.std.proofs.lemmas.List.{append-nil, map-append, length-map, get_or-map, get_or_append_left, get_or-append_right}
-use Rattle.std.proofs.lemmas.List.Elements.{All-nil, All-cons, All-append, All-head, All-tail, All-weaker, All-map, filter-append}
+use Rattle.std.proofs.lemmas.List.{append-nil, length-map, get_or-map, get_or_append_left, get_or-append_right}
+use Rattle.std.proofs.lemmas.List.Elements.{All-nil, All-append, All-head, All-tail, All-weaker, filter-append}
 use Rattle.std.proofs.lemmas.List.Sorted.{IsNonDecreasingBy-from_default}
-use Rattle.std.proofs.lemmas.Bool.{cases_lt, false≢true}
+use Rattle.std.proofs.lemmas.Bool.{cases_lt}
 use Rattle.run_model.specs.Journals.{events_of}
-use Rattle.run_model.specs.Stamps.{events_in, FitsItem, stamped_offers, Collected}
-use Rattle.outbox.specs.declared.item.What.{What}
-use Rattle.snap_marker.specs.Recordings.{MadeOffer}
-use Rattle.router_model.specs.Step.{Own, RouterEvent}
+use Rattle.run_model.specs.Stamps.{events_in, FitsItem}
 use Rattle.worker_loop.specs.Acts.{Act, journal_of}
 use Rattle.worker_loop.specs.Laws.{IsOf}
 

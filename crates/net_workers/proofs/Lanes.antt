@@ -1,5 +1,5 @@
 -- The lane to a peer: where it stands, and what a change of it makes of all lanes.
-use Rattle.std.proofs.Common.{◌≡◌, ◌≢◌, ℕ, zero, suc, ◌+◌, ◌<◌, ◌≤◌, ◌==◌, Bool, true, false, cond, not, List, [], ◌∷◌, ◌++◌, length, map, Option, None, Some, refl, ap, sym, ◌∙◌, arith, subst, get_or, set}
+use Rattle.std.proofs.Common.{◌≡◌, ℕ, zero, suc, ◌+◌, ◌<◌, ◌≤◌, ◌==◌, Bool, true, false, cond, not, List, [], ◌∷◌, ◌++◌, length, map, Option, None, Some, refl, ap, sym, ◌∙◌, arith, subst, get_or, set}
 use Rattle.std.specs.Prelude.{nat_lt, MatchOption, Result, Ok, Err, OnOk, OnErr}
 use Rattle.ruled_pipe.specs.Ends.{End, with_item}
 use Rattle.std.proofs.Math.Path.{fun_ext}

@@ -4,3 +4,5 @@ pub mod Lists
 pub mod Blocks
 pub mod Runs
 pub mod Records
+pub mod Dealt
+pub mod Ways

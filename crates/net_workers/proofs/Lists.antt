@@ -47,3 +47,8 @@ all_read P xs i far all = subst (AllByRecursion P) (take_all i xs far) all
 pub none_left : {X : Type 0} → (xs : List X) → length xs ≡ 0 → xs ≡ []
 none_left [] none = refl
 none_left (x ∷ xs) none = absurd (omega (arith, none))
+
+-- one of those left moves to those made
+pub lines_more : {X Y : Type 0} (f : X → Y) (xs : List X) (x : X) (y : Y) (rest all : List Y) → all ≡ y ∷ rest → f x ≡ y → map f xs ++ all ≡ map f (xs ++ x ∷ []) ++ rest
+lines_more f [] x y rest all is same = is ∙ ap (λ z. z ∷ rest) (sym same)
+lines_more f (a ∷ xs) x y rest all is same = ap (λ zs. f a ∷ zs) (lines_more f xs x y rest all is same)

@@ -1,5 +1,5 @@
 -- What the workers did, as their record.
-use Rattle.std.proofs.Common.{◌≡◌, ◌≢◌, ℕ, zero, suc, ◌+◌, ◌<◌, ◌≤◌, ◌==◌, arith, Bool, true, false, cond, List, [], ◌∷◌, ◌++◌, length, map, filter, get_or, refl, sym, ap, ◌∙◌, subst, append_assoc, Option, None, Some}
+use Rattle.std.proofs.Common.{◌≡◌, ◌≢◌, ℕ, suc, ◌<◌, ◌==◌, arith, Bool, true, false, cond, List, [], ◌∷◌, ◌++◌, length, map, filter, get_or, refl, sym, ap, ◌∙◌, subst, append_assoc, Option, None, Some}
 use Rattle.std.specs.Prelude.{IfNone, slice_index_or}
 use Rattle.std.proofs.Math.Path.{fun_ext}
 use Rattle.std.proofs.lemmas.Bool.{eq-eqb, ne_eqb, eqb-true}
@@ -10,12 +10,12 @@ use Rattle.outbox.specs.declared.item.Item.{Item}
 use Rattle.snap_marker.specs.Recordings.{MadeOffer}
 use Rattle.snap_marker.specs.Parts.{router_of}
 use Rattle.snap_collector.specs.Collector.{CollectorView, AreMembers, made_for, with_offers, is_for}
-use Rattle.run_model.specs.Stamps.{Collected, Pairwise, offers_on, stamped_offers}
+use Rattle.run_model.specs.Stamps.{Pairwise, offers_on, stamped_offers}
 use Rattle.router_model.specs.Settings.{Setting, IsSetting, peers}
 use Rattle.worker_loop.specs.declared.chore.Chore.{Chore}
 use Rattle.worker_loop.specs.declared.worker.WorkerFault.{WorkerFault}
 use Rattle.worker_loop.specs.declared.worker.WorkerFault.TheVariants as worker
-use Rattle.worker_loop.specs.Acts.{Act, Seen, entry_of}
+use Rattle.worker_loop.specs.Acts.{entry_of}
 use Rattle.worker_loop.specs.Following.{Follows}
 use Rattle.worker_loop.specs.Laws.{WhatFollowsIsDone}
 use Rattle.offer_board.specs.declared.board.Made.{Made}
@@ -24,7 +24,7 @@ use Rattle.net_workers.specs.declared.ends.Lane.{Lane}
 use Rattle.net_workers.specs.declared.record.Worked.{Worked}
 use Rattle.net_workers.specs.declared.record.RunFault.{RunFault}
 use Rattle.net_workers.specs.declared.running.Ended.{Ended}
-use Rattle.net_workers.specs.Lanes.{lane_has, put_of, taken_of, IsNew}
+use Rattle.net_workers.specs.Lanes.{put_of, taken_of, IsNew}
 use Rattle.worker_loop.specs.declared.journal.Entry.{Entry}
 use Rattle.net_workers.specs.Gathered.{all_events, IsSorted}
 use Rattle.net_workers.specs.Ran.{IsRecord, Passed, IsFresh, Ran, IsTold, HasWorked, OffersOf, worked_of, fault_of, or_else, first_fault, put_by, taken_by, passed_by, new_stamped, seen}
@@ -81,7 +81,7 @@ module _ {G : Type 0} where
 
 -- ---- lists
 
-all_by : {X : Type 0} → (P : X → Type 0) (xs : List X) → ((i : ℕ) (d : X) → i < length xs → P (get_or xs i d)) → AllByRecursion P xs
+pub all_by : {X : Type 0} → (P : X → Type 0) (xs : List X) → ((i : ℕ) (d : X) → i < length xs → P (get_or xs i d)) → AllByRecursion P xs
 all_by P [] h = tt
 all_by P (x ∷ xs) h = (h 0 x (omega arith), all_by P xs (λ i d below. h (suc i) d (omega (arith, below))))
 

@@ -1,11 +1,11 @@
 -- The gathered journals of all workers are a run of the network.
-use Rattle.std.proofs.Common.{◌≡◌, ℕ, zero, suc, ◌+◌, ◌<◌, ◌⊎◌, inl, inr, ◌==◌, Bool, true, false, cond, List, [], ◌∷◌, ◌++◌, map, refl, sym, ap, subst, ◌∙◌, arith, eqb-true, eq-eqb}
+use Rattle.std.proofs.Common.{◌≡◌, ℕ, zero, suc, ◌<◌, ◌⊎◌, inl, inr, ◌==◌, Bool, true, false, cond, List, [], ◌∷◌, ◌++◌, map, refl, sym, ap, subst, ◌∙◌, arith, eqb-true, eq-eqb}
 use Rattle.std.specs.Prelude.{filter}
 use Rattle.std.specs.List.{All, AllPairs, AllByRecursion, Contains}
 use Rattle.std.specs.List.Sorted.{IsNonDecreasingBy, IsStableByKey}
 use Rattle.std.specs.Ordering.{nat_cmp}
 use Rattle.std.proofs.Math.Path.{fun_ext}
-use Rattle.std.proofs.lemmas.List.{append-nil, map-append}
+use Rattle.std.proofs.lemmas.List.{map-append}
 use Rattle.std.proofs.lemmas.List.Elements.{filter-append, All-head, All-tail}
 use Rattle.std.proofs.lemmas.Bool.{false≢true}
 use mathlib.Core.List.{IsPrefix}
@@ -16,14 +16,18 @@ use Rattle.run_model.specs.Network as runs
 use Rattle.run_model.specs.Network.{Journal, alone, puts, takes, offers, opening, Run}
 use Rattle.run_model.specs.Journals.{puts_towards, takes_from, events_of, IsJournal}
 use Rattle.run_model.specs.CausalOrder.{closing, CausalOrdersEndAlike}
-use Rattle.run_model.specs.Gathering.{IsGathered, SortingByStampGathers, GatheringLifts, GatheredEventsAreStamped, GatheredStampsRise, JournalsRise}
-use Rattle.run_model.specs.Stamps.{Collected, StampedItem, Pairwise, FitsItem, without_stamp, without_stamps, events_in, stamped_offers, offers_on, order_of, collected_by, TakesBeginPuts, IsStampedOrder, StampsGiveTheCollectorsOrder, ThreadsAreARun, StampsChangeNoItem}
+use Rattle.run_model.specs.Offers.{HasOutcome}
+use Rattle.run_model.specs.Gathering.{IsGathered, SortingByStampGathers, GatheringLifts, GatheredEventsAreStamped, JournalsRise}
+use Rattle.run_model.specs.Stamps.{Collected, StampedItem, without_stamp, without_stamps, events_in, stamped_offers, offers_on, order_of, collected_by, TakesBeginPuts, IsStampedOrder, StampsGiveTheCollectorsOrder, ThreadsAreARun, StampsChangeNoItem}
 use Rattle.snap_marker.specs.Recordings.{MadeOffer}
-use Rattle.snap_collector.specs.Collector.{CollectorView}
+use Rattle.snap_collector.specs.Collecting.{member_of}
+use Rattle.snap_collector.specs.Collector.{AreMembers, made_for, with_offers, kept_of}
+use Rattle.snap_collector.specs.Verdicts.{verdict}
+use Rattle.snap_collector.specs.Laws.{VerdictsAreOutcomes, CollectedAreKept}
 use Rattle.router_model.specs.Settings.{Setting, IsSetting}
 use Rattle.router_model.specs.Step as step
 use Rattle.router_model.specs.Step.{Own, RouterEvent}
-use Rattle.router_runs.specs.Runs.{Logged, RunOrder, RunState, IsRunTo, logged_steps, new_logged}
+use Rattle.router_runs.specs.Runs.{Logged, logged_steps, new_logged}
 use Rattle.router_core.specs.Views.{plain_of}
 use Rattle.world_core.specs.World.{name_of, named}
 use Rattle.worker_loop.specs.declared.chore.Chore.{Chore}
@@ -33,8 +37,10 @@ use Rattle.offer_board.specs.Boards.{collected_in}
 use Rattle.worker_loop.specs.Laws.{ActsAreJournals, IsJournalTo, StampsRise}
 use Rattle.net_workers.specs.declared.record.Worked.{Worked}
 use Rattle.net_workers.specs.Gathered.{router_of, all_events}
-use Rattle.net_workers.specs.Ran.{Passed, IsTold, HasWorked, IsRecord}
-use Rattle.net_workers.specs.Runs.{InTurn, IsRunOfThreads, RecordsAreRuns, RecordsKeepTheirPromises}
+use Rattle.net_workers.specs.Ran.{Passed, IsTold, HasWorked}
+use Rattle.net_workers.specs.Runs.{RecordsAreRuns, RecordsKeepTheirPromises}
+use Rattle.router_runs.specs.Model.{network_of}
+use Rattle.world_core.specs.Verdicts.{MembersAreOfTheNetwork}
 use Rattle.router_runs.specs.Promises.{UpdatesPassInOrder}
 use Rattle.router_runs.specs.Snapshots.{SnapshotsHoldInRuns}
 use Rattle.net_workers.proofs.Blocks.{Block, IsFit, acts_of, acts_by, routers_of, by, rises_map, own_acts, all_fit, routers_rise, own_rise, events_are}
@@ -315,7 +321,20 @@ records_are_runs {G} given journals rise sorting lifts stamped_law collectors th
       refl,
     )
 
-pub records_keep_their_promises : {G : Type 0} (given : G → List Chore) → RecordsAreRuns given → UpdatesPassInOrder → SnapshotsHoldInRuns → RecordsKeepTheirPromises given
-records_keep_their_promises given runs_law order hold plan turns p workers c gathered is turn g net set =
-    let ran = (runs_law plan turns p workers c gathered is turn g net set).0 in
-    record { run = ran; in_order = λ u v e near. order g set ran.order ran.state ran.run u v e near; snapshots = hold g set ran.order ran.state ran.run }
+pub records_keep_their_promises : {G : Type 0} (given : G → List Chore) → RecordsAreRuns given → UpdatesPassInOrder → SnapshotsHoldInRuns → MembersAreOfTheNetwork → VerdictsAreOutcomes → CollectedAreKept
+    → RecordsKeepTheirPromises given
+records_keep_their_promises given runs_law order hold members_law verdicts kept plan turns p workers c gathered is turn g net set =
+    let both = runs_law plan turns p workers c gathered is turn g net set in
+    let ran = both.0 in
+    let made : made_for c ≡ with_offers (λ s. []) ran.state.offered = is.collects.made ∙ ap (with_offers (λ s. [])) (sym both.1) in
+    let members = map member_of c.members in
+    let over = members_law g set.network c.members (subst (λ (n : Plan). AreMembers n c.members) (sym net) is.members) in
+    record {
+      run = ran;
+      in_order = λ u v e near. order g set ran.order ran.state ran.run u v e near;
+      snapshots = hold g set ran.order ran.state ran.run;
+      offered = made;
+      outcomes = λ s.
+          subst (λ (ms : List MadeOffer). HasOutcome (network_of g) s ran.state.offered (verdict members (kept_of members ms))) (sym (ap (λ (f : ℕ → List MadeOffer). f s) made))
+          (verdicts (network_of g) members over s ran.state.offered _ (kept members s ran.state.offered));
+    }

@@ -2,7 +2,7 @@
 use Rattle.std.specs.Prelude.{ℕ, zero, suc, ◌≡◌, ◌≢◌, ◌<◌, ◌==◌, Bool, true, false, cond, List, [], ◌∷◌, length, map}
 use Rattle.std.specs.List.{AllByRecursion}
 use Rattle.outbox.specs.declared.item.Item.{Item}
-use Rattle.ruled_pipe.specs.Ends.{End, TableId}
+use Rattle.ruled_pipe.specs.Ends.{TableId}
 use Rattle.net_workers.specs.declared.ends.Lane.{Lane}
 use Rattle.net_workers.specs.declared.ends.Ends.{Ends}
 

@@ -2,3 +2,5 @@ pub mod Lanes
 pub mod Gathered
 pub mod Ran
 pub mod Runs
+pub mod Ways
+pub mod Dealt

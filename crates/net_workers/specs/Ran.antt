@@ -1,5 +1,5 @@
 -- What each worker did from its first chore to its last.
-use Rattle.std.specs.Prelude.{ℕ, ◌≡◌, ◌<◌, ◌==◌, cond, List, [], ◌∷◌, map, filter, Option, None, Some}
+use Rattle.std.specs.Prelude.{ℕ, ◌≡◌, ◌≤◌, ◌<◌, ◌==◌, cond, List, [], ◌∷◌, length, map, filter, Option, None, Some}
 use Rattle.std.specs.List.{AllByRecursion}
 use Rattle.ranked_policy.specs.Plans.{IsRouter, numbers}
 use Rattle.snap_marker.specs.Recordings.{MadeOffer}
@@ -91,6 +91,14 @@ pub record HasWorked {G : Type 0} (given : G → List Chore) (plan : Plan) (turn
   pub whole : IsWhole turns (given w.gate)
   pub told : (g : Setting) → g.net ≡ plan → IsSetting g → IsTold given g p w
 
+-- ---- how long a network runs
+
+-- 1 to 1,000,000 chores, and a gate for each router
+pub record AreLimits (plan : Plan) (turns gates : ℕ) : Type 0 where
+  pub some : 0 < turns
+  pub few : turns ≤ 1000000
+  pub all : gates ≡ length plan.routers
+
 -- ---- the record of a run
 
 -- what is handed back of a worker
@@ -100,6 +108,10 @@ worked_of e = record {
   journal = record { chores = e.worker.journal.chores; events = e.worker.journal.events; offers = e.worker.desk.made };
   gate = e.worker.gate;
 }
+
+-- and the ends of pipes that it held
+abbrev pub lines_of : {G : Type 0} → Ended G → Ends
+lines_of e = e.worker.lines
 
 -- why a worker that ended in the middle leaves no record
 abbrev pub fault_of : ℕ → Option WorkerFault → Option RunFault

@@ -1,16 +1,18 @@
 -- What the threads did is one run of the network.
-use Rattle.std.specs.Prelude.{ℕ, ◌≡◌, true, List, map}
+use Rattle.std.specs.Prelude.{ℕ, ◌≡◌, true, List, [], map}
 use mathlib.Core.List.{IsPrefix}
 use Rattle.std.specs.List.{AllByRecursion}
 use Rattle.ranked_policy.specs.Plans.{Plan}
-use Rattle.outbox.specs.declared.item.Item.{Item}
+use Rattle.run_model.specs.Offers.{HasOutcome}
 use Rattle.run_model.specs.Stamps.{offers_on}
 use Rattle.router_model.specs.Settings.{Setting, IsSetting, linked}
 use Rattle.router_runs.specs.Runs.{RunOrder, RunState, IsRunTo, side_of}
+use Rattle.router_runs.specs.Model.{network_of}
 use Rattle.router_runs.specs.Promises.{PassesInOrder}
 use Rattle.router_runs.specs.Snapshots.{SnapshotsHold}
 use Rattle.router_core.specs.Views.{plain_of}
-use Rattle.snap_collector.specs.Collector.{CollectorView}
+use Rattle.snap_collector.specs.Collector.{CollectorView, made_for, with_offers}
+use Rattle.world_core.specs.Verdicts.{judged}
 use Rattle.world_core.specs.World.{named}
 use Rattle.worker_loop.specs.declared.chore.Chore.{Chore}
 use Rattle.worker_loop.specs.declared.journal.Entry.{Entry}
@@ -39,13 +41,21 @@ RecordsAreRuns {G} given =
     → (record_of : IsRecord given plan turns p workers c gathered) → InTurn p → (g : Setting) → g.net ≡ plan → IsSetting g
     → (run : IsRunOfThreads g p workers gathered) × (run.state.offered ≡ offers_on record_of.collects.offers)
 
--- and the promises of runs hold of it
-pub record KeepsPromises {G : Type 0} (g : Setting) (p : Passed) (workers : List (Worked G)) (gathered : List Entry) : Type 0 where
+-- and the promises of runs hold of it; the collector has just the offers of that run, and how a snapshot comes out by it is how it
+-- comes out in that run
+pub record KeepsPromises {G : Type 0} (g : Setting) (p : Passed) (workers : List (Worked G)) (c : CollectorView) (gathered : List Entry) : Type 0 where
   pub run : IsRunOfThreads g p workers gathered
   pub in_order : (u v e : ℕ) → linked g.net u v ≡ true → PassesInOrder run.state u v e × IsPrefix ((side_of run.state v u).acted e) ((side_of run.state u v).sent e)
   pub snapshots : SnapshotsHold g run.order run.state
+  pub offered : made_for c ≡ with_offers (λ s. []) run.state.offered
+  pub outcomes : (s : ℕ) → HasOutcome (network_of g) s run.state.offered (judged c s)
 
 abbrev pub RecordsKeepTheirPromises : {G : Type 0} → (G → List Chore) → Type 0
 RecordsKeepTheirPromises {G} given =
     (plan : Plan) (turns : ℕ) (p : Passed) (workers : List (Worked G)) (c : CollectorView) (gathered : List Entry)
-    → IsRecord given plan turns p workers c gathered → InTurn p → (g : Setting) → g.net ≡ plan → IsSetting g → KeepsPromises g p workers gathered
+    → IsRecord given plan turns p workers c gathered → InTurn p → (g : Setting) → g.net ≡ plan → IsSetting g
+    → KeepsPromises g p workers c gathered
+
+-- in every setting of the network that chooses by rank
+abbrev pub RunKeepsPromises : {G : Type 0} → Plan → Passed → List (Worked G) → CollectorView → List Entry → Type 0
+RunKeepsPromises plan p workers c gathered = (g : Setting) → g.net ≡ plan → IsSetting g → KeepsPromises g p workers c gathered

@@ -1,17 +1,25 @@
-//! Pipes that are dealt out to workers.
+//! Pipes that are dealt out to workers, and come together again when these have ended.
 
-ghost use Rattle.std.specs.Prelude.{◌≡◌, ◌<◌, [], length, IfOk};
-ghost use Rattle.std.specs.List.{AllByRecursion};
+ghost use Rattle.std.specs.Prelude.{◌≡◌, ◌≤◌, ◌<◌, ◌++◌, ◌∷◌, [], length, IfOk, IfSome, IfNone, slice_index_or};
+ghost use Rattle.std.specs.List.{AllByRecursion, HoldsAt};
+ghost use Rattle.ranked_policy.specs.Plans.{IsRouter, numbers};
+ghost use Rattle.ruled_pipe.specs.Ends.{left, closed_at};
 ghost use Rattle.net_workers.specs.Lanes.{AreNew};
+ghost use Rattle.net_workers.specs.Dealt.{lanes_in, lanes_by, with_lane, AreDealt, IsJoined, HavePassed};
+ghost use Rattle.net_workers.specs.Ways.{AreWays};
 
 use crate::ends::{Ends, Lane};
+use crate::record::Way;
 use outbox::Item;
-use ranked_policy::{Asn, Network};
-use ruled_pipe::{PutEnd, TakeEnd, with_ends};
+use ranked_policy::{Asn, Link, Network};
+use ruled_pipe::{PutEnd, TakeEnd, close, with_ends};
 use std::alloc::{AllocError, Global};
+use std::sync::Wait;
 
 // The ends of a pipe.
 fn pipe(alloc: Global, room: usize) -> Result<(PutEnd<Item>, TakeEnd<Item>), AllocError>
+    ensures one_pipe { IfOk result (λ ends. ends.1.pipe ≡ ends.0.pipe) }
+    ensures room { IfOk result (λ ends. ends.0.room ≡ room) }
     ensures put { IfOk result (λ ends. ends.0.items ≡ []) }
     ensures take { IfOk result (λ ends. ends.1.items ≡ []) }
 {
@@ -25,6 +33,7 @@ fn pipe(alloc: Global, room: usize) -> Result<(PutEnd<Item>, TakeEnd<Item>), All
 fn no_lanes(alloc: Global, workers: usize) -> Result<Vec<Ends>, AllocError>
     ensures many { IfOk result (λ ends. length ends.items ≡ workers) }
     ensures new { IfOk result (λ ends. AllByRecursion AreNew ends.items) }
+    ensures none { IfOk result (λ ends. AllByRecursion (λ e. e.lanes.items ≡ []) ends.items) }
 {
     let mut ends = Vec::new(alloc);
     for made in 0..workers {
@@ -37,57 +46,134 @@ fn no_lanes(alloc: Global, workers: usize) -> Result<Vec<Ends>, AllocError>
 }
 
 // A lane joins those of a worker.
-fn add(
-    ends: &mut [Ends],
-    at: usize,
-    peer: Asn,
-    out: PutEnd<Item>,
-    into: TakeEnd<Item>,
-) -> Result<(), AllocError>
-    requires below { at < length ends.old }
-    requires put { out.items ≡ [] }
-    requires taken { into.items ≡ [] }
-    requires new { AllByRecursion AreNew ends.old }
-    ensures many { length ends.new ≡ length ends.old }
-    ensures new { AllByRecursion AreNew ends.new }
+fn add(ends: &mut Vec<Ends>, at: usize, lane: Lane) -> Result<(), AllocError>
+    requires below { at < length ends.old.items }
+    requires put { lane.out.items ≡ [] }
+    requires taken { lane.into.items ≡ [] }
+    requires new { AllByRecursion AreNew ends.old.items }
+    ensures many { length ends.new.items ≡ length ends.old.items }
+    ensures new { AllByRecursion AreNew ends.new.items }
+    ensures lanes { IfOk result (λ _. lanes_in ends.new.items ≡ with_lane (lanes_in ends.old.items) at lane) }
 {
-    ends[at].lanes.push(Lane { peer, out, into })?;
+    ends[at].lanes.push(lane)?;
     Ok(())
 }
 
-// Joins two workers by two pipes, one in each direction.
+// Joins the routers of a link, which stand at these places, by two pipes, one in each direction.
 fn join(
     alloc: Global,
-    ends: &mut [Ends],
+    ends: &mut Vec<Ends>,
     room: usize,
-    one: (usize, Asn),
-    other: (usize, Asn),
+    link: Link,
+    one: usize,
+    other: usize,
 ) -> Result<(), AllocError>
-    requires one { one.0 < length ends.old }
-    requires other { other.0 < length ends.old }
-    requires new { AllByRecursion AreNew ends.old }
-    ensures many { length ends.new ≡ length ends.old }
-    ensures new { AllByRecursion AreNew ends.new }
+    requires one { one < length ends.old.items }
+    requires other { other < length ends.old.items }
+    requires new { AllByRecursion AreNew ends.old.items }
+    ensures many { length ends.new.items ≡ length ends.old.items }
+    ensures new { AllByRecursion AreNew ends.new.items }
+    ensures joined { IfOk result (λ _. IsJoined room link one other (lanes_in ends.old.items) (lanes_in ends.new.items)) }
 {
     let (there, from_one) = pipe(alloc, room)?;
     let (back, from_other) = pipe(alloc, room)?;
-    add(ends, one.0, other.1, there, from_other)?;
-    add(ends, other.0, one.1, back, from_one)
+    let here = Lane {
+        peer: link.other,
+        out: there,
+        into: from_other,
+    };
+    let beyond = Lane {
+        peer: link.one,
+        out: back,
+        into: from_one,
+    };
+    add(ends, one, here)?;
+    add(ends, other, beyond)?;
+    Ok(())
+}
+
+// Where a router of the network stands.
+fn place_of(network: &Network, number: Asn) -> usize
+    requires { IsRouter network.now.routers number }
+    ensures below { result < length network.now.routers }
+    ensures at { HoldsAt (λ r. r.asn ≡ number) network.now.routers result }
+{
+    let Some(place) = network.place(number) else {
+        // Every router has its place.
+        unreachable!()
+    };
+    place
 }
 
 /// The lanes of each worker of a network, by rising router.
 pub(crate) fn deal(alloc: Global, network: &Network) -> Result<Vec<Ends>, AllocError>
     ensures many { IfOk result (λ ends. length ends.items ≡ length network.now.routers) }
     ensures new { IfOk result (λ ends. AllByRecursion AreNew ends.items) }
+    ensures dealt { IfOk result (λ ends. AreDealt network.now network.now.links ends.items) }
 {
     let room = network.settings().pipe;
+    let links = network.links();
     let mut ends = no_lanes(alloc, network.routers().len())?;
-    for link in network.links() {
-        let (Some(one), Some(other)) = (network.place(link.one), network.place(link.other)) else {
-            continue;
-        };
-        let (one, other) = ((one, link.one), (other, link.other));
-        join(alloc, ends.as_mut_slice(), room, one, other)?;
+    let mut left = links.len();
+    'links: while left > 0 {
+        left -= 1;
+        let link = links[left];
+        let (one, other) = (place_of(network, link.one), place_of(network, link.other));
+        join(alloc, &mut ends, room, link, one, other)?;
     }
     Ok(ends)
+}
+
+// The last lane of a worker leaves the others.
+fn last_lane(ends: &mut Vec<Ends>, at: usize) -> Option<Lane>
+    requires below { at < length ends.old.items }
+    ensures many { length ends.new.items ≡ length ends.old.items }
+    ensures some { IfSome result (λ lane. lanes_in ends.old.items ≡ with_lane (lanes_in ends.new.items) at lane) }
+    ensures none { IfNone result (slice_index_or (lanes_in ends.old.items) at [] ≡ []) }
+{
+    ends[at].lanes.pop()
+}
+
+// The pipe from one router to another, closed.
+fn way<R: Wait>(rt: &R, from: Asn, to: Asn, put: PutEnd<Item>, take: TakeEnd<Item>) -> Way
+    requires one_pipe { put.pipe ≡ take.pipe }
+    ensures from { result.from ≡ from }
+    ensures to { result.to ≡ to }
+    ensures tail { result.tail ≡ closed_at put.pipe put.room put.items take.items }
+    ensures left { put.items ≡ take.items ++ left result.tail }
+    ensures held { length (left result.tail) ≤ put.room }
+{
+    Way {
+        from,
+        to,
+        tail: close(rt, put, take),
+    }
+}
+
+/// Closes the pipes of a network: of each link the one that leads there and the one that leads back.
+pub(crate) fn close_all<R: Wait>(
+    rt: &R,
+    alloc: Global,
+    network: &Network,
+    ends: Vec<Ends>,
+) -> Result<Vec<Way>, AllocError>
+    requires many { length ends.items ≡ length network.now.routers }
+    requires dealt { AreDealt network.now network.now.links ends.items }
+    ensures ways { IfOk result (λ ways. AreWays network.now ways.items) }
+    ensures passed { IfOk result (λ ways. HavePassed (lanes_by (numbers network.now.routers) (lanes_in ends.items)) ways.items) }
+{
+    let mut ends = ends;
+    let mut ways = Vec::new(alloc);
+    for link in network.links() {
+        let (one, other) = (place_of(network, link.one), place_of(network, link.other));
+        let Some(there) = last_lane(&mut ends, other) else {
+            unreachable!()
+        };
+        let Some(here) = last_lane(&mut ends, one) else {
+            unreachable!()
+        };
+        ways.push(way(rt, link.one, link.other, here.out, there.into))?;
+        ways.push(way(rt, link.other, link.one, there.out, here.into))?;
+    }
+    Ok(ways)
 }

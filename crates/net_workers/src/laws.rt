@@ -9,8 +9,10 @@ use run_model::orders::{
     gathering_lifts, sorting_by_stamp_gathers, stamps_change_no_item,
     stamps_give_the_collectors_order, threads_are_a_run,
 };
+use snap_collector::laws::{collected_are_kept, verdicts_are_outcomes};
 use worker_loop::Gate;
 use worker_loop::laws::{acts_are_journals, stamps_rise};
+use world_core::laws::members_are_of_the_network;
 
 /// The lines of journals. No value of it is made.
 struct Lines;
@@ -47,7 +49,8 @@ impl WholeLines for Events {
 
 /// Every record is one of a run of the network: the gathered events are that run, and its last state has the routers, the
 /// items that were put and taken, and the offers of the record (`runs`). So all promises of runs hold of it: UPDATEs passed
-/// in order, and what is settled is a stable path assignment that stays (`promises`).
+/// in order, how a snapshot comes out by the collector is how it comes out in that run, and what is settled is a stable path
+/// assignment that stays (`promises`).
 ///
 /// Premises: the record is one ([`crate::run_net`]), and in each direction the items that were taken are the first of those that
 /// were put, one after another; the network is one, routers choose by rank. It does not say that two threads ever ran at
@@ -67,4 +70,7 @@ pub fn records_are_runs<G: Gate>()
     stamps_change_no_item::<NetworkRouters>();
     updates_pass_in_order();
     snapshots_of_runs();
+    members_are_of_the_network();
+    verdicts_are_outcomes();
+    collected_are_kept();
 }

@@ -1,14 +1,19 @@
 //! A network that runs.
 
-ghost use Rattle.std.specs.Prelude.{◌≡◌, ◌<◌, ℕ, [], length, map, true, All, IfOk, IfNone, IfSome, slice_index_or, MatchOption};
+ghost use Rattle.std.specs.Prelude.{◌≡◌, ◌≢◌, ◌<◌, ◌↔◌, ℕ, [], length, map, true, All, IsTrue, IfOk, IfErr, OnOk, IfNone, IfSome, slice_index_or, MatchOption};
 ghost use Rattle.std.specs.List.{AllByRecursion};
 ghost use Rattle.ranked_policy.specs.Plans.{IsRouter};
 ghost use Rattle.snap_marker.specs.Parts.{router_of};
 ghost use Rattle.snap_collector.specs.Collector.{AreMembers, made_for, with_offers};
 ghost use Rattle.offer_board.specs.Boards.{offers_in};
-ghost use Rattle.net_workers.specs.Ran.{first_fault, worked_of, OffersOf, Passed, IsRecord};
+ghost use Rattle.net_workers.specs.Ran.{first_fault, worked_of, lines_of, OffersOf, AreLimits, IsRecord};
+ghost use Rattle.net_workers.specs.Runs.{RunKeepsPromises};
+ghost use Rattle.net_workers.specs.Ways.{AreWays, passed_in};
 
+use crate::dealing::close_all;
+use crate::ends::Ends;
 use crate::gathering::gather;
+use crate::laws::records_are_runs;
 use crate::place::Board;
 use crate::record::{Journal, Limits, MOST_TURNS, Record, RunFault, Worked};
 use crate::running::{Ended, new_workers, run_all};
@@ -23,7 +28,8 @@ use worker_loop::{Gate, WorkerFault};
 
 // The fault of the least router that has one.
 fn first_fault<G>(workers: &[Ended<'_, G>]) -> Option<RunFault>
-    ensures { result ≡ first_fault workers.now }
+    ensures first { result ≡ first_fault workers.now }
+    ensures kind { IfSome result (λ why. why ≢ RunFault.BadLimits) }
 {
     for ended in workers {
         match ended.fault {
@@ -64,16 +70,19 @@ fn are_known(network: &Network, offers: &[Made]) -> bool
     true
 }
 
-// What the workers did.
-fn worked<G: Drop>(
+// What the workers did, and the ends of pipes that they held.
+fn parted<G: Drop>(
     alloc: Global,
     workers: Vec<Ended<'_, G>>,
-) -> Result<Vec<Worked<'_, G>>, AllocError>
-    ensures { IfOk result (λ done. done.items ≡ map worked_of workers.entry.items) }
+) -> Result<(Vec<Worked<'_, G>>, Vec<Ends>), AllocError>
+    ensures worked { IfOk result (λ parts. parts.0.items ≡ map worked_of workers.entry.items) }
+    ensures ends { IfOk result (λ parts. parts.1.items ≡ map lines_of workers.entry.items) }
 {
     let mut done = Vec::new(alloc);
+    let mut ends = Vec::new(alloc);
     for ended in workers {
         let worker = ended.worker;
+        ends.push(worker.lines)?;
         done.push(Worked {
             router: worker.router,
             journal: Journal {
@@ -84,7 +93,7 @@ fn worked<G: Drop>(
             gate: worker.gate,
         })?;
     }
-    Ok(done)
+    Ok((done, ends))
 }
 
 // The collector of these offers. It is made anew, since of what lay under a lock nothing is known but
@@ -100,32 +109,33 @@ fn collect(alloc: Global, network: &Network, offers: Vec<Made>) -> Result<Collec
     Ok(collector)
 }
 
-/// Runs a network: each router in a thread of its own, at the word of its gate, and ends as all
-/// threads have. Gates stand by rising router, and have given no chore yet.
-///
-/// A worker ends at its first Stop, or after so many chores. Refused [`RunFault::BadLimits`] where the
-/// chores are not 1 to [`MOST_TURNS`] or there is not one gate for each router, before anything is
-/// done; with the fault of the least router that has one; [`RunFault::BoardDiffers`] where the offers
-/// of the board are not those of the journals, and [`RunFault::Memory`] where a growth was refused.
-/// After a fault the other workers go on to their own end, and nothing is handed back.
-pub fn run_net<'a, R, G>(
+// Whether a network may run for so many chores, with so many gates.
+fn are_limits(network: &Network, turns: u32, gates: usize) -> bool
+    ensures { IsTrue result ↔ AreLimits network.now turns gates }
+{
+    turns > 0 && turns <= MOST_TURNS && gates == network.routers().len()
+}
+
+// Runs a network within its limits.
+fn run_within<'a, R, G>(
     rt: &R,
     alloc: Global,
     network: &'a Network,
     gates: Vec<G>,
-    limits: Limits,
+    turns: u32,
 ) -> Result<Record<'a, G>, RunFault>
 where
     R: Threads + Wait + Sync,
     G: Gate + Send + Drop,
     requires fresh { AllByRecursion (λ gate. G.given gate ≡ []) gates.items }
-    ensures recorded { IfOk result (λ r. (p : Passed) × IsRecord G.given network.now limits.turns p r.workers.items r.collector r.gathered.items) }
+    requires limits { AreLimits network.now turns (length gates.items) }
+    ensures other { IfErr result (λ why. why ≢ RunFault.BadLimits) }
+    ensures ways { IfOk result (λ r. AreWays network.now r.ways.items) }
+    ensures recorded { IfOk result (λ r. IsRecord G.given network.now turns (passed_in r.ways.items) r.workers.items r.collector r.gathered.items) }
+    ensures promises { IfOk result (λ r. RunKeepsPromises network.now (passed_in r.ways.items) r.workers.items r.collector r.gathered.items) }
 {
     what_follows_is_done();
-    let turns = limits.turns;
-    if turns == 0 || turns > MOST_TURNS || gates.len() != network.routers().len() {
-        return Err(RunFault::BadLimits);
-    }
+    records_are_runs::<G>();
     let board: Board = Mutex::new(BoardState::new(alloc, network)?);
     let mut workers = new_workers(alloc, network, gates)?;
     run_all(rt, &board, turns, &mut workers);
@@ -137,12 +147,49 @@ where
     if !are_known(network, board.offers()) || !agrees(&board, workers.as_slice()) {
         return Err(RunFault::BoardDiffers);
     }
-    let workers = worked(alloc, workers)?;
+    let (workers, ends) = parted(alloc, workers)?;
+    let ways = close_all(rt, alloc, network, ends)?;
     let gathered = gather(alloc, workers.as_slice())?;
     let collector = collect(alloc, network, board.into_offers())?;
     Ok(Record {
         workers,
+        ways,
         collector,
         gathered,
     })
+}
+
+/// Runs a network: each router in a thread of its own, at the word of its gate, and ends as all
+/// threads have. Gates stand by rising router, and have given no chore yet.
+///
+/// A worker ends at its first Stop, or after so many chores. Refused [`RunFault::BadLimits`] where the
+/// chores are not 1 to [`MOST_TURNS`] or there is not one gate for each router, before anything is
+/// done; with the fault of the least router that has one; [`RunFault::BoardDiffers`] where the offers
+/// of the board are not those of the journals, and [`RunFault::Memory`] where a growth was refused.
+/// After a fault the other workers go on to their own end, and nothing is handed back.
+///
+/// What a record says is what the threads did: it is one run of the network, and its pipes hold what was
+/// put into them and not taken.
+pub fn run_net<'a, R, G>(
+    rt: &R,
+    alloc: Global,
+    network: &'a Network,
+    gates: Vec<G>,
+    limits: Limits,
+) -> Result<Record<'a, G>, RunFault>
+where
+    R: Threads + Wait + Sync,
+    G: Gate + Send + Drop,
+    requires fresh { AllByRecursion (λ gate. G.given gate ≡ []) gates.items }
+    ensures limits { OnOk result (AreLimits network.now limits.turns (length gates.items)) }
+    ensures refused { IfErr result (λ why. why ≡ RunFault.BadLimits ↔ (AreLimits network.now limits.turns (length gates.items) → ⊥)) }
+    ensures ways { IfOk result (λ r. AreWays network.now r.ways.items) }
+    ensures recorded { IfOk result (λ r. IsRecord G.given network.now limits.turns (passed_in r.ways.items) r.workers.items r.collector r.gathered.items) }
+    // Every record is one of a run of the network, in which UPDATEs passed in order and whose snapshots can be believed.
+    ensures promises { IfOk result (λ r. RunKeepsPromises network.now (passed_in r.ways.items) r.workers.items r.collector r.gathered.items) }
+{
+    if !are_limits(network, limits.turns, gates.len()) {
+        return Err(RunFault::BadLimits);
+    }
+    run_within(rt, alloc, network, gates, limits.turns)
 }

@@ -1,8 +1,10 @@
 //! What the threads of a network did.
 
 use offer_board::Made;
+use outbox::Item;
 use ranked_policy::Asn;
 use router_core::Router;
+use ruled_pipe::Tail;
 use snap_collector::Collector;
 use std::alloc::AllocError;
 use thiserror::Error;
@@ -71,11 +73,26 @@ pub struct Worked<'a, G> {
     pub gate: G,
 }
 
+/// The pipe from one router to another, closed. Contracts see all items that were put into it and all
+/// that were taken out of it.
+#[derive(Drop)]
+pub struct Way {
+    /// The router that put.
+    pub from: Asn,
+    /// The router that took.
+    pub to: Asn,
+    /// The pipe, with the items that were put and not taken.
+    pub tail: Tail<Item>,
+}
+
 /// What the threads of a network did, and what they left.
 #[derive(Drop)]
 pub struct Record<'a, G> {
     /// The routers, rising, each with its journal and its gate.
     pub workers: Vec<Worked<'a, G>>,
+    /// The pipes: of each link, in the order of the network, the one that leads there and the one that
+    /// leads back.
+    pub ways: Vec<Way>,
     /// The collector.
     pub collector: Collector,
     /// The events of all journals, by stamp, then by router.

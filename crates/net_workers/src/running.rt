@@ -2,10 +2,11 @@
 
 ghost use Rattle.std.specs.Prelude.{◌≡◌, ◌<◌, ℕ, [], length, map, true, All, IfOk, IfNone, slice_index_or};
 ghost use Rattle.std.specs.List.{AllByRecursion};
-ghost use Rattle.ranked_policy.specs.Plans.{IsRouter, numbers};
+ghost use Rattle.ranked_policy.specs.Plans.{IsNetwork, IsRouter, numbers};
 ghost use Rattle.router_model.specs.Settings.{linked, peers};
 ghost use Rattle.net_workers.specs.Lanes.{AreNew};
-ghost use Rattle.net_workers.specs.Ran.{IsFresh, IsNewRouter, Ran};
+ghost use Rattle.net_workers.specs.Dealt.{AreDealt};
+ghost use Rattle.net_workers.specs.Ran.{IsFresh, IsNewRouter, Ran, lines_of};
 
 use crate::dealing::deal;
 use crate::ends::Ends;
@@ -74,6 +75,7 @@ fn new_worker<'a, G: Gate + Drop>(
     requires gate { G.given gate ≡ [] }
     ensures fresh { IfOk result (λ ended. IsFresh G.given network.now ended.worker) }
     ensures number { IfOk result (λ ended. ended.worker.router.number ≡ number) }
+    ensures lines { IfOk result (λ ended. lines_of ended ≡ lines) }
 {
     let router = new_router(alloc, network, number)?;
     let peers = peers_of(alloc, network, number)?;
@@ -103,6 +105,8 @@ pub(crate) fn new_workers<'a, G: Gate + Drop>(
     requires fresh { AllByRecursion (λ gate. G.given gate ≡ []) gates.items }
     ensures numbers { IfOk result (λ made. map (λ e. e.worker.router.number) made.items ≡ numbers network.now.routers) }
     ensures fresh { IfOk result (λ made. AllByRecursion (λ e. IsFresh G.given network.now e.worker) made.items) }
+    ensures dealt { IfOk result (λ made. AreDealt network.now network.now.links (map lines_of made.items)) }
+    ensures network { IfOk result (λ made. IsNetwork network.now) }
 {
     let mut ends = deal(alloc, network)?.into_iter();
     let mut gates = gates.into_iter();

@@ -1,5 +1,5 @@
 -- What lies under the lock, as contracts see it.
-use Rattle.std.specs.Prelude.{ℕ, ◌≡◌, ◌≤◌, ◌<◌, ◌+◌, max, List, [], ◌∷◌, ◌++◌, map, Result, Ok, Err}
+use Rattle.std.specs.Prelude.{ℕ, ◌≡◌, ◌≤◌, ◌<◌, ◌+◌, max, List, [], ◌∷◌, ◌++◌, map, None, Some, Result, Ok, Err}
 use Rattle.std.specs.List.{AllByRecursion}
 use Rattle.run_model.specs.Stamps.{Collected, Pairwise}
 use Rattle.snap_marker.specs.Parts.{router_of}
@@ -11,7 +11,7 @@ use Rattle.snap_collector.specs.declared.answer.CollectError.TheVariants as refu
 use Rattle.snap_collector.specs.Collecting.{made_by, member_of}
 use Rattle.snap_collector.specs.Collector.{CollectorView, made_for}
 use Rattle.snap_collector.specs.Laws.{IsKeptOf}
-use Rattle.snap_collector.specs.Taking.{Takes}
+use Rattle.snap_collector.specs.Taking.{Takes, refusal_of}
 use Rattle.offer_board.specs.declared.board.Made.{Made}
 
 -- no event has a greater stamp
@@ -50,10 +50,14 @@ pub record Joins (x y : BoardView) (after : ℕ) (o : Offer) (taken : Taken) (at
   pub last : y.stamp ≡ at
   pub takes : Takes x.collector y.collector o (Ok taken)
 
--- what a router offers whose last event has this stamp
+-- a stamp is left for what a router offers whose last event has this one
+abbrev pub HasStamp : BoardView → ℕ → Type 0
+HasStamp x stamp = max x.stamp stamp + 1 ≤ greatest_stamp
+
+-- what a router offers whose last event has this stamp: its stamp is judged first, then whether the collector refuses it, and memory last
 abbrev pub Offers : BoardView → BoardView → ℕ → Offer → Result (Taken × ℕ) CollectError → Type 0
 Offers x y stamp o (Ok answer) = Joins x y stamp o answer.0 answer.1
 Offers x y stamp o (Err refusal.StampEnd) = (greatest_stamp < max x.stamp stamp + 1) × (y ≡ x)
-Offers x y stamp o (Err (refusal.Stranger u)) = Takes x.collector x.collector o (Err (refusal.Stranger u)) × (y ≡ x)
-Offers x y stamp o (Err (refusal.Twice u)) = Takes x.collector x.collector o (Err (refusal.Twice u)) × (y ≡ x)
-Offers x y stamp o (Err refusal.Memory) = y ≡ x
+Offers x y stamp o (Err (refusal.Stranger u)) = HasStamp x stamp × (refusal_of x.collector o ≡ Some (refusal.Stranger u)) × (y ≡ x)
+Offers x y stamp o (Err (refusal.Twice u)) = HasStamp x stamp × (refusal_of x.collector o ≡ Some (refusal.Twice u)) × (y ≡ x)
+Offers x y stamp o (Err refusal.Memory) = HasStamp x stamp × (refusal_of x.collector o ≡ None) × (y ≡ x)

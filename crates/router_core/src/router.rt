@@ -1,7 +1,8 @@
 //! A router: its peers, its tables, what it records, and the stamp of its last event.
 
-ghost use Rattle.std.specs.Prelude.{◌≡◌, true, false, IfOk, MatchOption};
+ghost use Rattle.std.specs.Prelude.{◌≡◌, true, false, MatchOption, MatchResult};
 ghost use Rattle.ranked_policy.specs.Plans.{IsRouter};
+ghost use Rattle.router_model.specs.declared.refusal.RouterError.TheVariants.{Memory};
 ghost use Rattle.router_model.specs.Settings.{linked};
 ghost use Rattle.router_core.specs.Views.{Opens, plain_of, listed, IsFound};
 
@@ -62,7 +63,7 @@ impl<'a> Router<'a> {
     /// originated. Refused [`RouterError::Memory`] where a growth was.
     pub fn new(alloc: Global, network: &'a Network, number: Asn) -> Result<Router<'a>, RouterError>
         requires { IsRouter network.now.routers number }
-        ensures { IfOk result (Opens network.now number) }
+        ensures { MatchResult result (Opens network.now number) (λ why. why ≡ Memory) }
     {
         linked_routers_are_peers();
         let settings = network.settings();

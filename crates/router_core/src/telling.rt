@@ -22,7 +22,7 @@ const IGP: u8 = 0;
 fn only<T: Drop>(alloc: Global, one: T) -> Result<Items<T>, AllocError>
     ensures { IfOk result (λ items. items ≡ one ∷ []) }
 {
-    let mut items = Vec::new(alloc);
+    let mut items = Vec::with_capacity(alloc, 1)?;
     items.push(one)?;
     Ok(Items::from_vec(items))
 }

@@ -25,20 +25,9 @@ use Rattle.router_model.specs.State.{open_of}
 use Rattle.router_model.specs.Step.{overflows_taking}
 use Rattle.router_model.specs.Calls.{Stamped, greatest_stamp}
 use Rattle.router_model.specs.Laws.{HasNumbers, AnyItemIsTaken, WhatWaitsIsHandled}
+use Rattle.router_model.proofs.Leaving.{NoDial}
 
 -- ---- actions without a dial pass no number
-
-abbrev NoDial : List Action → Type 0
-NoDial [] = Unit {0}
-NoDial (action.Dial ∷ xs) = ⊥
-NoDial (action.SendOpen ∷ xs) = NoDial xs
-NoDial (action.SendAlive ∷ xs) = NoDial xs
-NoDial (action.SendNotice code ∷ xs) = NoDial xs
-NoDial (action.SendGiven ∷ xs) = NoDial xs
-NoDial (action.HangUp ∷ xs) = NoDial xs
-NoDial (action.Act ∷ xs) = NoDial xs
-NoDial (action.Up ∷ xs) = NoDial xs
-NoDial (action.Down ∷ xs) = NoDial xs
 
 given : (g : AtHand) (a : Draft) → (sides.tells_fault a g).overflows ≡ a.overflows
 given NoMessage a = refl

@@ -97,7 +97,7 @@ obeyed_left o g a (action.Down ∷ xs) h = absurd h
 
 -- ---- actions without a dial: what is left, and the session
 
-abbrev NoDial : List Action → Type 0
+abbrev pub NoDial : List Action → Type 0
 NoDial [] = Unit {0}
 NoDial (action.Dial ∷ xs) = ⊥
 NoDial (action.SendOpen ∷ xs) = NoDial xs

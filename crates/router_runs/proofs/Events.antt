@@ -1,10 +1,9 @@
 -- Each event of a router, on its side towards one peer.
-use Rattle.std.proofs.Common.{◌≡◌, ℕ, ◌==◌, Bool, true, false, ◌&&◌, ◌||◌, cond, List, [], ◌∷◌, ◌++◌, refl, ap, sym, ◌∙◌, subst, arith, Option, None, Some, inl, inr, ◌⊎◌}
-use Rattle.std.specs.Prelude.{Ok, nat_eq, Result, if◌then◌else◌}
-use Rattle.std.specs.List.{list_any, find}
+use Rattle.std.proofs.Common.{◌≡◌, ℕ, ◌==◌, Bool, true, false, ◌&&◌, cond, List, [], ◌∷◌, ◌++◌, refl, ap, sym, ◌∙◌, subst, Option, None, Some, inl, inr, ◌⊎◌}
+use Rattle.std.specs.Prelude.{Ok, Result, if◌then◌else◌}
+use Rattle.std.specs.List.{find}
 use mathlib.Core.List.{IsPrefix}
 use Rattle.std.proofs.lemmas.List.{append-nil}
-use Rattle.std.proofs.lemmas.Bool.Decides.{nat_tests}
 use Rattle.prefix_lanes.specs.Bits.{PrefixView}
 use Rattle.bgp_codec.specs.declared.message.Message.{Message}
 use Rattle.bgp_codec.specs.declared.message.Message.TheVariants.{OpenMsg, UpdateMsg}
@@ -41,6 +40,7 @@ use Rattle.router_runs.proofs.Handling.{handled_event}
 use Rattle.router_runs.proofs.Signing.{dial_event, shut_event, mark_taken, mark_event, told_event}
 use Rattle.router_runs.proofs.Stepping.{Before, own_end, same_number, swapped, plus_nothing, idles, where_row, by_does, stop_event, second_event, Ready, decides, ready, then_takes, where_taken}
 use Rattle.router_runs.proofs.Octets.{fed_same, found, front_ok, rest_ok, cleared, holds_handled, holds_piece}
+use Rattle.router_runs.proofs.Parting.{none_passes}
 use Rattle.router_runs.proofs.Lower.{Laws}
 
 module _ (laws : Laws) where
@@ -185,16 +185,6 @@ module _ (laws : Laws) where
   keeps_sides x None path v = refl
   keeps_sides x (Some q) path v = refl
 
-  none_any : (p : ℕ → Bool) (xs : List ℕ) (v : ℕ) → list_any p xs ≡ false → list_any (nat_eq v) xs ≡ true → p v ≡ false
-  none_any p [] v none is = absurd (cc is)
-  none_any p (y ∷ ys) v none is = at (p y) (nat_eq v y) refl refl none is (λ k l. none_any p ys v k l)
-    where
-      at : (c d : Bool) → p y ≡ c → nat_eq v y ≡ d → (p y || list_any p ys) ≡ false → (nat_eq v y || list_any (nat_eq v) ys) ≡ true
-          → (list_any p ys ≡ false → list_any (nat_eq v) ys ≡ true → p v ≡ false) → p v ≡ false
-      at true d hp hv none is rest = absurd (let k = rw hp at none in cc k)
-      at false true hp hv none is rest = (let same : v ≡ y = grind (arith, nat_tests, hv) in ap p same ∙ hp)
-      at false false hp hv none is rest = (let k = rw hp at none in let l = rw hv at is in rest k l)
-
   -- ---- each event
 
   abbrev own_open : Setting → ℕ → Open
@@ -275,7 +265,7 @@ module _ (laws : Laws) where
     step_side (alone Ticks) may over is =
         where_row laws v (linked g.net u v) (x.sides v) (second_at g u x v) before a b k (alone_is is)
         (λ h. second_event laws (own_open g u) (x.sides v) a b k.stands
-        (none_any (λ i. (second_at g u x i).overflows) (peers g.net u) v over (laws.links g.net net u v linked_v).peer))
+        (none_passes (λ i. (second_at g u x i).overflows) (peers g.net u) v over (laws.links g.net net u v linked_v).peer))
     step_side (alone (Handles w)) may over is =
         where_handled v (v == w) (at_hand (front (rule_of w) (x.sides w).held)) (x.sides v) (handled_at g u x w) before a b k
         (λ h. at_peer

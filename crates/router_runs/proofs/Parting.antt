@@ -16,7 +16,8 @@ use Rattle.router_runs.specs.Mirrors.{ModelRouter, Goes, ReadsSnapshots}
 use Rattle.router_runs.proofs.Going.{no_goes, one_goes}
 use Rattle.router_runs.proofs.Lower.{Laws}
 
-none_passes : (p : ℕ → Bool) (xs : List ℕ) (v : ℕ) → list_any p xs ≡ false → list_any (nat_eq v) xs ≡ true → p v ≡ false
+-- where none of some passes, no member does
+pub none_passes : (p : ℕ → Bool) (xs : List ℕ) (v : ℕ) → list_any p xs ≡ false → list_any (nat_eq v) xs ≡ true → p v ≡ false
 none_passes p [] v none is = absurd (cc is)
 none_passes p (y ∷ ys) v none is = at (p y) (nat_eq v y) refl refl none is (λ k l. none_passes p ys v k l)
   where

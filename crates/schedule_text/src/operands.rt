@@ -1,39 +1,18 @@
 //! The words behind the first one of a schedule line.
 
-ghost use Rattle.std.specs.Prelude.{◌≡◌, ◌≢◌, ◌∷◌, [], ◌<◌, ◌^◌, length, IfSome, IfNone};
+ghost use Rattle.std.specs.Prelude.{◌≡◌};
 ghost use Rattle.net_text.specs.Lexing.{words_of};
 ghost use Rattle.net_text.specs.Words.{number_word};
 ghost use Rattle.schedule_text.specs.Schedules.{is_within, router_operand, peer_operands, prefix_operands, number_operands, count_operand};
 
 use net_text::Code;
-use net_text::lexing::next_word;
+use net_text::lexing::{one_word, two_words};
 use net_text::words::{is_number, origin_word, router_word, value_of};
 use prefix_lanes::Prefix;
 use ranked_policy::{Asn, Network};
 
 // The greatest count of rounds or ticks.
 const MAX_COUNT: u32 = 1_000_000;
-
-// The word, where there is no other.
-fn one_word(words: &[u8]) -> Option<&[u8]>
-    ensures some { IfSome result (λ a. words_of words.now ≡ a.now ∷ []) }
-    ensures none { IfNone result (length (words_of words.now) ≢ 1) }
-{
-    let (word, rest) = next_word(words)?;
-    if let Some(_) = next_word(rest) {
-        return None;
-    }
-    Some(word)
-}
-
-// The two words, where there is no other.
-fn two_words(words: &[u8]) -> Option<(&[u8], &[u8])>
-    ensures some { IfSome result (λ p. words_of words.now ≡ p.0.now ∷ p.1.now ∷ []) }
-    ensures none { IfNone result (length (words_of words.now) ≢ 2) }
-{
-    let (word, rest) = next_word(words)?;
-    Some((word, one_word(rest)?))
-}
 
 // A number from 1 up to a limit.
 fn number_word(word: &[u8], greatest: u32) -> Result<u32, Code>

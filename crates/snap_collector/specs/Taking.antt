@@ -1,5 +1,5 @@
 -- What an offer does to a collector, and what it is answered.
-use Rattle.std.specs.Prelude.{◌≡◌, Bool, true, false, [], ◌∷◌, map, Result, Ok, Err}
+use Rattle.std.specs.Prelude.{◌≡◌, Bool, true, false, cond, [], ◌∷◌, map, Option, None, Some, Result, Ok, Err}
 use Rattle.snap_marker.specs.declared.part.Offer.{Offer}
 use Rattle.snap_marker.specs.Parts.{router_of, number_of}
 use Rattle.snap_collector.specs.declared.answer.Taken.{Taken}
@@ -27,6 +27,13 @@ pub record IsNew (c : CollectorView) (o : Offer) : Type 0 where
   pub known : knows c o ≡ true
   pub waits : has_decided c o ≡ false
   pub first : has_heard c o ≡ false
+
+-- why it is refused whatever room there is: a stranger's, or a second one for a snapshot that waits
+abbrev pub refusal_of : CollectorView → Offer → Option CollectError
+refusal_of c o =
+    cond (knows c o)
+    (cond (has_decided c o) None (cond (has_heard c o) (Some (refusal.Twice (router_of o))) None))
+    (Some (refusal.Stranger (router_of o)))
 
 -- the offer stands behind those of its number
 pub record Keeps (old new : CollectorView) (o : Offer) (decided : Bool) : Type 0 where

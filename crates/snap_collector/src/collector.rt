@@ -5,7 +5,7 @@ ghost use Rattle.std.specs.List.{AllPairs, Contains};
 ghost use mathlib.Core.Logic.{◌⊎◌};
 ghost use Rattle.snap_collector.specs.Collecting.{made_by, made_in, member_of, outcome_of};
 ghost use Rattle.snap_collector.specs.Collector.{made_at, made_for, offers_at, entry_of, with_offers, first_part, AreDecided, AreKept, AreMembers, IsPartOf, kept_of};
-ghost use Rattle.snap_collector.specs.Taking.{Takes};
+ghost use Rattle.snap_collector.specs.Taking.{Takes, refusal_of};
 ghost use Rattle.snap_collector.specs.Verdicts.{verdict, decides};
 
 use crate::answer::{CollectError, Taken};
@@ -165,16 +165,12 @@ impl Collector {
     pub fn offer(&mut self, offer: Offer) -> Result<Taken, CollectError>
         ensures { Takes self.old self.new offer result }
     {
-        let router = offer.router();
-        let number = offer.number();
-        if !is_member(self.members.as_slice(), router) {
-            return Err(CollectError::Stranger { router });
+        if let Some(error) = self.refusal(&offer) {
+            return Err(error);
         }
+        let number = offer.number();
         if self.is_decided(number) {
             return Ok(Taken::Late);
-        }
-        if has_offered(offers_for(&self.offers, number), router) {
-            return Err(CollectError::Twice { router });
         }
         self.record(offer)?;
         if self.is_decided(number) {
@@ -182,6 +178,25 @@ impl Collector {
         } else {
             Ok(Taken::Kept)
         }
+    }
+
+    /// Why [`Collector::offer`] refuses this offer whatever memory there is, [`CollectError::Stranger`] or
+    /// [`CollectError::Twice`]; `None` where it takes it, unless a growth is refused. It takes no memory.
+    pub fn refusal(&self, offer: &Offer) -> Option<CollectError>
+        ensures { result ≡ refusal_of self.now offer.now }
+    {
+        let router = offer.router();
+        let number = offer.number();
+        if !is_member(self.members.as_slice(), router) {
+            return Some(CollectError::Stranger { router });
+        }
+        if self.is_decided(number) {
+            return None;
+        }
+        if has_offered(offers_for(&self.offers, number), router) {
+            return Some(CollectError::Twice { router });
+        }
+        None
     }
 
     /// The numbers of the snapshots that are decided, rising.

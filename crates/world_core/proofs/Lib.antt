@@ -8,6 +8,8 @@ pub mod Linking
 pub mod Moving
 pub mod Worlds
 pub mod Orders
+pub mod Awake
+pub mod Quiet
 pub mod Resting
 pub mod Made
 pub mod Rising

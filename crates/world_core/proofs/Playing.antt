@@ -91,7 +91,7 @@ module _ (answers_are_steps : AnswersAreSteps) where
   by_item g net w k v (p ∷ rest) u e stamp there is h =
       by_call g net w (schedule.Take k v) k (Take v p.stamp p.what) u e stamp there (λ d q. (ap (name_of k) q, subst (TakesNext w k) (sym q) (p, rest, is, refl))) h
 
-  doing : (g : Setting) → IsNetwork g.net → (w : World) (event : Event) (u : ℕ) (e : RouterEvent) (stamp : ℕ) → world_answer g w event ≡ Does u e stamp → Doing g w event u e
+  pub doing : (g : Setting) → IsNetwork g.net → (w : World) (event : Event) (u : ℕ) (e : RouterEvent) (stamp : ℕ) → world_answer g w event ≡ Does u e stamp → Doing g w event u e
   doing g net w (schedule.Command k c) u e stamp h =
       let r = router_there (is_router g k) (called g w k (Obey c)) u e stamp h in
       by_call g net w (schedule.Command k c) k (Obey c) u e stamp r.0 (λ d q. (ap (name_of k) q, subst (TakesNext w k) (sym q) tt)) r.1

@@ -18,7 +18,7 @@ module _ (g : Setting) where
   grows_by w y x xs at Nothing go h = go w h
   grows_by w y x xs at (Stops fault) go h = absurd cc
 
-  grows : (xs : List Event) (w y : World) (at : ℕ) → played g w at xs ≡ Ok y → length w.run ≤ length y.run
+  pub grows : (xs : List Event) (w y : World) (at : ℕ) → played g w at xs ≡ Ok y → length w.run ≤ length y.run
   grows [] w y at h =
       let same : w ≡ y = cc in
       let long = ap (λ (k : World). length k.run) same in
@@ -33,7 +33,7 @@ module _ (g : Setting) where
   rests_by w y x xs at Nothing same go h = go h
   rests_by w y x xs at (Stops fault) same go h = absurd cc
 
-  rests : (xs : List Event) (w y : World) (at : ℕ) → played g w at xs ≡ Ok y → length y.run ≡ length w.run → y ≡ w
+  pub rests : (xs : List Event) (w y : World) (at : ℕ) → played g w at xs ≡ Ok y → length y.run ≡ length w.run → y ≡ w
   rests [] w y at h same = cc
   rests (x ∷ xs) w y at h same = rests_by w y x xs at (world_answer g w x) same (λ n. rests xs w y (at + 1) n same) h
 

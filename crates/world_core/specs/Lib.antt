@@ -4,4 +4,5 @@ pub mod Keeping
 pub mod Schedules
 pub mod Views
 pub mod Steps
+pub mod Resting
 pub mod Verdicts

@@ -1,15 +1,17 @@
 -- What the parts of a step find and leave.
-use Rattle.std.specs.Prelude.{ℕ, ◌≡◌, true, false, get_or, Result, MatchResult}
+use Rattle.std.specs.Prelude.{ℕ, ◌≡◌, true, false, get_or, Result, Ok, MatchResult}
 use Rattle.router_model.specs.declared.refusal.Stepped.{Stepped}
+use Rattle.router_model.specs.declared.refusal.Stepped.TheVariants as stepped
 use Rattle.router_model.specs.Settings.{Setting, ChoosesByRank, is_router}
 use Rattle.router_model.specs.Calls.{Call, Obey, Tick, Put, Take, Handle, Decide, Advertise}
 use Rattle.world_core.specs.declared.inbox.Inbox.{Inbox}
 use Rattle.world_core.specs.declared.schedule.Event.{Event}
+use Rattle.world_core.specs.declared.schedule.Event.TheVariants as schedule
 use Rattle.world_core.specs.declared.schedule.StepFault.{StepFault}
 use Rattle.world_core.specs.declared.schedule.StepFault.TheVariants.{NoSuchRouter}
 use Rattle.world_core.specs.declared.state.State.{State}
 use Rattle.world_core.specs.World.{WorldAnswer, Stops, Gives, called, where_router, where_linked}
-use Rattle.world_core.specs.Views.{WorldView, plain_world, IsAt}
+use Rattle.world_core.specs.Views.{WorldView, plain_world, IsAt, Answers}
 
 abbrev pub view_of : State → WorldView
 view_of s = record {
@@ -61,3 +63,11 @@ FindsLink r x u v =
 abbrev pub FindsLinkTo : Result (ℕ × ℕ) StepFault → WorldView → ℕ → ℕ → Type 0
 FindsLinkTo r x u v =
     MatchResult r (λ p. LinkAt x v u p.0 p.1) (λ why. (g : Setting) → g.net ≡ x.net → (a : WorldAnswer) → where_linked g u v a ≡ Stops why)
+
+-- ---- what is at rest
+
+-- nothing is to be put, taken or handled between the two: each of the three events finds nothing to do
+pub record IsQuiet (x : WorldView) (u v : ℕ) : Type 0 where
+  pub put : Answers (Ok stepped.Nothing) x (schedule.Put u v) x
+  pub take : Answers (Ok stepped.Nothing) x (schedule.Take u v) x
+  pub handle : Answers (Ok stepped.Nothing) x (schedule.Handle u v) x

@@ -5,6 +5,7 @@ mod entering;
 pub mod examples;
 mod inbox;
 pub mod laws;
+mod marks;
 mod obeying;
 mod opening;
 mod player;

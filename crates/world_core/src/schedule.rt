@@ -5,6 +5,7 @@ ghost use Rattle.std.specs.Prelude.{◌≡◌, ◌<◌, ◌++◌, ◌∷◌, [],
 use ranked_policy::Asn;
 use router_model::{Command, RouterError};
 use std::alloc::AllocError;
+use std::slice::from_ref;
 use thiserror::Error;
 
 /// An event of a schedule: it names a router, and a peer where it needs one.
@@ -82,5 +83,5 @@ pub(crate) fn join(run: &mut Vec<Event>, event: &Event)
     requires { vec_len run.old < vec_capacity run.old }
     ensures { run.new.items ≡ run.old.items ++ event.now ∷ [] }
 {
-    run.extend_from_slice(&[*event]).unwrap();
+    run.extend_from_slice(from_ref(event)).unwrap();
 }

@@ -5,7 +5,7 @@ ghost use Rattle.world_core.specs.declared.schedule.Event.TheVariants.{Put, Take
 ghost use Rattle.router_model.specs.Settings.{peers};
 ghost use Rattle.router_core.specs.Judging.{call_of};
 ghost use Rattle.world_core.specs.Views.{IsWhole, Answers, IsNoRouter, IsRouterOf};
-ghost use Rattle.world_core.specs.Steps.{view_of, IsSameNet, Asks, IsPlaceOf, FindsLink, FindsLinkTo};
+ghost use Rattle.world_core.specs.Steps.{view_of, IsSameNet, Asks, IsPlaceOf, FindsLink, FindsLinkTo, IsQuiet};
 
 use crate::entering::{enter, enter_offer, enter_put, enter_take};
 use crate::inbox::{Inbox, Pipe, place_of};
@@ -143,6 +143,21 @@ impl<'a> State<'a> {
         match self.place(number) {
             Ok(at) => self.inboxes[at].pipes.as_slice(),
             Err(_) => &[],
+        }
+    }
+
+    /// Whether nothing is to be put, taken or handled between a router and a peer. False where no link
+    /// joins them.
+    pub fn is_quiet(&self, number: Asn, peer: Asn) -> bool
+        requires { IsWhole (view_of self.now) }
+        ensures { result ≡ true → IsQuiet (view_of self.now) number peer }
+    {
+        let Ok((at, pipe)) = self.link(number, peer) else {
+            return false;
+        };
+        match self.inboxes[at].pipes[pipe].items.front() {
+            None => self.routers[at].is_quiet(peer),
+            Some(_) => false,
         }
     }
 

@@ -27,14 +27,14 @@ fn with_text(alloc: Global, digits: &[u8], at: usize, text: &[u8]) -> Result<Vec
 fn blanks_change_nothing(rt: HostRuntime) -> Result<(), Fail> {
     let alloc = rt.alloc();
     let digits = digits(alloc)?;
-    let (text, status) = answer(alloc, &["decode"], digits.as_slice())?;
+    let (text, status) = answer(&rt, alloc, &["decode"], digits.as_slice())?;
     assert_eq!(rt; status, Some(0));
     let layout = [b' '; 70];
     let texts: [&[u8]; 5] = [b" ", b"\t", b"\r", b"\n", &layout];
     for blanks in texts {
         for at in 0..digits.len() + 1 {
             let input = with_text(alloc, digits.as_slice(), at, blanks)?;
-            let (out, got) = answer(alloc, &["decode"], input.as_slice())?;
+            let (out, got) = answer(&rt, alloc, &["decode"], input.as_slice())?;
             assert_eq!(rt; out.as_slice(), text.as_slice(), "{at}");
             assert_eq!(rt; got, Some(0), "{at}");
         }
@@ -49,7 +49,7 @@ fn no_other_octet_is_a_blank(rt: HostRuntime) -> Result<(), Fail> {
     let digits = digits(alloc)?;
     for octet in [0u8, 8, 11, 12, 14, 31, 33, 47, 58, 127, 128, 160, 255] {
         let input = with_text(alloc, digits.as_slice(), 100, &[octet, b'0'])?;
-        let (out, got) = answer(alloc, &["decode"], input.as_slice())?;
+        let (out, got) = answer(&rt, alloc, &["decode"], input.as_slice())?;
         assert_eq!(rt; out.as_slice(), b"bad hex\n".as_slice(), "{octet}");
         assert_eq!(rt; got, Some(1), "{octet}");
     }

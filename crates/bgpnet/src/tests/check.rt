@@ -79,7 +79,7 @@ fn verdicts(rt: HostRuntime) -> Result<(), Fail> {
             answer: "stable\n",
         },
     ] {
-        let (text, status) = says(alloc, &example)?;
+        let (text, status) = says(&rt, alloc, &example)?;
         assert_eq!(rt;
             (text.as_slice(), status),
             (example.answer.as_bytes(), Some(0))
@@ -148,7 +148,7 @@ fn refusals(rt: HostRuntime) -> Result<(), Fail> {
             answer: "refused 12 N3\n",
         },
     ] {
-        let (text, status) = says(alloc, &example)?;
+        let (text, status) = says(&rt, alloc, &example)?;
         assert_eq!(rt;
             (text.as_slice(), status),
             (example.answer.as_bytes(), Some(1))
@@ -173,7 +173,7 @@ fn the_example_of_the_help(rt: HostRuntime) -> Result<(), Fail> {
             }
         }
     }
-    let (text, status) = answer(alloc, &["check"], input.as_bytes())?;
+    let (text, status) = answer(&rt, alloc, &["check"], input.as_bytes())?;
     assert_eq!(rt; (text.as_slice(), status), (wanted.as_bytes(), Some(0)));
     Ok(())
 }

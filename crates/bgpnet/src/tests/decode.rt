@@ -168,7 +168,7 @@ fn one_message(rt: HostRuntime) -> Result<(), Fail> {
         ("an UPDATE", "0017 02 0000 0000", "update\n", 0),
     ] {
         let input = format!(in alloc; "{MARKER}{tail}\r\n\t")?;
-        let (out, got) = answer(alloc, &["decode"], input.as_bytes())?;
+        let (out, got) = answer(&rt, alloc, &["decode"], input.as_bytes())?;
         assert_eq!(rt; out.as_slice(), text.as_bytes(), "{sentence}");
         assert_eq!(rt; got, Some(status), "{sentence}");
     }
@@ -181,7 +181,7 @@ fn many_messages(rt: HostRuntime) -> Result<(), Fail> {
     let input = format!(in alloc;
         "{MARKER}0013 04\n{MARKER}0015030600\n{MARKER}0013 05\n{MARKER}0013 04"
     )?;
-    let (out, got) = answer(alloc, &["decode"], input.as_bytes())?;
+    let (out, got) = answer(&rt, alloc, &["decode"], input.as_bytes())?;
     let text =
         "keepalive\nnotification 6 0 -\nfault 1 3\nffffffffffffffffffffffffffffffff001603010305\n";
     assert_eq!(rt; out.as_slice(), text.as_bytes());
@@ -192,7 +192,7 @@ fn many_messages(rt: HostRuntime) -> Result<(), Fail> {
 #[test]
 fn nothing(rt: HostRuntime) -> Result<(), Fail> {
     for input in ["", " \t\r\n"] {
-        let (out, got) = answer(rt.alloc(), &["decode"], input.as_bytes())?;
+        let (out, got) = answer(&rt, rt.alloc(), &["decode"], input.as_bytes())?;
         assert!(rt; out.is_empty());
         assert_eq!(rt; got, Some(0));
     }
@@ -208,7 +208,7 @@ fn a_faulty_marker(rt: HostRuntime) -> Result<(), Fail> {
         "ffffffffffffffff fffffffffffffffe",
     ] {
         let input = format!(in alloc; "{marker} 1001 04")?;
-        let (out, got) = answer(alloc, &["decode"], input.as_bytes())?;
+        let (out, got) = answer(&rt, alloc, &["decode"], input.as_bytes())?;
         let text = "fault 1 1\nffffffffffffffffffffffffffffffff0015030101\n";
         assert_eq!(rt; out.as_slice(), text.as_bytes());
         assert_eq!(rt; got, Some(1));
@@ -243,7 +243,7 @@ fn a_named_speaker(rt: HostRuntime) -> Result<(), Fail> {
         ("1", "0013 04", "keepalive\n", 0),
     ] {
         let input = format!(in alloc; "{MARKER}{tail}")?;
-        let (out, got) = answer(alloc, &["decode", "--peer", peer], input.as_bytes())?;
+        let (out, got) = answer(&rt, alloc, &["decode", "--peer", peer], input.as_bytes())?;
         assert_eq!(rt; out.as_slice(), text.as_bytes(), "{peer} {tail}");
         assert_eq!(rt; got, Some(status));
     }
@@ -263,7 +263,7 @@ fn a_long_stream(rt: HostRuntime) -> Result<(), Fail> {
     }
     input.push_str("ff ff")?;
     text.push_str("truncated 2\n")?;
-    let (out, got) = answer(alloc, &["decode"], input.as_bytes())?;
+    let (out, got) = answer(&rt, alloc, &["decode"], input.as_bytes())?;
     assert!(rt; out.as_slice() == text.as_bytes());
     assert_eq!(rt; got, Some(1));
     Ok(())
@@ -274,11 +274,11 @@ fn a_long_stream(rt: HostRuntime) -> Result<(), Fail> {
 fn an_input_above_its_limit(rt: HostRuntime) -> Result<(), Fail> {
     let alloc = rt.alloc();
     let mut input = vec![in alloc; b' '; 16_777_216]?;
-    let (out, got) = answer(alloc, &["decode"], input.as_slice())?;
+    let (out, got) = answer(&rt, alloc, &["decode"], input.as_slice())?;
     assert!(rt; out.is_empty());
     assert_eq!(rt; got, Some(0));
     input.push(b'z')?;
-    let (out, got) = answer(alloc, &["decode"], input.as_slice())?;
+    let (out, got) = answer(&rt, alloc, &["decode"], input.as_slice())?;
     assert_eq!(rt; out.as_slice(), b"refused 0 N6\n".as_slice());
     assert_eq!(rt; got, Some(1));
     Ok(())
@@ -300,7 +300,7 @@ fn words(rt: HostRuntime) -> Result<(), Fail> {
         (&["decode", "--peer", "1", "--peer", "2"], 2),
         (&["decode", "more"], 2),
     ] {
-        let (out, got) = answer(rt.alloc(), words, b"")?;
+        let (out, got) = answer(&rt, rt.alloc(), words, b"")?;
         assert_eq!(rt; got, Some(status));
         assert!(rt; !out.is_empty());
     }

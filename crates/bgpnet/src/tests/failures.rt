@@ -66,7 +66,7 @@ fn a_read_fails(rt: HostRuntime) -> Result<(), Fail> {
             reads,
         });
         let mut writer = Watched::new(Vec::new(alloc));
-        let got = run_with(alloc, &["decode"], &mut reader, &mut writer);
+        let got = run_with(&rt, alloc, &["decode"], &mut reader, &mut writer);
         let out: Vec<u8> = writer.into_inner();
         if reads < wanted {
             assert!(rt; matches!(got, Err(IoStopped)), "{reads} reads");
@@ -92,7 +92,7 @@ fn a_write_fails(rt: HostRuntime) -> Result<(), Fail> {
                 room,
                 fails,
             });
-            let got = run_with(alloc, &["decode"], &mut reader, &mut writer);
+            let got = run_with(&rt, alloc, &["decode"], &mut reader, &mut writer);
             let Narrow { taken, .. } = writer.into_inner();
             if room < TEXT.len() {
                 assert!(rt; matches!(got, Err(IoStopped)), "room for {room}");
@@ -115,7 +115,7 @@ fn a_write_of_the_usage_fails(rt: HostRuntime) -> Result<(), Fail> {
         room: 5,
         fails: true,
     });
-    let got = run_with(alloc, &["encode"], &mut reader, &mut writer);
+    let got = run_with(&rt, alloc, &["encode"], &mut reader, &mut writer);
     let Narrow { taken, .. } = writer.into_inner();
     assert!(rt; matches!(got, Err(IoStopped)));
     assert_eq!(rt; taken.as_slice(), b"error".as_slice());

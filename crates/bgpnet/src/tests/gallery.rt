@@ -4,13 +4,15 @@
 use super::examples::{DISAGREE, EXAMPLES, GOOD_GADGET, RING, SHORTEST, WEDGIE};
 use super::{answer, says};
 use std::alloc::{AllocError, Global};
+use std::sync::Wait;
 use std::test::Fail;
+use std::thread::Threads;
 
 #[test]
 fn each_example(rt: HostRuntime) -> Result<(), Fail> {
     let alloc = rt.alloc();
     for example in EXAMPLES {
-        let (text, status) = says(alloc, &example)?;
+        let (text, status) = says(&rt, alloc, &example)?;
         assert_eq!(rt;
             (text.as_slice(), status),
             (example.answer.as_bytes(), Some(0))
@@ -24,7 +26,8 @@ type Choices = (&'static str, [&'static str; 3]);
 
 // Whether the assignment with this number is stable: each router has the path that the next digit of
 // the number to the base of three names, and router 1 its own.
-fn is_stable(
+fn is_stable<R: Threads + Wait + Sync>(
+    rt: &R,
     alloc: Global,
     network: &str,
     choices: &[Choices],
@@ -38,12 +41,13 @@ fn is_stable(
         input.push_str(line.as_str())?;
         digits /= 3;
     }
-    let (text, _) = answer(alloc, &["check"], input.as_bytes())?;
+    let (text, _) = answer(rt, alloc, &["check"], input.as_bytes())?;
     Ok(text.as_slice() == b"stable\n".as_slice())
 }
 
 // How many of the assignments below this number are stable.
-fn count_stable(
+fn count_stable<R: Threads + Wait + Sync>(
+    rt: &R,
     alloc: Global,
     network: &str,
     choices: &[Choices],
@@ -51,7 +55,7 @@ fn count_stable(
 ) -> Result<usize, AllocError> {
     let mut count = 0usize;
     for number in 0..assignments {
-        if is_stable(alloc, network, choices, number)? {
+        if is_stable(rt, alloc, network, choices, number)? {
             count = count.saturating_add(1);
         }
     }
@@ -65,7 +69,7 @@ fn one_assignment_of_shortest_paths_is_stable(rt: HostRuntime) -> Result<(), Fai
         ("3", ["none", "3-1", "3-4-2-1"]),
         ("4", ["none", "4-2-1", "4-3-1"]),
     ];
-    let count = count_stable(rt.alloc(), SHORTEST.network, &choices, 27)?;
+    let count = count_stable(&rt, rt.alloc(), SHORTEST.network, &choices, 27)?;
     assert_eq!(rt; count, 1);
     Ok(())
 }
@@ -78,7 +82,7 @@ fn one_assignment_of_the_good_gadget_is_stable(rt: HostRuntime) -> Result<(), Fa
         ("4", ["none", "4-1", "4-2-1"]),
         ("5", ["none", "5-4-1", "5-3-1"]),
     ];
-    let count = count_stable(rt.alloc(), GOOD_GADGET.network, &choices, 81)?;
+    let count = count_stable(&rt, rt.alloc(), GOOD_GADGET.network, &choices, 81)?;
     assert_eq!(rt; count, 1);
     Ok(())
 }
@@ -89,7 +93,7 @@ fn two_assignments_of_disagree_are_stable(rt: HostRuntime) -> Result<(), Fail> {
         ("2", ["none", "2-3-1", "2-1"]),
         ("3", ["none", "3-2-1", "3-1"]),
     ];
-    let count = count_stable(rt.alloc(), DISAGREE.network, &choices, 9)?;
+    let count = count_stable(&rt, rt.alloc(), DISAGREE.network, &choices, 9)?;
     assert_eq!(rt; count, 2);
     Ok(())
 }
@@ -101,7 +105,7 @@ fn no_assignment_of_the_ring_is_stable(rt: HostRuntime) -> Result<(), Fail> {
         ("3", ["none", "3-4-1", "3-1"]),
         ("4", ["none", "4-2-1", "4-1"]),
     ];
-    let count = count_stable(rt.alloc(), RING.network, &choices, 27)?;
+    let count = count_stable(&rt, rt.alloc(), RING.network, &choices, 27)?;
     assert_eq!(rt; count, 0);
     Ok(())
 }
@@ -113,7 +117,7 @@ fn two_assignments_of_the_backup_link_are_stable(rt: HostRuntime) -> Result<(), 
         ("3", ["none", "3-2-1", "3-4-1"]),
         ("4", ["none", "4-1", "4-3-2-1"]),
     ];
-    let count = count_stable(rt.alloc(), WEDGIE.network, &choices, 27)?;
+    let count = count_stable(&rt, rt.alloc(), WEDGIE.network, &choices, 27)?;
     assert_eq!(rt; count, 2);
     Ok(())
 }

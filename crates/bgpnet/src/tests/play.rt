@@ -5,7 +5,9 @@ use super::examples::PLAYED;
 use super::{answer, plays};
 use crate::command_line::PLAY_HELP;
 use std::alloc::{AllocError, Global};
+use std::sync::Wait;
 use std::test::Fail;
+use std::thread::Threads;
 
 // Two routers and a link; router 1 originates 10.1.0.0/16.
 const PAIR: &str = "router 1 10.0.0.1\nrouter 2 10.0.0.2\nlink 1 2\norigin 1 10.1.0.0/16\n";
@@ -21,48 +23,63 @@ const ONE: &str = "route 1 10.1.0.0/16 1\nroute 2 10.1.0.0/16 none\n";
 const NONE: &str = "route 1 10.1.0.0/16 none\nroute 2 10.1.0.0/16 none\n";
 
 // Whether `play` of the pair writes this, where these lines stand behind the schedule.
-fn goes_on(alloc: Global, more: &str, wanted: &str) -> Result<bool, AllocError> {
+fn goes_on<R: Threads + Wait + Sync>(
+    rt: &R,
+    alloc: Global,
+    more: &str,
+    wanted: &str,
+) -> Result<bool, AllocError> {
     let input = format!(in alloc; "{PAIR}{COMES_UP}{more}")?;
-    plays(alloc, input.as_str(), wanted, 0)
+    plays(rt, alloc, input.as_str(), wanted, 0)
 }
 
 // Whether it ends with these routes, no snapshot having been decided.
-fn ends_with(alloc: Global, more: &str, routes: &str) -> Result<bool, AllocError> {
+fn ends_with<R: Threads + Wait + Sync>(
+    rt: &R,
+    alloc: Global,
+    more: &str,
+    routes: &str,
+) -> Result<bool, AllocError> {
     let wanted = format!(in alloc; "now\n{routes}")?;
-    goes_on(alloc, more, wanted.as_str())
+    goes_on(rt, alloc, more, wanted.as_str())
 }
 
 // Whether the line behind the schedule is refused so.
-fn is_refused(alloc: Global, line: &str, code: &str) -> Result<bool, AllocError> {
+fn is_refused<R: Threads + Wait + Sync>(
+    rt: &R,
+    alloc: Global,
+    line: &str,
+    code: &str,
+) -> Result<bool, AllocError> {
     let input = format!(in alloc; "{PAIR}{COMES_UP}{line}\nrounds 1\n")?;
     let wanted = format!(in alloc; "refused 10 {code}\n")?;
-    plays(alloc, input.as_str(), wanted.as_str(), 1)
+    plays(rt, alloc, input.as_str(), wanted.as_str(), 1)
 }
 
 #[test]
 fn routes_arrive(rt: HostRuntime) -> Result<(), Fail> {
-    assert!(rt; ends_with(rt.alloc(), "", BOTH)?);
-    assert!(rt; ends_with(rt.alloc(), "restart 1\nrounds 5\n", NONE)?);
+    assert!(rt; ends_with(&rt, rt.alloc(), "", BOTH)?);
+    assert!(rt; ends_with(&rt, rt.alloc(), "restart 1\nrounds 5\n", NONE)?);
     Ok(())
 }
 
 #[test]
 fn a_withdrawal_arrives(rt: HostRuntime) -> Result<(), Fail> {
-    assert!(rt; ends_with(rt.alloc(), "withdraw 1 10.1.0.0/16\nrounds 20\n", NONE)?);
+    assert!(rt; ends_with(&rt, rt.alloc(), "withdraw 1 10.1.0.0/16\nrounds 20\n", NONE)?);
     Ok(())
 }
 
 #[test]
 fn a_session_comes_back(rt: HostRuntime) -> Result<(), Fail> {
     let more = "reset 2 1\nrounds 5\nstart 1 2\nrounds 40\n";
-    assert!(rt; ends_with(rt.alloc(), more, BOTH)?);
+    assert!(rt; ends_with(&rt, rt.alloc(), more, BOTH)?);
     Ok(())
 }
 
 #[test]
 fn hold_times_run_out(rt: HostRuntime) -> Result<(), Fail> {
-    assert!(rt; ends_with(rt.alloc(), "ticks 90\nrounds 10\n", ONE)?);
-    assert!(rt; ends_with(rt.alloc(), "ticks 89\nrounds 10\n", BOTH)?);
+    assert!(rt; ends_with(&rt, rt.alloc(), "ticks 90\nrounds 10\n", ONE)?);
+    assert!(rt; ends_with(&rt, rt.alloc(), "ticks 89\nrounds 10\n", BOTH)?);
     Ok(())
 }
 
@@ -71,7 +88,7 @@ fn a_restart_time_brings_the_session_back(rt: HostRuntime) -> Result<(), Fail> {
     let more = "ticks 90\nrounds 10\nticks 5\nrounds 40\n";
     let input = format!(in rt.alloc(); "restart 5\n{PAIR}{COMES_UP}{more}")?;
     let wanted = format!(in rt.alloc(); "now\n{BOTH}")?;
-    assert!(rt; plays(rt.alloc(), input.as_str(), wanted.as_str(), 0)?);
+    assert!(rt; plays(&rt, rt.alloc(), input.as_str(), wanted.as_str(), 0)?);
     Ok(())
 }
 
@@ -81,7 +98,7 @@ fn one_octet_at_a_time(rt: HostRuntime) -> Result<(), Fail> {
         "{PAIR}cut 1\n{COMES_UP}rounds 360\nsnapshot 1 1\nrounds 10\n"
     )?;
     let wanted = format!(in rt.alloc(); "snapshot 1 settled\n{BOTH}now\n{BOTH}")?;
-    assert!(rt; plays(rt.alloc(), input.as_str(), wanted.as_str(), 0)?);
+    assert!(rt; plays(&rt, rt.alloc(), input.as_str(), wanted.as_str(), 0)?);
     Ok(())
 }
 
@@ -95,7 +112,7 @@ fn orders_that_are_refused(rt: HostRuntime) -> Result<(), Fail> {
         ("snapshot 1 0", "N6"),
         ("snapshot 1 4294967296", "N6"),
     ] {
-        assert!(rt; is_refused(rt.alloc(), line, code)?);
+        assert!(rt; is_refused(&rt, rt.alloc(), line, code)?);
     }
     Ok(())
 }
@@ -104,7 +121,7 @@ fn orders_that_are_refused(rt: HostRuntime) -> Result<(), Fail> {
 fn a_number_that_was_recorded(rt: HostRuntime) -> Result<(), Fail> {
     let more = "snapshot 1 1\nreset 2 1\nrounds 5\nstart 1 2\nrounds 40\nsnapshot 1 1\n";
     let input = format!(in rt.alloc(); "{PAIR}{COMES_UP}{more}")?;
-    assert!(rt; plays(rt.alloc(), input.as_str(), "refused 15 E3\n", 1)?);
+    assert!(rt; plays(&rt, rt.alloc(), input.as_str(), "refused 15 E3\n", 1)?);
     Ok(())
 }
 
@@ -126,7 +143,7 @@ fn texts_that_are_refused(rt: HostRuntime) -> Result<(), Fail> {
             "refused 4 N2\n",
         ),
     ] {
-        assert!(rt; plays(rt.alloc(), input, wanted, 1)?);
+        assert!(rt; plays(&rt, rt.alloc(), input, wanted, 1)?);
     }
     Ok(())
 }
@@ -134,8 +151,8 @@ fn texts_that_are_refused(rt: HostRuntime) -> Result<(), Fail> {
 #[test]
 fn an_empty_schedule(rt: HostRuntime) -> Result<(), Fail> {
     let wanted = format!(in rt.alloc(); "now\n{NONE}")?;
-    assert!(rt; plays(rt.alloc(), PAIR, wanted.as_str(), 0)?);
-    assert!(rt; plays(rt.alloc(), "router 7 10.0.0.7\nschedule", "now\n", 0)?);
+    assert!(rt; plays(&rt, rt.alloc(), PAIR, wanted.as_str(), 0)?);
+    assert!(rt; plays(&rt, rt.alloc(), "router 7 10.0.0.7\nschedule", "now\n", 0)?);
     Ok(())
 }
 
@@ -153,7 +170,7 @@ fn snapshots_that_settle(rt: HostRuntime) -> Result<(), Fail> {
             &withdrawn,
         ),
     ] {
-        assert!(rt; goes_on(rt.alloc(), more, wanted.as_str())?);
+        assert!(rt; goes_on(&rt, rt.alloc(), more, wanted.as_str())?);
     }
     Ok(())
 }
@@ -165,8 +182,8 @@ fn snapshots_that_move(rt: HostRuntime) -> Result<(), Fail> {
     let pending = "withdraw 1 10.1.0.0/16\nsnapshot 1 1\nrounds 10\n";
     let first = format!(in rt.alloc(); "snapshot 1 moving 2 inflight 1\nnow\n{NONE}")?;
     let second = format!(in rt.alloc(); "snapshot 1 moving 1 pending\nnow\n{NONE}")?;
-    assert!(rt; goes_on(rt.alloc(), in_flight, first.as_str())?);
-    assert!(rt; goes_on(rt.alloc(), pending, second.as_str())?);
+    assert!(rt; goes_on(&rt, rt.alloc(), in_flight, first.as_str())?);
+    assert!(rt; goes_on(&rt, rt.alloc(), pending, second.as_str())?);
     Ok(())
 }
 
@@ -178,11 +195,11 @@ fn snapshots_that_are_abandoned(rt: HostRuntime) -> Result<(), Fail> {
     let superseded = format!(in rt.alloc();
         "snapshot 1 abandoned 1 2 superseded\nsnapshot 2 settled\n{BOTH}now\n{BOTH}"
     )?;
-    assert!(rt; goes_on(rt.alloc(), closes, closed.as_str())?);
-    assert!(rt; goes_on(rt.alloc(), greater, superseded.as_str())?);
+    assert!(rt; goes_on(&rt, rt.alloc(), closes, closed.as_str())?);
+    assert!(rt; goes_on(&rt, rt.alloc(), greater, superseded.as_str())?);
     let input = format!(in rt.alloc(); "{PAIR}schedule\nsnapshot 1 1\nrounds 1\n")?;
     let not_up = format!(in rt.alloc(); "snapshot 1 abandoned 1 2 notup\nnow\n{NONE}")?;
-    assert!(rt; plays(rt.alloc(), input.as_str(), not_up.as_str(), 0)?);
+    assert!(rt; plays(&rt, rt.alloc(), input.as_str(), not_up.as_str(), 0)?);
     Ok(())
 }
 
@@ -192,7 +209,7 @@ fn a_router_alone(rt: HostRuntime) -> Result<(), Fail> {
         "router 1 10.0.0.1\norigin 1 10.1.0.0/16\nschedule\noriginate 1 10.1.0.0/16\ndecide 1\n\
         snapshot 1 1\noffer 1\n";
     let wanted = "snapshot 1 settled\nroute 1 10.1.0.0/16 1\nnow\nroute 1 10.1.0.0/16 1\n";
-    assert!(rt; plays(rt.alloc(), input, wanted, 0)?);
+    assert!(rt; plays(&rt, rt.alloc(), input, wanted, 0)?);
     Ok(())
 }
 
@@ -212,7 +229,7 @@ fn the_example_of_the_help(rt: HostRuntime) -> Result<(), Fail> {
             }
         }
     }
-    let (text, status) = answer(alloc, &["play"], input.as_bytes())?;
+    let (text, status) = answer(&rt, alloc, &["play"], input.as_bytes())?;
     assert_eq!(rt; (text.as_slice(), status), (wanted.as_bytes(), Some(0)));
     Ok(())
 }
@@ -220,7 +237,7 @@ fn the_example_of_the_help(rt: HostRuntime) -> Result<(), Fail> {
 #[test]
 fn each_example(rt: HostRuntime) -> Result<(), Fail> {
     for played in PLAYED {
-        assert!(rt; plays(rt.alloc(), played.input, played.answer, 0)?);
+        assert!(rt; plays(&rt, rt.alloc(), played.input, played.answer, 0)?);
     }
     Ok(())
 }

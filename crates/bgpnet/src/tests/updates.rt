@@ -177,7 +177,7 @@ fn good_updates(rt: HostRuntime) -> Result<(), Fail> {
         ),
     ] {
         let input = update(alloc, withdrawn, attributes, nlri)?;
-        let (out, got) = answer(alloc, &["decode"], input.as_bytes())?;
+        let (out, got) = answer(&rt, alloc, &["decode"], input.as_bytes())?;
         assert_eq!(rt; out.as_slice(), text.as_bytes(), "{sentence}");
         assert_eq!(rt; got, Some(0), "{sentence}");
     }
@@ -206,7 +206,7 @@ fn lengths_of_the_parts(rt: HostRuntime) -> Result<(), Fail> {
     ] {
         let input = format!(in alloc; "{MARKER}{tail}")?;
         let text = fault_text(alloc, "3 1", "0015030301")?;
-        let (out, got) = answer(alloc, &["decode"], input.as_bytes())?;
+        let (out, got) = answer(&rt, alloc, &["decode"], input.as_bytes())?;
         assert_eq!(rt; out.as_slice(), text.as_bytes(), "{sentence}");
         assert_eq!(rt; got, Some(1), "{sentence}");
     }
@@ -215,7 +215,7 @@ fn lengths_of_the_parts(rt: HostRuntime) -> Result<(), Fail> {
         ("001b 02 0000 0004 40010100", "update\n"),
     ] {
         let input = format!(in alloc; "{MARKER}{tail}")?;
-        let (out, got) = answer(alloc, &["decode"], input.as_bytes())?;
+        let (out, got) = answer(&rt, alloc, &["decode"], input.as_bytes())?;
         assert_eq!(rt; out.as_slice(), text.as_bytes());
         assert_eq!(rt; got, Some(0));
     }
@@ -256,7 +256,7 @@ fn malformed_attributes(rt: HostRuntime) -> Result<(), Fail> {
     ] {
         let input = update(alloc, "", attributes, "")?;
         let text = fault_text(alloc, "3 1", "0015030301")?;
-        let (out, got) = answer(alloc, &["decode"], input.as_bytes())?;
+        let (out, got) = answer(&rt, alloc, &["decode"], input.as_bytes())?;
         assert_eq!(rt; out.as_slice(), text.as_bytes(), "{sentence}");
         assert_eq!(rt; got, Some(1), "{sentence}");
     }
@@ -283,7 +283,7 @@ fn attributes_that_are_not_optional(rt: HostRuntime) -> Result<(), Fail> {
     ] {
         let input = update(alloc, "", attributes, "")?;
         let text = fault_text(alloc, "3 2", notice)?;
-        let (out, got) = answer(alloc, &["decode"], input.as_bytes())?;
+        let (out, got) = answer(&rt, alloc, &["decode"], input.as_bytes())?;
         assert_eq!(rt; out.as_slice(), text.as_bytes(), "{sentence}");
         assert_eq!(rt; got, Some(1), "{sentence}");
     }
@@ -342,7 +342,7 @@ fn faulty_flags(rt: HostRuntime) -> Result<(), Fail> {
     ] {
         let input = update(alloc, "", attributes, "")?;
         let text = fault_text(alloc, "3 4", notice)?;
-        let (out, got) = answer(alloc, &["decode"], input.as_bytes())?;
+        let (out, got) = answer(&rt, alloc, &["decode"], input.as_bytes())?;
         assert_eq!(rt; out.as_slice(), text.as_bytes(), "{sentence}");
         assert_eq!(rt; got, Some(1), "{sentence}");
     }
@@ -408,7 +408,7 @@ fn faulty_lengths(rt: HostRuntime) -> Result<(), Fail> {
     ] {
         let input = update(alloc, "", attributes, "")?;
         let text = fault_text(alloc, "3 5", notice)?;
-        let (out, got) = answer(alloc, &["decode"], input.as_bytes())?;
+        let (out, got) = answer(&rt, alloc, &["decode"], input.as_bytes())?;
         assert_eq!(rt; out.as_slice(), text.as_bytes(), "{sentence}");
         assert_eq!(rt; got, Some(1), "{sentence}");
     }
@@ -429,7 +429,7 @@ fn faulty_origins(rt: HostRuntime) -> Result<(), Fail> {
     ] {
         let input = update(alloc, "", attributes, "")?;
         let text = fault_text(alloc, "3 6", notice)?;
-        let (out, got) = answer(alloc, &["decode"], input.as_bytes())?;
+        let (out, got) = answer(&rt, alloc, &["decode"], input.as_bytes())?;
         assert_eq!(rt; out.as_slice(), text.as_bytes(), "{sentence}");
         assert_eq!(rt; got, Some(1), "{sentence}");
     }
@@ -451,7 +451,7 @@ fn faulty_paths(rt: HostRuntime) -> Result<(), Fail> {
     ] {
         let input = update(alloc, "", attributes, "")?;
         let text = fault_text(alloc, "3 11", "001503030b")?;
-        let (out, got) = answer(alloc, &["decode"], input.as_bytes())?;
+        let (out, got) = answer(&rt, alloc, &["decode"], input.as_bytes())?;
         assert_eq!(rt; out.as_slice(), text.as_bytes(), "{sentence}");
         assert_eq!(rt; got, Some(1), "{sentence}");
     }
@@ -476,7 +476,7 @@ fn faulty_next_hops(rt: HostRuntime) -> Result<(), Fail> {
     ] {
         let input = update(alloc, "", attributes, "")?;
         let text = fault_text(alloc, "3 8", notice)?;
-        let (out, got) = answer(alloc, &["decode"], input.as_bytes())?;
+        let (out, got) = answer(&rt, alloc, &["decode"], input.as_bytes())?;
         assert_eq!(rt; out.as_slice(), text.as_bytes(), "{sentence}");
         assert_eq!(rt; got, Some(1), "{sentence}");
     }
@@ -509,7 +509,7 @@ fn the_first_attribute_decides(rt: HostRuntime) -> Result<(), Fail> {
     ] {
         let input = update(alloc, "", attributes, "")?;
         let text = fault_text(alloc, codes, notice)?;
-        let (out, got) = answer(alloc, &["decode"], input.as_bytes())?;
+        let (out, got) = answer(&rt, alloc, &["decode"], input.as_bytes())?;
         assert_eq!(rt; out.as_slice(), text.as_bytes(), "{sentence}");
         assert_eq!(rt; got, Some(1), "{sentence}");
     }
@@ -629,7 +629,7 @@ fn faulty_parts(rt: HostRuntime) -> Result<(), Fail> {
     ] {
         let input = update(alloc, withdrawn, attributes, nlri)?;
         let text = fault_text(alloc, codes, notice)?;
-        let (out, got) = answer(alloc, &["decode"], input.as_bytes())?;
+        let (out, got) = answer(&rt, alloc, &["decode"], input.as_bytes())?;
         assert_eq!(rt; out.as_slice(), text.as_bytes(), "{sentence}");
         assert_eq!(rt; got, Some(1), "{sentence}");
     }
@@ -669,7 +669,7 @@ fn the_first_number_of_the_path(rt: HostRuntime) -> Result<(), Fail> {
         ),
     ] {
         let input = update(alloc, "", attributes, nlri)?;
-        let (out, got) = answer(alloc, &["decode", "--peer", peer], input.as_bytes())?;
+        let (out, got) = answer(&rt, alloc, &["decode", "--peer", peer], input.as_bytes())?;
         assert_eq!(rt; out.as_slice(), text.as_bytes(), "{sentence}");
         assert_eq!(rt; got, Some(status), "{sentence}");
     }
@@ -682,12 +682,12 @@ fn each_beginning(rt: HostRuntime) -> Result<(), Fail> {
     for n in 1..MESSAGE.len() {
         let input = hex::encode(alloc, &MESSAGE[..n])?;
         let text = format!(in alloc; "truncated {n}\n")?;
-        let (out, got) = answer(alloc, &["decode"], input.as_bytes())?;
+        let (out, got) = answer(&rt, alloc, &["decode"], input.as_bytes())?;
         assert_eq!(rt; out.as_slice(), text.as_bytes());
         assert_eq!(rt; got, Some(1));
     }
     let input = hex::encode(alloc, &MESSAGE)?;
-    let (out, got) = answer(alloc, &["decode"], input.as_bytes())?;
+    let (out, got) = answer(&rt, alloc, &["decode"], input.as_bytes())?;
     assert_eq!(rt; out.as_slice(), ROUTE.as_bytes());
     assert_eq!(rt; got, Some(0));
     Ok(())
@@ -746,7 +746,7 @@ fn each_octet_replaced(rt: HostRuntime) -> Result<(), Fail> {
             text.push_str(notice)?;
             text.push_str("\n")?;
         }
-        let (out, _) = answer(alloc, &["decode"], input.as_bytes())?;
+        let (out, _) = answer(&rt, alloc, &["decode"], input.as_bytes())?;
         assert_eq!(rt;
             out.as_slice(),
             text.as_bytes(),
@@ -768,7 +768,7 @@ fn the_longest_updates(rt: HostRuntime) -> Result<(), Fail> {
     }
     withdrawn.push_str("00 0000")?;
     text.push_str(" 0.0.0.0/0\n")?;
-    let (out, got) = answer(alloc, &["decode"], withdrawn.as_bytes())?;
+    let (out, got) = answer(&rt, alloc, &["decode"], withdrawn.as_bytes())?;
     assert!(rt; out.as_slice() == text.as_bytes());
     assert_eq!(rt; got, Some(0));
 
@@ -777,7 +777,7 @@ fn the_longest_updates(rt: HostRuntime) -> Result<(), Fail> {
         long.push_str("5a")?;
     }
     long.push_str("100a01")?;
-    let (out, got) = answer(alloc, &["decode"], long.as_bytes())?;
+    let (out, got) = answer(&rt, alloc, &["decode"], long.as_bytes())?;
     assert_eq!(rt; out.as_slice(), ROUTE.as_bytes());
     assert_eq!(rt; got, Some(0));
     Ok(())

@@ -1,7 +1,8 @@
-//! What a router acted on and sent.
+//! What a router acted on and sent, and whether it waits for a peer.
 
-ghost use Rattle.std.specs.Prelude.{◌≡◌, ◌&&◌, false, not, MatchOption};
+ghost use Rattle.std.specs.Prelude.{ℕ, ◌≡◌, ◌&&◌, false, not, is_some, MatchOption};
 ghost use Rattle.bgp_framing.specs.Held.{is_waiting};
+ghost use Rattle.outbox.specs.Items.{next_item};
 ghost use Rattle.router_side.specs.SideOf.{history};
 ghost use Rattle.router_model.specs.Settings.{linked};
 ghost use Rattle.router_core.specs.Views.{plain_of, sides_of};
@@ -36,6 +37,20 @@ impl Router<'_> {
     {
         match self.find(peer) {
             Some(at) => !self.peers[at].end.is_waiting(),
+            None => false,
+        }
+    }
+
+    /// Whether the router has nothing to put towards a peer and nothing of it to handle: a link leads to
+    /// it, no item waits in the outbox, and no whole message and no fault in front of its octets.
+    pub fn is_quiet(&self, peer: Asn) -> bool
+        ensures { (cut : ℕ) → result ≡ (linked self.now.net self.now.number peer && (not (is_some (next_item cut (sides_of self.now peer).outbox)) && not (is_waiting (sides_of self.now peer).held))) }
+    {
+        match self.find(peer) {
+            Some(at) => {
+                let end = &self.peers[at].end;
+                !end.has_item() && !end.is_waiting()
+            }
             None => false,
         }
     }

@@ -57,6 +57,28 @@ fn a_second_offer_is_refused(rt: HostRuntime) -> Result<(), Fail> {
     Ok(())
 }
 
+/// What would be refused can be asked before it is offered.
+#[test]
+fn a_refusal_can_be_asked(rt: HostRuntime) -> Result<(), Fail> {
+    let mut collector = collector(rt.alloc())?;
+    let stranger = Some(CollectError::Stranger { router: 3 });
+    assert_eq!(rt; collector.refusal(&Offer::Lost(lost(3))), stranger);
+    assert_eq!(rt; collector.refusal(&Offer::Lost(lost(1))), None);
+    assert_eq!(rt; given(rt.alloc(), &mut collector, 1)?, Taken::Kept);
+    let second = Some(CollectError::Twice { router: 1 });
+    assert_eq!(rt; collector.refusal(&Offer::Lost(lost(1))), second);
+    Ok(())
+}
+
+/// No late offer is refused, not even a second one.
+#[test]
+fn a_late_offer_is_not_refused(rt: HostRuntime) -> Result<(), Fail> {
+    let mut collector = collector(rt.alloc())?;
+    assert_eq!(rt; collector.offer(Offer::Lost(lost(2)))?, Taken::Decided);
+    assert_eq!(rt; collector.refusal(&Offer::Lost(lost(2))), None);
+    Ok(())
+}
+
 /// The last part decides, and it and the others can be read.
 #[test]
 fn the_last_part_decides(rt: HostRuntime) -> Result<(), Fail> {

@@ -1,4 +1,4 @@
-use Rattle.std.proofs.Common.{ℕ, rules, refl, subst, List}
+use Rattle.std.proofs.Common.{ℕ, rules, subst, List}
 use Rattle.std.proofs.lemmas.List.Sorted.{IsNonDecreasingBy-from_sort_by_key, answers_always}
 use Rattle.worker_loop.specs.declared.journal.Entry.{Entry}
 use Rattle.net_workers.specs.Gathered.{IsSorted}

@@ -1,7 +1,7 @@
-use Rattle.std.proofs.Common.{◌≡◌, ◌<◌, ◌==◌, ◌∙◌, ap, sym, refl, arith, length, filter, ℕ, List}
+use Rattle.std.proofs.Common.{◌==◌, ◌∙◌, ap, sym, refl, arith, filter, ℕ}
 use Rattle.offer_board.specs.Boards.{collected_in}
 use Rattle.net_workers.specs.Ran.{OffersOf}
-use Rattle.net_workers.proofs.Lists.{read_more, all_read}
+use Rattle.net_workers.proofs.Lists.{read_more}
 use Rattle.net_workers.proofs.net.agrees.Goals as goal
 
 pub loop-ended-preserved : goal.loop-ended-preserved

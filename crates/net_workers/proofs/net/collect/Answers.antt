@@ -1,4 +1,4 @@
-use Rattle.std.proofs.Common.{◌≡◌, ◌∙◌, ap, sym, subst, [], arith, length, List}
+use Rattle.std.proofs.Common.{◌≡◌, ◌∙◌, ap, sym, subst, arith, length, List}
 use Rattle.snap_collector.specs.Collecting.{made_by}
 use Rattle.snap_collector.specs.Collector.{AreMembers, made_for, with_offers}
 use Rattle.offer_board.specs.declared.board.Made.{Made}

@@ -1,6 +1,5 @@
 -- what the collector has, with the offers that are left, is all
 use Rattle.std.proofs.Common.{◌≡◌, []}
-use Rattle.ranked_policy.specs.Plans.{Plan}
 use Rattle.snap_collector.specs.Collector.{AreMembers, made_for, with_offers}
 use Rattle.offer_board.specs.Boards.{offers_in}
 use Rattle.net_workers.proofs.net.collect.Given as goal

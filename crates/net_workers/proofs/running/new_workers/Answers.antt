@@ -1,9 +1,10 @@
-use Rattle.std.proofs.Common.{◌∙◌, ◌≡◌, ◌<◌, arith, ap, subst, length, get_or, [], sym}
+use Rattle.std.proofs.Common.{◌∙◌, ◌≡◌, arith, subst, []}
 use Rattle.std.specs.List.{AllByRecursion}
 use Rattle.ranked_policy.specs.Plans.{IsRouter}
 use Rattle.net_workers.specs.Lanes.{AreNew}
-use Rattle.net_workers.specs.Ran.{IsFresh}
-use Rattle.net_workers.proofs.Lists.{one_more, all_more, shorter, is_router}
+use Rattle.net_workers.specs.Dealt.{AreDealt}
+use Rattle.net_workers.specs.Ran.{IsFresh, lines_of}
+use Rattle.net_workers.proofs.Lists.{one_more, all_more, lines_more, shorter, is_router}
 use Rattle.net_workers.proofs.running.new_workers.Goals as goal
 
 pub new_worker-requires-clause-router : goal.new_worker-requires-clause-router
@@ -23,5 +24,9 @@ loop-router-preserved g c =
       numbers = rw items
           (one_more (λ e. e.worker.router.number) (λ r. r.asn) l.workers.items c.in_ok-new_worker.field-0 c.routers-router-items.result.now l.router-index c.router-item.result (omega (arith, c.loop-router-test.true)) c.router-item.is c.in_ok-new_worker.ensures.number
           ∙ l.invariant.numbers);
+      dealt = rw items
+          (subst (AreDealt c.args.network.now c.args.network.now.links)
+          (lines_more lines_of l.workers.items c.in_ok-new_worker.field-0 c.in-Some-Some.lines _ l.ends.rest.items c.in-Some-Some.ensures.items c.in_ok-new_worker.ensures.lines)
+          l.invariant.dealt);
       fresh = rw items (all_more (λ e. IsFresh g.G.Gate.given c.args.network.now e.worker) l.workers.items c.in_ok-new_worker.field-0 l.invariant.fresh c.in_ok-new_worker.ensures.fresh);
     }

@@ -3,7 +3,8 @@ use Rattle.std.proofs.Common.{◌≡◌, ◌+◌, ◌++◌, [], map, length, dro
 use Rattle.std.specs.List.{AllByRecursion}
 use Rattle.ranked_policy.specs.Plans.{numbers}
 use Rattle.net_workers.specs.Lanes.{AreNew}
-use Rattle.net_workers.specs.Ran.{IsFresh}
+use Rattle.net_workers.specs.Dealt.{AreDealt}
+use Rattle.net_workers.specs.Ran.{IsFresh, lines_of}
 use Rattle.net_workers.proofs.running.new_workers.Given as goal
 
 abbrev pub invariant-loop-router : goal.invariant-loop-router
@@ -13,5 +14,6 @@ invariant-loop-router g l = record {
   new : AllByRecursion AreNew l.ends.rest.items;
   given : AllByRecursion (λ gate. g.G.Gate.given gate ≡ []) l.gates.rest.items;
   numbers : map (λ e. e.worker.router.number) l.workers.items ++ map (λ r. r.asn) (drop l.router-index l.router-items) ≡ numbers l.router-items;
+  dealt : AreDealt l.fn.network l.fn.network.links (map lines_of l.workers.items ++ l.ends.rest.items);
   fresh : AllByRecursion (λ e. IsFresh g.G.Gate.given l.fn.network e.worker) l.workers.items;
 }

@@ -1,7 +1,7 @@
-use Rattle.std.proofs.Common.{◌≡◌, ◌≤◌, ◌∙◌, ◌++◌, ◌∷◌, [], ap, sym, refl, arith, length, subst, List}
+use Rattle.std.proofs.Common.{◌≡◌, ◌≤◌, [], ap, sym, refl, arith, length, subst, List}
 use Rattle.outbox.specs.declared.item.Item.{Item}
 use Rattle.ruled_pipe.specs.Ends.{End}
-use Rattle.net_workers.specs.Lanes.{put_of, taken_of, room_of, lane_has, wire_of}
+use Rattle.net_workers.specs.Lanes.{put_of, room_of}
 use Rattle.net_workers.proofs.Lanes.{Here, has_here, missing, kept, grows, same_wires, on_ok, on_err, same_pipe}
 use Rattle.net_workers.proofs.ends.EndsLines.put.Goals as goal
 

@@ -1,7 +1,7 @@
 use Rattle.std.proofs.Common.{◌≡◌, subst, map}
 use Rattle.snap_collector.specs.Collecting.{member_of}
 use Rattle.world_core.specs.Verdicts.{members_of, JudgesItsRuns, SettledCanBeBelieved}
-use Rattle.run_model.specs.Offers.{Settled, HasOutcome}
+use Rattle.run_model.specs.Offers.{HasOutcome}
 use Rattle.router_runs.specs.Model.{network_of}
 use Rattle.world_core.specs.Views.{WorldView}
 use Rattle.world_core.specs.Steps.{view_of}

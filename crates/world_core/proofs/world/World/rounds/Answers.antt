@@ -1,8 +1,9 @@
-use Rattle.std.proofs.Common.{◌≡◌, ◌+◌, ◌-◌, length, arith, ap, sym, subst, ◌∙◌}
+use Rattle.std.proofs.Common.{◌≡◌, ◌+◌, ◌-◌, length, arith, ap, sym, subst, refl, ◌∙◌}
 use Rattle.std.specs.Prelude.{Ok, Err}
 use Rattle.std.proofs.lemmas.Result.{err_from_is_err_and}
 use Rattle.world_core.specs.Orders.{round, repeated}
 use Rattle.world_core.specs.Views.{Obeys}
+use Rattle.world_core.proofs.Awake.{none_rests}
 use Rattle.world_core.proofs.Orders.{obeys_next, obeys_until, repeated_one, repeated_among}
 use Rattle.world_core.proofs.Resting.{obeys_still}
 use Rattle.world_core.proofs.world.World.rounds.Goals as goal
@@ -30,6 +31,7 @@ loop-preserved c =
       net = c.round.ensures.same ∙ l.invariant.net;
       done = obeys_next x l.self c.round.new.self (repeated l.counter once) once (repeated (l.counter + 1) once) (repeated_one l.counter once) l.invariant.net l.invariant.done
           (subst (λ n. Obeys (Ok tt) l.self (round n) c.round.new.self) l.invariant.net c.in_ok-round.ensures.obeys);
+      resting = c.in_ok-round.ensures.resting;
     }
 
 pub returns-clause-obeys : goal.returns-clause-obeys
@@ -48,3 +50,9 @@ returns-then-run-before-clause-obeys c =
     obeys_still x l.self c.round.new.self once l.counter left c.args.times all l.invariant.net l.invariant.done
     (subst (λ n. Obeys (Ok tt) l.self (round n) c.round.new.self) l.invariant.net c.in_ok-round.ensures.obeys)
     (sym (ap length c.run.ensures) ∙ c.if-run-before.true ∙ ap length c.run-before.ensures)
+
+pub loop-init : goal.loop-init
+loop-init c = record { net = refl; done = λ g e ranks. refl; resting = none_rests c.args.self.now c.no_marks-marks.result.items c.no_marks-marks.ensures }
+
+pub round-requires : goal.round-requires
+round-requires c = c.loop.invariant.resting

@@ -1,17 +1,19 @@
-use Rattle.std.proofs.Common.{◌+◌, ◌<◌, arith, length, List, [], ◌∷◌, take, drop, get_or, ap, subst, ◌∙◌, refl}
+use Rattle.std.proofs.Common.{◌+◌, ◌<◌, arith, length, List, [], ◌∷◌, take, drop, get_or, ap, subst, ◌∙◌, refl, sym}
 use Rattle.std.specs.List.{flat_map}
 use Rattle.std.specs.Prelude.{Ok}
 use Rattle.std.proofs.lemmas.Result.{err_from_is_err_and}
+use Rattle.ranked_policy.specs.Plans.{IsNetwork}
 use Rattle.router_model.specs.Settings.{peers}
 use Rattle.world_core.specs.declared.schedule.Event.{Event}
 use Rattle.world_core.specs.declared.schedule.Event.TheVariants as schedule
 use Rattle.world_core.specs.Orders.{with_peer}
 use Rattle.world_core.specs.Views.{WorldView, Obeys}
+use Rattle.world_core.proofs.Awake.{own_on, decides_spare}
 use Rattle.world_core.proofs.Orders.{obeys_behind, obeys_before, obeys_next, obeys_until, all_done, one_done, one_among, as_many, peer_at}
 use Rattle.world_core.proofs.world.World.turn.Goals as goal
 
 pub loop-place-init : goal.loop-place-init
-loop-place-init c = record { net = refl; done = λ g e ranks. refl }
+loop-place-init c = record { net = refl; done = λ g e ranks. refl; resting = c.requires }
 
 pub bounds-pipes_to-place : goal.bounds-pipes_to-place
 bounds-pipes_to-place c =
@@ -21,8 +23,8 @@ bounds-pipes_to-place c =
     let many_first = as_many c.pipes_to-place-end.result.now (peers c.args.self.now.net c.args.number) (c.pipes_to-place-end.ensures ∙ first) in
     omega (arith, c.loop-place-test.true, many, many_first)
 
-pub returns-in_err-each-clause-obeys : goal.returns-in_err-each-clause-obeys
-returns-in_err-each-clause-obeys c =
+pub returns-in_err-exchange-clause-obeys : goal.returns-in_err-exchange-clause-obeys
+returns-in_err-exchange-clause-obeys c =
     let p = err_from_is_err_and c.from_residual.result c.from_residual.ensures.1 in
     let x = c.args.self.now in
     let l = c.loop-place in
@@ -37,9 +39,9 @@ returns-in_err-each-clause-obeys c =
     let peer = (get_or c.pipes_to.result.now l.place c.index-pipes_to-place.result).peer in
     let is = peer_at c.pipes_to.result.now all l.place c.index-pipes_to-place.result (c.pipes_to.ensures ∙ now) here in
     rw (p.1, p.2)
-    (obeys_before x c.each.new.self (flat_map (with_peer u) all) (schedule.Decide u ∷ schedule.Advertise u ∷ schedule.Offer u ∷ []) c.in_err-each.field-0.0
-    (obeys_until x l.self c.each.new.self (flat_map (with_peer u) (take l.place all)) (with_peer u peer) (flat_map (with_peer u) (drop (l.place + 1) all)) (flat_map (with_peer u) all) c.in_err-each.field-0.0
-    (one_among (with_peer u) all l.place peer inside is) l.invariant.net l.invariant.done c.in_err-each.ensures.obeys))
+    (obeys_before x c.exchange.new.self (flat_map (with_peer u) all) (schedule.Decide u ∷ schedule.Advertise u ∷ schedule.Offer u ∷ []) c.in_err-exchange.field-0.0
+    (obeys_until x l.self c.exchange.new.self (flat_map (with_peer u) (take l.place all)) (with_peer u peer) (flat_map (with_peer u) (drop (l.place + 1) all)) (flat_map (with_peer u) all) c.in_err-exchange.field-0.0
+    (one_among (with_peer u) all l.place peer inside is) l.invariant.net l.invariant.done c.in_err-exchange.ensures.obeys))
 
 pub loop-place-preserved : goal.loop-place-preserved
 loop-place-preserved c =
@@ -56,9 +58,10 @@ loop-place-preserved c =
     let peer = (get_or c.pipes_to.result.now l.place c.index-pipes_to-place.result).peer in
     let is = peer_at c.pipes_to.result.now all l.place c.index-pipes_to-place.result (c.pipes_to.ensures ∙ now) here in
     record {
-      net = c.each.ensures.same ∙ l.invariant.net;
-      done = obeys_next x l.self c.each.new.self (flat_map (with_peer u) (take l.place all)) (with_peer u peer) (flat_map (with_peer u) (take (l.place + 1) all))
-          (one_done (with_peer u) all l.place peer inside is) l.invariant.net l.invariant.done c.in_ok-each.ensures.obeys;
+      net = c.exchange.ensures.same ∙ l.invariant.net;
+      done = obeys_next x l.self c.exchange.new.self (flat_map (with_peer u) (take l.place all)) (with_peer u peer) (flat_map (with_peer u) (take (l.place + 1) all))
+          (one_done (with_peer u) all l.place peer inside is) l.invariant.net l.invariant.done c.in_ok-exchange.ensures.obeys;
+      resting = c.in_ok-exchange.ensures.resting;
     }
 
 pub returns-clause-obeys : goal.returns-clause-obeys
@@ -70,4 +73,15 @@ returns-clause-obeys c =
     let first = ap (λ (y : WorldView). peers y.net u) c.self.view_is in
     let many_first = as_many c.pipes_to-place-end.result.now all (c.pipes_to-place-end.ensures ∙ first) in
     let done = subst (λ (k : List Event). Obeys (Ok tt) x k l.self) (all_done (with_peer u) all l.place (omega (arith, c.loop-place-test.false, many_first))) l.invariant.done in
-    obeys_behind x l.self c.each-2.new.self (flat_map (with_peer u) all) (schedule.Decide u ∷ schedule.Advertise u ∷ schedule.Offer u ∷ []) c.each-2.result l.invariant.net done c.each-2.ensures.obeys
+    obeys_behind x l.self c.each.new.self (flat_map (with_peer u) all) (schedule.Decide u ∷ schedule.Advertise u ∷ schedule.Offer u ∷ []) c.each.result l.invariant.net done c.each.ensures.obeys
+
+pub exchange-requires : goal.exchange-requires
+exchange-requires c = c.loop-place.invariant.resting
+
+pub returns-clause-resting : goal.returns-clause-resting
+returns-clause-resting c =
+    let l = c.loop-place in
+    let u = c.args.number in
+    let is_net = subst IsNetwork (sym l.invariant.net) (subst (λ (x : WorldView). IsNetwork x.net) c.self.view_is c.self.invariant.0.network) in
+    own_on l.self c.each.new.self u c.each.ensures.same c.answers_are_steps.ensures is_net (schedule.Decide u ∷ schedule.Advertise u ∷ schedule.Offer u ∷ []) l.marks.items (decides_spare u)
+    c.each.result c.each.ensures.obeys l.invariant.resting

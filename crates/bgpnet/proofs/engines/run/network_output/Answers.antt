@@ -1,0 +1,11 @@
+use Rattle.std.proofs.Common.{length}
+use Rattle.bgpnet.specs.Decoding.{output}
+use Rattle.bgpnet.proofs.CheckLemmas.{if_ok}
+use Rattle.bgpnet.proofs.RunLemmas.{run_gives}
+use Rattle.bgpnet.proofs.engines.run.network_output.Goals as goal
+
+pub returns : goal.returns
+returns g c =
+    if_ok _ _ c.threads_output.result
+    (λ printed gives. run_gives c.args.options.now c.args.network.now (length c.in_ok-gates.gates.items) (output printed.0.items printed.1) c.in-Some.ensures.0 c.in_ok-gates.ensures.many gives)
+    c.threads_output.ensures

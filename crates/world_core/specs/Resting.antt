@@ -1,0 +1,20 @@
+-- Routers that rest: their turn finds nothing to do.
+use Rattle.std.specs.Prelude.{ℕ, ◌≡◌, ◌≢◌, Bool, true, List, slice_get, Some, Ok}
+use Rattle.ranked_policy.specs.Plans.{Plan, numbers}
+use Rattle.world_core.specs.Orders.{turn}
+use Rattle.world_core.specs.Views.{WorldView, Obeys}
+
+abbrev pub Rests : WorldView → ℕ → Type 0
+Rests x u = Obeys (Ok tt) x (turn x.net u) x
+
+-- each router with a mark rests
+abbrev pub AreResting : WorldView → List Bool → Type 0
+AreResting x marks = (i b : ℕ) → slice_get marks i ≡ Some true → slice_get (numbers x.net.routers) i ≡ Some b → Rests x b
+
+-- so it is while router u has its turn, which has no mark
+abbrev pub AreRestingBeside : WorldView → ℕ → List Bool → Type 0
+AreRestingBeside x u marks = (i b : ℕ) → slice_get marks i ≡ Some true → slice_get (numbers x.net.routers) i ≡ Some b → (u ≢ b) × Rests x b
+
+-- each mark that is left was there, and is not that of router v
+abbrev pub Woken : Plan → ℕ → List Bool → List Bool → Type 0
+Woken net v old new = (i b : ℕ) → slice_get new i ≡ Some true → slice_get (numbers net.routers) i ≡ Some b → (slice_get old i ≡ Some true) × (v ≢ b)
