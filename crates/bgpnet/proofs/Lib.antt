@@ -1,12 +1,5 @@
-pub mod DigitLemmas
-pub mod PrintingLemmas
-pub mod WritingLemmas
-pub mod CheckLemmas
 pub mod PlayLemmas
 pub mod PartLemmas
 pub mod SettledLemmas
 pub mod RunLemmas
 pub mod GateLemmas
-pub mod PlaceLemmas
-pub mod BlankLemmas
-pub mod HexInputLemmas

@@ -21,10 +21,10 @@ use Rattle.world_core.specs.Views.{WorldView, Opens, KeepsPromises, plain_world}
 use Rattle.world_core.specs.Verdicts.{JudgesItsRuns, SettledCanBeBelieved, members_of}
 use Rattle.schedule_text.specs.declared.schedule.ScheduledOrder.{ScheduledOrder}
 use Rattle.bgpnet.specs.declared.schedules.Stop.{Stop}
-use Rattle.bgpnet.specs.Decoding.{Output, output}
+use Rattle.text_engines.specs.Decoding.{Output, output}
 use Rattle.bgpnet.specs.Reporting.{AreDecided, snapshots_text, now_text}
 use Rattle.bgpnet.specs.Playing.{all_events, LeadTo, IsFirstRefused, Obeyed, Reports, OrdersGive, stopped}
-use Rattle.bgpnet.proofs.CheckLemmas.{parted}
+use Rattle.text_engines.proofs.CheckLemmas.{parted}
 use Rattle.bgpnet.proofs.SettledLemmas.{can_be_believed}
 
 module _ (g : Setting) where

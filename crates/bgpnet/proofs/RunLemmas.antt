@@ -29,8 +29,8 @@ use Rattle.net_workers.specs.Runs.{KeepsPromises, RunKeepsPromises}
 use Rattle.bgpnet.specs.declared.chores.RunOptions.{RunOptions}
 use Rattle.bgpnet.specs.declared.settled.Demand.{Demand}
 use Rattle.bgpnet.specs.declared.settled.Demand.TheVariants.{AsRecorded, EveryOrigin}
-use Rattle.bgpnet.specs.Decoding.{Output, output}
-use Rattle.bgpnet.specs.Checking.{at_prefix}
+use Rattle.text_engines.specs.Decoding.{Output, output}
+use Rattle.text_engines.specs.Checking.{at_prefix}
 use Rattle.bgpnet.specs.Reporting.{recorded, part_text, parts_text, router_text}
 use Rattle.bgpnet.specs.Running.{parts_routes, EveryOriginOriginates, Meets, IsPassedOver, SettlesOn, SettlesOnNone, PrintsRoutes, PrintsUnsettled, PrintsStableRoutes, SnapshotsGive, is_settled, decided_by, says, all_originate, meets, is_wanted, IsFirstWanted, CollectorGives, IsRefusedInside, ThreadsGive, RunGives, faulty}
 use Rattle.bgpnet.specs.Gates.{HasRoom}

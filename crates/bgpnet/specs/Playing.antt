@@ -23,9 +23,9 @@ use Rattle.schedule_text.specs.declared.schedule.ScheduledOrder.{ScheduledOrder}
 use Rattle.schedule_text.specs.Schedules.{SpellsSchedule, RefusesSchedule}
 use Rattle.schedule_text.specs.Reports.{stop_line}
 use Rattle.bgpnet.specs.declared.schedules.Stop.{Stop}
-use Rattle.bgpnet.specs.Decoding.{Output, output}
+use Rattle.text_engines.specs.Decoding.{Output, output}
 use Rattle.bgpnet.specs.Reporting.{AreDecided, deciding, outcome, recorded, snapshots_text, now_text}
-use Rattle.bgpnet.specs.Inputs.{code_text, refused, InputGives, Prints}
+use Rattle.text_engines.specs.Inputs.{code_text, refused, InputGives, Prints}
 
 -- ---- what is printed of a world
 

@@ -24,9 +24,9 @@ use Rattle.net_workers.specs.Ran.{AreLimits}
 use Rattle.bgpnet.specs.declared.chores.RunOptions.{RunOptions}
 use Rattle.bgpnet.specs.declared.settled.Demand.{Demand}
 use Rattle.bgpnet.specs.declared.settled.Demand.TheVariants.{AsRecorded, EveryOrigin}
-use Rattle.bgpnet.specs.Decoding.{Output, output, memory_output}
-use Rattle.bgpnet.specs.Inputs.{code_text, refused}
-use Rattle.bgpnet.specs.Checking.{at_prefix}
+use Rattle.text_engines.specs.Decoding.{Output, output, memory_output}
+use Rattle.text_engines.specs.Inputs.{code_text, refused}
+use Rattle.text_engines.specs.Checking.{at_prefix}
 use Rattle.bgpnet.specs.Reporting.{router_text, recorded, parts_text}
 use Rattle.bgpnet.specs.Gates.{HasRoom}
 

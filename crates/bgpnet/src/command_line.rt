@@ -3,20 +3,19 @@
 ghost use Rattle.std.specs.Prelude.{◌≡◌, ◌&&◌, nat_le, true, ◌⊎◌, OnOk, OnErr};
 ghost use Rattle.std.specs.List.{list_all};
 
-use crate::channel::{IoStopped, Sink, Source};
 use crate::chores::RunOptions;
-use crate::engines::check::check_stream;
-use crate::engines::decode::decode_stream;
 use crate::engines::play::play_stream;
 use crate::engines::run::run_stream;
-use crate::engines::{want_of_memory, write_out};
-use crate::status::{DONE, USAGE};
 use bgp_codec::{Rule, Width};
 use clap::error::ErrorKind;
 use clap::{Arg, ArgMatches, Command, Error};
 use std::alloc::{AllocError, Global};
 use std::sync::Wait;
 use std::thread::Threads;
+use text_engines::status::{DONE, USAGE};
+use text_engines::{
+    IoStopped, Sink, Source, check_stream, decode_stream, want_of_memory, write_out,
+};
 
 // What the words ask for.
 #[derive(Debug, Drop)]

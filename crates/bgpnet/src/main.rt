@@ -6,39 +6,30 @@
 //! reader and a writer that says exactly what it writes for what it reads. `main` runs it over the
 //! standard input and output and ends with its status.
 //!
-//! The contract of `bgpnet decode` is that of `engines::decode::decode_stream`, that of
-//! `bgpnet check` that of `engines::check::check_stream`, that of `bgpnet play` that of
-//! `engines::play::play_stream`, that of `bgpnet run` that of `engines::run::run_stream`; the
-//! definitions stand in `specs/`: `Decoding` (the text of a stream), `Inputs` (a network and a
-//! section behind it), `Checking` (the text of a check), `Playing` (that of a schedule), `Running`
-//! (that of a network in threads), `Gates` (what its routers are told), `Engine` (what an engine may
-//! leave written). The lines themselves are `net_text`'s and `schedule_text`'s.
+//! The contracts of `bgpnet decode` and `bgpnet check` are those of `text_engines::decode_stream` and
+//! `text_engines::check_stream`, that of `bgpnet play` that of `engines::play::play_stream`, that of
+//! `bgpnet run` that of `engines::run::run_stream`; the definitions stand in `specs/`: `Playing` (the text
+//! of a schedule), `Reporting` (that of routes and snapshots), `Running` (that of a network in threads),
+//! `Gates` (what its routers are told), and in those of `text_engines`. The lines themselves are
+//! `net_text`'s and `schedule_text`'s.
 #![tactic(auto)]
 
-mod assignments;
-mod blanks;
-mod channel;
 mod chores;
 mod command_line;
-mod digits;
 mod engines;
 mod gates;
-mod refusals;
 mod schedules;
 mod settled;
 mod snapshots;
-mod status;
-mod stream;
 mod threads;
 
-use channel::{IoStopped, Sink, Source, Watched};
 use command_line::run_with;
-use engines::{want_of_memory, write_out};
 use std::alloc::Global;
 use std::process::ExitCode;
 use std::sync::Wait;
 use std::thread::Threads;
 use std::{env, io};
+use text_engines::{IoStopped, Sink, Source, Watched, status, want_of_memory, write_out};
 
 // Why the words behind the program's name were not read.
 #[derive(Debug, Drop)]

@@ -3,17 +3,17 @@
 ghost use Rattle.std.specs.Prelude.{◌≡◌, ◌≢◌, ◌++◌, IfOk, OnOk, MatchResult};
 ghost use Rattle.router_core.specs.Views.{plain_of};
 ghost use Rattle.world_core.specs.Views.{plain_world, Opens, KeepsPromises};
-ghost use Rattle.bgpnet.specs.Decoding.{output};
+ghost use Rattle.text_engines.specs.Decoding.{output};
 ghost use Rattle.bgpnet.specs.Reporting.{router_text, routes_text};
 ghost use Rattle.bgpnet.specs.Playing.{Obeyed, Reports, stopped, OrdersGive};
 
 use crate::snapshots::put_snapshots;
-use crate::status::{DONE, REFUSED};
 use ranked_policy::{Asn, Network, Origin};
 use router_core::Router;
 use schedule_text::{ScheduledOrder, now_line, route_line, stop_line};
 use std::alloc::{AllocError, Global};
 use std::mem::forget;
+use text_engines::status::{DONE, REFUSED};
 use world_core::{StepFault, World};
 
 /// An order that was refused.

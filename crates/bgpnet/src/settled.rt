@@ -5,16 +5,16 @@ ghost use Rattle.snap_marker.specs.Parts.{part_of};
 ghost use Rattle.snap_collector.specs.Collecting.{member_of};
 ghost use Rattle.snap_collector.specs.Collector.{made_for, kept_of};
 ghost use Rattle.world_core.specs.Verdicts.{judged};
-ghost use Rattle.bgpnet.specs.Decoding.{output};
+ghost use Rattle.text_engines.specs.Decoding.{output};
 ghost use Rattle.bgpnet.specs.Running.{is_settled, all_originate, is_wanted, IsFirstWanted, CollectorGives};
 
 use crate::snapshots::put_parts;
-use crate::status::DONE;
 use prefix_lanes::Prefix;
 use ranked_policy::Network;
 use snap_collector::{Collector, Outcome};
 use snap_marker::Part;
 use std::alloc::{AllocError, Global};
+use text_engines::status::DONE;
 
 /// What is asked of the parts of a settled snapshot before its routes are printed.
 #[derive(Clone, Copy, Debug, PartialEq, Eq)]

@@ -1,22 +1,18 @@
 //! What the program writes for what it reads, row by row, through `run_with`.
 
-mod blanks;
 mod check;
 mod decode;
-mod examples;
 mod failures;
-mod gallery;
 mod gates;
 mod play;
 mod run;
-mod updates;
 
-use crate::channel::Watched;
 use crate::command_line::run_with;
-use examples::Example;
+use gallery::Example;
 use std::alloc::{AllocError, Global};
 use std::sync::Wait;
 use std::thread::Threads;
+use text_engines::Watched;
 
 /// Sixteen octets of ones.
 pub const MARKER: &str = "ffffffff ffffffff ffffffff ffffffff ";

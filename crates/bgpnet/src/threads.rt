@@ -3,10 +3,9 @@
 ghost use Rattle.std.specs.Prelude.{◌≡◌, ◌≢◌, [], length, IfOk};
 ghost use Rattle.std.specs.List.{AllByRecursion};
 ghost use Rattle.net_workers.specs.declared.record.RunFault.TheVariants.{Memory};
-ghost use Rattle.bgpnet.specs.Decoding.{output};
+ghost use Rattle.text_engines.specs.Decoding.{output};
 ghost use Rattle.bgpnet.specs.Running.{faulty, ThreadsGive};
 
-use crate::refusals::refused_output;
 use crate::settled::{Demand, settled_output};
 use bgp_codec::Message;
 use net_workers::{Gate, Limits, RunFault, run_net};
@@ -16,6 +15,7 @@ use run_model::outcome_is_one;
 use std::alloc::{AllocError, Global};
 use std::sync::Wait;
 use std::thread::Threads;
+use text_engines::refused_output;
 use world_core::laws::members_are_the_routers;
 
 // What is printed for a fault of the run, and the status; want of memory is no such fault.

@@ -2,19 +2,20 @@
 
 ghost use Rattle.std.specs.Prelude.{◌≡◌, ◌≤◌, ◌^◌, ◌<◌, ◌+◌, ◌⊎◌, length, IfOk, OnOk, OnErr, true};
 ghost use Rattle.net_text.specs.Lexing.{lines_of};
-ghost use Rattle.bgpnet.specs.Decoding.{output};
-ghost use Rattle.bgpnet.specs.Engine.{PrintedBy, PrintedFrontBy};
-ghost use Rattle.bgpnet.specs.Inputs.{NetworkGives};
+ghost use Rattle.text_engines.specs.Decoding.{output};
+ghost use Rattle.text_engines.specs.Engine.{PrintedBy, PrintedFrontBy};
+ghost use Rattle.text_engines.specs.Inputs.{NetworkGives};
 ghost use Rattle.bgpnet.specs.Playing.{ScheduleGives, PlayGives, Plays};
 
-use super::{INPUT_LIMIT, InputError, read_input, want_of_memory, write_out};
-use crate::channel::{IoStopped, Sink, Source};
-use crate::refusals::{refused_output, text_output};
 use crate::schedules::orders_output;
 use net_text::{Split, read_network, split_at_section};
 use ranked_policy::Network;
 use schedule_text::read_schedule;
 use std::alloc::{AllocError, Global};
+use text_engines::{
+    INPUT_LIMIT, InputError, IoStopped, Sink, Source, read_input, refused_output, text_output,
+    want_of_memory, write_out,
+};
 
 // What is printed for a schedule, so many lines standing before it.
 fn schedule_output(

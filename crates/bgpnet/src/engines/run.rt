@@ -3,14 +3,11 @@
 ghost use Rattle.std.specs.Prelude.{◌≡◌, ◌⊎◌, [], length, IfOk, OnOk, OnErr, true};
 ghost use Rattle.std.specs.List.{AllByRecursion};
 ghost use Rattle.net_text.specs.Lexing.{lines_of};
-ghost use Rattle.bgpnet.specs.Decoding.{output};
-ghost use Rattle.bgpnet.specs.Engine.{PrintedBy, PrintedFrontBy, WrittenBy, WrittenFrontBy};
+ghost use Rattle.text_engines.specs.Decoding.{output};
+ghost use Rattle.text_engines.specs.Engine.{PrintedBy, PrintedFrontBy, WrittenBy, WrittenFrontBy};
 ghost use Rattle.bgpnet.specs.Running.{RunGives, LinesRun, InputRuns, Runs, Gated};
 
-use super::{INPUT_LIMIT, InputError, read_input, want_of_memory, write_out};
-use crate::channel::{IoStopped, Sink, Source};
 use crate::chores::{RunOptions, new_gates, spacing};
-use crate::refusals::{refused_output, text_output};
 use crate::settled::Demand;
 use crate::threads::threads_output;
 use net_text::read_network;
@@ -19,6 +16,10 @@ use ranked_policy::Network;
 use std::alloc::{AllocError, Global};
 use std::sync::Wait;
 use std::thread::Threads;
+use text_engines::{
+    INPUT_LIMIT, InputError, IoStopped, Sink, Source, read_input, refused_output, text_output,
+    want_of_memory, write_out,
+};
 
 /// Runs a network in threads at the word of these gates, which have given no chore yet, and writes
 /// the routes of the least settled snapshot from 1 to the last, or `unsettled`; answers the status.

@@ -1,8 +1,8 @@
 //! `bgpnet check`: verdicts and refusals.
 
-use super::examples::Example;
 use super::{answer, says};
 use crate::command_line::CHECK_HELP;
+use gallery::Example;
 use std::test::Fail;
 
 // Two routers and a link; router 1 originates 10.1.0.0/16.

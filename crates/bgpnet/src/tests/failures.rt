@@ -1,11 +1,11 @@
 //! A read or a write that fails.
 
 use super::MARKER;
-use crate::channel::{IoStopped, Watched};
 use crate::command_line::run_with;
 use std::io;
 use std::io::{Error, ErrorKind, Read, Write};
 use std::test::Fail;
+use text_engines::{IoStopped, Watched};
 
 const TEXT: &[u8] = b"keepalive\nfault 1 3\nffffffffffffffffffffffffffffffff001603010305\n";
 

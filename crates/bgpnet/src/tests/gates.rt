@@ -5,7 +5,6 @@ ghost use Rattle.std.specs.List.{AllByRecursion};
 ghost use Rattle.worker_loop.specs.declared.chore.Chore.TheVariants.{Stop};
 ghost use Rattle.worker_loop.specs.Script.{given_by};
 
-use crate::channel::Watched;
 use crate::engines::run::run_gated;
 use net_text::read_network;
 use net_workers::{Chore, Gate, Limits, ScriptGate, run_net};
@@ -18,6 +17,7 @@ use std::sync::atomic::{AtomicU64, Ordering};
 use std::test::Fail;
 use std::thread;
 use std::thread::Threads;
+use text_engines::Watched;
 
 // Two routers and a link; router 1 originates 10.1.0.0/16. Pipes of one item, and of many.
 const NARROW: &str =

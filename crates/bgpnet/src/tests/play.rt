@@ -1,9 +1,9 @@
 //! `bgpnet play`: the routes and the snapshots that schedules lead to, and the orders that are
 //! refused.
 
-use super::examples::PLAYED;
 use super::{answer, plays};
 use crate::command_line::PLAY_HELP;
+use gallery::PLAYED;
 use std::alloc::{AllocError, Global};
 use std::sync::Wait;
 use std::test::Fail;

@@ -1,9 +1,9 @@
 //! `bgpnet run`: networks in threads.
 
 use super::answer;
-use super::examples::{DISAGREE, EXAMPLES, RING};
 use crate::chores::new_gates;
 use crate::command_line::RUN_HELP;
+use gallery::{DISAGREE, EXAMPLES, RING};
 use net_text::read_network;
 use net_workers::{Limits, Record, run_net};
 use ranked_policy::Network;

@@ -2,7 +2,7 @@ use Rattle.std.proofs.Common.{◌∙◌, ◌≡◌, ◌<◌, ◌≤◌, ◌/◌,
 use Rattle.std.specs.List.{All}
 use Rattle.ranked_policy.specs.declared.network.Router.{Router}
 use Rattle.bgpnet.specs.Gates.{opening, first_router, spacing_of}
-use Rattle.bgpnet.proofs.CheckLemmas.{all_all}
+use Rattle.text_engines.proofs.CheckLemmas.{all_all}
 use Rattle.bgpnet.proofs.GateLemmas.{first_is}
 use Rattle.bgpnet.proofs.chores.spacing.Goals as goal
 

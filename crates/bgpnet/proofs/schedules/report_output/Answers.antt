@@ -4,7 +4,7 @@ use Rattle.snap_collector.specs.Collecting.{member_of}
 use Rattle.snap_collector.specs.Collector.{made_for}
 use Rattle.world_core.specs.Views.{plain_world}
 use Rattle.schedule_text.specs.Reports.{now_line}
-use Rattle.bgpnet.specs.Decoding.{output}
+use Rattle.text_engines.specs.Decoding.{output}
 use Rattle.bgpnet.specs.Reporting.{snapshots_text, routes_text, now_text}
 use Rattle.bgpnet.proofs.PlayLemmas.{report_is, reports}
 use Rattle.bgpnet.proofs.schedules.report_output.Goals as goal

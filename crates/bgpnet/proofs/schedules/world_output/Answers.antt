@@ -1,7 +1,7 @@
 use Rattle.std.proofs.Common.{sym, subst}
-use Rattle.bgpnet.specs.Decoding.{Output, output}
+use Rattle.text_engines.specs.Decoding.{Output, output}
 use Rattle.bgpnet.specs.Playing.{OrdersGive}
-use Rattle.bgpnet.proofs.CheckLemmas.{if_ok, both_ok}
+use Rattle.text_engines.proofs.CheckLemmas.{if_ok, both_ok}
 use Rattle.bgpnet.proofs.PlayLemmas.{reported, halted}
 use Rattle.bgpnet.proofs.schedules.world_output.Goals as goal
 

@@ -1,7 +1,7 @@
 use Rattle.std.proofs.Common.{inr, inl, sym, ap, subst}
-use Rattle.bgpnet.specs.Decoding.{Output, output}
+use Rattle.text_engines.specs.Decoding.{Output, output}
 use Rattle.bgpnet.specs.Running.{ThreadsGive}
-use Rattle.bgpnet.proofs.CheckLemmas.{if_ok, both_ok}
+use Rattle.text_engines.proofs.CheckLemmas.{if_ok, both_ok}
 use Rattle.bgpnet.proofs.RunLemmas.{snapshots_give, fault_gives}
 use Rattle.bgpnet.proofs.threads.threads_output.Goals as goal
 

@@ -1,7 +1,7 @@
 use Rattle.std.proofs.Common.{inr, arith}
 use Rattle.std.specs.Prelude.{codes}
 use Rattle.bgpnet.specs.Playing.{ScheduleGives}
-use Rattle.bgpnet.proofs.CheckLemmas.{if_ok, lines_give}
+use Rattle.text_engines.proofs.CheckLemmas.{if_ok, lines_give}
 use Rattle.bgpnet.proofs.engines.play.play_output.Goals as goal
 
 pub returns : goal.returns

@@ -1,8 +1,8 @@
 use Rattle.std.proofs.Common.{inr, refl}
 use Rattle.std.specs.Prelude.{codes}
 use Rattle.bgpnet.specs.Playing.{ScheduleGives, Plays}
-use Rattle.bgpnet.proofs.CheckLemmas.{prints_done, prints_stopped, on_err}
-use Rattle.bgpnet.proofs.WritingLemmas.{memory_stopped_by, nothing_front_by}
+use Rattle.text_engines.proofs.CheckLemmas.{prints_done, prints_stopped, on_err}
+use Rattle.text_engines.proofs.WritingLemmas.{memory_stopped_by, nothing_front_by}
 use Rattle.bgpnet.proofs.engines.play.play_stream.Goals as goal
 
 pub returns-in-Err-Stopped-clause-stopped : goal.returns-in-Err-Stopped-clause-stopped

@@ -1,8 +1,8 @@
 use Rattle.std.proofs.Common.{List, inr, subst}
 use Rattle.schedule_text.specs.declared.schedule.ScheduledOrder.{ScheduledOrder}
-use Rattle.bgpnet.specs.Decoding.{output}
+use Rattle.text_engines.specs.Decoding.{output}
 use Rattle.bgpnet.specs.Playing.{OrdersGive}
-use Rattle.bgpnet.proofs.CheckLemmas.{if_ok}
+use Rattle.text_engines.proofs.CheckLemmas.{if_ok}
 use Rattle.bgpnet.proofs.engines.play.schedule_output.Goals as goal
 
 pub returns-in-Ok : goal.returns-in-Ok

@@ -1,6 +1,6 @@
 use Rattle.std.proofs.Common.{length}
-use Rattle.bgpnet.specs.Decoding.{output}
-use Rattle.bgpnet.proofs.CheckLemmas.{if_ok}
+use Rattle.text_engines.specs.Decoding.{output}
+use Rattle.text_engines.proofs.CheckLemmas.{if_ok}
 use Rattle.bgpnet.proofs.RunLemmas.{run_gives}
 use Rattle.bgpnet.proofs.engines.run.network_output.Goals as goal
 

@@ -1,6 +1,6 @@
 use Rattle.std.proofs.Common.{inr, refl, length}
 use Rattle.bgpnet.specs.Running.{Gated}
-use Rattle.bgpnet.proofs.WritingLemmas.{memory_written}
+use Rattle.text_engines.proofs.WritingLemmas.{memory_written}
 use Rattle.bgpnet.proofs.engines.run.run_gated.Goals as goal
 
 pub returns-in-Err-clause-stopped : goal.returns-in-Err-clause-stopped

@@ -1,8 +1,8 @@
 use Rattle.std.proofs.Common.{inr, refl}
 use Rattle.net_text.specs.Lexing.{lines_of}
 use Rattle.bgpnet.specs.Running.{LinesRun, Runs}
-use Rattle.bgpnet.proofs.CheckLemmas.{limited_done, limited_stopped, on_err}
-use Rattle.bgpnet.proofs.WritingLemmas.{memory_stopped_by, nothing_front_by}
+use Rattle.text_engines.proofs.CheckLemmas.{limited_done, limited_stopped, on_err}
+use Rattle.text_engines.proofs.WritingLemmas.{memory_stopped_by, nothing_front_by}
 use Rattle.bgpnet.proofs.engines.run.run_stream.Goals as goal
 
 pub returns-in-Err-Stopped-clause-stopped : goal.returns-in-Err-Stopped-clause-stopped

@@ -1,7 +1,0 @@
--- what the entries passed give
-use Rattle.std.proofs.Common.{take}
-use Rattle.bgpnet.specs.Checking.{Assign}
-use Rattle.bgpnet.proofs.assignments.assigned.Given as goal
-
-abbrev pub invariant-loop-entry : goal.invariant-loop-entry
-invariant-loop-entry l = Assign l.origins (take l.entry-index l.entries) l.all.items

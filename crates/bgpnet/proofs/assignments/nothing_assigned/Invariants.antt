@@ -1,6 +1,0 @@
--- as many as were counted, each of no path
-use Rattle.bgpnet.specs.Checking.{AssignNothing}
-use Rattle.bgpnet.proofs.assignments.nothing_assigned.Given as goal
-
-abbrev pub invariant-loop : goal.invariant-loop
-invariant-loop l = AssignNothing l.counter l.all.items

@@ -1,8 +1,0 @@
-use Rattle.std.proofs.Common.{ℕ, List, ◌++◌, subst, ◌∙◌}
-use Rattle.bgpnet.specs.Digits.{HasRead}
-use Rattle.bgpnet.proofs.DigitLemmas.{on_ok}
-use Rattle.bgpnet.proofs.digits.Digits.feed.Goals as goal
-
-pub returns : goal.returns
-returns c =
-    on_ok c.extend.result (λ more before has. subst (λ (l : List ℕ). HasRead c.extend.new.self (before ++ l)) (c.split_at.ensures.front ∙ c.pack-kept.ensures.kept) (more before has)) c.extend.ensures

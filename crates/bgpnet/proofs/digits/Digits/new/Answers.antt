@@ -1,5 +1,0 @@
-use Rattle.bgpnet.proofs.DigitLemmas.{begun}
-use Rattle.bgpnet.proofs.digits.Digits.new.Goals as goal
-
-pub returns : goal.returns
-returns c = begun c.new.result.items c.new.ensures.items

@@ -1,0 +1,7 @@
+pub mod DigitLemmas
+pub mod PrintingLemmas
+pub mod WritingLemmas
+pub mod CheckLemmas
+pub mod PlaceLemmas
+pub mod BlankLemmas
+pub mod HexInputLemmas

@@ -1,0 +1,17 @@
+-- what was seen stands in front without its blanks, and the rest where it was
+use Rattle.std.proofs.Common.{length, ◌-◌, ◌≤◌, not}
+use Rattle.std.proofs.lemmas.List.Filters.{FiltersInPlace}
+use Rattle.text_engines.specs.Decoding.{is_blank}
+use Rattle.text_engines.proofs.blanks.pack.Given as goal
+
+abbrev pub invariant-octets : goal.invariant-octets
+invariant-octets l = FiltersInPlace (λ octet. not (is_blank octet)) l.fn.text l.text l.kept l.at × (l.end ≤ length l.text)
+
+abbrev pub decreases-octets : goal.decreases-octets
+decreases-octets l = l.end - l.at
+
+abbrev pub invariant-pieces : goal.invariant-pieces
+invariant-pieces l = FiltersInPlace (λ octet. not (is_blank octet)) l.fn.text l.text l.kept l.at
+
+abbrev pub decreases-pieces : goal.decreases-pieces
+decreases-pieces l = length l.initial.text - l.at

@@ -1,0 +1,36 @@
+-- What an engine reads and writes.
+use Rattle.std.specs.Prelude.{◌≡◌, ℕ, ◌≤◌, List, length, take, Option, IfSome}
+use Rattle.std.specs.Io.KnownBytes.{Appends}
+use Rattle.bgp_codec.specs.declared.rule.Rule.{Rule}
+use Rattle.text_engines.specs.Decoding.{Output, output, Prints}
+
+-- these are the known octets that were left, or a beginning of them that is above the limit
+abbrev pub ReadsUpTo : ℕ → Option (List ℕ) → List ℕ → Type 0
+ReadsUpTo limit known items = IfSome known (λ input. (items ≡ take (length items) input) × (length items ≤ limit → items ≡ input))
+
+-- a beginning of the text was appended
+abbrev pub AppendsFront : Option (List ℕ) → Option (List ℕ) → List ℕ → Type 0
+AppendsFront old new text = (n : ℕ) × Appends old new (take n text)
+
+-- a whole output of these was appended, with this status
+abbrev pub WrittenBy : (Output → Type 0) → Option (List ℕ) → Option (List ℕ) → ℕ → Type 0
+WrittenBy IsPrinted old new status = (text : List ℕ) × IsPrinted (output text status) × Appends old new text
+
+-- a beginning of one of these was appended
+abbrev pub WrittenFrontBy : (Output → Type 0) → Option (List ℕ) → Option (List ℕ) → Type 0
+WrittenFrontBy IsPrinted old new = (out : Output) × IsPrinted out × AppendsFront old new out.text
+
+-- a whole output that is printed for these known octets was appended, with this status
+abbrev pub PrintedBy : (List ℕ → Output → Type 0) → Option (List ℕ) → Option (List ℕ) → Option (List ℕ) → ℕ → Type 0
+PrintedBy IsPrinted known old new status = IfSome known (λ input. (text : List ℕ) × IsPrinted input (output text status) × Appends old new text)
+
+-- a beginning of an output that is printed for these known octets was appended
+abbrev pub PrintedFrontBy : (List ℕ → Output → Type 0) → Option (List ℕ) → Option (List ℕ) → Option (List ℕ) → Type 0
+PrintedFrontBy IsPrinted known old new = IfSome known (λ input. (out : Output) × IsPrinted input out × AppendsFront old new out.text)
+
+-- the same, for a stream in hex
+abbrev pub Printed : Rule → Option (List ℕ) → Option (List ℕ) → Option (List ℕ) → ℕ → Type 0
+Printed rule known old new status = PrintedBy (Prints rule) known old new status
+
+abbrev pub PrintedFront : Rule → Option (List ℕ) → Option (List ℕ) → Option (List ℕ) → Type 0
+PrintedFront rule known old new = PrintedFrontBy (Prints rule) known old new

@@ -1,0 +1,48 @@
+-- What is printed for an input that is a network with a section behind it.
+use Rattle.std.specs.Prelude.{◌≡◌, ◌≢◌, ℕ, ◌<◌, ◌≤◌, ◌-◌, List, length, codes, ◌⊎◌}
+use Rattle.ranked_policy.specs.Plans.{Plan}
+use Rattle.net_text.specs.declared.code.Code.{Code}
+use Rattle.net_text.specs.declared.code.Code.TheVariants as kinds
+use Rattle.net_text.specs.Lexing.{Text, lines_of, before_section, behind_section}
+use Rattle.net_text.specs.Networks.{SpellsNetwork, RefusesNetwork}
+use Rattle.net_text.specs.Printing.{refused_line}
+use Rattle.text_engines.specs.Decoding.{Output, output, memory_output}
+
+-- ---- refusals
+
+-- the code of a refusal
+abbrev pub code_text : Code → List ℕ
+code_text kinds.BadForm = codes "N1"
+code_text kinds.Unreadable = codes "N2"
+code_text kinds.UnknownRouter = codes "N3"
+code_text kinds.Repeated = codes "N4"
+code_text kinds.NotConnected = codes "N5"
+code_text kinds.OutOfLimit = codes "N6"
+code_text kinds.NotSimple = codes "N7"
+code_text kinds.BadPrefix = codes "N8"
+code_text kinds.Memory = codes "N9"
+
+abbrev pub refused : ℕ → List ℕ → Output
+refused at code = output (refused_line at code) 1
+
+-- ---- what is printed, where this says what is printed for a network and the lines of the section, so many standing before them
+
+-- for the lines of a network, and those of the section
+abbrev pub NetworkGives : (Plan → ℕ → List Text → Output → Type 0) → List Text → ℕ → List Text → Output → Type 0
+NetworkGives Gives front before behind out =
+    ((at : ℕ) × (code : Code) × (code ≢ kinds.Memory) × RefusesNetwork front at code × (out ≡ refused at (code_text code)))
+    ⊎ ((net : Plan) × SpellsNetwork front net × Gives net before behind out)
+
+-- for the lines of both, the section beginning behind the line of this name
+abbrev pub LinesGive : (Plan → ℕ → List Text → Output → Type 0) → List ℕ → List Text → Output → Type 0
+LinesGive Gives name lines out =
+    NetworkGives Gives (before_section name lines) (length lines - length (behind_section name lines)) (behind_section name lines) out
+
+-- for an input, which may be too long
+abbrev pub InputGives : (Plan → ℕ → List Text → Output → Type 0) → List ℕ → List ℕ → Output → Type 0
+InputGives Gives name input out =
+    (16777216 < length input × (out ≡ refused 0 (codes "N6"))) ⊎ ((length input ≤ 16777216) × LinesGive Gives name (lines_of input) out)
+
+-- what the program prints: that, or that memory ran out
+abbrev pub Prints : (Plan → ℕ → List Text → Output → Type 0) → List ℕ → List ℕ → Output → Type 0
+Prints Gives name input out = InputGives Gives name input out ⊎ (out ≡ memory_output)

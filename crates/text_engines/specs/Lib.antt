@@ -1,0 +1,5 @@
+pub mod Decoding
+pub mod Engine
+pub mod Inputs
+pub mod Checking
+pub mod Digits

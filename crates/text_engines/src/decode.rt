@@ -1,0 +1,58 @@
+//! `bgpnet decode`: a stream of BGP octets in hex, as lines.
+
+ghost use Rattle.std.specs.Prelude.{◌≡◌, ℕ, List, ◌⊎◌, IfOk, OnOk, OnErr, true};
+ghost use Rattle.text_engines.specs.Decoding.{output, DecodeGives};
+ghost use Rattle.text_engines.specs.Digits.{HearsHex};
+ghost use Rattle.text_engines.specs.Engine.{Printed, PrintedFront};
+
+use crate::channel::{IoStopped, Sink, Source};
+use crate::hex_input::{HexInput, read_hex};
+use crate::status::REFUSED;
+use crate::stream::stream_output;
+use crate::transfer::{InputError, want_of_memory, write_out};
+use bgp_codec::Rule;
+use std::alloc::{AllocError, Global};
+
+// What is printed for an input, and the status.
+fn decode_output(alloc: Global, rule: &Rule, heard: HexInput) -> Result<(Vec<u8>, u8), AllocError>
+    ensures { IfOk result (λ printed. (input : List ℕ) → HearsHex input heard → DecodeGives rule.now input (output printed.0.items printed.1)) }
+{
+    match heard {
+        HexInput::TooLong => Ok((Vec::from_slice(alloc, b"refused 0 N6\n")?, REFUSED)),
+        HexInput::BadHex => Ok((Vec::from_slice(alloc, b"bad hex\n")?, REFUSED)),
+        HexInput::Octets(octets) => stream_output(alloc, rule, octets.as_slice()),
+    }
+}
+
+/// Reads a stream in hex, writes a line for each message, or the first fault and its NOTIFICATION,
+/// and answers the status.
+///
+/// Where memory is refused it writes `memory` alone and answers 3. It stops only where a read or a
+/// write failed, and then what was written is a beginning of the text.
+pub fn decode_stream<S: Source, T: Sink>(
+    alloc: Global,
+    rule: &Rule,
+    source: &mut S,
+    sink: &mut T,
+) -> Result<u8, IoStopped>
+    // What is written is what is printed for what was read, and nothing else.
+    ensures done { IfOk result (λ status. Printed rule.now (S.remaining source.old) (T.contents sink.old) (T.contents sink.new) status) }
+    // It answers a status only where no read and no write failed, and stops only where one did.
+    ensures unfailed { OnOk result ((S.failed source.new ≡ S.failed source.old) × (T.failed sink.new ≡ T.failed sink.old)) }
+    ensures failed { OnErr result ((S.failed source.new ≡ true) ⊎ (T.failed sink.new ≡ true)) }
+    // A failed read or write leaves a beginning of the text.
+    ensures stopped { OnErr result (PrintedFront rule.now (S.remaining source.old) (T.contents sink.old) (T.contents sink.new)) }
+{
+    let input = match read_hex(alloc, source) {
+        Ok(input) => input,
+        Err(InputError::Memory) => return want_of_memory(sink),
+        Err(InputError::Stopped) => return Err(IoStopped),
+    };
+    match decode_output(alloc, rule, input) {
+        Ok((text, status)) => {
+            write_out(sink, text.as_slice())?;
+            Ok(status)
+        }
+        Err(_) => want_of_memory(sink),
+    }
+}

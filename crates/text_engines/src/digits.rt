@@ -1,0 +1,180 @@
+//! Hex digits as octets, many at a time and piece by piece.
+//!
+//! The definition is that of the crate `hex`; the loops over a block test no digit by itself, so
+//! that a compiler can do many of them in one instruction.
+
+ghost use Rattle.std.specs.Prelude.{◌≡◌, ℕ, List, ◌+◌, ◌++◌, ◌*◌, ◌%◌, ◌<◌, nat_lt, length, map, slice_index, unwrap_or, IfOk, OnOk, IsErr, ◌∷◌, [], MatchOption, Ok, Some, None};
+ghost use Rattle.std.specs.List.{list_all};
+ghost use Rattle.hex.specs.Hex.{decode_of, decode_pairs, hex_digit_value, is_hex_digit};
+ghost use Rattle.text_engines.specs.Digits.{Adds, HasRead, without_blanks};
+
+use crate::blanks::pack;
+use std::alloc::{AllocError, Global};
+
+/// A text in hex that is read piece by piece.
+#[derive(Debug, Drop)]
+pub struct Digits {
+    /// The octets of the whole pairs, as long as all were digits.
+    pub octets: Vec<u8>,
+    /// A digit that waits for the second of its pair.
+    pub half: Option<u8>,
+    /// Whether all that came were digits.
+    pub are_hex: bool,
+}
+
+// The value of a digit of either case, or 255.
+fn value(digit: u8) -> u8
+    ensures { result ≡ unwrap_or (hex_digit_value digit) 255 }
+{
+    match digit {
+        b'A'..=b'F' => digit - b'A' + 10,
+        b'a'..=b'f' => digit - b'a' + 10,
+        b'0'..=b'9' => digit - b'0',
+        _ => 255,
+    }
+}
+
+// The values of the digits of a block, or 255 for what is no digit.
+#[inline(always)]
+fn values_of(digits: &[u8; 32]) -> [u8; 32]
+    ensures { result ≡ map (λ digit. unwrap_or (hex_digit_value digit) 255) digits.now }
+{
+    let mut values = [0u8; 32];
+    'digits: for i in 0..32usize {
+        values[i] = value(digits[i]);
+    }
+    values
+}
+
+// The greatest value of a block.
+#[inline(always)]
+fn greatest_of(values: &[u8; 32]) -> u8
+    ensures { nat_lt result 16 ≡ list_all (λ value. nat_lt value 16) values.now }
+{
+    let mut greatest = 0u8;
+    for value in values {
+        greatest = greatest.max(*value);
+    }
+    greatest
+}
+
+// The octets of a block, each of two values.
+#[inline(always)]
+fn pairs_of(values: &[u8; 32]) -> [u8; 16]
+    ensures { (i : ℕ) → i < 16 → slice_index result i ≡ slice_index values.now (2 * i) % 16 * 16 + slice_index values.now (2 * i + 1) % 16 }
+{
+    let mut octets = [0u8; 16];
+    'octets: for i in 0..16usize {
+        octets[i] = values[2 * i] % 16 * 16 + values[2 * i + 1] % 16;
+    }
+    octets
+}
+
+// Writes the octets of pairs of digits, and answers the greatest value that a digit had.
+fn write_octets(digits: &[u8], octets: &mut [u8]) -> u8
+    requires { length digits.now ≡ 2 * length octets.old }
+    ensures are_digits { nat_lt result 16 ≡ list_all is_hex_digit digits.now }
+    ensures octets { result < 16 → decode_pairs 0 digits.now ≡ Ok octets.new }
+{
+    let mut greatest = 0u8;
+    let mut i = 0usize;
+    'pieces: while let Some(block) = digits.split_at(2 * i).1.first_chunk::<32>() {
+        let values = values_of(block);
+        greatest = greatest.max(greatest_of(&values));
+        octets[i..i + 16].copy_from_slice(&pairs_of(&values));
+        i += 16;
+    }
+    'octets: while i < octets.len() {
+        let high = value(digits[2 * i]);
+        let low = value(digits[2 * i + 1]);
+        octets[i] = high % 16 * 16 + low % 16;
+        greatest = greatest.max(high).max(low);
+        i += 1;
+    }
+    greatest
+}
+
+// Appends the octets of pairs of digits, and answers whether all were digits.
+fn append_octets(octets: &mut Vec<u8>, digits: &[u8]) -> Result<bool, AllocError>
+    requires { length digits.now % 2 ≡ 0 }
+    ensures { IfOk result (λ are_hex. Adds digits.now octets.old.items octets.new.items are_hex) }
+{
+    let start = octets.len();
+    octets.resize(start + digits.len() / 2, 0)?;
+    let (_, fresh) = octets.as_mut_slice().split_at_mut(start);
+    Ok(write_octets(digits, fresh) < 16)
+}
+
+impl Digits {
+    /// No digit yet.
+    pub fn new(alloc: Global) -> Digits
+        ensures { HasRead result [] }
+    {
+        Digits {
+            octets: Vec::new(alloc),
+            half: None,
+            are_hex: true,
+        }
+    }
+
+    // Reads the digit that a pair waits for.
+    fn complete(&mut self, high: u8, low: u8) -> Result<(), AllocError>
+        requires { self.old.half ≡ Some high }
+        ensures whole { OnOk result (self.new.half ≡ None) }
+        ensures read { OnOk result ((before : List ℕ) → HasRead self.old before → HasRead self.new (before ++ low ∷ [])) }
+    {
+        self.are_hex = append_octets(&mut self.octets, &[high, low])? & self.are_hex;
+        self.half = None;
+        Ok(())
+    }
+
+    // Reads digits where no pair waits.
+    fn append(&mut self, digits: &[u8]) -> Result<(), AllocError>
+        requires { self.old.half ≡ None }
+        ensures { OnOk result ((before : List ℕ) → HasRead self.old before → HasRead self.new (before ++ digits.now)) }
+    {
+        let (pairs, last) = digits.split_at(digits.len() / 2 * 2);
+        self.are_hex = append_octets(&mut self.octets, pairs)? & self.are_hex;
+        self.half = match last {
+            [digit, ..] => Some(*digit),
+            [] => None,
+        };
+        Ok(())
+    }
+
+    // Reads digits behind those that came.
+    fn extend(&mut self, digits: &[u8]) -> Result<(), AllocError>
+        ensures { OnOk result ((before : List ℕ) → HasRead self.old before → HasRead self.new (before ++ digits.now)) }
+    {
+        match (self.half, digits) {
+            (Some(high), [low, rest @ ..]) => {
+                self.complete(high, *low)?;
+                self.append(rest)
+            }
+            (Some(_), []) => Ok(()),
+            (None, _) => self.append(digits),
+        }
+    }
+
+    /// Reads a piece of the text, whose digits are moved to its front.
+    pub fn feed(&mut self, text: &mut [u8]) -> Result<(), AllocError>
+        ensures { OnOk result ((before : List ℕ) → HasRead self.old before → HasRead self.new (before ++ without_blanks text.old)) }
+    {
+        let kept = pack(text);
+        if !self.are_hex {
+            return Ok(());
+        }
+        let (digits, _) = text.split_at(kept);
+        self.extend(digits)
+    }
+
+    /// The octets that the text stands for, where it stands for any.
+    pub fn finish(self) -> Option<Vec<u8>>
+        ensures { (digits : List ℕ) → HasRead self digits → MatchOption result (IsErr (decode_of digits)) (λ octets. decode_of digits ≡ Ok octets.items) }
+    {
+        match self.half {
+            None if self.are_hex => Some(self.octets),
+            _ => None,
+        }
+    }
+}

@@ -1,0 +1,32 @@
+//! The engines that read one text and answer it: `decode`, for a stream of BGP-4 messages in hex, and
+//! `check`, for paths assigned in a network.
+//!
+//! An engine is a function over a reader and a writer, [`Source`] and [`Sink`], that says exactly what it
+//! writes for what it reads, and answers the status that the program ends with. The contract of
+//! `bgpnet decode` is that of [`decode_stream`], that of `bgpnet check` that of [`check_stream`]; the
+//! definitions stand in `specs/`: `Decoding` (the text of a stream), `Inputs` (a network and a section
+//! behind it), `Checking` (the text of a check), `Engine` (what an engine may leave written), `Digits`
+//! (octets in hex). The lines themselves are `net_text`'s. What every engine shares is here too:
+//! [`read_input`], [`write_out`], [`want_of_memory`], [`refused_output`] and [`text_output`].
+#![tactic(auto)]
+
+mod assignments;
+mod blanks;
+mod channel;
+mod check;
+mod decode;
+mod digits;
+mod hex_input;
+mod refusals;
+pub mod status;
+mod stream;
+mod transfer;
+
+pub use channel::{IoStopped, Sink, Source, Watched};
+pub use check::check_stream;
+pub use decode::decode_stream;
+pub use refusals::{refused_output, text_output};
+pub use transfer::{INPUT_LIMIT, InputError, read_input, want_of_memory, write_out};
+
+#[cfg(test)]
+mod tests;

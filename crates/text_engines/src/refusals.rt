@@ -1,0 +1,47 @@
+//! What is printed for a text that is refused.
+
+ghost use Rattle.std.specs.Prelude.{◌≡◌, ◌≢◌, IfOk};
+ghost use Rattle.net_text.specs.declared.code.Code.TheVariants.{Memory};
+ghost use Rattle.text_engines.specs.Decoding.{output};
+ghost use Rattle.text_engines.specs.Inputs.{code_text, refused};
+
+use crate::status::REFUSED;
+use net_text::{Code, Refused, refused_line};
+use std::alloc::{AllocError, Global};
+
+// The code of a refusal.
+fn code_text(code: Code) -> &'static [u8]
+    ensures { result.now ≡ code_text code }
+{
+    match code {
+        Code::BadForm => b"N1",
+        Code::Unreadable => b"N2",
+        Code::UnknownRouter => b"N3",
+        Code::Repeated => b"N4",
+        Code::NotConnected => b"N5",
+        Code::OutOfLimit => b"N6",
+        Code::NotSimple => b"N7",
+        Code::BadPrefix => b"N8",
+        Code::Memory => b"N9",
+    }
+}
+
+/// What is printed for a line that is refused, and the status.
+pub fn refused_output(alloc: Global, line: usize, code: &[u8]) -> Result<(Vec<u8>, u8), AllocError>
+    ensures { IfOk result (λ printed. output printed.0.items printed.1 ≡ refused line code.now) }
+{
+    let mut out = Vec::new(alloc);
+    refused_line(line, code, &mut out)?;
+    Ok((out, REFUSED))
+}
+
+/// What is printed for a text that is refused, and the status; want of memory is no such text.
+pub fn text_output(alloc: Global, text: &Refused) -> Result<(Vec<u8>, u8), AllocError>
+    ensures kind { IfOk result (λ printed. text.now.code ≢ Memory) }
+    ensures output { IfOk result (λ printed. output printed.0.items printed.1 ≡ refused text.now.line (code_text text.now.code)) }
+{
+    if text.code == Code::Memory {
+        return Err(AllocError);
+    }
+    refused_output(alloc, text.line, code_text(text.code))
+}

@@ -1,0 +1,100 @@
+//! What every engine does: it reads all of its input, and writes a text.
+
+ghost use Rattle.std.specs.Prelude.{◌≡◌, ℕ, ◌+◌, ◌<◌, ◌≤◌, length, vec_len, IfOk, OnOk, OnErr, IsErrOf, true, codes};
+ghost use Rattle.std.specs.Io.KnownBytes.{Appends};
+ghost use Rattle.text_engines.specs.Engine.{ReadsUpTo, AppendsFront};
+
+use crate::channel::{IoStopped, Sink, Source};
+use crate::status::MEMORY;
+use std::alloc::{AllocError, Global};
+
+/// The greatest number of octets that an input may have.
+pub const INPUT_LIMIT: usize = 16_777_216;
+
+// How many octets are asked for at a time.
+const CHUNK: usize = 65_536;
+
+/// Why an input was not read.
+#[derive(Debug, Drop)]
+pub enum InputError {
+    /// A growth was refused.
+    Memory,
+    /// A read failed.
+    Stopped,
+}
+
+/// Room for what one read gives.
+pub(crate) fn new_chunk(alloc: Global) -> Result<Vec<u8>, AllocError>
+    ensures { IfOk result (λ chunk. vec_len chunk ≡ CHUNK) }
+{
+    vec![in alloc; 0u8; CHUNK]
+}
+
+// Reads all that there is by a buffer, up to a little more than the limit.
+fn read_by<S: Source>(
+    alloc: Global,
+    source: &mut S,
+    chunk: &mut [u8],
+) -> Result<Vec<u8>, InputError>
+    requires { 0 < length chunk.old }
+    ensures ok { IfOk result (λ input. ReadsUpTo INPUT_LIMIT (S.remaining source.old) input.items) }
+    ensures stopped { IsErrOf result InputError.Stopped → S.failed source.new ≡ true }
+    ensures unfailed { OnOk result (S.failed source.new ≡ S.failed source.old) }
+    ensures short { IsErrOf result InputError.Memory → S.failed source.new ≡ S.failed source.old }
+{
+    let mut input = Vec::new(alloc);
+    'chunks: while input.len() <= INPUT_LIMIT {
+        match source.take(chunk) {
+            Ok(0) => return Ok(input),
+            Ok(n) => {
+                if input.extend_from_slice(&chunk[..n]).is_err() {
+                    return Err(InputError::Memory);
+                }
+            }
+            Err(_) => return Err(InputError::Stopped),
+        }
+    }
+    Ok(input)
+}
+
+/// Reads all that there is, up to a little more than the limit.
+pub fn read_input<S: Source>(alloc: Global, source: &mut S) -> Result<Vec<u8>, InputError>
+    ensures ok { IfOk result (λ input. ReadsUpTo INPUT_LIMIT (S.remaining source.old) input.items) }
+    ensures stopped { IsErrOf result InputError.Stopped → S.failed source.new ≡ true }
+    ensures unfailed { OnOk result (S.failed source.new ≡ S.failed source.old) }
+    ensures short { IsErrOf result InputError.Memory → S.failed source.new ≡ S.failed source.old }
+{
+    match new_chunk(alloc) {
+        Ok(mut chunk) => read_by(alloc, source, chunk.as_mut_slice()),
+        Err(_) => Err(InputError::Memory),
+    }
+}
+
+/// Writes `memory` alone and answers its status, for want of memory.
+pub fn want_of_memory<T: Sink>(sink: &mut T) -> Result<u8, IoStopped>
+    ensures ok { IfOk result (λ status. (status ≡ 3) × Appends (T.contents sink.old) (T.contents sink.new) (codes "memory\n")) }
+    ensures stopped { OnErr result (AppendsFront (T.contents sink.old) (T.contents sink.new) (codes "memory\n")) }
+    ensures failed { OnErr result (T.failed sink.new ≡ true) }
+    ensures unfailed { OnOk result (T.failed sink.new ≡ T.failed sink.old) }
+{
+    write_out(sink, b"memory\n")?;
+    Ok(MEMORY)
+}
+
+/// Writes a text, or a beginning of it where a write fails.
+pub fn write_out<T: Sink>(sink: &mut T, text: &[u8]) -> Result<(), IoStopped>
+    ensures ok { OnOk result (Appends (T.contents sink.old) (T.contents sink.new) text.now) }
+    ensures stopped { OnErr result (AppendsFront (T.contents sink.old) (T.contents sink.new) text.now) }
+    ensures failed { OnErr result (T.failed sink.new ≡ true) }
+    ensures unfailed { OnOk result (T.failed sink.new ≡ T.failed sink.old) }
+{
+    let mut at = 0usize;
+    'pieces: while at < text.len() {
+        let (_, rest) = text.split_at(at);
+        match sink.put(rest) {
+            Ok(n) => at += n,
+            Err(_) => return Err(IoStopped),
+        }
+    }
+    Ok(())
+}
