@@ -307,10 +307,22 @@ impl<'a> Rib<'a> {
         let Some(prefix) = self.dirty() else {
             return Ok(None);
         };
-        let best = self.best(alloc, &prefix)?;
-        self.set(&prefix, best);
-        self.settle(&prefix);
+        self.decide_for(alloc, &prefix)?;
         Ok(Some(prefix))
+    }
+
+    /// A prefix of the network gets its best (RFC 4271 section 9.1), as [`Rib::decide`] gives it to the
+    /// one that [`Rib::dirty`] names. Refused [`RibError::Memory`] where a growth was, and then all is
+    /// as it was.
+    pub fn decide_for(&mut self, alloc: Global, prefix: &Prefix) -> Result<(), RibError>
+        requires { IsNamed self.old.net.origins prefix.now }
+        ensures ok { OnOk result (Decides self.old self.new prefix.now) }
+        ensures err { OnErr result (self.new ≡ self.old) }
+    {
+        let best = self.best(alloc, prefix)?;
+        self.set(prefix, best);
+        self.settle(prefix);
+        Ok(())
     }
 
     /// The prefix that a peer waits for: the least of the network, by address and then by length,

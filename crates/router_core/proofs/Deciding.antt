@@ -94,16 +94,6 @@ module _ (x : RouterView) (sound : IsSound x) where
       let whole = tabled_kept t q d.best d.keeps (best_tellable q d.best d.is_best) here stamp in
       stays_sound x stamp sound few t (subst (λ (s : RibView). IsTabled (with_tables x s stamp)) (sym d.keeps.rest) whole)
 
-  tabled_still : (stamp : ℕ) → IsTabled (with_tables x x.tables stamp)
-  tabled_still stamp =
-      let h = sound.tabled in
-      record { net = h.net; router = h.router; peers = h.peers; fresh = h.fresh; short = h.short; sent = h.sent; kept = h.kept; tellable = h.tellable; originated = h.originated }
-
-  pub sound_found : (t : RibView) (found : Option PrefixView) → MatchOption found (HoldsOfAll x.tables.net.origins (IsSettled x.tables)) (IsLeastWithout x.tables.net.origins (IsSettled x.tables))
-      → MatchOption found (t ≡ x.tables) (Decides x.tables t) → (stamp : ℕ) → stamp ≤ greatest_stamp → IsSound (with_tables x t stamp)
-  sound_found t None all same stamp few = stays_sound x stamp sound few t (subst (λ (s : RibView). IsTabled (with_tables x s stamp)) (sym same) (tabled_still stamp))
-  sound_found t (Some q) least d stamp few = sound_deciding t q d least.is_named stamp few
-
 -- ---- what is answered
 
 module _ (over : BestOverWords) (one : OneBest) (g : Setting) (x : RouterView) (c : Chooses g x) where
@@ -133,10 +123,3 @@ module _ (over : BestOverWords) (one : OneBest) (g : Setting) (x : RouterView) (
               ∙ ap (λ (f : PrefixView → List ℕ). record { router = record (plain_of x).router { kept = f }; stamp = x.stamp + 1 }) (fun_ext all)
               ∙ ap (λ (o : Option PrefixView). record { router = keeping (plain_of x).router o (route g x.number (plain_of x).router); stamp = x.stamp + 1 }) (sym first),
         )
-
-  pub decides_found : (q : PrefixView) → IsLeastWithout x.tables.net.origins (IsSettled x.tables) q → (t : RibView) (found : Option PrefixView)
-      → MatchOption found (HoldsOfAll x.tables.net.origins (IsSettled x.tables)) (IsLeastWithout x.tables.net.origins (IsSettled x.tables))
-      → MatchOption found (t ≡ x.tables) (Decides x.tables t) → nat_lt greatest_stamp (x.stamp + 1) ≡ false
-      → Gives g x.number (Ok stepped.Did) (answer g x.number (plain_of x) Decide) (plain_of x) Decide (plain_of (with_tables x t (x.stamp + 1)))
-  decides_found q least t None all same early = (let never = undecided_is over one g x c None all ∙ sym (undecided_is over one g x c (Some q) least) in absurd cc)
-  decides_found q least t (Some p) first d early = decides p first t d early

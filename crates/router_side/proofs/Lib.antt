@@ -3,3 +3,4 @@ pub mod Sizes
 pub mod FrontLemmas
 pub mod Fresh
 pub mod Coming
+pub mod Kept

@@ -4,8 +4,7 @@ use Rattle.std.specs.Prelude.{Option}
 use Rattle.std.proofs.lemmas.List.{append-nil}
 use Rattle.std.proofs.Math.Path.{fun_ext}
 use Rattle.bgp_codec.specs.declared.update.Update.{Update}
-use Rattle.router_side.specs.declared.told.Told.{Told}
-use Rattle.router_side.specs.SideOf.{history, told_by}
+use Rattle.router_side.specs.SideOf.{told_by}
 use Rattle.bgp_codec.specs.declared.message.Message.{Message}
 use Rattle.bgp_codec.specs.Spelling.{written}
 use Rattle.run_model.specs.Links.{Entry}
@@ -13,7 +12,7 @@ use Rattle.run_model.specs.Octets.{Passing, octets_of}
 use Rattle.router_side.specs.declared.say.Say.{Say}
 use Rattle.session_fsm.specs.Table.{SessionView, kept_alive}
 use Rattle.router_model.specs.Sides.{Side, AtHand, NoMessage, HasFault, HasUpdate, Draft, tells_fault, with_update, acted_with}
-use Rattle.router_side.specs.Sayings.{entries_of, all_entries, said_where, told_of, update_of, update_in, acted_where}
+use Rattle.router_side.specs.Sayings.{entries_of, all_entries, said_where, told_of, kept_of, kept_where, update_in, acted_where}
 
 pub said_on : (own_open : Message) (told : Option Message) (xs : List Say) (x : Say) → all_entries own_open told (xs ++ x ∷ []) ≡ all_entries own_open told xs ++ entries_of own_open told x
 said_on own_open told [] x = append-nil (entries_of own_open told x)
@@ -29,20 +28,9 @@ says_given (HasUpdate update) a = ap (λ (w : List (Entry Message)). record a { 
 
 -- ---- the UPDATEs of each incarnation
 
-under : (b c : Bool) (t u : Update) (us : List Update) → cond b (t ∷ cond c (us ++ u ∷ []) us) (cond c (us ++ u ∷ []) us) ≡ cond c (cond b (t ∷ us) us ++ u ∷ []) (cond b (t ∷ us) us)
-under true true t u us = refl
-under true false t u us = refl
-under false true t u us = refl
-under false false t u us = refl
+-- ---- the UPDATEs of each incarnation
 
-history_at : (ts : List Told) (t : Told) (n : ℕ) → history (ts ++ t ∷ []) n ≡ with_update (history ts) t.epoch t.update n
-history_at [] t n = refl
-history_at (s ∷ ts) t n = rw (history_at ts t n) (under (n == s.epoch) (n == t.epoch) s.update t.update (history ts n))
-
-pub history_on : (ts : List Told) (t : Told) → history (ts ++ t ∷ []) ≡ with_update (history ts) t.epoch t.update
-history_on ts t = fun_ext (history_at ts t)
-
-pub acted_is : (b : Bool) (g : AtHand) (e : ℕ) (h : ℕ → List Update) → acted_where b (update_of g) e h ≡ acted_with b g e h
+pub acted_is : (b : Bool) (g : AtHand) (e : ℕ) (h : ℕ → List Update) → kept_where b (kept_of g) e h ≡ acted_with b g e h
 acted_is true NoMessage e h = refl
 acted_is true (HasFault fault) e h = refl
 acted_is true (HasUpdate u) e h = refl

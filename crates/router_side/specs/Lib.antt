@@ -1,4 +1,5 @@
 pub mod Sayings
 pub mod Drafts
+pub mod Histories
 pub mod SideOf
 pub mod Freshness

@@ -1,5 +1,5 @@
 -- What is said in short, as entries, and how many octets they have.
-use Rattle.std.specs.Prelude.{ℕ, ◌+◌, ◌≤◌, Bool, cond, List, [], ◌∷◌, ◌++◌, length, Option, None, Some}
+use Rattle.std.specs.Prelude.{ℕ, ◌+◌, ◌≤◌, Bool, true, cond, List, [], ◌∷◌, ◌++◌, length, Option, None, Some}
 use Rattle.bgp_codec.specs.declared.message.Message.{Message}
 use Rattle.bgp_codec.specs.declared.message.Message.TheVariants.{OpenMsg, UpdateMsg, NoticeMsg, AliveMsg}
 use Rattle.bgp_codec.specs.declared.update.Update.{Update}
@@ -16,6 +16,12 @@ abbrev pub told_of : AtHand → Option Message
 told_of NoMessage = None
 told_of (HasFault fault) = Some (notification_of fault)
 told_of (HasUpdate update) = None
+
+-- the UPDATE at hand, as a message
+abbrev pub kept_of : AtHand → Option Message
+kept_of NoMessage = None
+kept_of (HasFault fault) = None
+kept_of (HasUpdate update) = Some (UpdateMsg update)
 
 abbrev pub said_where : ℕ → Option Message → List (Entry Message)
 said_where e None = []
@@ -76,3 +82,8 @@ update_in (OpenMsg m) = None
 update_in (UpdateMsg u) = Some u
 update_in (NoticeMsg n) = None
 update_in AliveMsg = None
+
+-- a message that is an UPDATE joins those of its incarnation, where it counts
+abbrev pub kept_where : Bool → Option Message → ℕ → (ℕ → List Update) → ℕ → List Update
+kept_where counts None e history = history
+kept_where counts (Some m) e history = cond counts (acted_where true (update_in m) e history) history

@@ -1,6 +1,5 @@
 -- A side of the code as a side of the definitions, and the room that a change of it needs.
-use Rattle.std.specs.Prelude.{ℕ, ◌≤◌, ◌<◌, ◌==◌, true, cond, List, [], ◌∷◌, length, Option}
-use Rattle.std.specs.Vec.{vec_len, vec_capacity}
+use Rattle.std.specs.Prelude.{ℕ, ◌≤◌, true, [], length, Option}
 use Rattle.bgp_codec.specs.declared.message.Message.{Message}
 use Rattle.bgp_codec.specs.declared.update.Update.{Update}
 use Rattle.bgp_codec.specs.Spelling.{written}
@@ -12,13 +11,8 @@ use Rattle.outbox.specs.Items.{next_item, left_behind}
 use Rattle.router_model.specs.Sides.{Side, appended}
 use Rattle.router_side.specs.declared.draft.Sketch.{Sketch}
 use Rattle.router_side.specs.declared.side.SideEnd.{SideEnd}
-use Rattle.router_side.specs.declared.told.Told.{Told}
+use Rattle.router_side.specs.Histories.{history}
 use Rattle.router_side.specs.Sayings.{size_where, all_sizes, update_in, acted_where}
-
--- the UPDATEs of an incarnation
-abbrev pub history : List Told → ℕ → List Update
-history [] n = []
-history (t ∷ ts) n = cond (n == t.epoch) (t.update ∷ history ts n) (history ts n)
 
 abbrev pub side : SideEnd → Side
 side s = record {
@@ -26,8 +20,8 @@ side s = record {
   link = s.link;
   outbox = s.outbox.passing;
   held = s.framer.octets;
-  acted = history s.acted.items;
-  sent = history s.sent.items;
+  acted = history s.acted.told;
+  sent = history s.sent.told;
 }
 
 -- the opening: Idle, and nothing was dialled, said, taken, acted on or sent
@@ -38,7 +32,8 @@ side_opening config = record { session = sessions.opening config; link = links.o
 pub record HasRoom (own_open : Message) (told : Option Message) (a : Sketch) (s : SideEnd) : Type 0 where
   pub octets : all_sizes (length (written own_open)) (size_where told) a.says ≤ s.outbox.room
   pub places : length a.says ≤ s.outbox.places
-  pub acted : vec_len s.acted < vec_capacity s.acted
+  pub acted : 4096 ≤ s.acted.room
+  pub acted_places : 1 ≤ s.acted.places
 
 -- a side whose next item is put
 abbrev pub put_next : Side → ℕ → Side
@@ -52,7 +47,8 @@ told_by s m = record (appended s (Says s.link.epoch m)) { session = sessions.kep
 pub record HasRoomToTell (m : Message) (s : SideEnd) : Type 0 where
   pub octets : length (written m) ≤ s.outbox.room
   pub places : 1 ≤ s.outbox.places
-  pub sent : vec_len s.sent < vec_capacity s.sent
+  pub sent : length (written m) ≤ s.sent.room
+  pub sent_places : 1 ≤ s.sent.places
 
 -- a marker can be appended without memory
 abbrev pub HasRoomToMark : SideEnd → Type 0

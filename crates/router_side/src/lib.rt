@@ -8,8 +8,8 @@
 //! markers are appended behind all that waits.
 //!
 //! What a draft says is kept in short (`specs/Sayings`): a message is encoded once, in the outbox.
-//! Each UPDATE that is acted on or sent is moved into the history of its incarnation, and never
-//! copied.
+//! Each UPDATE that is acted on or sent is kept in its octets, behind the others of the side
+//! ([`History`]), and read again where it is asked for.
 //!
 //! Left out: which peers there are, stamps, tables, and what a router records.
 #![tactic(auto)]
@@ -17,18 +17,18 @@
 mod at_hand;
 mod draft;
 mod enqueue;
+mod history;
 pub mod laws;
 mod reading;
 mod say;
 mod side;
-mod told;
 
 pub use at_hand::Given;
 pub use draft::Sketch;
+pub use history::{History, Told};
 pub use reading::{opened, read_front};
 pub use say::{Say, Says};
 pub use side::SideEnd;
-pub use told::Told;
 
 #[cfg(test)]
 mod tests;

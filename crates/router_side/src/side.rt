@@ -1,6 +1,6 @@
 //! What a router keeps towards one peer.
 
-ghost use Rattle.std.specs.Prelude.{◌≡◌, ◌≤◌, ◌<◌, true, false, length, Option, vec_len, vec_capacity, IfOk, OnOk, OnErr, is_some, ℕ};
+ghost use Rattle.std.specs.Prelude.{◌≡◌, ◌≤◌, true, false, length, Option, IfOk, OnOk, OnErr, is_some, ℕ};
 ghost use Rattle.bgp_codec.specs.declared.message.Message.{Message};
 ghost use Rattle.bgp_codec.specs.Faults.{reading};
 ghost use Rattle.bgp_codec.specs.Spelling.{IsWritable};
@@ -9,22 +9,26 @@ ghost use Rattle.session_fsm.specs.Table.{IsGoodEvent, IsHoldTime};
 ghost use Rattle.outbox.specs.Items.{next_item, octets_waiting};
 ghost use Rattle.router_model.specs.Sides.{met, reset, second, signed, carried, is_up, uses, fed, without_front, marked, comes, draft_of, NoMessage, front, event_of, at_hand};
 ghost use Rattle.router_side.specs.declared.draft.Sketch.{Sketch};
-ghost use Rattle.router_side.specs.Sayings.{told_of, update_of, update_in, IsSayable, IsSayableWhere};
+ghost use Rattle.router_side.specs.Sayings.{told_of, kept_of, IsSayable, IsSayableWhere};
 ghost use Rattle.router_side.specs.Drafts.{draft, hand};
-ghost use Rattle.router_side.specs.SideOf.{side, side_opening, history, put_next, told_by, HasRoom, HasRoomToTell, HasRoomToMark};
+ghost use Rattle.router_side.specs.Histories.{history};
+ghost use Rattle.router_side.specs.SideOf.{side, side_opening, put_next, told_by, HasRoom, HasRoomToTell, HasRoomToMark};
 
 use crate::at_hand::Given;
 use crate::draft::Sketch;
 use crate::enqueue::{append_all, size_of_all, size_told};
+use crate::history::History;
 use crate::reading::read_front;
-use crate::told::{Told, count};
 use bgp_codec::laws::header_is_its_front;
-use bgp_codec::{Fault, Message, NOBODY, Rule, Update, written_len};
+use bgp_codec::{Fault, Message, NOBODY, Rule, written_len};
 use bgp_framing::{Framer, Next};
 use link_epoch::{LinkEnd, Phase, Sign};
 use outbox::{Control, Outbox, What};
 use session_fsm::{FsmEvent, Session, SessionConfig, State};
 use std::alloc::{AllocError, Global};
+
+// The greatest number of octets of a message (RFC 4271 section 4.1).
+const MESSAGE_LIMIT: usize = 4096;
 
 /// One side of a router.
 #[derive(Drop)]
@@ -34,8 +38,8 @@ pub struct SideEnd {
     framer: Framer,
     outbox: Outbox,
     // The UPDATEs that were acted on, and those that were sent, each once.
-    acted: Vec<Told>,
-    sent: Vec<Told>,
+    acted: History,
+    sent: History,
 }
 
 impl SideEnd {
@@ -51,8 +55,8 @@ impl SideEnd {
             link: LinkEnd::new(),
             framer,
             outbox: Outbox::new(alloc),
-            acted: Vec::new(alloc),
-            sent: Vec::new(alloc),
+            acted: History::new(alloc),
+            sent: History::new(alloc),
         })
     }
 
@@ -128,7 +132,7 @@ impl SideEnd {
         let says = made.says.as_slice();
         let octets = size_of_all(says, written_len(own_open), size_told(given));
         self.outbox.reserve(octets, says.len())?;
-        self.acted.reserve(1)?;
+        self.acted.reserve(MESSAGE_LIMIT)?;
         Ok(())
     }
 
@@ -137,12 +141,13 @@ impl SideEnd {
     pub fn commit(&mut self, alloc: Global, own_open: &Message, given: Given, made: &Sketch)
         requires own { IsSayable own_open.now }
         requires told { IsSayableWhere (told_of (hand given)) }
+        requires kept { IsSayableWhere (kept_of (hand given)) }
         requires room { HasRoom own_open.now (told_of (hand given)) made.now self.old }
         ensures { side self.new ≡ carried (hand given) (side self.old) (draft own_open.now (hand given) made.now) }
     {
         self.session = made.session;
         self.link = made.link;
-        let (told, update) = split(given);
+        let (told, kept) = split(given);
         append_all(
             alloc,
             &mut self.outbox,
@@ -153,7 +158,7 @@ impl SideEnd {
         if made.drops {
             self.framer.clear();
         }
-        count(&mut self.acted, made.acts, self.link.epoch(), update);
+        self.acted.count(made.acts, self.link.epoch(), &kept);
     }
 }
 
@@ -201,17 +206,17 @@ impl SideEnd {
     }
 
     /// The UPDATEs that were acted on, in their order, each with its incarnation.
-    pub fn acted(&self) -> &[Told]
-        ensures { history result.now ≡ (side self.now).acted }
+    pub fn acted(&self) -> &History
+        ensures { history result.now.told ≡ (side self.now).acted }
     {
-        self.acted.as_slice()
+        &self.acted
     }
 
     /// The UPDATEs that were sent, in their order, each with its incarnation.
-    pub fn sent(&self) -> &[Told]
-        ensures { history result.now ≡ (side self.now).sent }
+    pub fn sent(&self) -> &History
+        ensures { history result.now.told ≡ (side self.now).sent }
     {
-        self.sent.as_slice()
+        &self.sent
     }
 }
 
@@ -234,6 +239,7 @@ impl SideEnd {
         ensures read { IfOk result (λ read. read ≡ front rule.now (side self.now).held) }
         ensures good { IfOk result (λ read. IsGoodEvent (event_of read)) }
         ensures told { IfOk result (λ read. IsSayableWhere (told_of (at_hand read))) }
+        ensures kept { IfOk result (λ read. IsSayableWhere (kept_of (at_hand read))) }
         ensures writable { IfOk result (λ read. IfOk read (IsWritable rule.now)) }
     {
         read_front(alloc, &self.framer, rule)
@@ -294,24 +300,25 @@ impl SideEnd {
         ensures side { side self.new ≡ side self.old }
         ensures room { OnOk result (HasRoomToTell message.now self.new) }
     {
-        self.outbox.reserve(written_len(message), 1)?;
-        self.sent.reserve(1)?;
+        let len = written_len(message);
+        self.outbox.reserve(len, 1)?;
+        self.sent.reserve(len)?;
         Ok(())
     }
 
-    /// An UPDATE is told, for which there is room: it is appended, joins those that were sent without a
-    /// copy, and sets the KeepaliveTimer again (RFC 4271 section 8.2.2). It takes no memory.
+    /// An UPDATE is told, for which there is room: it is appended, joins those that were sent, and sets the
+    /// KeepaliveTimer again (RFC 4271 section 8.2.2). It takes no memory.
     #[tactic(auto, using(crate::proofs::Said::told_is))]
-    pub fn tell(&mut self, message: Message)
+    pub fn tell(&mut self, message: &Message)
         requires up { is_up (side self.old) ≡ true }
-        requires sayable { IsSayable message }
-        requires room { HasRoomToTell message self.old }
-        ensures { side self.new ≡ told_by (side self.old) message }
+        requires sayable { IsSayable message.now }
+        requires room { HasRoomToTell message.now self.old }
+        ensures { side self.new ≡ told_by (side self.old) message.now }
     {
         let epoch = self.link.epoch();
-        self.outbox.push_message(epoch, &message, &NOBODY);
+        self.outbox.push_message(epoch, message, &NOBODY);
         self.session.update_sent();
-        count(&mut self.sent, true, epoch, into_update(message));
+        self.sent.keep(epoch, message);
     }
 
     /// Makes room for a marker. It is refused only where memory was, and the side stays as it was.
@@ -334,24 +341,14 @@ impl SideEnd {
     }
 }
 
-// The UPDATE that a message is.
-fn into_update(message: Message) -> Option<Update>
-    ensures { result ≡ update_in message }
-{
-    match message {
-        Message::UpdateMsg(update) => Some(update),
-        Message::OpenMsg(_) | Message::NoticeMsg(_) | Message::AliveMsg => None,
-    }
-}
-
-// The message that tells of what is at hand, and the UPDATE.
-fn split(given: Given) -> (Option<Message>, Option<Update>)
+// The message that tells of what is at hand, and the UPDATE as a message.
+fn split(given: Given) -> (Option<Message>, Option<Message>)
     ensures told { result.0 ≡ told_of (hand given) }
-    ensures update { result.1 ≡ update_of (hand given) }
+    ensures kept { result.1 ≡ kept_of (hand given) }
 {
     match given {
         Given::Nothing => (None, None),
         Given::Fault(notice) => (Some(Message::NoticeMsg(notice)), None),
-        Given::Update(update) => (None, Some(update)),
+        Given::Update(update) => (None, Some(Message::UpdateMsg(update))),
     }
 }

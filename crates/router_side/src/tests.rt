@@ -37,7 +37,7 @@ fn a_side_opens(rt: HostRuntime) -> Result<(), Fail> {
     side.item_put(4096);
     assert!(rt; !side.has_item());
     assert!(rt; !side.is_up());
-    assert!(rt; side.acted().is_empty());
-    assert!(rt; side.sent().is_empty());
+    assert!(rt; side.acted().told(rt.alloc())?.is_empty());
+    assert!(rt; side.sent().told(rt.alloc())?.is_empty());
     Ok(())
 }

@@ -6,7 +6,7 @@ ghost use Rattle.snap_marker.specs.Recordings.{closed};
 ghost use Rattle.snap_marker.specs.Parts.{snapshots_of, IsOver, AreOf};
 ghost use Rattle.router_model.specs.Sides.{carried, NoMessage};
 ghost use Rattle.router_model.specs.Step.{close_at};
-ghost use Rattle.router_side.specs.Sayings.{told_of, IsSayable, IsSayableWhere};
+ghost use Rattle.router_side.specs.Sayings.{told_of, kept_of, IsSayable, IsSayableWhere};
 ghost use Rattle.router_side.specs.Drafts.{draft, hand};
 ghost use Rattle.router_side.specs.Freshness.{KeepsFresh};
 ghost use Rattle.router_side.specs.SideOf.{side, HasRoom};
@@ -44,6 +44,7 @@ pub(super) fn carry(
     requires linked { Linked tables.old.net.links tables.old.router peer }
     requires own { IsSayable own_open.now }
     requires told { IsSayableWhere (told_of (hand given)) }
+    requires kept { IsSayableWhere (kept_of (hand given)) }
     requires room { HasRoom own_open.now (told_of (hand given)) made.now end.old }
     ensures side { side end.new ≡ carried (hand given) (side end.old) (draft own_open.now (hand given) made.now) }
     ensures tables { Followed tables.old tables.new peer (standing (side end.old)) (standing (side end.new)) }

@@ -37,7 +37,7 @@ impl Router<'_> {
         ensures same { IsSame self.old self.new }
     {
         the_best_is_the_route(&self.tables);
-        let Some(_) = self.tables.dirty() else {
+        let Some(prefix) = self.tables.dirty() else {
             return Ok(Stepped::Nothing);
         };
         let stamp = self.stamp + 1;
@@ -45,7 +45,7 @@ impl Router<'_> {
             return Err(RouterError::StampEnd);
         }
         let alloc = *self.peers.allocator();
-        let Ok(_) = self.tables.decide(alloc) else {
+        let Ok(()) = self.tables.decide_for(alloc, &prefix) else {
             return Err(RouterError::Memory);
         };
         self.stamp = stamp;
@@ -121,7 +121,7 @@ impl Router<'_> {
         let Ok(()) = self.tables.tell(*number, prefix) else {
             return Err(RouterError::Memory);
         };
-        end.tell(message);
+        end.tell(&message);
         self.stamp = stamp;
         Ok(Stepped::Did)
     }

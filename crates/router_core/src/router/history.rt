@@ -3,19 +3,19 @@
 ghost use Rattle.std.specs.Prelude.{ℕ, ◌≡◌, ◌&&◌, false, not, is_some, MatchOption};
 ghost use Rattle.bgp_framing.specs.Held.{is_waiting};
 ghost use Rattle.outbox.specs.Items.{next_item};
-ghost use Rattle.router_side.specs.SideOf.{history};
+ghost use Rattle.router_side.specs.Histories.{history};
 ghost use Rattle.router_model.specs.Settings.{linked};
 ghost use Rattle.router_core.specs.Views.{plain_of, sides_of};
 
 use super::Router;
 use ranked_policy::Asn;
-use router_side::Told;
+use router_side::History;
 
 impl Router<'_> {
     /// The UPDATEs of a peer that were acted on, in their order, each once with its incarnation (RFC 4271
     /// section 9). None where no link leads to the peer.
-    pub fn acted(&self, peer: Asn) -> Option<&[Told]>
-        ensures { MatchOption result (linked self.now.net self.now.number peer ≡ false) (λ told. history told.now ≡ (sides_of self.now peer).acted) }
+    pub fn acted(&self, peer: Asn) -> Option<&History>
+        ensures { MatchOption result (linked self.now.net self.now.number peer ≡ false) (λ told. history told.now.told ≡ (sides_of self.now peer).acted) }
     {
         let at = self.find(peer)?;
         Some(self.peers[at].end.acted())
@@ -23,8 +23,8 @@ impl Router<'_> {
 
     /// The UPDATEs that were sent to a peer, in their order, each once with its incarnation. None where
     /// no link leads to the peer.
-    pub fn sent(&self, peer: Asn) -> Option<&[Told]>
-        ensures { MatchOption result (linked self.now.net self.now.number peer ≡ false) (λ told. history told.now ≡ (sides_of self.now peer).sent) }
+    pub fn sent(&self, peer: Asn) -> Option<&History>
+        ensures { MatchOption result (linked self.now.net self.now.number peer ≡ false) (λ told. history told.now.told ≡ (sides_of self.now peer).sent) }
     {
         let at = self.find(peer)?;
         Some(self.peers[at].end.sent())

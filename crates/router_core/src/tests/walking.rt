@@ -199,22 +199,27 @@ fn established_in(two: &mut Router<'_>, number: u32) -> Option<u32> {
 }
 
 // Whether the last UPDATE of an incarnation that was acted on announces.
-fn announced(two: &Router<'_>, epoch: u32) -> bool {
+fn announced(alloc: Global, two: &Router<'_>, epoch: u32) -> Result<bool, AllocError> {
     let mut last = false;
-    if let Some(told) = two.acted(1) {
-        for told in told {
+    if let Some(history) = two.acted(1) {
+        for told in history.told(alloc)?.as_slice() {
             if told.epoch == epoch {
                 last = !told.update.nlri.as_slice().is_empty();
             }
         }
     }
-    last
+    Ok(last)
 }
 
 // What it keeps once it decided is the path that the peer announced last, where the session is Established.
-fn keeps_the_last(two: &mut Router<'_>, prefix: Prefix, number: u32) -> Result<bool, RouterError> {
+fn keeps_the_last(
+    alloc: Global,
+    two: &mut Router<'_>,
+    prefix: Prefix,
+    number: u32,
+) -> Result<bool, Fail> {
     let announces = match established_in(two, number) {
-        Some(epoch) => announced(two, epoch),
+        Some(epoch) => announced(alloc, two, epoch)?,
         None => false,
     };
     two.decide()?;
@@ -230,7 +235,7 @@ fn goes_on(alloc: Global, walk: &mut Walk<'_>, number: u32) -> Result<bool, Fail
             return Ok(false);
         }
     }
-    Ok(keeps_the_last(&mut walk.two, prefix, number)?)
+    keeps_the_last(alloc, &mut walk.two, prefix, number)
 }
 
 // A walk from a seed.

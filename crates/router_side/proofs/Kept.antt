@@ -1,0 +1,70 @@
+-- What is kept grows at its end, and is read from its front.
+use Rattle.std.proofs.Common.{◌≡◌, ℕ, ◌==◌, ◌≤◌, Bool, true, false, cond, List, [], ◌∷◌, ◌++◌, length, take, drop, append_assoc, refl, ap, sym, ◌∙◌, subst, arith}
+use Rattle.std.proofs.Math.Path.{fun_ext}
+use Rattle.std.proofs.Math.Seq.{take-length, drop-length}
+use Rattle.std.proofs.lemmas.List.{length-append, take-append-le, drop-append-le}
+use Rattle.std.specs.Prelude.{Result, Ok, Err}
+use Rattle.bgp_codec.specs.declared.fault.Fault.{Fault}
+use Rattle.bgp_codec.specs.declared.message.Message.{Message}
+use Rattle.bgp_codec.specs.declared.message.Message.TheVariants.{UpdateMsg}
+use Rattle.bgp_codec.specs.declared.update.Update.{Update}
+use Rattle.bgp_codec.specs.Faults.{reading, WrittenIsRead}
+use Rattle.bgp_codec.specs.Spelling.{written}
+use Rattle.router_model.specs.Sides.{with_update}
+use Rattle.router_side.specs.declared.history.Place.{Place}
+use Rattle.router_side.specs.declared.history.Told.{Told}
+use Rattle.router_side.specs.Histories.{history, updates_read, dated, told_in, IsKept, AreKept}
+use Rattle.router_side.specs.Sayings.{nobody, IsSayable}
+
+under : (b c : Bool) (t u : Update) (us : List Update) → cond b (t ∷ cond c (us ++ u ∷ []) us) (cond c (us ++ u ∷ []) us) ≡ cond c (cond b (t ∷ us) us ++ u ∷ []) (cond b (t ∷ us) us)
+under true true t u us = refl
+under true false t u us = refl
+under false true t u us = refl
+under false false t u us = refl
+
+history_at : (ts : List Told) (t : Told) (n : ℕ) → history (ts ++ t ∷ []) n ≡ with_update (history ts) t.epoch t.update n
+history_at [] t n = refl
+history_at (s ∷ ts) t n = rw (history_at ts t n) (under (n == s.epoch) (n == t.epoch) s.update t.update (history ts n))
+
+pub history_on : (ts : List Told) (t : Told) → history (ts ++ t ∷ []) ≡ with_update (history ts) t.epoch t.update
+history_on ts t = fun_ext (history_at ts t)
+
+-- ---- octets behind the others
+
+pub kept_on : (ps : List Place) (octets new : List ℕ) (p : Place) → AreKept ps octets → AreKept (p ∷ []) new → AreKept (ps ++ p ∷ []) (octets ++ new)
+kept_on [] octets new p none one = subst (λ (os : List ℕ). AreKept (p ∷ []) (os ++ new)) (sym none) one
+kept_on (q ∷ ps) octets new p (le, is, kept) one =
+    let front = take-append-le q.len octets new le in
+    let behind = drop-append-le q.len octets new le in
+    (longer le, subst IsKept (sym front) is, subst (AreKept (ps ++ p ∷ [])) (sym behind) (kept_on ps (drop q.len octets) new p kept one))
+  where
+    longer : q.len ≤ length octets → q.len ≤ length (octets ++ new)
+    longer le = omega (arith, le, length-append octets new)
+
+pub told_on : (ps : List Place) (octets new : List ℕ) (p : Place) → AreKept ps octets → told_in (ps ++ p ∷ []) (octets ++ new) ≡ told_in ps octets ++ told_in (p ∷ []) new
+told_on [] octets new p none = ap (λ (os : List ℕ). told_in (p ∷ []) (os ++ new)) none
+told_on (q ∷ ps) octets new p (le, is, kept) =
+    let front = take-append-le q.len octets new le in
+    let behind = drop-append-le q.len octets new le in
+    let one = λ (os : List ℕ). dated q.epoch (updates_read (reading nobody os)) in
+    ap (λ (os : List ℕ). one os ++ told_in (ps ++ p ∷ []) (drop q.len (octets ++ new))) front
+    ∙ ap (λ (os : List ℕ). one (take q.len octets) ++ told_in (ps ++ p ∷ []) os) behind
+    ∙ ap (λ (ts : List Told). one (take q.len octets) ++ ts) (told_on ps (drop q.len octets) new p kept)
+    ∙ sym (append_assoc (one (take q.len octets)) (told_in ps (drop q.len octets)) (told_in (p ∷ []) new))
+
+-- one UPDATE
+pub one_kept : (p : Place) (octets : List ℕ) (u : Update) → IsSayable (UpdateMsg u) → octets ≡ written (UpdateMsg u) → p.len ≡ length octets → AreKept (p ∷ []) octets
+one_kept p octets u sayable is len =
+    let whole = ap (λ (n : ℕ). take n octets) len ∙ take-length octets in
+    (omega (arith, len), (u, sayable, whole ∙ is), ap (λ (n : ℕ). drop n octets) len ∙ drop-length octets)
+
+pub one_told : WrittenIsRead → (p : Place) (octets : List ℕ) (u : Update) → IsSayable (UpdateMsg u) → octets ≡ written (UpdateMsg u) → p.len ≡ length octets
+    → told_in (p ∷ []) octets ≡ record { epoch = p.epoch; update = u } ∷ []
+one_told read p octets u sayable is len =
+    let whole = ap (λ (n : ℕ). take n octets) len ∙ take-length octets ∙ is in
+    ap (λ (os : List ℕ). dated p.epoch (updates_read (reading nobody os)) ++ []) whole
+    ∙ ap (λ (r : Result Message Fault). dated p.epoch (updates_read r) ++ []) ((read nobody (UpdateMsg u) refl sayable.0 sayable.1).1)
+
+-- an UPDATE that is read at a place
+pub told_at : (octets : List ℕ) (t : Told) (epoch : ℕ) → t.epoch ≡ epoch → updates_read (reading nobody octets) ≡ t.update ∷ [] → dated epoch (updates_read (reading nobody octets)) ≡ t ∷ []
+told_at octets t epoch e u = ap (λ (us : List Update). dated epoch us) u ∙ ap (λ (n : ℕ). record { epoch = n; update = t.update } ∷ []) (sym e)

@@ -1,0 +1,70 @@
+use Rattle.std.proofs.Common.{◌≡◌, ◌++◌, ◌∷◌, ◌+◌, ◌∙◌, ℕ, List, [], drop, get_or, append_assoc, sym, ap, subst}
+use Rattle.std.specs.Prelude.{Result}
+use Rattle.std.proofs.lemmas.List.{append-nil, drop_more, drop_all}
+use Rattle.bgp_codec.specs.Faults.{reading}
+use Rattle.router_side.specs.declared.history.Place.{Place}
+use Rattle.router_side.specs.declared.history.Told.{Told}
+use Rattle.router_side.specs.Histories.{updates_read, dated, told_in, IsKept, AreKept}
+use Rattle.router_side.specs.Sayings.{nobody}
+use Rattle.router_side.proofs.Kept.{told_at}
+use Rattle.router_side.proofs.history.History.told.Goals as goal
+
+pub loop-place-init : goal.loop-place-init
+loop-place-init c =
+    let ps = c.as_slice-place-items.ensures.value in
+    let os = c.as_slice-rest.ensures.value in
+    let octets = c.as_slice-rest.result.now in
+    record {
+      kept = subst (λ (xs : List Place). AreKept xs octets) (sym ps) (subst (AreKept c.self.inside.places.items) (sym os) c.self.invariant);
+      all =
+          ap (λ (ts : List Told). ts ++ told_in c.as_slice-place-items.result.now octets) c.new-all.ensures.items
+          ∙ ap (λ (xs : List Place). told_in xs octets) ps
+          ∙ ap (told_in c.self.inside.places.items) os
+          ∙ ap (λ v. v.told) c.self.view_is;
+    }
+
+-- each place has its octets
+pub split_at-requires : goal.split_at-requires
+split_at-requires c =
+    (subst (λ (xs : List Place). AreKept xs c.loop-place.rest.now)
+    (drop_more c.as_slice-place-items.result.now c.loop-place.place-index (record { epoch = 0; len = 0 }) c.loop-place-test.true) c.loop-place.invariant.kept).0
+
+pub read-requires : goal.read-requires
+read-requires c =
+    subst IsKept (sym c.split_at.ensures.front)
+    (subst (λ (xs : List Place). AreKept xs c.loop-place.rest.now)
+    (drop_more c.as_slice-place-items.result.now c.loop-place.place-index (record { epoch = 0; len = 0 }) c.loop-place-test.true) c.loop-place.invariant.kept).1
+
+pub loop-place-preserved : goal.loop-place-preserved
+loop-place-preserved c =
+    let xs = c.as_slice-place-items.result.now in
+    let i = c.loop-place.place-index in
+    let octets = c.loop-place.rest.now in
+    let none : Place = record { epoch = 0; len = 0 } in
+    let p : Place = get_or xs i none in
+    let step = drop_more xs i none c.loop-place-test.true in
+    let kept = subst (λ (ys : List Place). AreKept ys octets) step c.loop-place.invariant.kept in
+    let rest = drop (i + 1) xs in
+    let behind : (c.in_ok-read.field-0 ∷ []) ++ told_in rest c.split_at.result.1.now ≡ (c.in_ok-read.field-0 ∷ []) ++ told_in rest (drop p.len octets) =
+    ap (λ (os : List ℕ). (c.in_ok-read.field-0 ∷ []) ++ told_in rest os) c.split_at.ensures.back in
+    let whole : told_in (p ∷ rest) octets ≡ told_in (drop i xs) octets = ap (λ (ys : List Place). told_in ys octets) (sym step) in
+    let one = told_at c.split_at.result.0.now c.in_ok-read.field-0 p.epoch c.in_ok-read.ensures.epoch c.in_ok-read.ensures.update in
+    let front : (c.in_ok-read.field-0 ∷ []) ++ told_in rest (drop p.len octets) ≡ told_in (p ∷ rest) octets =
+    ap (λ (ts : List Told). ts ++ told_in rest (drop p.len octets)) (sym one)
+    ∙ ap (λ (os : List ℕ). dated p.epoch (updates_read (reading nobody os)) ++ told_in rest (drop p.len octets)) c.split_at.ensures.front in
+    record {
+      kept = subst (AreKept (drop (i + 1) xs)) (sym c.split_at.ensures.back) kept.2;
+      all =
+          ap (λ (ts : List Told). ts ++ told_in (drop (i + 1) xs) c.split_at.result.1.now) c.in_ok-push.ensures.items
+          ∙ append_assoc c.loop-place.all.items (c.in_ok-read.field-0 ∷ []) (told_in (drop (i + 1) xs) c.split_at.result.1.now)
+          ∙ ap (λ (ts : List Told). c.loop-place.all.items ++ ts) (behind ∙ front ∙ whole)
+          ∙ c.loop-place.invariant.all;
+    }
+
+pub returns : goal.returns
+returns c =
+    let xs = c.as_slice-place-items.result.now in
+    let none = drop_all c.loop-place.place-index xs c.loop-place-test.false in
+    sym (append-nil c.loop-place.all.items)
+    ∙ ap (λ (ys : List Place). c.loop-place.all.items ++ told_in ys c.loop-place.rest.now) (sym none)
+    ∙ c.loop-place.invariant.all

@@ -1,0 +1,48 @@
+-- UPDATEs that were acted on or sent, in the octets that spell them.
+use Rattle.std.specs.Prelude.{ℕ, ◌≡◌, ◌≤◌, ◌==◌, cond, List, [], ◌∷◌, ◌++◌, length, take, drop, Result, Ok, Err}
+use Rattle.bgp_codec.specs.declared.fault.Fault.{Fault}
+use Rattle.bgp_codec.specs.declared.message.Message.{Message}
+use Rattle.bgp_codec.specs.declared.message.Message.TheVariants.{OpenMsg, UpdateMsg, NoticeMsg, AliveMsg}
+use Rattle.bgp_codec.specs.declared.update.Update.{Update}
+use Rattle.bgp_codec.specs.Faults.{reading}
+use Rattle.bgp_codec.specs.Spelling.{written}
+use Rattle.router_side.specs.declared.history.Place.{Place}
+use Rattle.router_side.specs.declared.history.Told.{Told}
+use Rattle.router_side.specs.Sayings.{nobody, IsSayable}
+
+-- the UPDATEs of an incarnation
+abbrev pub history : List Told → ℕ → List Update
+history [] n = []
+history (t ∷ ts) n = cond (n == t.epoch) (t.update ∷ history ts n) (history ts n)
+
+-- what was read, where it is an UPDATE
+abbrev pub updates_read : Result Message Fault → List Update
+updates_read (Ok (OpenMsg message)) = []
+updates_read (Ok (UpdateMsg update)) = update ∷ []
+updates_read (Ok (NoticeMsg notice)) = []
+updates_read (Ok AliveMsg) = []
+updates_read (Err fault) = []
+
+abbrev pub dated : ℕ → List Update → List Told
+dated epoch [] = []
+dated epoch (u ∷ us) = record { epoch = epoch; update = u } ∷ dated epoch us
+
+-- each place takes the next octets
+abbrev pub told_in : List Place → List ℕ → List Told
+told_in [] octets = []
+told_in (p ∷ ps) octets = dated p.epoch (updates_read (reading nobody (take p.len octets))) ++ told_in ps (drop p.len octets)
+
+-- these octets are the one spelling of an UPDATE
+abbrev pub IsKept : List ℕ → Type 0
+IsKept octets = (update : Update) × IsSayable (UpdateMsg update) × (octets ≡ written (UpdateMsg update))
+
+-- those of each place are, and no others are there
+abbrev pub AreKept : List Place → List ℕ → Type 0
+AreKept [] octets = octets ≡ []
+AreKept (p ∷ ps) octets = (p.len ≤ length octets) × IsKept (take p.len octets) × AreKept ps (drop p.len octets)
+
+-- what was told, and the room for more
+pub record Past : Type 0 where
+  pub told : List Told
+  pub room : ℕ
+  pub places : ℕ

@@ -1,0 +1,136 @@
+//! The UPDATEs of a side, by incarnation, in the octets that spell them.
+
+ghost use Rattle.std.specs.Prelude.{◌≡◌, ◌≤◌, ◌∷◌, [], true, length, IfOk, OnOk};
+ghost use Rattle.bgp_codec.specs.Faults.{reading};
+ghost use Rattle.bgp_codec.specs.Spelling.{written};
+ghost use Rattle.router_side.specs.Sayings.{acted_where, kept_where, nobody, update_in, IsSayable, IsSayableWhere};
+ghost use Rattle.router_side.specs.Histories.{history, updates_read, IsKept};
+
+use bgp_codec::laws::written_is_read;
+use bgp_codec::{Message, NOBODY, Update, decode, put_message};
+use std::alloc::{AllocError, Global};
+use std::marker::Model;
+
+/// An UPDATE that was acted on or sent, with its incarnation.
+#[derive(Debug, Drop)]
+pub struct Told {
+    /// The incarnation of the link.
+    pub epoch: u32,
+    /// The UPDATE.
+    pub update: Update,
+}
+
+// The incarnation of an UPDATE, and how many octets it has.
+#[derive(Clone, Copy, Debug)]
+struct Place {
+    epoch: u32,
+    len: usize,
+}
+
+/// The UPDATEs that were acted on or sent, in their order, each once, in the one spelling that is
+/// written: some fifty octets for a route.
+#[derive(Debug, Drop)]
+pub struct History {
+    octets: Vec<u8>,
+    places: Vec<Place>,
+}
+
+impl Model for History {
+    ghost use Rattle.std.specs.Prelude.{◌-◌, vec_len, vec_capacity};
+    ghost use Rattle.router_side.specs.Histories.{Past, told_in, AreKept};
+
+    ghost Value = { Past };
+
+    ghost view = { λ h. record {
+      told = told_in h.places.items h.octets.items;
+      room = vec_capacity h.octets - vec_len h.octets;
+      places = vec_capacity h.places - vec_len h.places;
+    } };
+
+    ghost invariant = { λ h. AreKept h.places.items h.octets.items };
+}
+
+// The UPDATE that some octets spell. It is refused only where memory was: what is kept is an UPDATE.
+fn read(alloc: Global, epoch: u32, octets: &[u8]) -> Result<Told, AllocError>
+    requires { IsKept octets.now }
+    ensures epoch { IfOk result (λ told. told.epoch ≡ epoch) }
+    ensures update { IfOk result (λ told. updates_read (reading nobody octets.now) ≡ told.update ∷ []) }
+{
+    written_is_read();
+    match decode(alloc, octets, &NOBODY) {
+        Ok(Message::UpdateMsg(update)) => Ok(Told { epoch, update }),
+        Ok(Message::OpenMsg(_) | Message::NoticeMsg(_) | Message::AliveMsg) | Err(_) => {
+            Err(AllocError)
+        }
+    }
+}
+
+impl History {
+    /// No UPDATE yet. It takes no memory.
+    pub fn new(alloc: Global) -> History
+        ensures { result.told ≡ [] }
+    {
+        History {
+            octets: Vec::new(alloc),
+            places: Vec::new(alloc),
+        }
+    }
+
+    /// The UPDATEs in their order, each with its incarnation. It is refused only where memory was.
+    pub fn told(&self, alloc: Global) -> Result<Vec<Told>, AllocError>
+        ensures { IfOk result (λ told. told.items ≡ self.now.told) }
+    {
+        let mut all = Vec::new(alloc);
+        let mut rest = self.octets.as_slice();
+        for place in self.places.as_slice() {
+            let (octets, behind) = rest.split_at(place.len);
+            all.push(read(alloc, place.epoch, octets)?)?;
+            rest = behind;
+        }
+        Ok(all)
+    }
+
+    // Makes room for an UPDATE of so many octets.
+    pub(crate) fn reserve(&mut self, octets: usize) -> Result<(), AllocError>
+        ensures told { self.new.told ≡ self.old.told }
+        ensures room { OnOk result (octets ≤ self.new.room) }
+        ensures places { OnOk result (1 ≤ self.new.places) }
+    {
+        self.octets.reserve(octets)?;
+        self.places.reserve(1)?;
+        Ok(())
+    }
+
+    // Puts an UPDATE behind the others, where there is one and it counts.
+    pub(crate) fn count(&mut self, counts: bool, epoch: u32, message: &Option<Message>)
+        requires sayable { IsSayableWhere message.now }
+        requires room { 4096 ≤ self.old.room }
+        requires place { 1 ≤ self.old.places }
+        ensures { history self.new.told ≡ kept_where counts message.now epoch (history self.old.told) }
+    {
+        if let Some(message) = message {
+            if counts {
+                self.keep(epoch, message);
+            }
+        }
+    }
+
+    // Puts an UPDATE behind the others, for which there is room; another message is none of them.
+    pub(crate) fn keep(&mut self, epoch: u32, message: &Message)
+        requires sayable { IsSayable message.now }
+        requires room { length (written message.now) ≤ self.old.room }
+        requires place { 1 ≤ self.old.places }
+        ensures { history self.new.told ≡ acted_where true (update_in message.now) epoch (history self.old.told) }
+    {
+        match message {
+            Message::UpdateMsg(_) => {
+                written_is_read();
+                let before = self.octets.len();
+                put_message(&mut self.octets, message, &NOBODY);
+                let len = self.octets.len() - before;
+                self.places.push_reserved(Place { epoch, len });
+            }
+            Message::OpenMsg(_) | Message::NoticeMsg(_) | Message::AliveMsg => {}
+        }
+    }
+}
