@@ -8,6 +8,7 @@ use bgp_codec::{Attrs, Items, Numbers, Segment, SegmentKind, Update};
 use prefix_lanes::Prefix;
 use ranked_policy::{Asn, NetBuilder, Network, Path, Settings};
 use std::alloc::{AllocError, Global};
+use std::process::Abort;
 use std::test::Fail;
 
 mod against_lists;
@@ -261,20 +262,20 @@ fn is_other(word: Option<&Word>) -> bool {
 }
 
 // The words of a peer follow its UPDATEs: the last of three mentions stays.
-#[test]
-fn the_last_of_three(rt: HostRuntime) -> Result<(), Fail> {
-    let alloc = rt.alloc();
-    let named = named_prefixes()?;
-    let net = network(alloc)?;
-    let mut rib = tables(alloc, &net, 4)?;
-    hears(alloc, &mut rib, 2, &[2, 1], &[named.short, named.long])?;
-    hear(&mut rib, 2, &update(alloc, &[named.short], None, &[])?)?;
+fn the_last_of_three_in(
+    rt: &impl Abort,
+    alloc: Global,
+    rib: &mut Rib,
+    named: &Prefixes,
+) -> Result<(), Fail> {
+    hears(alloc, rib, 2, &[2, 1], &[named.short, named.long])?;
+    hear(rib, 2, &update(alloc, &[named.short], None, &[])?)?;
     assert!(rt; rib.word_heard(2, &named.short).is_none());
     assert_eq!(rt;
         path_of(rib.word_heard(2, &named.long)),
         [2u32, 1].as_slice()
     );
-    hears(alloc, &mut rib, 2, &[2, 4, 3, 1], &[named.short])?;
+    hears(alloc, rib, 2, &[2, 4, 3, 1], &[named.short])?;
     assert_eq!(rt;
         path_of(rib.word_heard(2, &named.short)),
         [2u32, 4, 3, 1].as_slice()
@@ -288,40 +289,52 @@ fn the_last_of_three(rt: HostRuntime) -> Result<(), Fail> {
     Ok(())
 }
 
+#[test]
+fn the_last_of_three(rt: HostRuntime) -> Result<(), Fail> {
+    let alloc = rt.alloc();
+    let named = named_prefixes()?;
+    let net = network(alloc)?;
+    let mut rib = tables(alloc, &net, 4)?;
+    the_last_of_three_in(&rt, alloc, &mut rib, &named)
+}
+
 // A path of more than eight numbers takes memory of its own.
+fn a_long_path_in(
+    rt: &impl Abort,
+    alloc: Global,
+    rib: &mut Rib,
+    named: &Prefixes,
+) -> Result<(), Fail> {
+    let path = [2u32, 4, 3, 5, 6, 7, 8, 9, 10, 1];
+    hears(alloc, rib, 2, &path, &[named.far, named.short])?;
+    assert_eq!(rt; path_of(rib.word_heard(2, &named.far)), path.as_slice());
+    assert_eq!(rt; path_of(rib.word_heard(2, &named.short)), path.as_slice());
+    assert!(rt; rib.word_heard(2, &named.long).is_none());
+    keeps(alloc, rib, &named.far, &path)?;
+    tells(rib, 3, &named.far)?;
+    assert_eq!(rt; path_of(rib.word_sent(3, &named.far)), path.as_slice());
+    Ok(())
+}
+
 #[test]
 fn a_long_path(rt: HostRuntime) -> Result<(), Fail> {
     let alloc = rt.alloc();
     let named = named_prefixes()?;
     let net = network(alloc)?;
     let mut rib = tables(alloc, &net, 4)?;
-    let path = [2u32, 4, 3, 5, 6, 7, 8, 9, 10, 1];
-    hears(alloc, &mut rib, 2, &path, &[named.far, named.short])?;
-    assert_eq!(rt; path_of(rib.word_heard(2, &named.far)), path.as_slice());
-    assert_eq!(rt; path_of(rib.word_heard(2, &named.short)), path.as_slice());
-    assert!(rt; rib.word_heard(2, &named.long).is_none());
-    keeps(alloc, &mut rib, &named.far, &path)?;
-    tells(&mut rib, 3, &named.far)?;
-    assert_eq!(rt; path_of(rib.word_sent(3, &named.far)), path.as_slice());
-    Ok(())
+    a_long_path_in(&rt, alloc, &mut rib, &named)
 }
 
 // Within one UPDATE the announcement wins.
-#[test]
-fn announced_and_withdrawn(rt: HostRuntime) -> Result<(), Fail> {
-    let alloc = rt.alloc();
-    let named = named_prefixes()?;
-    let net = network(alloc)?;
-    let mut rib = tables(alloc, &net, 4)?;
-    hears(
-        alloc,
-        &mut rib,
-        3,
-        &[3, 4, 2, 1],
-        &[named.short, named.long],
-    )?;
+fn announced_and_withdrawn_in(
+    rt: &impl Abort,
+    alloc: Global,
+    rib: &mut Rib,
+    named: &Prefixes,
+) -> Result<(), Fail> {
+    hears(alloc, rib, 3, &[3, 4, 2, 1], &[named.short, named.long])?;
     let both = announces(alloc, &[3, 1], &[named.short], &[named.short, named.long])?;
-    hear(&mut rib, 3, &both)?;
+    hear(rib, 3, &both)?;
     assert_eq!(rt;
         path_of(rib.word_heard(3, &named.short)),
         [3u32, 1].as_slice()
@@ -330,44 +343,66 @@ fn announced_and_withdrawn(rt: HostRuntime) -> Result<(), Fail> {
     Ok(())
 }
 
+#[test]
+fn announced_and_withdrawn(rt: HostRuntime) -> Result<(), Fail> {
+    let alloc = rt.alloc();
+    let named = named_prefixes()?;
+    let net = network(alloc)?;
+    let mut rib = tables(alloc, &net, 4)?;
+    announced_and_withdrawn_in(&rt, alloc, &mut rib, &named)
+}
+
 // A set is a word that gives no path, and no choice.
+fn a_set_in(rt: &impl Abort, alloc: Global, rib: &mut Rib, named: &Prefixes) -> Result<(), Fail> {
+    let set = one_segment(alloc, SegmentKind::AsSet, &[2, 1])?;
+    hear(rib, 2, &update(alloc, &[], Some(set), &[named.short])?)?;
+    assert!(rt; is_other(rib.word_heard(2, &named.short)));
+    assert!(rt; best(alloc, rib, &named.short)?.is_empty());
+    assert_eq!(rt; rib.dirty(), None);
+    Ok(())
+}
+
 #[test]
 fn a_set(rt: HostRuntime) -> Result<(), Fail> {
     let alloc = rt.alloc();
     let named = named_prefixes()?;
     let net = network(alloc)?;
     let mut rib = joined(alloc, &net, 4, &[2, 3])?;
-    let set = one_segment(alloc, SegmentKind::AsSet, &[2, 1])?;
-    hear(&mut rib, 2, &update(alloc, &[], Some(set), &[named.short])?)?;
-    assert!(rt; is_other(rib.word_heard(2, &named.short)));
-    assert!(rt; best(alloc, &rib, &named.short)?.is_empty());
-    assert_eq!(rt; rib.dirty(), None);
-    Ok(())
+    a_set_in(&rt, alloc, &mut rib, &named)
 }
 
 // So are several segments, and no AS_PATH.
+fn several_segments_and_none_in(
+    rt: &impl Abort,
+    alloc: Global,
+    rib: &mut Rib,
+    named: &Prefixes,
+) -> Result<(), Fail> {
+    let two = two_segments(alloc, &[2], &[1])?;
+    hear(rib, 2, &update(alloc, &[], Some(two), &[named.long])?)?;
+    hear(rib, 3, &update(alloc, &[], None, &[named.long])?)?;
+    assert!(rt; is_other(rib.word_heard(2, &named.long)));
+    assert!(rt; is_other(rib.word_heard(3, &named.long)));
+    Ok(())
+}
+
 #[test]
 fn several_segments_and_none(rt: HostRuntime) -> Result<(), Fail> {
     let alloc = rt.alloc();
     let named = named_prefixes()?;
     let net = network(alloc)?;
     let mut rib = tables(alloc, &net, 4)?;
-    let two = two_segments(alloc, &[2], &[1])?;
-    hear(&mut rib, 2, &update(alloc, &[], Some(two), &[named.long])?)?;
-    hear(&mut rib, 3, &update(alloc, &[], None, &[named.long])?)?;
-    assert!(rt; is_other(rib.word_heard(2, &named.long)));
-    assert!(rt; is_other(rib.word_heard(3, &named.long)));
-    Ok(())
+    several_segments_and_none_in(&rt, alloc, &mut rib, &named)
 }
 
 // A prefix that nobody originates changes nothing.
-#[test]
-fn a_prefix_of_nobody(rt: HostRuntime) -> Result<(), Fail> {
-    let alloc = rt.alloc();
-    let named = named_prefixes()?;
-    let net = network(alloc)?;
-    let mut rib = tables(alloc, &net, 4)?;
-    hears(alloc, &mut rib, 2, &[2, 1], &[named.stray, named.short])?;
+fn a_prefix_of_nobody_in(
+    rt: &impl Abort,
+    alloc: Global,
+    rib: &mut Rib,
+    named: &Prefixes,
+) -> Result<(), Fail> {
+    hears(alloc, rib, 2, &[2, 1], &[named.stray, named.short])?;
     assert!(rt; rib.word_heard(2, &named.stray).is_none());
     assert!(rt; rib.path(&named.stray).is_empty());
     assert!(rt; !rib.is_originated(&named.stray));
@@ -378,19 +413,28 @@ fn a_prefix_of_nobody(rt: HostRuntime) -> Result<(), Fail> {
     Ok(())
 }
 
-// One of two peers is forgotten: what it said, what it was told, and that it was Established.
 #[test]
-fn forgets_one_of_two(rt: HostRuntime) -> Result<(), Fail> {
+fn a_prefix_of_nobody(rt: HostRuntime) -> Result<(), Fail> {
     let alloc = rt.alloc();
     let named = named_prefixes()?;
     let net = network(alloc)?;
-    let mut rib = joined(alloc, &net, 4, &[2, 3])?;
-    hears(alloc, &mut rib, 2, &[2, 1], &[named.short, named.long])?;
-    hears(alloc, &mut rib, 3, &[3, 1], &[named.short, named.long])?;
-    keeps(alloc, &mut rib, &named.short, &[4, 2, 1])?;
-    tells(&mut rib, 2, &named.short)?;
-    tells(&mut rib, 3, &named.short)?;
-    forgets(&mut rib, 2)?;
+    let mut rib = tables(alloc, &net, 4)?;
+    a_prefix_of_nobody_in(&rt, alloc, &mut rib, &named)
+}
+
+// One of two peers is forgotten: what it said, what it was told, and that it was Established.
+fn forgets_one_of_two_in(
+    rt: &impl Abort,
+    alloc: Global,
+    rib: &mut Rib,
+    named: &Prefixes,
+) -> Result<(), Fail> {
+    hears(alloc, rib, 2, &[2, 1], &[named.short, named.long])?;
+    hears(alloc, rib, 3, &[3, 1], &[named.short, named.long])?;
+    keeps(alloc, rib, &named.short, &[4, 2, 1])?;
+    tells(rib, 2, &named.short)?;
+    tells(rib, 3, &named.short)?;
+    forgets(rib, 2)?;
     assert!(rt; rib.word_heard(2, &named.short).is_none());
     assert!(rt; rib.word_heard(2, &named.long).is_none());
     assert!(rt; rib.word_sent(2, &named.short).is_none());
@@ -406,6 +450,15 @@ fn forgets_one_of_two(rt: HostRuntime) -> Result<(), Fail> {
     assert_eq!(rt; rib.decide(alloc)?, Some(named.short));
     assert_eq!(rt; rib.path(&named.short), [4u32, 3, 1].as_slice());
     Ok(())
+}
+
+#[test]
+fn forgets_one_of_two(rt: HostRuntime) -> Result<(), Fail> {
+    let alloc = rt.alloc();
+    let named = named_prefixes()?;
+    let net = network(alloc)?;
+    let mut rib = joined(alloc, &net, 4, &[2, 3])?;
+    forgets_one_of_two_in(&rt, alloc, &mut rib, &named)
 }
 
 // Whether the best of a prefix is this path.
@@ -424,55 +477,73 @@ fn heard_of_two<'a>(alloc: Global, net: &'a Network, named: &Prefixes) -> Result
 }
 
 // The best is over Established peers alone: the shorter path first, then the lesser number.
+fn the_best_of_two_peers_in(
+    rt: &impl Abort,
+    alloc: Global,
+    rib: &mut Rib,
+    named: &Prefixes,
+) -> Result<(), Fail> {
+    assert!(rt; best_is(alloc, rib, &named.short, &[])?);
+    comes_up(rib, 3)?;
+    assert!(rt; best_is(alloc, rib, &named.short, &[4, 3, 1])?);
+    comes_up(rib, 2)?;
+    assert!(rt; best_is(alloc, rib, &named.short, &[4, 2, 1])?);
+    assert!(rt; best_is(alloc, rib, &named.long, &[])?);
+    Ok(())
+}
+
 #[test]
 fn the_best_of_two_peers(rt: HostRuntime) -> Result<(), Fail> {
     let alloc = rt.alloc();
     let named = named_prefixes()?;
     let net = network(alloc)?;
     let mut rib = heard_of_two(alloc, &net, &named)?;
-    assert!(rt; best_is(alloc, &rib, &named.short, &[])?);
-    comes_up(&mut rib, 3)?;
-    assert!(rt; best_is(alloc, &rib, &named.short, &[4, 3, 1])?);
-    comes_up(&mut rib, 2)?;
-    assert!(rt; best_is(alloc, &rib, &named.short, &[4, 2, 1])?);
-    assert!(rt; best_is(alloc, &rib, &named.long, &[])?);
-    Ok(())
+    the_best_of_two_peers_in(&rt, alloc, &mut rib, &named)
 }
 
 // An origin has itself alone while it originates the prefix, whatever is heard.
+fn an_origin_in(
+    rt: &impl Abort,
+    alloc: Global,
+    rib: &mut Rib,
+    named: &Prefixes,
+) -> Result<(), Fail> {
+    hears(alloc, rib, 2, &[2, 1], &[named.short, named.long])?;
+    originates(rib, &named.long)?;
+    let own = best(alloc, rib, &named.long)?;
+    assert_eq!(rt; own.as_slice(), [1u32].as_slice());
+    assert!(rt; best(alloc, rib, &named.short)?.is_empty());
+    assert!(rt; rib.is_originated(&named.long) && !rib.is_originated(&named.short));
+    withdraws(rib, &named.long)?;
+    assert!(rt; best(alloc, rib, &named.long)?.is_empty());
+    Ok(())
+}
+
 #[test]
 fn an_origin(rt: HostRuntime) -> Result<(), Fail> {
     let alloc = rt.alloc();
     let named = named_prefixes()?;
     let net = network(alloc)?;
     let mut rib = joined(alloc, &net, 1, &[2, 3])?;
-    hears(alloc, &mut rib, 2, &[2, 1], &[named.short, named.long])?;
-    originates(&mut rib, &named.long)?;
-    let own = best(alloc, &rib, &named.long)?;
-    assert_eq!(rt; own.as_slice(), [1u32].as_slice());
-    assert!(rt; best(alloc, &rib, &named.short)?.is_empty());
-    assert!(rt; rib.is_originated(&named.long) && !rib.is_originated(&named.short));
-    withdraws(&mut rib, &named.long)?;
-    assert!(rt; best(alloc, &rib, &named.long)?.is_empty());
-    Ok(())
+    an_origin_in(&rt, alloc, &mut rib, &named)
 }
 
 // The least prefix is decided first, by address and then by length.
-#[test]
-fn decided_in_order(rt: HostRuntime) -> Result<(), Fail> {
-    let alloc = rt.alloc();
-    let named = named_prefixes()?;
-    let net = network(alloc)?;
-    let mut rib = joined(alloc, &net, 4, &[2])?;
+fn decided_in_order_in(
+    rt: &impl Abort,
+    alloc: Global,
+    rib: &mut Rib,
+    named: &Prefixes,
+) -> Result<(), Fail> {
     assert_eq!(rt; rib.decide(alloc)?, None);
     hears(
         alloc,
-        &mut rib,
+        rib,
         2,
         &[2, 1],
         &[named.far, named.long, named.short],
     )?;
-    originates(&mut rib, &named.far)?;
+    originates(rib, &named.far)?;
     assert_eq!(rt; rib.dirty(), Some(named.short));
     assert!(rt; rib.path(&named.short).is_empty());
     assert_eq!(rt; rib.decide(alloc)?, Some(named.short));
@@ -487,59 +558,95 @@ fn decided_in_order(rt: HostRuntime) -> Result<(), Fail> {
     Ok(())
 }
 
+#[test]
+fn decided_in_order(rt: HostRuntime) -> Result<(), Fail> {
+    let alloc = rt.alloc();
+    let named = named_prefixes()?;
+    let net = network(alloc)?;
+    let mut rib = joined(alloc, &net, 4, &[2])?;
+    decided_in_order_in(&rt, alloc, &mut rib, &named)
+}
+
 // A path that is kept in place of the best.
+fn another_path_is_kept_in(
+    rt: &impl Abort,
+    alloc: Global,
+    rib: &mut Rib,
+    named: &Prefixes,
+) -> Result<(), Fail> {
+    hears(alloc, rib, 2, &[2, 1], &[named.short])?;
+    keeps(alloc, rib, &named.short, &[4, 3, 1])?;
+    assert_eq!(rt; rib.decide(alloc)?, Some(named.short));
+    assert_eq!(rt; rib.path(&named.short), [4u32, 2, 1].as_slice());
+    Ok(())
+}
+
 #[test]
 fn another_path_is_kept(rt: HostRuntime) -> Result<(), Fail> {
     let alloc = rt.alloc();
     let named = named_prefixes()?;
     let net = network(alloc)?;
     let mut rib = joined(alloc, &net, 4, &[2])?;
-    hears(alloc, &mut rib, 2, &[2, 1], &[named.short])?;
-    keeps(alloc, &mut rib, &named.short, &[4, 3, 1])?;
-    assert_eq!(rt; rib.decide(alloc)?, Some(named.short));
-    assert_eq!(rt; rib.path(&named.short), [4u32, 2, 1].as_slice());
-    Ok(())
+    another_path_is_kept_in(&rt, alloc, &mut rib, &named)
 }
 
 // A peer waits for the least prefix whose last word is not the kept path, while it is Established.
+fn waiting_in_order_in(
+    rt: &impl Abort,
+    alloc: Global,
+    rib: &mut Rib,
+    named: &Prefixes,
+) -> Result<(), Fail> {
+    assert_eq!(rt; waiting(rib, 2)?, None);
+    assert!(rt; !rib.is_awaited() && !rib.is_pending());
+    keeps(alloc, rib, &named.long, &[4, 3, 1])?;
+    keeps(alloc, rib, &named.short, &[4, 3, 1])?;
+    assert_eq!(rt; waiting(rib, 2)?, Some(named.short));
+    assert!(rt; rib.is_awaited() && rib.is_pending());
+    tells(rib, 2, &named.short)?;
+    assert_eq!(rt; waiting(rib, 2)?, Some(named.long));
+    assert_eq!(rt; waiting(rib, 3)?, None);
+    comes_up(rib, 3)?;
+    assert_eq!(rt; waiting(rib, 3)?, Some(named.short));
+    Ok(())
+}
+
 #[test]
 fn waiting_in_order(rt: HostRuntime) -> Result<(), Fail> {
     let alloc = rt.alloc();
     let named = named_prefixes()?;
     let net = network(alloc)?;
     let mut rib = joined(alloc, &net, 4, &[2])?;
-    assert_eq!(rt; waiting(&rib, 2)?, None);
-    assert!(rt; !rib.is_awaited() && !rib.is_pending());
-    keeps(alloc, &mut rib, &named.long, &[4, 3, 1])?;
-    keeps(alloc, &mut rib, &named.short, &[4, 3, 1])?;
-    assert_eq!(rt; waiting(&rib, 2)?, Some(named.short));
-    assert!(rt; rib.is_awaited() && rib.is_pending());
-    tells(&mut rib, 2, &named.short)?;
-    assert_eq!(rt; waiting(&rib, 2)?, Some(named.long));
-    assert_eq!(rt; waiting(&rib, 3)?, None);
-    comes_up(&mut rib, 3)?;
-    assert_eq!(rt; waiting(&rib, 3)?, Some(named.short));
-    Ok(())
+    waiting_in_order_in(&rt, alloc, &mut rib, &named)
 }
 
 // A peer waits where it was told another path, or a path where none is kept now.
+fn waiting_for_a_withdrawal_in(
+    rt: &impl Abort,
+    alloc: Global,
+    rib: &mut Rib,
+    named: &Prefixes,
+) -> Result<(), Fail> {
+    keeps(alloc, rib, &named.far, &[4, 2, 1])?;
+    tells(rib, 2, &named.far)?;
+    assert_eq!(rt; waiting(rib, 2)?, None);
+    keeps(alloc, rib, &named.far, &[4])?;
+    assert_eq!(rt; waiting(rib, 2)?, Some(named.far));
+    keeps(alloc, rib, &named.far, &[])?;
+    assert_eq!(rt; waiting(rib, 2)?, Some(named.far));
+    tells(rib, 2, &named.far)?;
+    assert_eq!(rt; waiting(rib, 2)?, None);
+    assert!(rt; !rib.is_pending());
+    Ok(())
+}
+
 #[test]
 fn waiting_for_a_withdrawal(rt: HostRuntime) -> Result<(), Fail> {
     let alloc = rt.alloc();
     let named = named_prefixes()?;
     let net = network(alloc)?;
     let mut rib = joined(alloc, &net, 4, &[2])?;
-    keeps(alloc, &mut rib, &named.far, &[4, 2, 1])?;
-    tells(&mut rib, 2, &named.far)?;
-    assert_eq!(rt; waiting(&rib, 2)?, None);
-    keeps(alloc, &mut rib, &named.far, &[4])?;
-    assert_eq!(rt; waiting(&rib, 2)?, Some(named.far));
-    keeps(alloc, &mut rib, &named.far, &[])?;
-    assert_eq!(rt; waiting(&rib, 2)?, Some(named.far));
-    tells(&mut rib, 2, &named.far)?;
-    assert_eq!(rt; waiting(&rib, 2)?, None);
-    assert!(rt; !rib.is_pending());
-    Ok(())
+    waiting_for_a_withdrawal_in(&rt, alloc, &mut rib, &named)
 }
 
 // Calls each law once.

@@ -2,6 +2,7 @@ use super::*;
 use prefix_lanes::Prefix;
 use ranked_policy::{Asn, NetBuilder, Network, Settings};
 use std::alloc::{AllocError, Global};
+use std::process::Abort;
 use std::test::Fail;
 
 mod carried;
@@ -167,79 +168,107 @@ fn joined(alloc: Global, net: &Network) -> Result<Router<'_>, Fail> {
 
 // Both start; 2 takes the Dial of 1, whose stamp is 2. After 1 took the Dial of 2, its next piece is its
 // OPEN.
-#[test]
-fn sessions_open(rt: HostRuntime) -> Result<(), Fail> {
-    let net = two_routers(rt.alloc(), 4096)?;
-    let mut one = router(rt.alloc(), &net, 1)?;
+fn sessions_open_in(rt: &impl Abort, alloc: Global, one: &mut Router<'_>) -> Result<(), Fail> {
     assert_eq!(rt; one.command(Command::Start(2)), Ok(Stepped::Did));
     assert_eq!(rt;
         one.command(Command::Start(3)),
         Err(RouterError::NoSuchPeer)
     );
-    let dial = put(&mut one)?;
+    let dial = put(one)?;
     assert_eq!(rt; dial.map(|item| item.stamp), Some(2));
-    assert!(rt; takes(&mut one, What::Dial(1)));
-    let open = message(rt.alloc(), &OPEN_OF_ONE)?;
-    assert!(rt; puts_octets(&mut one, 1, open.as_slice()));
-    assert!(rt; puts_nothing(&mut one));
+    assert!(rt; takes(one, What::Dial(1)));
+    let open = message(alloc, &OPEN_OF_ONE)?;
+    assert!(rt; puts_octets(one, 1, open.as_slice()));
+    assert!(rt; puts_nothing(one));
     Ok(())
+}
+
+#[test]
+fn sessions_open(rt: HostRuntime) -> Result<(), Fail> {
+    let net = two_routers(rt.alloc(), 4096)?;
+    let mut one = router(rt.alloc(), &net, 1)?;
+    sessions_open_in(&rt, rt.alloc(), &mut one)
 }
 
 // Nineteen octets whose first is no marker: a fault waits, so that nothing more is taken until it is
 // handled. What comes out is Dial, the OPEN with a NOTIFICATION 1/1 in one piece, and Shut.
-#[test]
-fn a_fault_in_a_header_closes(rt: HostRuntime) -> Result<(), Fail> {
-    let net = two_routers(rt.alloc(), 4096)?;
-    let mut one = joined(rt.alloc(), &net)?;
-    let mut octets = vec![in rt.alloc(); 0xfeu8; 1]?;
+fn a_fault_in_a_header_closes_in(
+    rt: &impl Abort,
+    alloc: Global,
+    one: &mut Router<'_>,
+) -> Result<(), Fail> {
+    let mut octets = vec![in alloc; 0xfeu8; 1]?;
     octets.extend_from_slice(&[0xff; 18])?;
     let octets = PieceOctets::new(octets).ok_or("a piece has octets")?;
-    assert!(rt; takes(&mut one, What::Piece(1, octets)));
+    assert!(rt; takes(one, What::Piece(1, octets)));
     assert_eq!(rt;
-        take(&mut one, What::Dial(2)),
+        take(one, What::Dial(2)),
         Err(RouterError::Held { peer: 2 })
     );
     assert_eq!(rt; one.handle(2), Ok(Stepped::Did));
-    assert!(rt; puts_dial(&mut one, 1));
-    assert!(rt; puts_open_and(rt.alloc(), &mut one, 1, &[0x00, 0x15, 0x03, 0x01, 0x01])?);
-    assert!(rt; puts_shut(&mut one, 1));
-    assert!(rt; puts_nothing(&mut one));
+    assert!(rt; puts_dial(one, 1));
+    assert!(rt; puts_open_and(alloc, one, 1, &[0x00, 0x15, 0x03, 0x01, 0x01])?);
+    assert!(rt; puts_shut(one, 1));
+    assert!(rt; puts_nothing(one));
     assert_eq!(rt; one.handle(2), Ok(Stepped::Nothing));
     Ok(())
 }
 
+#[test]
+fn a_fault_in_a_header_closes(rt: HostRuntime) -> Result<(), Fail> {
+    let net = two_routers(rt.alloc(), 4096)?;
+    let mut one = joined(rt.alloc(), &net)?;
+    a_fault_in_a_header_closes_in(&rt, rt.alloc(), &mut one)
+}
+
 // An OPEN that names another number than the peer's: NOTIFICATION 2/2.
+fn an_open_of_another_router_closes_in(
+    rt: &impl Abort,
+    alloc: Global,
+    one: &mut Router<'_>,
+) -> Result<(), Fail> {
+    let of_three = [
+        0x00, 0x1d, 0x01, 0x04, 0x00, 0x03, 0x00, 0x5a, 0x0a, 0x00, 0x00, 0x02, 0x00,
+    ];
+    assert!(rt; obeys(alloc, one, 1, &of_three)?);
+    assert!(rt; puts_dial(one, 1));
+    assert!(rt; puts_open_and(alloc, one, 1, &[0x00, 0x15, 0x03, 0x02, 0x02])?);
+    assert!(rt; puts_shut(one, 1));
+    Ok(())
+}
+
 #[test]
 fn an_open_of_another_router_closes(rt: HostRuntime) -> Result<(), Fail> {
     let net = two_routers(rt.alloc(), 4096)?;
     let mut one = joined(rt.alloc(), &net)?;
-    let of_three = [
-        0x00, 0x1d, 0x01, 0x04, 0x00, 0x03, 0x00, 0x5a, 0x0a, 0x00, 0x00, 0x02, 0x00,
-    ];
-    assert!(rt; obeys(rt.alloc(), &mut one, 1, &of_three)?);
-    assert!(rt; puts_dial(&mut one, 1));
-    assert!(rt; puts_open_and(rt.alloc(), &mut one, 1, &[0x00, 0x15, 0x03, 0x02, 0x02])?);
-    assert!(rt; puts_shut(&mut one, 1));
-    Ok(())
+    an_open_of_another_router_closes_in(&rt, rt.alloc(), &mut one)
 }
 
 // Octets of incarnation 1 are gone in incarnation 2: the OPEN there is read as if nothing had come before
 // it, and answered by a KEEPALIVE.
+fn octets_of_an_old_incarnation_are_gone_in(
+    rt: &impl Abort,
+    alloc: Global,
+    one: &mut Router<'_>,
+) -> Result<(), Fail> {
+    let octets = PieceOctets::new(vec![in alloc; 0xffu8; 1]?).ok_or("a piece has octets")?;
+    assert!(rt; takes(one, What::Piece(1, octets)));
+    assert!(rt; takes(one, What::Shut(1)) && takes(one, What::Dial(2)));
+    assert!(rt; obeys(alloc, one, 2, &OPEN_OF_TWO)?);
+    assert!(rt; puts_dial(one, 1));
+    let open = message(alloc, &OPEN_OF_ONE)?;
+    assert!(rt; puts_octets(one, 1, open.as_slice()));
+    assert!(rt; puts_shut(one, 1) && puts_dial(one, 2));
+    assert!(rt; puts_open_and(alloc, one, 2, &ALIVE)?);
+    assert!(rt; puts_nothing(one));
+    Ok(())
+}
+
 #[test]
 fn octets_of_an_old_incarnation_are_gone(rt: HostRuntime) -> Result<(), Fail> {
     let net = two_routers(rt.alloc(), 4096)?;
     let mut one = joined(rt.alloc(), &net)?;
-    let octets = PieceOctets::new(vec![in rt.alloc(); 0xffu8; 1]?).ok_or("a piece has octets")?;
-    assert!(rt; takes(&mut one, What::Piece(1, octets)));
-    assert!(rt; takes(&mut one, What::Shut(1)) && takes(&mut one, What::Dial(2)));
-    assert!(rt; obeys(rt.alloc(), &mut one, 2, &OPEN_OF_TWO)?);
-    assert!(rt; puts_dial(&mut one, 1));
-    let open = message(rt.alloc(), &OPEN_OF_ONE)?;
-    assert!(rt; puts_octets(&mut one, 1, open.as_slice()));
-    assert!(rt; puts_shut(&mut one, 1) && puts_dial(&mut one, 2));
-    assert!(rt; puts_open_and(rt.alloc(), &mut one, 2, &ALIVE)?);
-    assert!(rt; puts_nothing(&mut one));
-    Ok(())
+    octets_of_an_old_incarnation_are_gone_in(&rt, rt.alloc(), &mut one)
 }
 
 // The OPEN and the KEEPALIVE of 2, and the KEEPALIVE that answers, put by 1 behind its OPEN.
@@ -252,46 +281,62 @@ fn established(alloc: Global, one: &mut Router<'_>) -> Result<bool, Fail> {
 }
 
 // An UPDATE whose path begins with another number than the peer's: NOTIFICATION 3/11.
+fn an_update_of_another_router_closes_in(
+    rt: &impl Abort,
+    alloc: Global,
+    one: &mut Router<'_>,
+) -> Result<(), Fail> {
+    assert!(rt; established(alloc, one)?);
+    let update =
+        b"\x00\x2c\x02\x00\x00\x00\x12\x40\x01\x01\x00\x40\x02\x04\x02\x01\x00\x01\x40\x03\x04\x0a\x00\x00\x01\x10\x0a\x01";
+    assert!(rt; obeys(alloc, one, 1, update.as_slice())?);
+    let notice = message(alloc, &[0x00, 0x15, 0x03, 0x03, 0x0b])?;
+    assert!(rt; puts_octets(one, 1, notice.as_slice()));
+    assert!(rt; puts_shut(one, 1));
+    Ok(())
+}
+
 #[test]
 fn an_update_of_another_router_closes(rt: HostRuntime) -> Result<(), Fail> {
     let net = two_routers(rt.alloc(), 4096)?;
     let mut one = joined(rt.alloc(), &net)?;
-    assert!(rt; established(rt.alloc(), &mut one)?);
-    let update =
-        b"\x00\x2c\x02\x00\x00\x00\x12\x40\x01\x01\x00\x40\x02\x04\x02\x01\x00\x01\x40\x03\x04\x0a\x00\x00\x01\x10\x0a\x01";
-    assert!(rt; obeys(rt.alloc(), &mut one, 1, update.as_slice())?);
-    let notice = message(rt.alloc(), &[0x00, 0x15, 0x03, 0x03, 0x0b])?;
-    assert!(rt; puts_octets(&mut one, 1, notice.as_slice()));
-    assert!(rt; puts_shut(&mut one, 1));
-    Ok(())
+    an_update_of_another_router_closes_in(&rt, rt.alloc(), &mut one)
 }
 
 // No stamp passes 2^62.
-#[test]
-fn no_stamp_is_left(rt: HostRuntime) -> Result<(), Fail> {
-    let net = two_routers(rt.alloc(), 4096)?;
-    let mut one = router(rt.alloc(), &net, 1)?;
+fn no_stamp_is_left_in(rt: &impl Abort, one: &mut Router<'_>) -> Result<(), Fail> {
     assert_eq!(rt; one.command(Command::Start(2)), Ok(Stepped::Did));
     for stamp in [0x4000_0000_0000_0000, u64::MAX] {
-        let answer = router_takes(&mut one, stamp, What::Dial(1));
+        let answer = router_takes(one, stamp, What::Dial(1));
         assert_eq!(rt; answer, Err(RouterError::StampEnd));
     }
-    let answer = router_takes(&mut one, 0x3fff_ffff_ffff_ffff, What::Dial(1));
+    let answer = router_takes(one, 0x3fff_ffff_ffff_ffff, What::Dial(1));
     assert_eq!(rt; answer, Ok(Stepped::Did));
     assert_eq!(rt; one.command(Command::Stop(2)), Err(RouterError::StampEnd));
     Ok(())
 }
 
+#[test]
+fn no_stamp_is_left(rt: HostRuntime) -> Result<(), Fail> {
+    let net = two_routers(rt.alloc(), 4096)?;
+    let mut one = router(rt.alloc(), &net, 1)?;
+    no_stamp_is_left_in(&rt, &mut one)
+}
+
 // A reset closes the incarnation, and dials the next; a stop closes that.
+fn a_reset_dials_anew_in(rt: &impl Abort, one: &mut Router<'_>) -> Result<(), Fail> {
+    assert_eq!(rt; one.command(Command::Start(2)), Ok(Stepped::Did));
+    assert_eq!(rt; one.command(Command::Reset(2)), Ok(Stepped::Did));
+    assert_eq!(rt; one.command(Command::Stop(2)), Ok(Stepped::Did));
+    assert!(rt; puts_dial(one, 1) && puts_shut(one, 1));
+    assert!(rt; puts_dial(one, 2) && puts_shut(one, 2));
+    assert!(rt; puts_nothing(one));
+    Ok(())
+}
+
 #[test]
 fn a_reset_dials_anew(rt: HostRuntime) -> Result<(), Fail> {
     let net = two_routers(rt.alloc(), 18)?;
     let mut one = router(rt.alloc(), &net, 1)?;
-    assert_eq!(rt; one.command(Command::Start(2)), Ok(Stepped::Did));
-    assert_eq!(rt; one.command(Command::Reset(2)), Ok(Stepped::Did));
-    assert_eq!(rt; one.command(Command::Stop(2)), Ok(Stepped::Did));
-    assert!(rt; puts_dial(&mut one, 1) && puts_shut(&mut one, 1));
-    assert!(rt; puts_dial(&mut one, 2) && puts_shut(&mut one, 2));
-    assert!(rt; puts_nothing(&mut one));
-    Ok(())
+    a_reset_dials_anew_in(&rt, &mut one)
 }

@@ -46,16 +46,20 @@ fn keeps(router: &Router<'_>) -> Result<(bool, bool), Fail> {
     Ok((first, last))
 }
 
+fn the_least_prefix_is_decided_first_in(rt: &impl Abort, one: &mut Router<'_>) -> Result<(), Fail> {
+    assert_eq!(rt; one.decide(), Ok(Stepped::Did));
+    assert_eq!(rt; keeps(one)?, (true, false));
+    assert_eq!(rt; one.decide(), Ok(Stepped::Did));
+    assert_eq!(rt; keeps(one)?, (true, true));
+    assert_eq!(rt; one.decide(), Ok(Stepped::Nothing));
+    Ok(())
+}
+
 #[test]
 fn the_least_prefix_is_decided_first(rt: HostRuntime) -> Result<(), Fail> {
     let net = three_routers(rt.alloc())?;
     let mut one = origin(rt.alloc(), &net)?;
-    assert_eq!(rt; one.decide(), Ok(Stepped::Did));
-    assert_eq!(rt; keeps(&one)?, (true, false));
-    assert_eq!(rt; one.decide(), Ok(Stepped::Did));
-    assert_eq!(rt; keeps(&one)?, (true, true));
-    assert_eq!(rt; one.decide(), Ok(Stepped::Nothing));
-    Ok(())
+    the_least_prefix_is_decided_first_in(&rt, &mut one)
 }
 
 // The OPEN of router 2 or 3.
@@ -164,15 +168,19 @@ fn tells_in_order(one: &mut Router<'_>) -> bool {
     nobody && first && then && one.advertise() == Ok(Stepped::Nothing)
 }
 
+fn the_least_peer_is_told_first_in(rt: &impl Abort, one: &mut Router<'_>) -> Result<(), Fail> {
+    assert_eq!(rt; one.advertise(), Ok(Stepped::Nothing));
+    one.command(Command::Originate(least()?))?;
+    one.decide()?;
+    assert!(rt; tells_in_order(one));
+    Ok(())
+}
+
 #[test]
 fn the_least_peer_is_told_first(rt: HostRuntime) -> Result<(), Fail> {
     let net = three_routers(rt.alloc())?;
     let mut one = ready(rt.alloc(), &net)?;
-    assert_eq!(rt; one.advertise(), Ok(Stepped::Nothing));
-    one.command(Command::Originate(least()?))?;
-    one.decide()?;
-    assert!(rt; tells_in_order(&mut one));
-    Ok(())
+    the_least_peer_is_told_first_in(&rt, &mut one)
 }
 
 // A prefix is originated once, its path is set once, and nobody is there to be told.

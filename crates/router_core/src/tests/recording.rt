@@ -125,13 +125,29 @@ pub(super) fn hears_update(
 
 // ---- what is recorded, and when
 
+fn a_command_records_a_greater_number_in(
+    rt: &impl Abort,
+    one: &mut Router<'_>,
+) -> Result<(), Fail> {
+    assert!(rt; records(one, 5) && puts_marks(one, 5));
+    let again = one.command(Command::Snapshot(5));
+    assert_eq!(rt; again, Err(RouterError::OldSnapshot { last: 5 }));
+    Ok(())
+}
+
 #[test]
 fn a_command_records_a_greater_number(rt: HostRuntime) -> Result<(), Fail> {
     let net = three_routers(rt.alloc())?;
     let mut one = ready(rt.alloc(), &net)?;
-    assert!(rt; records(&mut one, 5) && puts_marks(&mut one, 5));
-    let again = one.command(Command::Snapshot(5));
-    assert_eq!(rt; again, Err(RouterError::OldSnapshot { last: 5 }));
+    a_command_records_a_greater_number_in(&rt, &mut one)
+}
+
+fn a_marker_of_a_greater_number_records_in(
+    rt: &impl Abort,
+    one: &mut Router<'_>,
+) -> Result<(), Fail> {
+    assert!(rt; marks(one, 2, 1, 5) && puts_marks(one, 5));
+    assert!(rt; marks(one, 3, 1, 5) && offers_part(one, 5));
     Ok(())
 }
 
@@ -139,8 +155,15 @@ fn a_command_records_a_greater_number(rt: HostRuntime) -> Result<(), Fail> {
 fn a_marker_of_a_greater_number_records(rt: HostRuntime) -> Result<(), Fail> {
     let net = three_routers(rt.alloc())?;
     let mut one = ready(rt.alloc(), &net)?;
-    assert!(rt; marks(&mut one, 2, 1, 5) && puts_marks(&mut one, 5));
-    assert!(rt; marks(&mut one, 3, 1, 5) && offers_part(&one, 5));
+    a_marker_of_a_greater_number_records_in(&rt, &mut one)
+}
+
+fn a_marker_of_another_incarnation_is_not_used_in(
+    rt: &impl Abort,
+    one: &mut Router<'_>,
+) -> Result<(), Fail> {
+    assert!(rt; marks(one, 2, 2, 5) && is_drained(one, 2));
+    assert!(rt; records(one, 1) && puts_marks(one, 1));
     Ok(())
 }
 
@@ -148,20 +171,26 @@ fn a_marker_of_a_greater_number_records(rt: HostRuntime) -> Result<(), Fail> {
 fn a_marker_of_another_incarnation_is_not_used(rt: HostRuntime) -> Result<(), Fail> {
     let net = three_routers(rt.alloc())?;
     let mut one = ready(rt.alloc(), &net)?;
-    assert!(rt; marks(&mut one, 2, 2, 5) && is_drained(&one, 2));
-    assert!(rt; records(&mut one, 1) && puts_marks(&mut one, 1));
-    Ok(())
+    a_marker_of_another_incarnation_is_not_used_in(&rt, &mut one)
 }
 
 // The OPEN of the peer came, but no KEEPALIVE yet.
+fn a_marker_before_established_is_not_used_in(
+    rt: &impl Abort,
+    alloc: Global,
+    one: &mut Router<'_>,
+) -> Result<(), Fail> {
+    assert!(rt; obeys(alloc, one, 1, &OPEN_OF_TWO)?);
+    assert!(rt; marks(one, 2, 1, 5) && one.next_offer().is_none());
+    assert!(rt; records(one, 1) && loses(one, 1, 2, 1, Cause::NotUp));
+    Ok(())
+}
+
 #[test]
 fn a_marker_before_established_is_not_used(rt: HostRuntime) -> Result<(), Fail> {
     let net = two_routers(rt.alloc(), 4096)?;
     let mut one = joined(rt.alloc(), &net)?;
-    assert!(rt; obeys(rt.alloc(), &mut one, 1, &OPEN_OF_TWO)?);
-    assert!(rt; marks(&mut one, 2, 1, 5) && one.next_offer().is_none());
-    assert!(rt; records(&mut one, 1) && loses(&one, 1, 2, 1, Cause::NotUp));
-    Ok(())
+    a_marker_before_established_is_not_used_in(&rt, rt.alloc(), &mut one)
 }
 
 // A prefix is originated, kept and told to both.
@@ -205,11 +234,28 @@ fn records_before_it_changes(one: &mut Router<'_>, prefix: Prefix) -> bool {
     recorded && changed && offers_state(one, prefix)
 }
 
+fn a_part_is_the_state_at_its_recording_in(
+    rt: &impl Abort,
+    one: &mut Router<'_>,
+) -> Result<(), Fail> {
+    assert!(rt; records_before_it_changes(one, least()?));
+    Ok(())
+}
+
 #[test]
 fn a_part_is_the_state_at_its_recording(rt: HostRuntime) -> Result<(), Fail> {
     let net = three_routers(rt.alloc())?;
     let mut one = ready(rt.alloc(), &net)?;
-    assert!(rt; records_before_it_changes(&mut one, least()?));
+    a_part_is_the_state_at_its_recording_in(&rt, &mut one)
+}
+
+fn the_state_of_now_is_what_would_be_recorded_in(
+    rt: &impl Abort,
+    one: &mut Router<'_>,
+) -> Result<(), Fail> {
+    assert!(rt; tells_both(one, least()?));
+    let state = one.part_state()?;
+    assert!(rt; is_state(&state, least()?) && !state.pending);
     Ok(())
 }
 
@@ -217,10 +263,7 @@ fn a_part_is_the_state_at_its_recording(rt: HostRuntime) -> Result<(), Fail> {
 fn the_state_of_now_is_what_would_be_recorded(rt: HostRuntime) -> Result<(), Fail> {
     let net = three_routers(rt.alloc())?;
     let mut one = ready(rt.alloc(), &net)?;
-    assert!(rt; tells_both(&mut one, least()?));
-    let state = one.part_state()?;
-    assert!(rt; is_state(&state, least()?) && !state.pending);
-    Ok(())
+    the_state_of_now_is_what_would_be_recorded_in(&rt, &mut one)
 }
 
 // Whether the next item towards 2 is octets, and then the marker.
@@ -231,23 +274,45 @@ fn puts_octets_then_mark(router: &mut Router<'_>, number: u32) -> bool {
     }
 }
 
+fn markers_go_behind_what_waits_in(rt: &impl Abort, one: &mut Router<'_>) -> Result<(), Fail> {
+    assert!(rt; tells_both(one, least()?) && records(one, 1));
+    assert!(rt; puts_octets_then_mark(one, 1) && is_drained(one, 2));
+    Ok(())
+}
+
 #[test]
 fn markers_go_behind_what_waits(rt: HostRuntime) -> Result<(), Fail> {
     let net = three_routers(rt.alloc())?;
     let mut one = ready(rt.alloc(), &net)?;
-    assert!(rt; tells_both(&mut one, least()?) && records(&mut one, 1));
-    assert!(rt; puts_octets_then_mark(&mut one, 1) && is_drained(&one, 2));
-    Ok(())
+    markers_go_behind_what_waits_in(&rt, &mut one)
 }
 
 // ---- what is pending
+
+fn a_path_that_is_not_the_route_is_pending_in(
+    rt: &impl Abort,
+    one: &mut Router<'_>,
+) -> Result<(), Fail> {
+    one.command(Command::Originate(least()?))?;
+    assert!(rt; records(one, 1) && finishes(one, 1) && is_pending(one));
+    Ok(())
+}
 
 #[test]
 fn a_path_that_is_not_the_route_is_pending(rt: HostRuntime) -> Result<(), Fail> {
     let net = three_routers(rt.alloc())?;
     let mut one = ready(rt.alloc(), &net)?;
+    a_path_that_is_not_the_route_is_pending_in(&rt, &mut one)
+}
+
+fn a_path_that_was_not_told_is_pending_in(
+    rt: &impl Abort,
+    one: &mut Router<'_>,
+) -> Result<(), Fail> {
     one.command(Command::Originate(least()?))?;
-    assert!(rt; records(&mut one, 1) && finishes(&mut one, 1) && is_pending(&one));
+    one.decide()?;
+    one.advertise()?;
+    assert!(rt; records(one, 1) && finishes(one, 1) && is_pending(one));
     Ok(())
 }
 
@@ -255,10 +320,12 @@ fn a_path_that_is_not_the_route_is_pending(rt: HostRuntime) -> Result<(), Fail> 
 fn a_path_that_was_not_told_is_pending(rt: HostRuntime) -> Result<(), Fail> {
     let net = three_routers(rt.alloc())?;
     let mut one = ready(rt.alloc(), &net)?;
-    one.command(Command::Originate(least()?))?;
-    one.decide()?;
-    one.advertise()?;
-    assert!(rt; records(&mut one, 1) && finishes(&mut one, 1) && is_pending(&one));
+    a_path_that_was_not_told_is_pending_in(&rt, &mut one)
+}
+
+fn what_was_told_is_not_pending_in(rt: &impl Abort, one: &mut Router<'_>) -> Result<(), Fail> {
+    assert!(rt; tells_both(one, least()?) && records(one, 1));
+    assert!(rt; finishes(one, 1) && offers_part(one, 1) && !is_pending(one));
     Ok(())
 }
 
@@ -266,7 +333,5 @@ fn a_path_that_was_not_told_is_pending(rt: HostRuntime) -> Result<(), Fail> {
 fn what_was_told_is_not_pending(rt: HostRuntime) -> Result<(), Fail> {
     let net = three_routers(rt.alloc())?;
     let mut one = ready(rt.alloc(), &net)?;
-    assert!(rt; tells_both(&mut one, least()?) && records(&mut one, 1));
-    assert!(rt; finishes(&mut one, 1) && offers_part(&one, 1) && !is_pending(&one));
-    Ok(())
+    what_was_told_is_not_pending_in(&rt, &mut one)
 }

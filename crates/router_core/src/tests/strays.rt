@@ -34,13 +34,21 @@ fn says_its_open(alloc: Global, one: &mut Router<'_>) -> Result<bool, Fail> {
     Ok(said && waited)
 }
 
+fn stray_items_do_nothing_in(
+    rt: &impl Abort,
+    alloc: Global,
+    one: &mut Router<'_>,
+) -> Result<(), Fail> {
+    assert!(rt; takes_strays(alloc, one)? && has_nothing(one));
+    assert!(rt; says_its_open(alloc, one)?);
+    Ok(())
+}
+
 #[test]
 fn stray_items_do_nothing(rt: HostRuntime) -> Result<(), Fail> {
     let net = two_routers(rt.alloc(), 4096)?;
     let mut one = joined(rt.alloc(), &net)?;
-    assert!(rt; takes_strays(rt.alloc(), &mut one)? && has_nothing(&mut one));
-    assert!(rt; says_its_open(rt.alloc(), &mut one)?);
-    Ok(())
+    stray_items_do_nothing_in(&rt, rt.alloc(), &mut one)
 }
 
 // The peer joins, and leaves, the greatest incarnation.
@@ -72,13 +80,21 @@ fn has_no_incarnation_left(one: &mut Router<'_>) -> bool {
         && puts_nothing(one)
 }
 
+fn the_last_incarnation_is_not_dialled_past_in(
+    rt: &impl Abort,
+    alloc: Global,
+    one: &mut Router<'_>,
+) -> Result<(), Fail> {
+    assert!(rt; joins_the_last(one));
+    assert!(rt; puts_the_last(alloc, one)?);
+    assert!(rt; seconds(one, 119));
+    assert!(rt; has_no_incarnation_left(one));
+    Ok(())
+}
+
 #[test]
 fn the_last_incarnation_is_not_dialled_past(rt: HostRuntime) -> Result<(), Fail> {
     let net = two_routers(rt.alloc(), 4096)?;
     let mut one = router(rt.alloc(), &net, 1)?;
-    assert!(rt; joins_the_last(&mut one));
-    assert!(rt; puts_the_last(rt.alloc(), &mut one)?);
-    assert!(rt; seconds(&mut one, 119));
-    assert!(rt; has_no_incarnation_left(&mut one));
-    Ok(())
+    the_last_incarnation_is_not_dialled_past_in(&rt, rt.alloc(), &mut one)
 }

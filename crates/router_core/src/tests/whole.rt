@@ -17,13 +17,21 @@ fn keeps_alive(alloc: Global, one: &mut Router<'_>) -> Result<bool, Fail> {
     Ok(early && seconds(one, 1) && puts_octets(one, 1, alive.as_slice()))
 }
 
+fn a_keepalive_goes_out_in_time_in(
+    rt: &impl Abort,
+    alloc: Global,
+    one: &mut Router<'_>,
+) -> Result<(), Fail> {
+    assert!(rt; established(alloc, one)?);
+    assert!(rt; keeps_alive(alloc, one)?);
+    Ok(())
+}
+
 #[test]
 fn a_keepalive_goes_out_in_time(rt: HostRuntime) -> Result<(), Fail> {
     let net = two_routers(rt.alloc(), 4096)?;
     let mut one = joined(rt.alloc(), &net)?;
-    assert!(rt; established(rt.alloc(), &mut one)?);
-    assert!(rt; keeps_alive(rt.alloc(), &mut one)?);
-    Ok(())
+    a_keepalive_goes_out_in_time_in(&rt, rt.alloc(), &mut one)
 }
 
 // 90 seconds without a message: NOTIFICATION 4/0 behind two KEEPALIVEs, and the end of the incarnation.
@@ -37,13 +45,21 @@ fn lets_go(alloc: Global, one: &mut Router<'_>) -> Result<bool, Fail> {
     Ok(passed && puts_octets(one, 1, said.as_slice()) && puts_shut(one, 1))
 }
 
+fn a_silent_peer_is_left_in(
+    rt: &impl Abort,
+    alloc: Global,
+    one: &mut Router<'_>,
+) -> Result<(), Fail> {
+    assert!(rt; established(alloc, one)?);
+    assert!(rt; lets_go(alloc, one)?);
+    Ok(())
+}
+
 #[test]
 fn a_silent_peer_is_left(rt: HostRuntime) -> Result<(), Fail> {
     let net = two_routers(rt.alloc(), 4096)?;
     let mut one = joined(rt.alloc(), &net)?;
-    assert!(rt; established(rt.alloc(), &mut one)?);
-    assert!(rt; lets_go(rt.alloc(), &mut one)?);
-    Ok(())
+    a_silent_peer_is_left_in(&rt, rt.alloc(), &mut one)
 }
 
 // A router that originates its prefix, keeps its path and dialled incarnation 1.
