@@ -102,11 +102,25 @@ pub(super) fn drains(router: &mut Router<'_>, peer: Asn) -> Result<(), RouterErr
     Ok(())
 }
 
+// The calls that follow one another in these tests, without what they ensure: a proof of one that
+// makes several carries each answer's equation along.
+fn is_told(router: &mut Router<'_>, command: Command) -> Result<Stepped, RouterError> {
+    router.command(command)
+}
+
+fn decides(router: &mut Router<'_>) -> Result<Stepped, RouterError> {
+    router.decide()
+}
+
+fn advertises(router: &mut Router<'_>) -> Result<Stepped, RouterError> {
+    router.advertise()
+}
+
 // A prefix is originated, or withdrawn, and what then is kept is told.
 fn changes(router: &mut Router<'_>, command: Command) -> Result<Stepped, RouterError> {
-    router.command(command)?;
-    router.decide()?;
-    router.advertise()
+    is_told(router, command)?;
+    decides(router)?;
+    advertises(router)
 }
 
 // A prefix comes and goes until router 2 is told nothing more: whether that came to be.
@@ -185,11 +199,11 @@ fn the_least_peer_is_told_first(rt: HostRuntime) -> Result<(), Fail> {
 
 // A prefix is originated once, its path is set once, and nobody is there to be told.
 fn originates_once(one: &mut Router<'_>, prefix: Prefix) -> bool {
-    one.command(Command::Originate(prefix)) == Ok(Stepped::Did)
-        && one.command(Command::Originate(prefix)) == Ok(Stepped::Nothing)
-        && one.decide() == Ok(Stepped::Did)
-        && one.decide() == Ok(Stepped::Nothing)
-        && one.advertise() == Ok(Stepped::Nothing)
+    is_told(one, Command::Originate(prefix)) == Ok(Stepped::Did)
+        && is_told(one, Command::Originate(prefix)) == Ok(Stepped::Nothing)
+        && decides(one) == Ok(Stepped::Did)
+        && decides(one) == Ok(Stepped::Nothing)
+        && advertises(one) == Ok(Stepped::Nothing)
 }
 
 #[test]
