@@ -67,12 +67,6 @@ abbrev pub IsSayableWhere : Option Message → Type 0
 IsSayableWhere None = Unit {0}
 IsSayableWhere (Some m) = IsSayable m
 
--- the UPDATE at hand
-abbrev pub update_of : AtHand → Option Update
-update_of NoMessage = None
-update_of (HasFault fault) = None
-update_of (HasUpdate update) = Some update
-
 abbrev pub acted_where : Bool → Option Update → ℕ → (ℕ → List Update) → ℕ → List Update
 acted_where acts None e history = history
 acted_where acts (Some u) e history = cond acts (with_update history e u) history
