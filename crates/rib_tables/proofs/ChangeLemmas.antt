@@ -219,6 +219,13 @@ marks_more rows mid ps q k w old between new is first next = λ i out.
 pub marks_start : (rows : List Row) (s : PlaceSet) → Marks (λ r. lists [] r.prefix) rows s s
 marks_start rows s = λ i out. (out, λ r at. refl)
 
+-- one prefix alone
+pub hears_single : (k : ℕ) (w : Word) (rows : List Row) (q : PrefixView) → map (on q (hearing k w)) rows ≡ map (hearing_all (q ∷ []) k w) rows
+hears_single k w rows q = ap (map (on q (hearing k w))) (hears_none k w rows) ∙ hears_one_more k w rows [] q
+
+pub marks_single : (rows : List Row) (q : PrefixView) (old new : PlaceSet) → Marks (λ r. is_prefix q r.prefix) rows old new → Marks (λ r. lists (q ∷ []) r.prefix) rows old new
+marks_single rows q old new marks = λ i out. let m = marks i out in (m.0, λ r at. or-false (is_prefix q r.prefix) ∙ m.1 r at)
+
 -- the last of words that are all one, and those before it
 module _ (a : Word) (ws front : List Word) (w : Word) (is : ws ≡ front ++ w ∷ []) (all : All (λ one. one ≡ a) ws) where
   size : length ws ≡ length front + 1

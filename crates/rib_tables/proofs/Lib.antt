@@ -14,3 +14,4 @@ pub mod OpeningLemmas
 pub mod DecidingLemmas
 pub mod OneRowLemmas
 pub mod AskingLemmas
+pub mod BestLemmas

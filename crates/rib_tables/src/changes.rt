@@ -1,6 +1,6 @@
 //! Changes of rows, each for every row at once.
 
-ghost use Rattle.std.specs.Prelude.{◌≡◌, ◌≢◌, ◌<◌, ◌≤◌, ◌↔◌, ℕ, true, false, length, map, slice_get, slice_index_or, slice_set, Some, IsTrue, IfOk, MatchOption};
+ghost use Rattle.std.specs.Prelude.{◌≡◌, ◌≢◌, ◌<◌, ◌≤◌, ◌↔◌, ◌∷◌, [], ℕ, true, false, length, map, slice_get, slice_index_or, slice_set, Some, IsTrue, IfOk, OnOk, OnErr, MatchOption};
 ghost use Rattle.std.specs.List.{All};
 ghost use Rattle.prefix_lanes.specs.Bits.{PrefixView};
 ghost use Rattle.rib_tables.specs.declared.row.Peer.{Peer};
@@ -45,7 +45,7 @@ pub(crate) fn place_of_peer(peers: &[Peer], asn: Asn) -> Option<usize>
 }
 
 // The words that an UPDATE announces, one for each prefix. All growths are here.
-pub(crate) fn announced_words(alloc: Global, update: &Update) -> Result<Vec<Word>, RibError>
+fn announced_words(alloc: Global, update: &Update) -> Result<Vec<Word>, RibError>
     ensures len { IfOk result (λ words. length words.items ≡ length update.now.nlri) }
     ensures same { IfOk result (λ words. All (λ word. word ≡ announced_word update.now.attrs) words.items) }
 {
@@ -127,8 +127,31 @@ pub(crate) fn hear_announced(
     }
 }
 
+// All that an UPDATE of a peer says that announces one prefix, with the word for it. It takes no
+// memory.
+fn hear_single(
+    alloc: Global,
+    keys: &IndexSet<Prefix>,
+    rows: &mut Vec<Row>,
+    dirty: &mut PlaceSet,
+    peer: usize,
+    update: &Update,
+    prefix: &Prefix,
+    word: Word,
+)
+    requires fit { (peers : ℕ) × AreFit keys.now.keys peers rows.old.items × (peer < peers) }
+    requires only { update.now.nlri ≡ prefix.now ∷ [] }
+    requires same { word ≡ announced_word update.now.attrs }
+    ensures rows { rows.new.items ≡ map (hearing_update peer update.now) rows.old.items }
+    ensures dirty { Marks (λ r. mentions update.now r.prefix) rows.old.items dirty.old dirty.new }
+{
+    let rows = rows.as_mut_slice();
+    hear_withdrawn(alloc, keys, rows, dirty, peer, update.withdrawn.as_slice());
+    hear_one(keys, rows, dirty, peer, prefix, word);
+}
+
 // All that an UPDATE of a peer says, with the words that it announces. It takes no memory.
-pub(crate) fn hear_update(
+fn hear_several(
     alloc: Global,
     keys: &IndexSet<Prefix>,
     rows: &mut Vec<Row>,
@@ -146,6 +169,31 @@ pub(crate) fn hear_update(
     let rows = rows.as_mut_slice();
     hear_withdrawn(alloc, keys, rows, dirty, peer, update.withdrawn.as_slice());
     hear_announced(keys, rows, dirty, peer, update, words);
+}
+
+// All that an UPDATE of a peer says. A refusal leaves all as it was.
+pub(crate) fn hear_update(
+    alloc: Global,
+    keys: &IndexSet<Prefix>,
+    rows: &mut Vec<Row>,
+    dirty: &mut PlaceSet,
+    peer: usize,
+    update: &Update,
+) -> Result<(), RibError>
+    requires { (peers : ℕ) × AreFit keys.now.keys peers rows.old.items × (peer < peers) }
+    ensures rows { OnOk result (rows.new.items ≡ map (hearing_update peer update.now) rows.old.items) }
+    ensures dirty { OnOk result (Marks (λ r. mentions update.now r.prefix) rows.old.items dirty.old dirty.new) }
+    ensures same_rows { OnErr result (rows.new.items ≡ rows.old.items) }
+    ensures same_dirty { OnErr result (dirty.new ≡ dirty.old) }
+{
+    if let [prefix] = update.nlri.as_slice() {
+        let word = announced(alloc, &update.attrs)?;
+        hear_single(alloc, keys, rows, dirty, peer, update, prefix, word);
+    } else {
+        let words = announced_words(alloc, update)?;
+        hear_several(alloc, keys, rows, dirty, peer, update, words);
+    }
+    Ok(())
 }
 
 // Takes all words of a peer away. It takes no memory.

@@ -1,8 +1,9 @@
 //! All that the choices of a router depend on, and what is told of them.
 
-ghost use Rattle.std.specs.Prelude.{◌≡◌, ◌≢◌, ◌↔◌, ℕ, true, false, IsTrue, IfOk, OnErr, OnOk, MatchOption};
+ghost use Rattle.std.specs.Prelude.{◌≡◌, ◌≢◌, ◌↔◌, ℕ, true, false, IsTrue, IfOk, IfErr, OnErr, OnOk, MatchOption};
 ghost use Rattle.std.specs.List.{Contains};
 ghost use Rattle.ranked_policy.specs.Plans.{IsRouter, IsNamed, IsOrigin, Linked};
+ghost use Rattle.prefix_lanes.specs.Bits.{PrefixView};
 ghost use Rattle.rib_tables.specs.Words.{nothing};
 ghost use Rattle.rib_tables.specs.Tables.{word_of, path_of};
 ghost use Rattle.rib_tables.specs.Least.{HoldsOfAll, IsLeastWithout};
@@ -10,13 +11,13 @@ ghost use Rattle.rib_tables.specs.Choices.{IsBest, IsSources};
 ghost use Rattle.rib_tables.specs.Owners.{sources_of, IsSettled, IsServed, IsAwaited, AllServed, IsPending, IsNew, HearsUpdate, TellsKept, ComesUp, ForgetsPeer, Originating, Withdrawing, KeepsPath, Decides, Clears};
 
 use crate::changes::{
-    announced_words, await_all, clear_all, forget_all, hear_update, keep_at, mark_words,
-    originate_at, place_of, place_of_peer, set_up, tell_at, untold, wait_all,
+    await_all, clear_all, forget_all, hear_update, keep_at, mark_words, originate_at, place_of,
+    place_of_peer, set_up, tell_at, untold, wait_all,
 };
 use crate::opening::{keys_of, no_waits, peers_down, rows_of};
 use crate::place_set::PlaceSet;
 use crate::refusal::RibError;
-use crate::row::{Peer, Row, best_way, first_undecided};
+use crate::row::{Peer, Row, best_way, first_undecided, path_along};
 use crate::word::Word;
 use bgp_codec::Update;
 use indexmap::IndexSet;
@@ -154,7 +155,6 @@ impl<'a> Rib<'a> {
     {
         let alloc = *self.peers.allocator();
         let place = place_of_peer(self.peers.as_slice(), peer).unwrap();
-        let words = announced_words(alloc, update)?;
         hear_update(
             alloc,
             &self.keys,
@@ -162,8 +162,7 @@ impl<'a> Rib<'a> {
             &mut self.dirty,
             place,
             update,
-            words,
-        );
+        )?;
         Ok(())
     }
 
@@ -261,10 +260,7 @@ impl<'a> Rib<'a> {
     {
         let place = place_of(&self.keys, prefix).unwrap();
         let way = best_way(self.router, self.peers.as_slice(), &self.rows[place]);
-        match way {
-            Some(rest) => Ok(Path::from_router(alloc, self.router, rest)?),
-            None => Ok(Path::new(alloc)),
-        }
+        Ok(path_along(alloc, self.router, way)?)
     }
 
     /// The prefix that is to be decided: the least of the network, by address and then by length,
@@ -275,7 +271,7 @@ impl<'a> Rib<'a> {
         ensures least { MatchOption result (HoldsOfAll self.old.net.origins (IsSettled self.old)) (IsLeastWithout self.old.net.origins (IsSettled self.old)) }
         ensures same { self.new ≡ self.old }
     {
-        let place = first_undecided(
+        let (place, _) = first_undecided(
             self.router,
             self.peers.as_slice(),
             self.rows.as_slice(),
@@ -284,45 +280,31 @@ impl<'a> Rib<'a> {
         Some(self.rows[place].prefix)
     }
 
-    // The kept path of a prefix is known to be the best, so it is not looked at again until something
-    // changes.
-    fn settle(&mut self, prefix: &Prefix)
-        requires named { IsNamed self.old.net.origins prefix.now }
-        requires settled { IsSettled self.old prefix.now }
-        ensures { self.new ≡ self.old }
-    {
-        let place = place_of(&self.keys, prefix).unwrap();
-        self.dirty.take_out(place);
-    }
-
     /// Decides once (RFC 4271 section 9.1): the least prefix of the network, by address and then by
     /// length, whose kept path is not the best gets its best, and is answered. `None` exactly where
     /// each kept path is the best, and then nothing changes. Refused [`RibError::Memory`] where a
-    /// growth was, and then all is as it was.
+    /// growth was, and then some kept path is not the best, and all is as it was.
     pub fn decide(&mut self, alloc: Global) -> Result<Option<Prefix>, RibError>
         ensures least { IfOk result (λ found. MatchOption found (HoldsOfAll self.old.net.origins (IsSettled self.old)) (IsLeastWithout self.old.net.origins (IsSettled self.old))) }
         ensures decides { IfOk result (λ found. MatchOption found (self.new ≡ self.old) (Decides self.old self.new)) }
+        ensures pending { IfErr result (λ _. (q : PrefixView) × IsLeastWithout self.old.net.origins (IsSettled self.old) q) }
         ensures err { OnErr result (self.new ≡ self.old) }
     {
-        let Some(prefix) = self.dirty() else {
+        let found = first_undecided(
+            self.router,
+            self.peers.as_slice(),
+            self.rows.as_slice(),
+            &mut self.dirty,
+        );
+        let Some((place, way)) = found else {
             return Ok(None);
         };
-        self.decide_for(alloc, &prefix)?;
-        Ok(Some(prefix))
-    }
-
-    /// A prefix of the network gets its best (RFC 4271 section 9.1), as [`Rib::decide`] gives it to the
-    /// one that [`Rib::dirty`] names. Refused [`RibError::Memory`] where a growth was, and then all is
-    /// as it was.
-    pub fn decide_for(&mut self, alloc: Global, prefix: &Prefix) -> Result<(), RibError>
-        requires { IsNamed self.old.net.origins prefix.now }
-        ensures ok { OnOk result (Decides self.old self.new prefix.now) }
-        ensures err { OnErr result (self.new ≡ self.old) }
-    {
-        let best = self.best(alloc, prefix)?;
-        self.set(prefix, best);
-        self.settle(prefix);
-        Ok(())
+        let best = path_along(alloc, self.router, way)?;
+        keep_at(&mut self.rows, place, best);
+        self.dirty.take_out(place);
+        let row = &self.rows[place];
+        wait_all(self.peers.as_slice(), row, place, &mut self.waits);
+        Ok(Some(row.prefix))
     }
 
     /// The prefix that a peer waits for: the least of the network, by address and then by length,

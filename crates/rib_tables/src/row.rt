@@ -1,6 +1,6 @@
 //! What stands of one prefix, and of one peer.
 
-ghost use Rattle.std.specs.Prelude.{◌≡◌, ◌≤◌, ◌↔◌, ◌⊎◌, ◌∷◌, ℕ, [], length, slice_get, Some, IsTrue, MatchOption};
+ghost use Rattle.std.specs.Prelude.{◌≡◌, ◌≤◌, ◌↔◌, ◌⊎◌, ◌∷◌, ℕ, [], length, slice_get, Some, IfOk, IfSome, IsTrue, MatchOption};
 ghost use Rattle.prefix_lanes.specs.Bits.{PrefixView};
 ghost use Rattle.ranked_policy.specs.Choosing.{chosen_permits, chosen_prefers};
 ghost use Rattle.ranked_policy.specs.Plans.{Plan, IsNetwork, IsRouter};
@@ -16,6 +16,7 @@ use crate::word::Word;
 use prefix_lanes::Prefix;
 use ranked_policy::laws::each_policy_is_an_order;
 use ranked_policy::{Asn, Chosen, Path};
+use std::alloc::{AllocError, Global};
 
 /// A peer of the router.
 #[derive(Clone, Copy, Debug, PartialEq, Eq)]
@@ -106,37 +107,47 @@ fn goes_on(kept: &[Asn], router: Asn, way: Option<&[Asn]>) -> bool
     }
 }
 
-// Whether the kept path of a row is the best of the router's choices. It takes no memory.
-fn is_settled(router: Asn, peers: &[Peer], row: &Row) -> bool
-    requires { length row.now.heard ≡ length peers.now }
-    ensures { (net : Plan) → IsNetwork net → IsRouter net.routers router → IsRow net router peers.now row.now → (IsTrue result ↔ IsRowBest net router peers.now row.now row.now.kept) }
-{
-    each_policy_is_an_order();
-    goes_on(row.kept.as_slice(), router, best_way(router, peers, row))
-}
-
-// The least place whose kept path is not the best, where each place outside the set is known to
-// have its best. What is found to have it is taken out. It takes no memory.
-pub(crate) fn first_undecided(
+// The least place whose kept path is not the best, with the way on of the best, where each place
+// outside the set is known to have its best. What is found to have it is taken out. It takes no
+// memory.
+pub(crate) fn first_undecided<'r>(
     router: Asn,
     peers: &[Peer],
-    rows: &[Row],
+    rows: &'r [Row],
     dirty: &mut PlaceSet,
-) -> Option<usize>
+) -> Option<(usize, Option<&'r [Asn]>)>
     requires few { length rows.now ≤ 256 }
     requires words { (i : ℕ) (r : Row) → slice_get rows.now i ≡ Some r → length r.heard ≡ length peers.now }
     ensures decided { (net : Plan) → AreJudged net router peers.now rows.now → AreDecided net router peers.now rows.now dirty.old → AreDecided net router peers.now rows.now dirty.new }
-    ensures least { (net : Plan) → AreJudged net router peers.now rows.now → AreDecided net router peers.now rows.now dirty.old → MatchOption result (AllBest net router peers.now rows.now) (IsFirstUndecided net router peers.now rows.now) }
+    ensures least { (net : Plan) → AreJudged net router peers.now rows.now → AreDecided net router peers.now rows.now dirty.old → MatchOption result (AllBest net router peers.now rows.now) (λ found. IsFirstUndecided net router peers.now rows.now found.0) }
+    ensures best { (net : Plan) → AreJudged net router peers.now rows.now → IfSome result (λ found. (r : Row) → slice_get rows.now found.0 ≡ Some r → MatchOption found.1 (IsRowBest net router peers.now r []) (λ rest. IsRowBest net router peers.now r (router ∷ rest.now))) }
 {
+    each_policy_is_an_order();
     for _ in 0..MOST_PLACES {
         let place = dirty.first()?;
         if place >= rows.len() {
             return None;
         }
-        if !is_settled(router, peers, &rows[place]) {
-            return Some(place);
+        let row = &rows[place];
+        let way = best_way(router, peers, row);
+        if !goes_on(row.kept.as_slice(), router, way) {
+            return Some((place, way));
         }
         dirty.take_out(place);
     }
     None
+}
+
+// The path along a way on: the empty path where there is none.
+pub(crate) fn path_along(
+    alloc: Global,
+    router: Asn,
+    way: Option<&[Asn]>,
+) -> Result<Path, AllocError>
+    ensures { IfOk result (λ path. MatchOption way.entry (path ≡ []) (λ rest. path ≡ router ∷ rest.now)) }
+{
+    match way {
+        Some(rest) => Path::from_router(alloc, router, rest),
+        None => Ok(Path::new(alloc)),
+    }
 }

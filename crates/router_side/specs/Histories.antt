@@ -41,8 +41,16 @@ abbrev pub AreKept : List Place → List ℕ → Type 0
 AreKept [] octets = octets ≡ []
 AreKept (p ∷ ps) octets = (p.len ≤ length octets) × IsKept (take p.len octets) × AreKept ps (drop p.len octets)
 
--- what was told, and the room for more
+-- the octets of a message that is kept, where it is an UPDATE
+abbrev pub octets_kept : Message → List ℕ
+octets_kept (OpenMsg message) = []
+octets_kept (UpdateMsg update) = written (UpdateMsg update)
+octets_kept (NoticeMsg notice) = []
+octets_kept AliveMsg = []
+
+-- what was told, its octets, and the room for more
 pub record Past : Type 0 where
   pub told : List Told
+  pub octets : List ℕ
   pub room : ℕ
   pub places : ℕ

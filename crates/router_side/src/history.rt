@@ -1,10 +1,10 @@
 //! The UPDATEs of a side, by incarnation, in the octets that spell them.
 
-ghost use Rattle.std.specs.Prelude.{◌≡◌, ◌≤◌, ◌∷◌, [], true, length, IfOk, OnOk};
+ghost use Rattle.std.specs.Prelude.{◌≡◌, ◌≤◌, ◌∷◌, ◌++◌, [], true, length, IfOk, OnOk};
 ghost use Rattle.bgp_codec.specs.Faults.{reading};
 ghost use Rattle.bgp_codec.specs.Spelling.{written};
 ghost use Rattle.router_side.specs.Sayings.{acted_where, kept_where, nobody, update_in, IsSayable, IsSayableWhere};
-ghost use Rattle.router_side.specs.Histories.{history, updates_read, IsKept};
+ghost use Rattle.router_side.specs.Histories.{history, octets_kept, updates_read, IsKept};
 
 use bgp_codec::laws::written_is_read;
 use bgp_codec::{Message, NOBODY, Update, decode, put_message};
@@ -43,6 +43,7 @@ impl Model for History {
 
     ghost view = { λ h. record {
       told = told_in h.places.items h.octets.items;
+      octets = h.octets.items;
       room = vec_capacity h.octets - vec_len h.octets;
       places = vec_capacity h.places - vec_len h.places;
     } };
@@ -90,6 +91,13 @@ impl History {
         Ok(all)
     }
 
+    // The octets that spell them, one behind the other.
+    pub(crate) fn octets(&self) -> &[u8]
+        ensures { result.now ≡ self.now.octets }
+    {
+        self.octets.as_slice()
+    }
+
     // Makes room for an UPDATE of so many octets.
     pub(crate) fn reserve(&mut self, octets: usize) -> Result<(), AllocError>
         ensures told { self.new.told ≡ self.old.told }
@@ -120,7 +128,8 @@ impl History {
         requires sayable { IsSayable message.now }
         requires room { length (written message.now) ≤ self.old.room }
         requires place { 1 ≤ self.old.places }
-        ensures { history self.new.told ≡ acted_where true (update_in message.now) epoch (history self.old.told) }
+        ensures told { history self.new.told ≡ acted_where true (update_in message.now) epoch (history self.old.told) }
+        ensures octets { self.new.octets ≡ self.old.octets ++ octets_kept message.now }
     {
         match message {
             Message::UpdateMsg(_) => {

@@ -19,7 +19,7 @@ use crate::draft::Sketch;
 use crate::enqueue::{append_all, size_of_all, size_told};
 use crate::history::History;
 use crate::reading::read_front;
-use bgp_codec::laws::header_is_its_front;
+use bgp_codec::laws::{header_is_its_front, written_has_a_header};
 use bgp_codec::{Fault, Message, NOBODY, Rule, written_len};
 use bgp_framing::{Framer, Next};
 use link_epoch::{LinkEnd, Phase, Sign};
@@ -315,10 +315,20 @@ impl SideEnd {
         requires room { HasRoomToTell message.now self.old }
         ensures { side self.new ≡ told_by (side self.old) message.now }
     {
+        written_has_a_header();
         let epoch = self.link.epoch();
-        self.outbox.push_message(epoch, message, &NOBODY);
+        match message {
+            Message::UpdateMsg(_) => {
+                let before = self.sent.octets().len();
+                self.sent.keep(epoch, message);
+                let (_, octets) = self.sent.octets().split_at(before);
+                self.outbox.push_octets(epoch, octets);
+            }
+            Message::OpenMsg(_) | Message::NoticeMsg(_) | Message::AliveMsg => {
+                self.outbox.push_message(epoch, message, &NOBODY);
+            }
+        }
         self.session.update_sent();
-        self.sent.keep(epoch, message);
     }
 
     /// Makes room for a marker. It is refused only where memory was, and the side stays as it was.

@@ -37,19 +37,22 @@ impl Router<'_> {
         ensures same { IsSame self.old self.new }
     {
         the_best_is_the_route(&self.tables);
-        let Some(prefix) = self.tables.dirty() else {
-            return Ok(Stepped::Nothing);
-        };
         let stamp = self.stamp + 1;
         if stamp > GREATEST_STAMP {
+            let Some(_) = self.tables.dirty() else {
+                return Ok(Stepped::Nothing);
+            };
             return Err(RouterError::StampEnd);
         }
         let alloc = *self.peers.allocator();
-        let Ok(()) = self.tables.decide_for(alloc, &prefix) else {
-            return Err(RouterError::Memory);
-        };
-        self.stamp = stamp;
-        Ok(Stepped::Did)
+        match self.tables.decide(alloc) {
+            Ok(Some(_)) => {
+                self.stamp = stamp;
+                Ok(Stepped::Did)
+            }
+            Ok(None) => Ok(Stepped::Nothing),
+            Err(_) => Err(RouterError::Memory),
+        }
     }
 
     // Whom to tell next.

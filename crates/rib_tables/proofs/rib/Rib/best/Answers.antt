@@ -1,4 +1,5 @@
-use Rattle.std.proofs.Common.{◌≡◌, ℕ, List, [], ◌∷◌, length, subst, sym, ap, ◌∙◌, arith, rules}
+use Rattle.std.proofs.Common.{◌≡◌, List, [], ◌∷◌, length, subst, sym, ap, ◌∙◌, arith, rules}
+use Rattle.std.specs.Prelude.{MatchOption}
 use Rattle.std.proofs.lemmas.Option.{slice_get_within, get_or_from_slice_get}
 use Rattle.prefix_lanes.specs.Bits.{PrefixView}
 use Rattle.ranked_policy.specs.Plans.{IsNetwork, IsRouter, IsNamed}
@@ -8,6 +9,7 @@ use Rattle.rib_tables.specs.Choices.{IsBest}
 use Rattle.rib_tables.specs.Owners.{RibView, sources_of}
 use Rattle.rib_tables.specs.Rows.{IsRow, IsRowBest, view_of}
 use Rattle.rib_tables.proofs.SeenLemmas.{best_seen}
+use Rattle.rib_tables.proofs.BestLemmas.{best_along}
 use Rattle.rib_tables.proofs.OneRowLemmas.{key_some, key_row}
 use Rattle.rib_tables.proofs.rib.Rib.best.Goals as goal
 
@@ -34,35 +36,18 @@ best_way-way-requires c =
     let row : c.index.result.now ≡ x.0 = c.index.ensures ∙ get_or_from_slice_get s.rows.items place x.0 c.index.result.now x.1 in
     ap (λ (r : Row). length r.heard) row ∙ (c.self.invariant.whole.each place x.0 x.1).heard ∙ ap (λ (ps : List Peer). length ps) (sym c.as_slice.ensures.value)
 
-pub returns-in_ok-from_router-in-Some : goal.returns-in_ok-from_router-in-Some
-returns-in_ok-from_router-in-Some c =
+pub returns : goal.returns
+returns c =
     let s = c.self.inside in
     let q = c.args.prefix.now in
     let net = s.network.now in
     let whole = c.self.invariant.whole in
     let place = c.unwrap-place.result in
+    let path = c.in_ok-path_along.field-0 in
     let x = key_row net s.router s.peers.items s.keys.keys s.rows.items whole q c.place_of.result place c.place_of.ensures c.unwrap-place.ensures in
     let row : c.index.result.now ≡ x.0 = c.index.ensures ∙ get_or_from_slice_get s.rows.items place x.0 c.index.result.now x.1 in
-    let path : List ℕ = s.router ∷ c.in-Some.rest.now in
-    let Best : List Peer → Row → Type 0 = λ ps r. IsNetwork net → IsRouter net.routers s.router → IsRow net s.router ps r → IsRowBest net s.router ps r path in
-    let best = subst (λ (ps : List Peer). Best ps x.0) c.as_slice.ensures.value (subst (Best c.as_slice.result.now) row (c.in-Some.ensures net)) in
-    let seen = (best_seen net s.router s.peers.items s.keys.keys s.rows.items whole place x.0 x.1 path).0 (best whole.network whole.routers (whole.each place x.0 x.1)) in
-    subst (λ (v : RibView). IsBest (sources_of v) q c.in_ok-from_router-in-Some.field-0) c.self.view_is
-    (subst (λ (p : List ℕ). IsBest (sources_of (view_of net s.router s.peers.items s.rows.items)) q p) (sym c.in_ok-from_router-in-Some.ensures)
-    (subst (λ (p : PrefixView). IsBest (sources_of (view_of net s.router s.peers.items s.rows.items)) p path) x.2 seen))
-
-pub returns-in-None : goal.returns-in-None
-returns-in-None c =
-    let s = c.self.inside in
-    let q = c.args.prefix.now in
-    let net = s.network.now in
-    let whole = c.self.invariant.whole in
-    let place = c.unwrap-place.result in
-    let x = key_row net s.router s.peers.items s.keys.keys s.rows.items whole q c.place_of.result place c.place_of.ensures c.unwrap-place.ensures in
-    let row : c.index.result.now ≡ x.0 = c.index.ensures ∙ get_or_from_slice_get s.rows.items place x.0 c.index.result.now x.1 in
-    let Best : List Peer → Row → Type 0 = λ ps r. IsNetwork net → IsRouter net.routers s.router → IsRow net s.router ps r → IsRowBest net s.router ps r [] in
-    let best = subst (λ (ps : List Peer). Best ps x.0) c.as_slice.ensures.value (subst (Best c.as_slice.result.now) row (c.in-None.ensures net)) in
-    let seen = (best_seen net s.router s.peers.items s.keys.keys s.rows.items whole place x.0 x.1 []).0 (best whole.network whole.routers (whole.each place x.0 x.1)) in
-    subst (λ (v : RibView). IsBest (sources_of v) q c.new.result) c.self.view_is
-    (subst (λ (p : List ℕ). IsBest (sources_of (view_of net s.router s.peers.items s.rows.items)) q p) (sym c.new.ensures)
-    (subst (λ (p : PrefixView). IsBest (sources_of (view_of net s.router s.peers.items s.rows.items)) p []) x.2 seen))
+    let Best : List Peer → Row → Type 0 = λ ps r. IsNetwork net → IsRouter net.routers s.router → IsRow net s.router ps r → MatchOption c.best_way-way.result (IsRowBest net s.router ps r []) (λ rest. IsRowBest net s.router ps r (s.router ∷ rest.now)) in
+    let way = subst (λ (ps : List Peer). Best ps x.0) c.as_slice.ensures.value (subst (Best c.as_slice.result.now) row (c.best_way-way.ensures net)) in
+    let best = best_along (IsRowBest net s.router s.peers.items x.0) (λ rest. s.router ∷ rest.now) c.best_way-way.result path (way whole.network whole.routers (whole.each place x.0 x.1)) c.in_ok-path_along.ensures in
+    let seen = (best_seen net s.router s.peers.items s.keys.keys s.rows.items whole place x.0 x.1 path).0 best in
+    subst (λ (v : RibView). IsBest (sources_of v) q path) c.self.view_is (subst (λ (p : PrefixView). IsBest (sources_of (view_of net s.router s.peers.items s.rows.items)) p path) x.2 seen)

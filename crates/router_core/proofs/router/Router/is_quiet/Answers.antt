@@ -1,4 +1,4 @@
-use Rattle.std.proofs.Common.{◌≡◌, ◌∙◌, sym, ap, subst, refl, true, false}
+use Rattle.std.proofs.Common.{◌≡◌, ◌∙◌, sym, ap, subst, refl}
 use Rattle.std.specs.Prelude.{is_some}
 use Rattle.bgp_framing.specs.Held.{is_waiting}
 use Rattle.outbox.specs.Items.{next_item}

@@ -24,8 +24,8 @@ invariant_of-self c =
     subst (λ (ps : List Place). AreKept ps c.put_message.new.out.items) (sym c.push_reserved.ensures.items)
     (subst (λ (os : List ℕ). AreKept (c.self.inside.places.items ++ p ∷ []) os) (sym c.put_message.ensures.items) all)
 
-pub returns-in-UpdateMsg : goal.returns-in-UpdateMsg
-returns-in-UpdateMsg c =
+pub returns-in-UpdateMsg-clause-told : goal.returns-in-UpdateMsg-clause-told
+returns-in-UpdateMsg-clause-told c =
     let m = c.in-UpdateMsg.is in
     let u = c.in-UpdateMsg.field-0 in
     let new = written c.args.message.now in

@@ -5,7 +5,7 @@ use Rattle.rib_tables.specs.Words.{nothing, announced_word, lists}
 use Rattle.rib_tables.specs.declared.row.Row.{Row}
 use Rattle.rib_tables.specs.Rows.{Marks, hearing_all, hearing_update}
 use Rattle.rib_tables.proofs.ChangeLemmas.{fits_hearing, map_after, marks_both, written_back}
-use Rattle.rib_tables.proofs.changes.hear_update.Goals as goal
+use Rattle.rib_tables.proofs.changes.hear_several.Goals as goal
 
 pub hear_announced-requires-clause-fit : goal.hear_announced-requires-clause-fit
 hear_announced-requires-clause-fit c =
