@@ -14,7 +14,9 @@ use Rattle.bgp_codec.specs.declared.attributes.Raw.{Raw}
 use Rattle.bgp_codec.specs.Reading.{◌>>=◌}
 use Rattle.bgp_codec.specs.Opens.{is_unicast}
 use Rattle.bgp_codec.specs.Spelling.{IsOctets}
-use Rattle.bgp_codec.specs.Updates.{update_fault, attr_fault, high_flags, is_known, flags_of, partial_flag, flags_fit, size_fits, raw_of, path_octets, aggregator_octets, SegmentFits, RawFits, number_at, address_at, path_reading, aggregator_of, with_origin, with_path, with_next_hop, with_med, with_local_pref, with_atomic, with_aggregator, with_other, has_code, put_raw, other_reading, with_attr}
+use Rattle.bgp_codec.specs.AttrTable.{high_flags, is_known, flags_of, partial_flag, flags_fit, size_fits}
+use Rattle.bgp_codec.specs.Updates.{raw_of, path_octets, aggregator_octets, SegmentFits, RawFits}
+use Rattle.bgp_codec.specs.UpdateReading.{update_fault, attr_fault, number_at, address_at, path_reading, aggregator_of, with_origin, with_path, with_next_hop, with_med, with_local_pref, with_atomic, with_aggregator, with_other, has_code, put_raw, other_reading, with_attr}
 use Rattle.bgp_codec.proofs.PathLemmas.{path_takes, path_again}
 use Rattle.bgp_codec.proofs.AttrSteps.{guarded}
 use Rattle.bgp_codec.proofs.AttrLemmas.{raw_in}

@@ -12,7 +12,9 @@ use Rattle.bgp_codec.specs.declared.attributes.Aggregator.{Aggregator}
 use Rattle.bgp_codec.specs.declared.attributes.Attrs.{Attrs}
 use Rattle.bgp_codec.specs.declared.attributes.Raw.{Raw}
 use Rattle.bgp_codec.specs.Opens.{is_unicast}
-use Rattle.bgp_codec.specs.Updates.{is_known, partial_flag, raw_of, given, aggregator_raw, aggregator_octets, stands, attributes, path_octets, path_reading, SegmentFits, RawFits, IsRising, AttrsFit, has_code, put_raw, with_other}
+use Rattle.bgp_codec.specs.AttrTable.{is_known, partial_flag}
+use Rattle.bgp_codec.specs.Updates.{raw_of, given, aggregator_raw, aggregator_octets, stands, attributes, path_octets, SegmentFits, RawFits, IsRising, AttrsFit}
+use Rattle.bgp_codec.specs.UpdateReading.{path_reading, has_code, put_raw, with_other}
 use Rattle.bgp_codec.proofs.PathLemmas.{path_again}
 use Rattle.bgp_codec.proofs.RisingLemmas.{all_more, all_join, all_parts, all_filter, all_passed, all_permuted, any_none, none_any, put_in, put_passed, put_stopped, put_all, put_rising, filter_rising, rising_join, rising_permuted, NoCode}
 use Rattle.bgp_codec.proofs.AttrItems.{Item, ItemFits, raw_from, put}

@@ -8,7 +8,7 @@ use Rattle.bgp_codec.specs.declared.fault.CodecError.{CodecError}
 use Rattle.bgp_codec.specs.declared.fault.CodecError.TheVariants as errors
 use Rattle.bgp_codec.specs.declared.attributes.Attrs.{Attrs}
 use Rattle.bgp_codec.specs.Reading.{◌>>=◌, Fails}
-use Rattle.bgp_codec.specs.Updates.{update_fault, is_extended, head_size, value_size, attr_at, with_attr, attrs_in, attrs_from}
+use Rattle.bgp_codec.specs.UpdateReading.{update_fault, is_extended, head_size, value_size, attr_at, with_attr, attrs_in, attrs_from}
 
 -- a value behind a test, where the test lets it pass
 pub guarded : {A : Type 0} (b : Bool) (e : Fault) (x y : A) → (let r : Result A Fault = cond b (Err e) (Ok x) in r ≡ Ok y) → (b ≡ false) × (x ≡ y)

@@ -10,7 +10,9 @@ use Rattle.bgp_codec.specs.declared.attributes.Raw.{Raw}
 use Rattle.bgp_codec.specs.Reading.{◌>>=◌, all_in}
 use Rattle.bgp_codec.specs.Spelling.{IsOctets}
 use Rattle.bgp_codec.specs.Opens.{is_unicast}
-use Rattle.bgp_codec.specs.Updates.{is_known, flags_fit, size_fits, attr_octets, raw_octets, attributes, attrs_octets, SpellsEach, SpellsAttr, SpellsAttrs, AttrsFit, segment_at, path_reading, address_at, head_size, value_size, attr_at, no_attrs, has_code, with_value, with_attr, attrs_in, attrs_from, attrs_reading}
+use Rattle.bgp_codec.specs.AttrTable.{is_known, flags_fit, size_fits}
+use Rattle.bgp_codec.specs.Updates.{attr_octets, raw_octets, attributes, attrs_octets, SpellsEach, SpellsAttr, SpellsAttrs, AttrsFit}
+use Rattle.bgp_codec.specs.UpdateReading.{segment_at, path_reading, address_at, head_size, value_size, attr_at, no_attrs, has_code, with_value, with_attr, attrs_in, attrs_from, attrs_reading}
 use Rattle.bgp_codec.proofs.OctetLemmas.{octets_behind}
 use Rattle.bgp_codec.proofs.FaultData.{FaultsWithin, then_within, either_within, front_within}
 use Rattle.bgp_codec.proofs.AttrSteps.{has_attr, attr_shorter, attrs_none, attrs_split, attrs_step, attrs_cut}

@@ -12,7 +12,9 @@ use Rattle.bgp_codec.specs.declared.path.Segment.{Segment}
 use Rattle.bgp_codec.specs.declared.judging.Came.{Came}
 use Rattle.bgp_codec.specs.Reading.{Reader, all_of}
 use Rattle.bgp_codec.specs.Judging.{Remembers, first_number}
-use Rattle.bgp_codec.specs.Updates.{attr_fault, high_flags, is_known, flags_fit, size_fits, raw_of, address_at, numbers_of, segment_at, path_reading, path_numbers, aggregator_of, with_origin, with_path, with_next_hop, with_med, with_local_pref, with_atomic, with_aggregator, with_other, no_attrs, has_code, put_raw, with_attr}
+use Rattle.bgp_codec.specs.AttrTable.{high_flags, is_known, flags_fit, size_fits}
+use Rattle.bgp_codec.specs.Updates.{raw_of, path_numbers}
+use Rattle.bgp_codec.specs.UpdateReading.{attr_fault, address_at, numbers_of, segment_at, path_reading, aggregator_of, with_origin, with_path, with_next_hop, with_med, with_local_pref, with_atomic, with_aggregator, with_other, no_attrs, has_code, put_raw, with_attr}
 use Rattle.bgp_codec.proofs.EachLemmas.{Shortens, each_none, each_step, each_fault, front_found}
 use Rattle.bgp_codec.proofs.PathLemmas.{segment_shortens, segment_parts}
 use Rattle.bgp_codec.proofs.AttrSteps.{guarded}

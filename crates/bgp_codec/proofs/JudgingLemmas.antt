@@ -9,7 +9,9 @@ use Rattle.bgp_codec.specs.Opens.{value_at, cap_of, cap_at, caps_reading, param_
 use Rattle.bgp_codec.specs.Reading.{◌>>=◌, Reader, all_of, Fails, Judged, IsNoWant}
 use Rattle.bgp_codec.specs.declared.attributes.Attrs.{Attrs}
 use Rattle.bgp_codec.specs.Opens.{is_unicast}
-use Rattle.bgp_codec.specs.Updates.{high_flags, is_known, raw_of, address_at, aggregator_of, attr_at, with_origin, with_aggregator, with_next_hop, with_other, has_code, put_raw, with_attr, attrs_from}
+use Rattle.bgp_codec.specs.AttrTable.{high_flags, is_known}
+use Rattle.bgp_codec.specs.Updates.{raw_of}
+use Rattle.bgp_codec.specs.UpdateReading.{address_at, aggregator_of, attr_at, with_origin, with_aggregator, with_next_hop, with_other, has_code, put_raw, with_attr, attrs_from}
 use Rattle.std.proofs.lemmas.Bool.{le-ltb}
 use Rattle.bgp_codec.proofs.AttrSteps.{attrs_cut, attrs_split}
 use Rattle.bgp_codec.proofs.AttrItems.{value_by}

@@ -10,7 +10,8 @@ use Rattle.bgp_codec.specs.declared.path.Segment.{Segment}
 use Rattle.bgp_codec.specs.declared.path.SegmentKind.{SegmentKind}
 use Rattle.bgp_codec.specs.declared.path.SegmentKind.TheVariants.{AsSet, AsSequence}
 use Rattle.bgp_codec.specs.Spelling.{IsOctets}
-use Rattle.bgp_codec.specs.Updates.{segment_code, segment_octets, path_octets, SegmentFits, update_fault, numbers_of, segment_of, segment_at, path_reading}
+use Rattle.bgp_codec.specs.Updates.{segment_code, segment_octets, path_octets, SegmentFits}
+use Rattle.bgp_codec.specs.UpdateReading.{update_fault, numbers_of, segment_of, segment_at, path_reading}
 use Rattle.bgp_codec.proofs.FaultData.{FaultsWithin, either_within}
 use Rattle.bgp_codec.proofs.OctetLemmas.{octets_front, octets_tail, two_octets}
 use Rattle.bgp_codec.proofs.OctetLemmas.{octets_behind}

@@ -13,8 +13,9 @@ use Rattle.bgp_codec.specs.Header.{kind_field, length_field, is_message_len, is_
 use Rattle.bgp_codec.specs.Spelling.{IsWritable, IsOctets, Spells, SpellsBody, kind_of, framed, written, written_body}
 use Rattle.bgp_codec.proofs.WritingLemmas.{length-written}
 use Rattle.bgp_codec.specs.Reading.{Gives}
-use Rattle.bgp_codec.specs.Opens.{open_reading, is_peer}
-use Rattle.bgp_codec.specs.Updates.{long_string, update_reading}
+use Rattle.bgp_codec.specs.Opens.{open_reading}
+use Rattle.bgp_codec.specs.Updates.{long_string}
+use Rattle.bgp_codec.specs.UpdateReading.{update_reading}
 use Rattle.bgp_codec.specs.Faults.{read_as, reading, body_reading, notice_reading, fault, fault_in, or_else, OneMessageOrFault, FaultFitsAMessage, WrittenIsSpelt, WrittenIsRead, IsFrom, PeersWritingIsRead}
 use Rattle.bgp_codec.proofs.OpenLaws.{open_takes, open_again}
 use Rattle.bgp_codec.proofs.FaultData.{FaultsWithin}

@@ -13,7 +13,8 @@ use Rattle.bgp_codec.specs.declared.attributes.Attrs.{Attrs}
 use Rattle.bgp_codec.specs.declared.update.Update.{Update}
 use Rattle.bgp_codec.specs.Reading.{◌>>=◌}
 use Rattle.bgp_codec.specs.Spelling.{IsOctets}
-use Rattle.bgp_codec.specs.Updates.{long_string, SpellsEach, SpellsPrefix, missing, is_from, IsAnnounced, SpellsUpdate, prefix_octets, attrs_octets, update_octets, UpdateFits, update_fault, number_at, prefixes_reading, attrs_reading, announced_by, announced_reading, nlri_reading, withdrawn_len, attrs_len, update_of, parts_reading, update_reading}
+use Rattle.bgp_codec.specs.Updates.{long_string, SpellsEach, SpellsPrefix, missing, is_from, IsAnnounced, SpellsUpdate, prefix_octets, attrs_octets, update_octets, UpdateFits}
+use Rattle.bgp_codec.specs.UpdateReading.{update_fault, number_at, prefixes_reading, attrs_reading, announced_by, announced_reading, nlri_reading, withdrawn_len, attrs_len, update_of, parts_reading, update_reading}
 use Rattle.bgp_codec.proofs.OctetLemmas.{octets_behind}
 use Rattle.bgp_codec.proofs.FaultData.{FaultsWithin, then_within, either_within, wider}
 use Rattle.bgp_codec.proofs.OctetLemmas.{octets_front, two_octets}

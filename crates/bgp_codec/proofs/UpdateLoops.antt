@@ -11,7 +11,8 @@ use Rattle.bgp_codec.specs.declared.attributes.Attrs.{Attrs}
 use Rattle.bgp_codec.specs.declared.attributes.Aggregator.{Aggregator}
 use Rattle.bgp_codec.specs.declared.attributes.Raw.{Raw}
 use Rattle.bgp_codec.specs.declared.path.Segment.{Segment}
-use Rattle.bgp_codec.specs.Updates.{segment_octets, path_octets, put_raw, IsRising, raw_octets, attrs_octets, stands, given, aggregator_raw}
+use Rattle.bgp_codec.specs.Updates.{segment_octets, path_octets, IsRising, raw_octets, attrs_octets, stands, given, aggregator_raw}
+use Rattle.bgp_codec.specs.UpdateReading.{put_raw}
 use Rattle.bgp_codec.proofs.OpenLoops.{drop_one, take_one}
 use Rattle.bgp_codec.proofs.PathLemmas.{length_numbers}
 

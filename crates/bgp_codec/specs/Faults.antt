@@ -7,7 +7,8 @@ use Rattle.bgp_codec.specs.declared.message.Message.{Message}
 use Rattle.bgp_codec.specs.declared.message.Message.TheVariants.{OpenMsg, UpdateMsg, NoticeMsg, AliveMsg}
 use Rattle.bgp_codec.specs.declared.rule.Rule.{Rule}
 use Rattle.bgp_codec.specs.Opens.{open_reading, is_peer}
-use Rattle.bgp_codec.specs.Updates.{update_reading, is_from}
+use Rattle.bgp_codec.specs.Updates.{is_from}
+use Rattle.bgp_codec.specs.UpdateReading.{update_reading}
 use Rattle.bgp_codec.specs.Header.{header_fault, kind_field, IsFrame}
 use Rattle.bgp_codec.specs.Spelling.{IsOctets, Spells, IsWritable, written}
 

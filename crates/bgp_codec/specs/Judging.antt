@@ -2,7 +2,8 @@
 use Rattle.std.specs.Prelude.{◌≡◌, ◌<◌, ℕ, false, List, [], ◌∷◌, length, Option, Some, None, slice_index_or}
 use Rattle.bgp_codec.specs.declared.judging.Came.{Came}
 use Rattle.bgp_codec.specs.declared.attributes.Attrs.{Attrs}
-use Rattle.bgp_codec.specs.Updates.{has_code, path_numbers}
+use Rattle.bgp_codec.specs.Updates.{path_numbers}
+use Rattle.bgp_codec.specs.UpdateReading.{has_code}
 
 -- the first number, where there is one
 abbrev pub first_number : List ℕ → Option ℕ

@@ -2,11 +2,57 @@
 
 ghost use Rattle.std.specs.Prelude.{◌≡◌, ◌<◌, ◌⊎◌, length};
 ghost use Rattle.bgp_codec.specs.Opens.{open_fault};
-ghost use Rattle.bgp_codec.specs.Updates.{update_fault, attr_fault};
+ghost use Rattle.bgp_codec.specs.UpdateReading.{update_fault, attr_fault};
 
 use crate::octets::Octets;
 use std::alloc::{AllocError, AllocFailed, Global};
 use thiserror::Error;
+
+// The error codes of faults (RFC 4271 section 4.5).
+pub(crate) const MESSAGE_HEADER_ERROR: u8 = 1;
+
+pub(crate) const OPEN_MESSAGE_ERROR: u8 = 2;
+
+pub(crate) const UPDATE_MESSAGE_ERROR: u8 = 3;
+
+// The error subcodes of a header's faults (section 6.1).
+pub(crate) const CONNECTION_NOT_SYNCHRONIZED: u8 = 1;
+
+pub(crate) const BAD_MESSAGE_LENGTH: u8 = 2;
+
+pub(crate) const BAD_MESSAGE_TYPE: u8 = 3;
+
+// Those of an OPEN's (section 6.2); the first where none of the others fits.
+pub(crate) const OPEN_UNSPECIFIC: u8 = 0;
+
+pub(crate) const UNSUPPORTED_VERSION_NUMBER: u8 = 1;
+
+pub(crate) const BAD_PEER_AS: u8 = 2;
+
+pub(crate) const BAD_BGP_IDENTIFIER: u8 = 3;
+
+pub(crate) const UNSUPPORTED_OPTIONAL_PARAMETER: u8 = 4;
+
+pub(crate) const UNACCEPTABLE_HOLD_TIME: u8 = 6;
+
+// Those of an UPDATE's (section 6.3).
+pub(crate) const MALFORMED_ATTRIBUTE_LIST: u8 = 1;
+
+pub(crate) const UNRECOGNIZED_WELL_KNOWN_ATTRIBUTE: u8 = 2;
+
+pub(crate) const MISSING_WELL_KNOWN_ATTRIBUTE: u8 = 3;
+
+pub(crate) const ATTRIBUTE_FLAGS_ERROR: u8 = 4;
+
+pub(crate) const ATTRIBUTE_LENGTH_ERROR: u8 = 5;
+
+pub(crate) const INVALID_ORIGIN_ATTRIBUTE: u8 = 6;
+
+pub(crate) const INVALID_NEXT_HOP_ATTRIBUTE: u8 = 8;
+
+pub(crate) const INVALID_NETWORK_FIELD: u8 = 10;
+
+pub(crate) const MALFORMED_AS_PATH: u8 = 11;
 
 /// A fault as a NOTIFICATION names it (RFC 4271 sections 4.5 and 6).
 #[derive(Debug, Drop)]
@@ -38,7 +84,7 @@ pub(crate) fn open_fault(alloc: Global, sub: u8) -> CodecError
     ensures { result ≡ CodecError.Fault (open_fault sub) }
 {
     CodecError::Fault(Fault {
-        code: 2,
+        code: OPEN_MESSAGE_ERROR,
         sub,
         extra: Octets::short(alloc, &[]),
     })
@@ -49,7 +95,7 @@ pub(crate) fn update_fault(alloc: Global, sub: u8) -> CodecError
     ensures { result ≡ CodecError.Fault (update_fault sub) }
 {
     CodecError::Fault(Fault {
-        code: 3,
+        code: UPDATE_MESSAGE_ERROR,
         sub,
         extra: Octets::short(alloc, &[]),
     })
@@ -62,7 +108,7 @@ pub(crate) fn attr_fault(alloc: Global, sub: u8, attr: &[u8]) -> CodecError
 {
     match Octets::from_slice(alloc, attr) {
         Ok(extra) => CodecError::Fault(Fault {
-            code: 3,
+            code: UPDATE_MESSAGE_ERROR,
             sub,
             extra,
         }),

@@ -3,7 +3,9 @@
 ghost use Rattle.std.specs.Prelude.{◌≡◌, IfOk, IfErr, Some, None};
 ghost use Rattle.bgp_codec.specs.Header.{header_fault, length_field, kind_field, length_fits, is_message_len, is_kind, begins_with_marker};
 
-use crate::fault::Fault;
+use crate::fault::{
+    BAD_MESSAGE_LENGTH, BAD_MESSAGE_TYPE, CONNECTION_NOT_SYNCHRONIZED, Fault, MESSAGE_HEADER_ERROR,
+};
 use crate::kind::Header;
 use crate::octets::Octets;
 use marker_lanes::is_marker;
@@ -51,29 +53,29 @@ pub fn header(alloc: Global, octets: &[u8; 19]) -> Result<Header, Fault>
     let len = u16::from_be_bytes([high, low]);
     if !begins_with_marker(octets) {
         return Err(Fault {
-            code: 1,
-            sub: 1,
+            code: MESSAGE_HEADER_ERROR,
+            sub: CONNECTION_NOT_SYNCHRONIZED,
             extra: Octets::short(alloc, &[]),
         });
     }
     if !is_message_len(len) {
         return Err(Fault {
-            code: 1,
-            sub: 2,
+            code: MESSAGE_HEADER_ERROR,
+            sub: BAD_MESSAGE_LENGTH,
             extra: Octets::short(alloc, &[high, low]),
         });
     }
     if !is_kind(kind) {
         return Err(Fault {
-            code: 1,
-            sub: 3,
+            code: MESSAGE_HEADER_ERROR,
+            sub: BAD_MESSAGE_TYPE,
             extra: Octets::short(alloc, &[kind]),
         });
     }
     if !fits_kind(kind, len) {
         return Err(Fault {
-            code: 1,
-            sub: 2,
+            code: MESSAGE_HEADER_ERROR,
+            sub: BAD_MESSAGE_LENGTH,
             extra: Octets::short(alloc, &[high, low]),
         });
     }

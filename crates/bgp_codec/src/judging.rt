@@ -6,12 +6,19 @@ ghost use Rattle.std.specs.Prelude.{◌≡◌, ◌≤◌, List, Some, Ok, false,
 ghost use Rattle.bgp_codec.specs.Reading.{Judges, Passes};
 ghost use Rattle.bgp_codec.specs.Judging.{Remembers, first_number};
 ghost use Rattle.bgp_codec.specs.Opens.{caps_reading, param_at, params_reading, open_reading};
-ghost use Rattle.bgp_codec.specs.Updates.{prefixes_reading, path_reading, path_numbers, has_code, with_value, with_attr, no_attrs, attrs_reading, missing, is_from, nlri_reading, parts_reading, update_reading};
+ghost use Rattle.bgp_codec.specs.Updates.{path_numbers, missing, is_from};
+ghost use Rattle.bgp_codec.specs.UpdateReading.{prefixes_reading, path_reading, has_code, with_value, with_attr, no_attrs, attrs_reading, nlri_reading, parts_reading, update_reading};
 ghost use Rattle.bgp_codec.specs.declared.attributes.Attrs.{Attrs};
 ghost use Rattle.bgp_codec.specs.declared.path.Segment.{Segment};
 
-use crate::attributes::{AS_PATH, NEXT_HOP, ORIGIN, flags_fit, is_known, read_attr, size_fits};
-use crate::fault::{CodecError, Fault, attr_fault, open_fault, update_fault};
+use crate::attr_reading::read_attr;
+use crate::attributes::{AS_PATH, NEXT_HOP, OPTIONAL, ORIGIN, flags_fit, is_known, size_fits};
+use crate::fault::{
+    ATTRIBUTE_FLAGS_ERROR, ATTRIBUTE_LENGTH_ERROR, CodecError, Fault, INVALID_NEXT_HOP_ATTRIBUTE,
+    INVALID_ORIGIN_ATTRIBUTE, MALFORMED_AS_PATH, MALFORMED_ATTRIBUTE_LIST,
+    MISSING_WELL_KNOWN_ATTRIBUTE, UNRECOGNIZED_WELL_KNOWN_ATTRIBUTE,
+    UNSUPPORTED_OPTIONAL_PARAMETER, UPDATE_MESSAGE_ERROR, attr_fault, open_fault, update_fault,
+};
 use crate::numbers::{address_at, octet_at};
 use crate::octets::Octets;
 use crate::open::{is_unicast, params_of, read_value};
@@ -41,7 +48,7 @@ fn judge_param(alloc: Global, octets: &[u8]) -> Result<&[u8], CodecError>
 {
     let (value, rest) = read_value(alloc, octets)?;
     if octet_at(octets, 0) != 2 {
-        return Err(open_fault(alloc, 4));
+        return Err(open_fault(alloc, UNSUPPORTED_OPTIONAL_PARAMETER));
     }
     judge_caps(alloc, value)?;
     Ok(rest)
@@ -120,10 +127,10 @@ fn judge_value(alloc: Global, attr: &[u8], value: &[u8]) -> Result<(), CodecErro
 {
     let code = octet_at(attr, 1);
     if code == ORIGIN && octet_at(value, 0) > 2 {
-        return Err(attr_fault(alloc, 6, attr));
+        return Err(attr_fault(alloc, INVALID_ORIGIN_ATTRIBUTE, attr));
     }
     if code == NEXT_HOP && !is_unicast(address_at(value, 0)) {
-        return Err(attr_fault(alloc, 8, attr));
+        return Err(attr_fault(alloc, INVALID_NEXT_HOP_ATTRIBUTE, attr));
     }
     if code == AS_PATH {
         return judge_path(alloc, value);
@@ -138,16 +145,16 @@ fn judge_new(alloc: Global, attr: &[u8], value: &[u8]) -> Result<(), CodecError>
 {
     let (flags, code) = (octet_at(attr, 0), octet_at(attr, 1));
     if !is_known(code) {
-        if flags < 0x80 {
-            return Err(attr_fault(alloc, 2, attr));
+        if flags < OPTIONAL {
+            return Err(attr_fault(alloc, UNRECOGNIZED_WELL_KNOWN_ATTRIBUTE, attr));
         }
         return Ok(());
     }
     if !flags_fit(code, flags) {
-        return Err(attr_fault(alloc, 4, attr));
+        return Err(attr_fault(alloc, ATTRIBUTE_FLAGS_ERROR, attr));
     }
     if !size_fits(code, value.len()) {
-        return Err(attr_fault(alloc, 5, attr));
+        return Err(attr_fault(alloc, ATTRIBUTE_LENGTH_ERROR, attr));
     }
     judge_value(alloc, attr, value)
 }
@@ -168,7 +175,7 @@ fn judge_attr(alloc: Global, came: &mut Came, attr: &[u8], value: &[u8]) -> Resu
     ensures { (a : Attrs) → Remembers came.old a → Judges (λ _ b. Remembers came.new b) result (with_attr a attr.now value.now) }
 {
     if came.codes[octet_at(attr, 1) as usize] {
-        return Err(update_fault(alloc, 1));
+        return Err(update_fault(alloc, MALFORMED_ATTRIBUTE_LIST));
     }
     judge_new(alloc, attr, value)?;
     remember(came, attr, value);
@@ -239,14 +246,14 @@ fn judge_nlri(
     }
     if let Some(code) = missing(came) {
         return Err(CodecError::Fault(Fault {
-            code: 3,
-            sub: 3,
+            code: UPDATE_MESSAGE_ERROR,
+            sub: MISSING_WELL_KNOWN_ATTRIBUTE,
             extra: Octets::short(alloc, &[code]),
         }));
     }
     judge_prefixes(alloc, octets)?;
     if !is_from(peer, came) {
-        return Err(update_fault(alloc, 11));
+        return Err(update_fault(alloc, MALFORMED_AS_PATH));
     }
     Ok(())
 }

@@ -6,15 +6,20 @@
 //! written is read again as the same message.
 //!
 //! The definitions stand in `specs/`: `Header` (the header and its checks), `Spelling` (how each
-//! message is spelt, and the one spelling that is written), `Opens` and `Updates` (the bodies of an
-//! OPEN and an UPDATE), `Reading` (what a reader answers), `Faults` (the first fault of a frame),
-//! `Judging` (what a search for that fault remembers, where a growth was refused).
+//! message is spelt, and the one spelling that is written), `Opens` (the body of an OPEN),
+//! `Updates` (the body of an UPDATE, as it is spelt and written), `AttrTable` (the attributes that
+//! are known), `UpdateReading` (what reading an UPDATE answers), `Reading` (what a reader answers),
+//! `Faults` (the first fault of a frame), `Judging` (what a search for that fault remembers, where a
+//! growth was refused).
 //! The laws that tie them together are the public functions of [`laws`].
 //!
 //! Numbers of autonomous systems have two octets in messages. Left out: four-octet numbers,
 //! framing (which octets are one message), sessions, and every use of a message.
 #![tactic(auto)]
 
+mod attr_fitting;
+mod attr_reading;
+mod attr_writing;
 mod attributes;
 mod copying;
 mod fault;

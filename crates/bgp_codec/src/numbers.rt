@@ -1,7 +1,7 @@
 //! Numbers and lengths in a message (RFC 4271 section 4): the most significant octet first.
 
 ghost use Rattle.std.specs.Prelude.{◌≡◌, ◌≤◌, length, slice_index};
-ghost use Rattle.bgp_codec.specs.Updates.{number_at, address_at};
+ghost use Rattle.bgp_codec.specs.UpdateReading.{number_at, address_at};
 
 // The octet at a place, or zero behind the end.
 pub(crate) fn octet_at(octets: &[u8], at: usize) -> u8

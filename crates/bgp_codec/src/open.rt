@@ -5,7 +5,10 @@ ghost use Rattle.std.specs.List.{flat_map, AllByRecursion};
 ghost use Rattle.bgp_codec.specs.Reading.{Gives, Judged, IsNoWant};
 ghost use Rattle.bgp_codec.specs.Opens.{cap_octets, param_octets, open_octets, asn_field, hold_field, id_field, CapFits, ParamFits, OpenFits, value_at, cap_at, caps_reading, param_at, params_reading, open_reading, open_behind, is_peer, is_hold_time, is_unicast};
 
-use crate::fault::{CodecError, Fault, open_fault};
+use crate::fault::{
+    BAD_BGP_IDENTIFIER, BAD_PEER_AS, CodecError, Fault, OPEN_MESSAGE_ERROR, OPEN_UNSPECIFIC,
+    UNACCEPTABLE_HOLD_TIME, UNSUPPORTED_OPTIONAL_PARAMETER, UNSUPPORTED_VERSION_NUMBER, open_fault,
+};
 use crate::items::Items;
 use crate::numbers::{count_values, octet_at};
 use crate::octets::Octets;
@@ -40,11 +43,11 @@ pub(crate) fn read_value(alloc: Global, octets: &[u8]) -> Result<(&[u8], &[u8]),
     ensures memory { IfErr result IsNoWant }
 {
     match octets {
-        [] | [_] => Err(open_fault(alloc, 0)),
+        [] | [_] => Err(open_fault(alloc, OPEN_UNSPECIFIC)),
         [_, len, rest @ ..] => {
             let len = *len as usize;
             if rest.len() < len {
-                return Err(open_fault(alloc, 0));
+                return Err(open_fault(alloc, OPEN_UNSPECIFIC));
             }
             Ok(rest.split_at(len))
         }
@@ -82,7 +85,7 @@ fn read_param(alloc: Global, octets: &[u8]) -> Result<(Items<Cap>, &[u8]), Codec
 {
     let (value, rest) = read_value(alloc, octets)?;
     if octet_at(octets, 0) != 2 {
-        return Err(open_fault(alloc, 4));
+        return Err(open_fault(alloc, UNSUPPORTED_OPTIONAL_PARAMETER));
     }
     Ok((read_caps(alloc, value)?, rest))
 }
@@ -152,22 +155,22 @@ pub(crate) fn params_of<'a>(
     let (asn, hold, id) = fields_of(body);
     if body[0] != 4 {
         return Err(CodecError::Fault(Fault {
-            code: 2,
-            sub: 1,
+            code: OPEN_MESSAGE_ERROR,
+            sub: UNSUPPORTED_VERSION_NUMBER,
             extra: Octets::short(alloc, &[0, 4]),
         }));
     }
     if !is_peer(rule.peer, asn) {
-        return Err(open_fault(alloc, 2));
+        return Err(open_fault(alloc, BAD_PEER_AS));
     }
     if !is_hold_time(hold) {
-        return Err(open_fault(alloc, 6));
+        return Err(open_fault(alloc, UNACCEPTABLE_HOLD_TIME));
     }
     if !is_unicast(id) {
-        return Err(open_fault(alloc, 3));
+        return Err(open_fault(alloc, BAD_BGP_IDENTIFIER));
     }
     if body.len() != 10 + body[9] as usize {
-        return Err(open_fault(alloc, 0));
+        return Err(open_fault(alloc, OPEN_UNSPECIFIC));
     }
     let (_, params) = body.split_at(10);
     Ok(params)

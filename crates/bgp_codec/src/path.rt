@@ -4,9 +4,10 @@ ghost use Rattle.std.specs.Prelude.{◌≡◌, ◌+◌, ◌*◌, ◌-◌, ◌^�
 ghost use Rattle.std.specs.List.{flat_map, AllByRecursion};
 ghost use Rattle.std.specs.Int.{w16, to_be_bytes};
 ghost use Rattle.bgp_codec.specs.Reading.{Gives, IsNoWant};
-ghost use Rattle.bgp_codec.specs.Updates.{segment_code, segment_octets, path_octets, segment_at, segment_with, path_reading, numbers_of, SegmentFits, begins_with};
+ghost use Rattle.bgp_codec.specs.Updates.{segment_code, segment_octets, path_octets, SegmentFits, begins_with};
+ghost use Rattle.bgp_codec.specs.UpdateReading.{segment_at, segment_with, path_reading, numbers_of};
 
-use crate::fault::{CodecError, update_fault};
+use crate::fault::{CodecError, MALFORMED_AS_PATH, update_fault};
 use crate::items::Items;
 use crate::numbers::count_values;
 use crate::rule::Asn;
@@ -65,6 +66,11 @@ impl Numbers {
     }
 }
 
+// The types of segments.
+const AS_SET: u8 = 1;
+
+const AS_SEQUENCE: u8 = 2;
+
 /// A part of a path.
 #[derive(Debug, Drop)]
 pub struct Segment {
@@ -98,14 +104,14 @@ pub(crate) fn segment_parts(
     ensures memory { IfErr result IsNoWant }
 {
     match octets {
-        [] | [_] => Err(update_fault(alloc, 11)),
+        [] | [_] => Err(update_fault(alloc, MALFORMED_AS_PATH)),
         [code, count, rest @ ..] => {
             let (code, size) = (*code, 2 * *count as usize);
-            if !(code == 1 || code == 2) || *count == 0 || rest.len() < size {
-                return Err(update_fault(alloc, 11));
+            if !(code == AS_SET || code == AS_SEQUENCE) || *count == 0 || rest.len() < size {
+                return Err(update_fault(alloc, MALFORMED_AS_PATH));
             }
             let (numbers, rest) = rest.split_at(size);
-            let kind = if code == 1 {
+            let kind = if code == AS_SET {
                 SegmentKind::AsSet
             } else {
                 SegmentKind::AsSequence
@@ -209,8 +215,8 @@ fn segment_code(kind: SegmentKind) -> u8
     ensures { result ≡ segment_code kind }
 {
     match kind {
-        SegmentKind::AsSet => 1,
-        SegmentKind::AsSequence => 2,
+        SegmentKind::AsSet => AS_SET,
+        SegmentKind::AsSequence => AS_SEQUENCE,
     }
 }
 

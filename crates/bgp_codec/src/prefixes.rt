@@ -4,9 +4,10 @@ ghost use Rattle.std.specs.Prelude.{◌≡◌, ◌+◌, ◌-◌, ◌^◌, ◌≤
 ghost use Rattle.std.specs.List.{flat_map, AllByRecursion};
 ghost use Rattle.prefix_lanes.specs.Bits.{IsCanonical};
 ghost use Rattle.bgp_codec.specs.Reading.{Gives, IsNoWant};
-ghost use Rattle.bgp_codec.specs.Updates.{octet_count, address_at, prefix_at, prefixes_reading, prefix_octets};
+ghost use Rattle.bgp_codec.specs.Updates.{octet_count, prefix_octets};
+ghost use Rattle.bgp_codec.specs.UpdateReading.{address_at, prefix_at, prefixes_reading};
 
-use crate::fault::{CodecError, update_fault};
+use crate::fault::{CodecError, INVALID_NETWORK_FIELD, update_fault};
 use crate::items::Items;
 use prefix_lanes::Prefix;
 use std::alloc::Global;
@@ -37,11 +38,11 @@ pub(crate) fn read_prefix(alloc: Global, octets: &[u8]) -> Result<(Prefix, &[u8]
     ensures memory { IfErr result IsNoWant }
 {
     match octets {
-        [] => Err(update_fault(alloc, 10)),
+        [] => Err(update_fault(alloc, INVALID_NETWORK_FIELD)),
         [len, rest @ ..] => {
             let (len, count) = (*len, octet_count(*len));
             if len > 32 || rest.len() < count {
-                return Err(update_fault(alloc, 10));
+                return Err(update_fault(alloc, INVALID_NETWORK_FIELD));
             }
             let (body, rest) = rest.split_at(count);
             let prefix = Prefix::new(leading_address(body), len).unwrap();

@@ -6,7 +6,7 @@ ghost use Rattle.bgp_codec.specs.Header.{IsFrame, kind_field};
 ghost use Rattle.bgp_codec.specs.Reading.{Decodes, Gives};
 ghost use Rattle.bgp_codec.specs.Spelling.{Spells};
 ghost use Rattle.bgp_codec.specs.Opens.{open_reading};
-ghost use Rattle.bgp_codec.specs.Updates.{update_reading};
+ghost use Rattle.bgp_codec.specs.UpdateReading.{update_reading};
 ghost use Rattle.bgp_codec.specs.Faults.{read_as, reading, fault, RefusesAs};
 
 use crate::fault::CodecError;

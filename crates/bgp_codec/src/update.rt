@@ -2,14 +2,22 @@
 
 ghost use Rattle.std.specs.Prelude.{◌≡◌, ◌≢◌, ℕ, Option, Err, IfOk, IfErr, [], None, ◌-◌, min, ◌+◌, ◌^◌, ◌≤◌, ◌<◌, ◌++◌, ◌↔◌, IsTrue, length, vec_len, vec_capacity};
 ghost use Rattle.bgp_codec.specs.Reading.{Gives};
-ghost use Rattle.bgp_codec.specs.Updates.{missing, nlri_reading, parts_reading, update_reading, update_fault, update_octets, UpdateFits};
+ghost use Rattle.bgp_codec.specs.Updates.{missing, is_from, update_octets, UpdateFits};
+ghost use Rattle.bgp_codec.specs.UpdateReading.{nlri_reading, parts_reading, update_reading, update_fault};
 ghost use Rattle.std.specs.Int.{w16, to_be_bytes};
 
-use crate::attributes::{Attrs, attrs_fit, attrs_len, is_from, missing, put_attrs, read_attrs};
-use crate::fault::{CodecError, Fault, update_fault};
+use crate::attr_fitting::attrs_fit;
+use crate::attr_reading::read_attrs;
+use crate::attr_writing::{attrs_len, put_attrs};
+use crate::attributes::{AS_PATH, Attrs, NEXT_HOP, ORIGIN};
+use crate::fault::{
+    CodecError, Fault, MALFORMED_AS_PATH, MALFORMED_ATTRIBUTE_LIST, MISSING_WELL_KNOWN_ATTRIBUTE,
+    UPDATE_MESSAGE_ERROR, update_fault,
+};
 use crate::items::Items;
 use crate::numbers::number_at;
 use crate::octets::Octets;
+use crate::path::begins_with;
 use crate::prefixes::{are_canonical, prefixes_len, put_prefixes, read_prefixes};
 use crate::rule::Asn;
 use prefix_lanes::Prefix;
@@ -26,6 +34,32 @@ pub struct Update {
     pub nlri: Items<Prefix>,
 }
 
+// The first of ORIGIN, AS_PATH and NEXT_HOP that is not there.
+fn missing(attrs: &Attrs) -> Option<u8>
+    ensures { result ≡ missing attrs.now }
+{
+    if attrs.origin.is_none() {
+        Some(ORIGIN)
+    } else if attrs.path.is_none() {
+        Some(AS_PATH)
+    } else if attrs.next_hop.is_none() {
+        Some(NEXT_HOP)
+    } else {
+        None
+    }
+}
+
+// Whether the first number of the path is the peer's, where a peer is named.
+fn is_from(peer: Option<Asn>, attrs: &Attrs) -> bool
+    ensures { result ≡ is_from peer attrs.now }
+{
+    match (peer, &attrs.path) {
+        (None, _) => true,
+        (Some(_), None) => false,
+        (Some(asn), Some(path)) => begins_with(path.as_slice(), asn),
+    }
+}
+
 // The announced prefixes: what is mandatory is there, then the prefixes, then the peer.
 fn read_nlri(
     alloc: Global,
@@ -40,14 +74,14 @@ fn read_nlri(
     }
     if let Some(code) = missing(attrs) {
         return Err(CodecError::Fault(Fault {
-            code: 3,
-            sub: 3,
+            code: UPDATE_MESSAGE_ERROR,
+            sub: MISSING_WELL_KNOWN_ATTRIBUTE,
             extra: Octets::short(alloc, &[code]),
         }));
     }
     let nlri = read_prefixes(alloc, octets)?;
     if !is_from(peer, attrs) {
-        return Err(update_fault(alloc, 11));
+        return Err(update_fault(alloc, MALFORMED_AS_PATH));
     }
     Ok(nlri)
 }
@@ -75,7 +109,7 @@ fn read_parts(
 // The octets of the three parts of a body: the length of the withdrawn prefixes at 0, they from 2,
 // the length of the attributes behind them, the attributes, then the announced prefixes to the end.
 // It takes no memory.
-#[tactic(auto, unfolding(crate::specs::Updates::update_reading))]
+#[tactic(auto, unfolding(crate::specs::UpdateReading::update_reading))]
 pub(crate) fn parts_of(alloc: Global, body: &[u8]) -> Result<(&[u8], &[u8], &[u8]), CodecError>
     requires { 4 ≤ length body.now }
     ensures ok { IfOk result (λ parts. (peer : Option ℕ) → update_reading peer body.now ≡ parts_reading peer parts.0.now parts.1.now parts.2.now) }
@@ -84,7 +118,7 @@ pub(crate) fn parts_of(alloc: Global, body: &[u8]) -> Result<(&[u8], &[u8], &[u8
     let first = number_at(body, 0) as usize;
     let second = number_at(body, 2 + first) as usize;
     if body.len() < 4 + first || body.len() < 4 + (first + second) {
-        return Err(update_fault(alloc, 1));
+        return Err(update_fault(alloc, MALFORMED_ATTRIBUTE_LIST));
     }
     let (_, behind) = body.split_at(2);
     let (withdrawn, _) = behind.split_at(first);

@@ -1,17 +1,18 @@
 -- What a network text's reader answers.
-use Rattle.std.proofs.Common.{◌≡◌, ℕ, ◌+◌, ◌==◌, true, false, ◌<◌, List, [], ◌∷◌, length, Result, Ok, Err, refl, sym, ap, subst, ◌∙◌, inl, inr, arith}
+use Rattle.std.proofs.Common.{◌≡◌, ℕ, ◌+◌, ◌==◌, true, false, ◌<◌, List, [], ◌∷◌, ◌++◌, length, Result, Ok, Err, refl, sym, ap, subst, ◌∙◌, inl, inr, arith}
 use Rattle.std.proofs.lemmas.Bool.{eqb-true, eqb-false}
-use Rattle.std.specs.Prelude.{IfOk, IfErr}
+use Rattle.std.specs.Prelude.{IfOk, IfErr, IsOk}
+use mathlib.Core.Logic.{◌⊎◌}
 use Rattle.ranked_policy.specs.Plans.{Plan, IsNetwork}
 use Rattle.net_text.specs.declared.code.Code.{Code}
 use Rattle.net_text.specs.declared.code.Code.TheVariants as codes
 use Rattle.net_text.specs.declared.draft.Draft.{Draft}
 use Rattle.net_text.specs.declared.assignment.Entry.{Entry}
 use Rattle.net_text.specs.Lexing.{Text, lines_of}
-use Rattle.net_text.specs.Lines.{line_reading}
-use Rattle.net_text.specs.Networks.{empty_draft, draft_reading, last_line, SpellsNetwork, FailsAsNetwork, IsNoNetwork, RefusesNetwork}
+use Rattle.net_text.specs.Lines.{line_reading, IsLongLine}
+use Rattle.net_text.specs.Networks.{empty_draft, draft_reading, last_line, SpellsNetwork, FailsAsNetwork, IsNoNetwork, IsLongAt, RefusesNetwork}
 use Rattle.net_text.specs.Assignments.{entry_reading, RefusesAssignment}
-use Rattle.net_text.specs.Steps.{Refuses}
+use Rattle.net_text.specs.Steps.{Refuses, RefusesOr}
 use Rattle.net_text.proofs.TextLemmas.{Reached, reached_fault, reached_memory}
 
 abbrev pub network_line : ℕ → Draft → Text → Result Draft Code
@@ -20,9 +21,28 @@ network_line line d words = line_reading d words
 abbrev pub NetworkReached : List Text → ℕ → Draft → List Text → Type 0
 NetworkReached lines line made left = Reached (λ line d words. line_reading d words) 0 (empty_draft lines) lines line made left
 
+-- a long rule behind good lines
+long_at : (lines left rest : List Text) (line : ℕ) (made : Draft) (next : Text) → left ≡ next ∷ rest → NetworkReached lines line made left → IsLongLine made next → IsLongAt lines (line + 1)
+long_at lines left rest line made next l h long =
+    record {
+      front = h.front;
+      rule = next;
+      behind = rest;
+      made = made;
+      parted = h.parted ∙ ap (λ (ls : List Text). h.front ++ ls) l;
+      counted = omega (arith, h.counted);
+      good = h.good;
+      long = long;
+    }
+
 -- a line's refusal is the text's
-pub refuses_network : (lines left rest : List Text) (line : ℕ) (made : Draft) (next : Text) (code : Code) → left ≡ next ∷ rest → NetworkReached lines line made left → Refuses code (line_reading made next) → RefusesNetwork lines (line + 1) code
-refuses_network lines left rest line made next codes.Memory l h e = reached_memory (λ line d words. line_reading d words) 0 (empty_draft lines) made lines left rest line next l h e
+pub refuses_network : (lines left rest : List Text) (line : ℕ) (made : Draft) (next : Text) (code : Code) → left ≡ next ∷ rest → NetworkReached lines line made left
+    → RefusesOr (IsOk (line_reading made next) ⊎ IsLongLine made next) code (line_reading made next) → RefusesNetwork lines (line + 1) code
+refuses_network lines left rest line made next codes.Memory l h e =
+    elim e [
+      | inl ok ↦ inl (reached_memory (λ line d words. line_reading d words) 0 (empty_draft lines) made lines left rest line next l h ok)
+      | inr long ↦ inr (long_at lines left rest line made next l h long)
+    ]
 refuses_network lines left rest line made next codes.BadForm l h e = inl (reached_fault (λ line d words. line_reading d words) 0 (empty_draft lines) made lines left rest line next codes.BadForm l h e)
 refuses_network lines left rest line made next codes.Unreadable l h e = inl (reached_fault (λ line d words. line_reading d words) 0 (empty_draft lines) made lines left rest line next codes.Unreadable l h e)
 refuses_network lines left rest line made next codes.UnknownRouter l h e = inl (reached_fault (λ line d words. line_reading d words) 0 (empty_draft lines) made lines left rest line next codes.UnknownRouter l h e)

@@ -12,7 +12,7 @@ use Rattle.net_text.specs.Lexing.{Text}
 use Rattle.net_text.specs.Words.{◌>>=◌, is_asn, path_of, path_word, is_from, is_simple, router_word, prefix_word, rule_path_word, rule_path_words}
 use Rattle.net_text.specs.Lines.{are_short, are_distinct, is_ruled, is_full, rule_fault, rule_line, with_rule}
 use Rattle.net_text.specs.Taking.{IsTakeable}
-use Rattle.net_text.specs.Steps.{Refuses}
+use Rattle.net_text.specs.Steps.{RefusesOr}
 
 -- ---- want of memory is no fault
 
@@ -56,16 +56,16 @@ rule_paths_no_memory routers u (word ∷ words) =
     one_by_one (rule_path_word routers u word) (λ _. rule_path_words routers u words) (rule_path_no_memory routers u word) (λ _. rule_paths_no_memory routers u words)
 
 -- a fault of judged words is the fault of the line
-pub refuses : {A S : Type 0} (code : Code) (judged : Result A Code) (read : Result S Code) → NoMemory judged → judged ≡ Err code → read ≡ Err code → Refuses code read
-refuses codes.Memory judged read h e f = absurd (h e)
-refuses codes.BadForm judged read h e f = f
-refuses codes.Unreadable judged read h e f = f
-refuses codes.UnknownRouter judged read h e f = f
-refuses codes.Repeated judged read h e f = f
-refuses codes.NotConnected judged read h e f = f
-refuses codes.OutOfLimit judged read h e f = f
-refuses codes.NotSimple judged read h e f = f
-refuses codes.BadPrefix judged read h e f = f
+pub refuses : {A S : Type 0} (allowed : Type 0) (code : Code) (judged : Result A Code) (read : Result S Code) → NoMemory judged → judged ≡ Err code → read ≡ Err code → RefusesOr allowed code read
+refuses allowed codes.Memory judged read h e f = absurd (h e)
+refuses allowed codes.BadForm judged read h e f = f
+refuses allowed codes.Unreadable judged read h e f = f
+refuses allowed codes.UnknownRouter judged read h e f = f
+refuses allowed codes.Repeated judged read h e f = f
+refuses allowed codes.NotConnected judged read h e f = f
+refuses allowed codes.OutOfLimit judged read h e f = f
+refuses allowed codes.NotSimple judged read h e f = f
+refuses allowed codes.BadPrefix judged read h e f = f
 
 -- ---- what good words are
 

@@ -1,5 +1,5 @@
 -- Network lines: what each adds to a network, or its first fault. On one line a wrong form comes first, then the words from left to right, then what came before, then limits on counts.
-use Rattle.std.specs.Prelude.{ℕ, ◌==◌, ◌||◌, ◌&&◌, not, nat_lt, nat_le, Bool, true, List, [], ◌∷◌, ◌++◌, length, map, Option, Some, None, Result, Ok, Err, if◌then◌else◌, codes}
+use Rattle.std.specs.Prelude.{ℕ, ◌≡◌, ◌<◌, ◌==◌, ◌||◌, ◌&&◌, not, nat_lt, nat_le, Bool, true, false, List, [], ◌∷◌, ◌++◌, length, map, Option, Some, None, Result, Ok, Err, if◌then◌else◌, codes}
 use Rattle.std.specs.List.{list_all, list_any, count_by}
 use Rattle.prefix_lanes.specs.Bits.{PrefixView}
 use Rattle.ranked_policy.specs.declared.network.Settings.{Settings}
@@ -173,6 +173,32 @@ rule_line d (a ∷ b ∷ words) =
     router_word d.net.routers a >>= λ u. prefix_word b >>= λ q. rule_path_words d.net.routers u words >>= λ _. rule_fault d.net.routers u q words >>= λ _.
     Ok (with_rule d u q (map path_of words))
 rule_line d words = Err BadForm
+
+-- a rule of more than 32 paths with no fault before the question whether two of them are one: its router is known, its prefix can be read, each path is good, and the router has no rule for the prefix yet
+pub record IsLongRule (d : Draft) (words : List Text) : Type 0 where
+  pub first : Text
+  pub second : Text
+  pub paths : List Text
+  pub asn : ℕ
+  pub prefix : PrefixView
+  pub parted : words ≡ first ∷ second ∷ paths
+  pub router : router_word d.net.routers first ≡ Ok asn
+  pub covered : prefix_word second ≡ Ok prefix
+  pub good : rule_path_words d.net.routers asn paths ≡ Ok tt
+  pub free : is_ruled d.net.routers asn prefix ≡ false
+  pub long : 32 < length paths
+
+-- the words of a line say such a rule
+pub record HasLongRule (d : Draft) (line : List Text) : Type 0 where
+  pub name : Text
+  pub words : List Text
+  pub parted : line ≡ name ∷ words
+  pub named : same name (codes "rank") ≡ true
+  pub rule : IsLongRule d words
+
+-- a line that says such a rule
+abbrev pub IsLongLine : Draft → Text → Type 0
+IsLongLine d line = (is_skipped line ≡ false) × (is_ascii line ≡ true) × HasLongRule d (words_of line)
 
 -- ---- a line
 

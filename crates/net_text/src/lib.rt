@@ -32,6 +32,7 @@ mod lines;
 mod messages;
 mod network_lines;
 mod paths;
+mod prefix_texts;
 mod sections;
 mod settings;
 mod tail;

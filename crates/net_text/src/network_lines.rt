@@ -1,12 +1,12 @@
 //! The lines of a network text: each is judged, and then adds to the network.
 
-ghost use Rattle.std.specs.Prelude.{◌≡◌};
+ghost use Rattle.std.specs.Prelude.{◌≡◌, ◌<◌, false, length, Ok, OnOk, IfErr};
 ghost use Rattle.std.specs.List.{list_any, count_by};
 ghost use Rattle.ranked_policy.specs.Plans.{touches};
 ghost use Rattle.net_text.specs.Lexing.{words_of};
 ghost use Rattle.net_text.specs.Words.{is_prefix};
-ghost use Rattle.net_text.specs.Lines.{setting_line, router_line, link_line, origin_line, rule_line, named_line, words_line, line_reading, joins, is_taken, is_ruled, is_full, rule_fault};
-ghost use Rattle.net_text.specs.Steps.{Steps};
+ghost use Rattle.net_text.specs.Lines.{setting_line, router_line, link_line, origin_line, rule_line, named_line, words_line, line_reading, joins, is_taken, is_ruled, is_full, rule_fault, IsLongRule, HasLongRule, IsLongLine};
+ghost use Rattle.net_text.specs.Steps.{Steps, RefusesOr, StepsOr};
 
 use crate::code::Code;
 use crate::draft::Draft;
@@ -133,7 +133,8 @@ fn is_full(routers: &[Router], asn: Asn) -> bool
         .any(|router| router.asn == asn && router.rules.len() >= 64)
 }
 
-// Judges that a rule does not repeat, and then its counts.
+// Judges that a rule does not repeat, and then its counts. Only more than 32 paths may want memory,
+// before it is known whether two of them are one.
 fn judge_rule(
     alloc: Global,
     routers: &[Router],
@@ -141,9 +142,16 @@ fn judge_rule(
     prefix: &Prefix,
     words: &[u8],
 ) -> Result<(), Code>
-    ensures { result ≡ rule_fault routers.now asn prefix.now (words_of words.now) }
+    ensures ok { OnOk result (rule_fault routers.now asn prefix.now (words_of words.now) ≡ Ok tt) }
+    ensures err { IfErr result (λ code. RefusesOr ((is_ruled routers.now asn prefix.now ≡ false) × (32 < length (words_of words.now))) code (rule_fault routers.now asn prefix.now (words_of words.now))) }
 {
-    if is_ruled(routers, asn, prefix) || !are_distinct(alloc, words) {
+    if is_ruled(routers, asn, prefix) {
+        return Err(Code::Repeated);
+    }
+    let Ok(distinct) = are_distinct(alloc, words) else {
+        return Err(Code::Memory);
+    };
+    if !distinct {
         return Err(Code::Repeated);
     }
     if count_words(words) > MAX_PATHS || is_full(routers, asn) || !are_short(words) {
@@ -153,7 +161,7 @@ fn judge_rule(
 }
 
 fn read_rule(alloc: Global, draft: &mut Draft, words: &[u8]) -> Result<(), Code>
-    ensures { Steps result (rule_line draft.old (words_of words.now)) draft.new }
+    ensures { StepsOr (IsLongRule draft.old (words_of words.now)) result (rule_line draft.old (words_of words.now)) draft.new }
 {
     let Some((asn, words)) = next_word(words) else {
         return Err(Code::BadForm);
@@ -172,7 +180,7 @@ fn read_rule(alloc: Global, draft: &mut Draft, words: &[u8]) -> Result<(), Code>
 }
 
 fn read_words(alloc: Global, draft: &mut Draft, line: &[u8]) -> Result<(), Code>
-    ensures { Steps result (words_line draft.old (words_of line.now)) draft.new }
+    ensures { StepsOr (HasLongRule draft.old (words_of line.now)) result (words_line draft.old (words_of line.now)) draft.new }
 {
     let Some((name, words)) = next_word(line) else {
         return Ok(());
@@ -195,7 +203,7 @@ fn read_words(alloc: Global, draft: &mut Draft, line: &[u8]) -> Result<(), Code>
 
 // What a line adds to the network. After an `Err` the draft is of no more use.
 pub(crate) fn read_line(alloc: Global, draft: &mut Draft, line: &[u8]) -> Result<(), Code>
-    ensures { Steps result (line_reading draft.old line.now) draft.new }
+    ensures { StepsOr (IsLongLine draft.old line.now) result (line_reading draft.old line.now) draft.new }
 {
     if is_skipped(line) {
         return Ok(());

@@ -1,7 +1,7 @@
 //! Words that are paths. They are judged as they stand in the text, and taken into memory only once
 //! their whole line is good.
 
-ghost use Rattle.std.specs.Prelude.{◌≡◌, ◌<◌, ◌≤◌, ◌==◌, ◌∷◌, [], true, false, not, nat_le, length, map, IfOk, if◌then◌else◌};
+ghost use Rattle.std.specs.Prelude.{◌≡◌, ◌<◌, ◌≤◌, ◌==◌, ◌∷◌, [], true, false, not, nat_le, length, map, IfOk, IfErr, if◌then◌else◌};
 ghost use Rattle.std.specs.List.{list_all, list_any, All};
 ghost use Rattle.net_text.specs.Lexing.{parts, same, words_of};
 ghost use Rattle.net_text.specs.Words.{is_number, is_asn, is_router, value_of, path_of, path_word, is_simple, is_from, rule_path_word, rule_path_words, is_none, assigned_word, assigned_path};
@@ -235,18 +235,17 @@ fn has_repeat(alloc: Global, words: &[u8]) -> Result<bool, AllocError>
     Ok(false)
 }
 
-// Whether no path is there twice. More of them than a rule may have are looked up, for which there
-// need not be memory.
-pub(crate) fn are_distinct(alloc: Global, words: &[u8]) -> bool
-    ensures { result ≡ are_distinct (map path_of (words_of words.now)) }
+// Whether no path is there twice. More of them than a rule may have are looked up, and only these
+// need memory: compared in pairs they could take hours.
+pub(crate) fn are_distinct(alloc: Global, words: &[u8]) -> Result<bool, AllocError>
+    ensures ok { IfOk result (λ distinct. distinct ≡ are_distinct (map path_of (words_of words.now))) }
+    ensures err { IfErr result (λ _. 32 < length (words_of words.now)) }
 {
     if count_words(words) <= MAX_PATHS {
-        return are_apart(words);
+        return Ok(are_apart(words));
     }
-    match has_repeat(alloc, words) {
-        Ok(repeats) => !repeats,
-        Err(AllocError) => are_apart(words),
-    }
+    let repeats = has_repeat(alloc, words)?;
+    Ok(!repeats)
 }
 
 // Whether the path has at most 16 routers.

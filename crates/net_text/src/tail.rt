@@ -4,8 +4,8 @@ ghost use Rattle.std.specs.Prelude.{◌≡◌, ◌++◌, [], ◌∷◌, ◌≤�
 ghost use Rattle.hex.specs.Hex.{encode_lower};
 ghost use Rattle.net_text.specs.Printing.{hex_or_dash, address_text, prefixes_text};
 
+use crate::prefix_texts::put_prefixes;
 use crate::texts::{put_address, put_decimal, put_hex, put_hex_or_dash, put_len};
-use crate::updates::put_prefixes;
 use prefix_lanes::Prefix;
 use std::alloc::AllocError;
 use std::marker::Model;

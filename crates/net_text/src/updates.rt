@@ -1,56 +1,13 @@
-//! The line of an UPDATE: its prefixes and its path as text.
+//! The line of an UPDATE: its path and its next hop as text.
 
 ghost use Rattle.std.specs.Prelude.{◌≡◌, ◌+◌, ◌*◌, ◌≤◌, ◌++◌, length, take, map, decimal, OnOk, OnErr};
 ghost use Rattle.std.specs.List.{join_with_byte};
 ghost use Rattle.net_text.specs.Printing.{line, update_line, withdrawn_text, announced_text, route_text, prefix_text, prefixes_text, segment_text, segments_text, path_text};
 
 use crate::tail::Tail;
-use crate::texts::{write_address, write_mark, write_octet};
 use bgp_codec::{Asn, Attrs, Items, Segment, SegmentKind, Update};
 use prefix_lanes::Prefix;
 use std::alloc::AllocError;
-
-// The most octets that may change where a prefix is written: five numbers and a mark before each.
-const PREFIX_ROOM: usize = 20;
-
-// Writes a prefix at a place, with a space before it, and answers the place behind it. Twenty
-// octets may change.
-#[tactic(auto, unfolding(crate::specs::Printing::prefix_text))]
-fn write_prefix(text: &mut [u8], at: usize, prefix: &Prefix) -> usize
-    requires { at + 20 ≤ length text.old }
-    ensures end { result ≤ at + 20 }
-    ensures text { take result text.new ≡ take at text.old ++ prefix_text prefix.now }
-{
-    let at = write_mark(text, at, b' ');
-    let at = write_address(text, at, prefix.addr());
-    let at = write_mark(text, at, b'/');
-    write_octet(text, at, prefix.len())
-}
-
-// Writes prefixes at a place, and answers the place behind them.
-fn write_prefixes(text: &mut [u8], start: usize, prefixes: &[Prefix]) -> usize
-    requires { start + 20 * length prefixes.now ≤ length text.old }
-    ensures { take result text.new ≡ take start text.old ++ prefixes_text prefixes.now }
-{
-    let mut at = start;
-    for prefix in prefixes {
-        at = write_prefix(text, at, prefix);
-    }
-    at
-}
-
-/// Appends prefixes, a space before each. It grows once, by the most that they can take.
-pub fn put_prefixes(out: &mut Vec<u8>, prefixes: &[Prefix]) -> Result<(), AllocError>
-    ensures ok { OnOk result (out.new.items ≡ out.old.items ++ prefixes_text prefixes.now) }
-    ensures err { OnErr result (out.new.items ≡ out.old.items) }
-{
-    let start = out.len();
-    let room = prefixes.len().saturating_mul(PREFIX_ROOM);
-    out.resize(start.saturating_add(room), 0)?;
-    let end = write_prefixes(out.as_mut_slice(), start, prefixes);
-    out.truncate(end);
-    Ok(())
-}
 
 /// Appends numbers with a mark between them.
 pub fn put_numbers(out: &mut Tail, numbers: &[Asn], mark: u8) -> Result<(), AllocError>

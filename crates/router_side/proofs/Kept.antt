@@ -8,6 +8,7 @@ use Rattle.bgp_codec.specs.declared.fault.Fault.{Fault}
 use Rattle.bgp_codec.specs.declared.message.Message.{Message}
 use Rattle.bgp_codec.specs.declared.message.Message.TheVariants.{UpdateMsg}
 use Rattle.bgp_codec.specs.declared.update.Update.{Update}
+use Rattle.bgp_codec.specs.Header.{IsFrame}
 use Rattle.bgp_codec.specs.Faults.{reading, WrittenIsRead}
 use Rattle.bgp_codec.specs.Spelling.{written}
 use Rattle.router_model.specs.Sides.{with_update}
@@ -53,17 +54,29 @@ told_on (q ∷ ps) octets new p (le, is, kept) =
     ∙ sym (append_assoc (one (take q.len octets)) (told_in ps (drop q.len octets)) (told_in (p ∷ []) new))
 
 -- one UPDATE
-pub one_kept : (p : Place) (octets : List ℕ) (u : Update) → IsSayable (UpdateMsg u) → octets ≡ written (UpdateMsg u) → p.len ≡ length octets → AreKept (p ∷ []) octets
-one_kept p octets u sayable is len =
+pub one_kept : (p : Place) (octets : List ℕ) → IsKept octets → p.len ≡ length octets → AreKept (p ∷ []) octets
+one_kept p octets kept len =
     let whole = ap (λ (n : ℕ). take n octets) len ∙ take-length octets in
-    (omega (arith, len), (u, sayable, whole ∙ is), ap (λ (n : ℕ). drop n octets) len ∙ drop-length octets)
+    (omega (arith, len), subst IsKept (sym whole) kept, ap (λ (n : ℕ). drop n octets) len ∙ drop-length octets)
 
-pub one_told : WrittenIsRead → (p : Place) (octets : List ℕ) (u : Update) → IsSayable (UpdateMsg u) → octets ≡ written (UpdateMsg u) → p.len ≡ length octets
-    → told_in (p ∷ []) octets ≡ record { epoch = p.epoch; update = u } ∷ []
-one_told read p octets u sayable is len =
-    let whole = ap (λ (n : ℕ). take n octets) len ∙ take-length octets ∙ is in
+pub one_told : (p : Place) (octets : List ℕ) (u : Update) → reading nobody octets ≡ Ok (UpdateMsg u) → p.len ≡ length octets → told_in (p ∷ []) octets ≡ record { epoch = p.epoch; update = u } ∷ []
+one_told p octets u read len =
+    let whole = ap (λ (n : ℕ). take n octets) len ∙ take-length octets in
     ap (λ (os : List ℕ). dated p.epoch (updates_read (reading nobody os)) ++ []) whole
-    ∙ ap (λ (r : Result Message Fault). dated p.epoch (updates_read r) ++ []) ((read nobody (UpdateMsg u) refl sayable.0 sayable.1).1)
+    ∙ ap (λ (r : Result Message Fault). dated p.epoch (updates_read r) ++ []) read
+
+-- what is written of it
+pub written_kept : WrittenIsRead → (octets : List ℕ) (u : Update) → IsSayable (UpdateMsg u) → octets ≡ written (UpdateMsg u) → IsFrame octets × (reading nobody octets ≡ Ok (UpdateMsg u))
+written_kept read octets u sayable is =
+    let w = read nobody (UpdateMsg u) refl sayable.0 sayable.1 in
+    (subst IsFrame (sym is) w.0, ap (reading nobody) is ∙ w.1)
+
+-- the histories of all incarnations with one more
+pub history_grown : (ps : List Place) (octets new : List ℕ) (p : Place) (u : Update) → AreKept ps octets → reading nobody new ≡ Ok (UpdateMsg u) → p.len ≡ length new
+    → history (told_in (ps ++ p ∷ []) (octets ++ new)) ≡ with_update (history (told_in ps octets)) p.epoch u
+history_grown ps octets new p u kept read len =
+    let t : Told = record { epoch = p.epoch; update = u } in
+    ap history (told_on ps octets new p kept ∙ ap (λ (ts : List Told). told_in ps octets ++ ts) (one_told p new u read len)) ∙ history_on (told_in ps octets) t
 
 -- an UPDATE that is read at a place
 pub told_at : (octets : List ℕ) (t : Told) (epoch : ℕ) → t.epoch ≡ epoch → updates_read (reading nobody octets) ≡ t.update ∷ [] → dated epoch (updates_read (reading nobody octets)) ≡ t ∷ []

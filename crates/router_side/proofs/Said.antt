@@ -12,7 +12,7 @@ use Rattle.run_model.specs.Octets.{Passing, octets_of}
 use Rattle.router_side.specs.declared.say.Say.{Say}
 use Rattle.session_fsm.specs.Table.{SessionView, kept_alive}
 use Rattle.router_model.specs.Sides.{Side, AtHand, NoMessage, HasFault, HasUpdate, Draft, tells_fault, with_update, acted_with}
-use Rattle.router_side.specs.Sayings.{entries_of, all_entries, said_where, told_of, kept_of, kept_where, update_in, acted_where}
+use Rattle.router_side.specs.Sayings.{entries_of, all_entries, said_where, told_of, update_in, acted_where}
 
 pub said_on : (own_open : Message) (told : Option Message) (xs : List Say) (x : Say) → all_entries own_open told (xs ++ x ∷ []) ≡ all_entries own_open told xs ++ entries_of own_open told x
 said_on own_open told [] x = append-nil (entries_of own_open told x)
@@ -25,18 +25,6 @@ pub says_given : (g : AtHand) (a : Draft) → record a { says = a.says ++ said_w
 says_given NoMessage a = ap (λ (w : List (Entry Message)). record a { says = w }) (append-nil a.says)
 says_given (HasFault fault) a = refl
 says_given (HasUpdate update) a = ap (λ (w : List (Entry Message)). record a { says = w }) (append-nil a.says)
-
--- ---- the UPDATEs of each incarnation
-
--- ---- the UPDATEs of each incarnation
-
-pub acted_is : (b : Bool) (g : AtHand) (e : ℕ) (h : ℕ → List Update) → kept_where b (kept_of g) e h ≡ acted_with b g e h
-acted_is true NoMessage e h = refl
-acted_is true (HasFault fault) e h = refl
-acted_is true (HasUpdate u) e h = refl
-acted_is false NoMessage e h = refl
-acted_is false (HasFault fault) e h = refl
-acted_is false (HasUpdate u) e h = refl
 
 -- an UPDATE that is told
 pub told_is : (s : Side) (m : Message) (session : SessionView) (outbox : List (Passing Message)) (sent : ℕ → List Update) → session ≡ kept_alive s.session

@@ -4,11 +4,12 @@ use Rattle.bgp_codec.specs.declared.fault.Fault.{Fault}
 use Rattle.bgp_codec.specs.declared.message.Message.{Message}
 use Rattle.bgp_codec.specs.declared.message.Message.TheVariants.{OpenMsg, UpdateMsg, NoticeMsg, AliveMsg}
 use Rattle.bgp_codec.specs.declared.update.Update.{Update}
+use Rattle.bgp_codec.specs.Header.{IsFrame}
 use Rattle.bgp_codec.specs.Faults.{reading}
 use Rattle.bgp_codec.specs.Spelling.{written}
 use Rattle.router_side.specs.declared.history.Place.{Place}
 use Rattle.router_side.specs.declared.history.Told.{Told}
-use Rattle.router_side.specs.Sayings.{nobody, IsSayable}
+use Rattle.router_side.specs.Sayings.{nobody}
 
 -- the UPDATEs of an incarnation
 abbrev pub history : List Told → ℕ → List Update
@@ -32,9 +33,9 @@ abbrev pub told_in : List Place → List ℕ → List Told
 told_in [] octets = []
 told_in (p ∷ ps) octets = dated p.epoch (updates_read (reading nobody (take p.len octets))) ++ told_in ps (drop p.len octets)
 
--- these octets are the one spelling of an UPDATE
+-- these octets read as an UPDATE
 abbrev pub IsKept : List ℕ → Type 0
-IsKept octets = (update : Update) × IsSayable (UpdateMsg update) × (octets ≡ written (UpdateMsg update))
+IsKept octets = IsFrame octets × ((update : Update) × (reading nobody octets ≡ Ok (UpdateMsg update)))
 
 -- those of each place are, and no others are there
 abbrev pub AreKept : List Place → List ℕ → Type 0

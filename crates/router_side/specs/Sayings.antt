@@ -17,12 +17,6 @@ told_of NoMessage = None
 told_of (HasFault fault) = Some (notification_of fault)
 told_of (HasUpdate update) = None
 
--- the UPDATE at hand, as a message
-abbrev pub kept_of : AtHand → Option Message
-kept_of NoMessage = None
-kept_of (HasFault fault) = None
-kept_of (HasUpdate update) = Some (UpdateMsg update)
-
 abbrev pub said_where : ℕ → Option Message → List (Entry Message)
 said_where e None = []
 said_where e (Some m) = Says e m ∷ []
@@ -76,8 +70,3 @@ update_in (OpenMsg m) = None
 update_in (UpdateMsg u) = Some u
 update_in (NoticeMsg n) = None
 update_in AliveMsg = None
-
--- a message that is an UPDATE joins those of its incarnation, where it counts
-abbrev pub kept_where : Bool → Option Message → ℕ → (ℕ → List Update) → ℕ → List Update
-kept_where counts None e history = history
-kept_where counts (Some m) e history = cond counts (acted_where true (update_in m) e history) history

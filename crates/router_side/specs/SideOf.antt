@@ -1,5 +1,5 @@
 -- A side of the code as a side of the definitions, and the room that a change of it needs.
-use Rattle.std.specs.Prelude.{ℕ, ◌≤◌, true, [], length, Option}
+use Rattle.std.specs.Prelude.{ℕ, ◌≡◌, ◌≤◌, true, List, [], length, Option}
 use Rattle.bgp_codec.specs.declared.message.Message.{Message}
 use Rattle.bgp_codec.specs.declared.update.Update.{Update}
 use Rattle.bgp_codec.specs.Spelling.{written}
@@ -8,7 +8,8 @@ use Rattle.session_fsm.specs.Table as sessions
 use Rattle.session_fsm.specs.declared.config.SessionConfig.{SessionConfig}
 use Rattle.run_model.specs.Links.{Says}
 use Rattle.outbox.specs.Items.{next_item, left_behind}
-use Rattle.router_model.specs.Sides.{Side, appended}
+use Rattle.router_model.specs.Sides.{Side, AtHand, appended, at_hand, front}
+use Rattle.router_model.specs.State.{rule_of}
 use Rattle.router_side.specs.declared.draft.Sketch.{Sketch}
 use Rattle.router_side.specs.declared.side.SideEnd.{SideEnd}
 use Rattle.router_side.specs.Histories.{history}
@@ -27,6 +28,10 @@ side s = record {
 -- the opening: Idle, and nothing was dialled, said, taken, acted on or sent
 abbrev pub side_opening : SessionConfig → Side
 side_opening config = record { session = sessions.opening config; link = links.opening; outbox = []; held = []; acted = λ e. []; sent = λ e. [] }
+
+-- this is at hand with the message or fault in front of these octets, of some peer
+abbrev pub IsInFront : List ℕ → AtHand → Type 0
+IsInFront octets g = (peer : ℕ) × (g ≡ at_hand (front (rule_of peer) octets))
 
 -- a draft can be carried out without memory
 pub record HasRoom (own_open : Message) (told : Option Message) (a : Sketch) (s : SideEnd) : Type 0 where

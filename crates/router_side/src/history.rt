@@ -1,9 +1,12 @@
 //! The UPDATEs of a side, by incarnation, in the octets that spell them.
 
-ghost use Rattle.std.specs.Prelude.{◌≡◌, ◌≤◌, ◌∷◌, ◌++◌, [], true, length, IfOk, OnOk};
+ghost use Rattle.std.specs.Prelude.{◌≡◌, ◌≤◌, ◌∷◌, ◌++◌, [], true, length, Ok, IfOk, OnOk};
+ghost use Rattle.bgp_codec.specs.declared.message.Message.TheVariants.{UpdateMsg};
+ghost use Rattle.bgp_codec.specs.declared.update.Update as update;
 ghost use Rattle.bgp_codec.specs.Faults.{reading};
 ghost use Rattle.bgp_codec.specs.Spelling.{written};
-ghost use Rattle.router_side.specs.Sayings.{acted_where, kept_where, nobody, update_in, IsSayable, IsSayableWhere};
+ghost use Rattle.router_model.specs.Sides.{with_update};
+ghost use Rattle.router_side.specs.Sayings.{acted_where, nobody, update_in, IsSayable};
 ghost use Rattle.router_side.specs.Histories.{history, octets_kept, updates_read, IsKept};
 
 use bgp_codec::laws::written_is_read;
@@ -27,8 +30,8 @@ struct Place {
     len: usize,
 }
 
-/// The UPDATEs that were acted on or sent, in their order, each once, in the one spelling that is
-/// written: some fifty octets for a route.
+/// The UPDATEs that were acted on or sent, in their order, each once, in octets that spell them: some
+/// fifty for a route.
 #[derive(Debug, Drop)]
 pub struct History {
     octets: Vec<u8>,
@@ -57,7 +60,6 @@ fn read(alloc: Global, epoch: u32, octets: &[u8]) -> Result<Told, AllocError>
     ensures epoch { IfOk result (λ told. told.epoch ≡ epoch) }
     ensures update { IfOk result (λ told. updates_read (reading nobody octets.now) ≡ told.update ∷ []) }
 {
-    written_is_read();
     match decode(alloc, octets, &NOBODY) {
         Ok(Message::UpdateMsg(update)) => Ok(Told { epoch, update }),
         Ok(Message::OpenMsg(_) | Message::NoticeMsg(_) | Message::AliveMsg) | Err(_) => {
@@ -109,18 +111,16 @@ impl History {
         Ok(())
     }
 
-    // Puts an UPDATE behind the others, where there is one and it counts.
-    pub(crate) fn count(&mut self, counts: bool, epoch: u32, message: &Option<Message>)
-        requires sayable { IsSayableWhere message.now }
-        requires room { 4096 ≤ self.old.room }
+    // Puts the UPDATE of a frame behind the others, for which there is room.
+    pub(crate) fn keep_frame(&mut self, epoch: u32, frame: &[u8])
+        requires kept { IsKept frame.now }
+        requires room { length frame.now ≤ self.old.room }
         requires place { 1 ≤ self.old.places }
-        ensures { history self.new.told ≡ kept_where counts message.now epoch (history self.old.told) }
+        ensures { (u : update.Update) → reading nobody frame.now ≡ Ok (UpdateMsg u) → history self.new.told ≡ with_update (history self.old.told) epoch u }
     {
-        if let Some(message) = message {
-            if counts {
-                self.keep(epoch, message);
-            }
-        }
+        self.octets.extend_from_slice(frame).unwrap();
+        let len = frame.len();
+        self.places.push_reserved(Place { epoch, len });
     }
 
     // Puts an UPDATE behind the others, for which there is room; another message is none of them.

@@ -8,7 +8,7 @@ ghost use Rattle.bgp_codec.specs.Spelling.{IsWritable};
 ghost use Rattle.bgp_framing.specs.Held.{is_waiting};
 ghost use Rattle.session_fsm.specs.Table.{IsGoodEvent};
 ghost use Rattle.router_model.specs.Sides.{front, event_of, at_hand};
-ghost use Rattle.router_side.specs.Sayings.{told_of, kept_of, IsSayableWhere};
+ghost use Rattle.router_side.specs.Sayings.{told_of, IsSayableWhere};
 ghost use Rattle.router_side.specs.Drafts.{hand};
 
 use crate::at_hand::Given;
@@ -31,7 +31,6 @@ fn read_frame(
     ensures read { IfOk result (λ read. read ≡ reading rule.now frame.now) }
     ensures good { IfOk result (λ read. IsGoodEvent (event_of read)) }
     ensures told { IfOk result (λ read. IsSayableWhere (told_of (at_hand read))) }
-    ensures kept { IfOk result (λ read. IsSayableWhere (kept_of (at_hand read))) }
     ensures writable { IfOk result (λ read. IfOk read (IsWritable rule.now)) }
 {
     spelt_is_writable();
@@ -57,7 +56,6 @@ pub fn read_front(
     ensures read { IfOk result (λ read. read ≡ front rule.now framer.now.octets) }
     ensures good { IfOk result (λ read. IsGoodEvent (event_of read)) }
     ensures told { IfOk result (λ read. IsSayableWhere (told_of (at_hand read))) }
-    ensures kept { IfOk result (λ read. IsSayableWhere (kept_of (at_hand read))) }
     ensures writable { IfOk result (λ read. IfOk read (IsWritable rule.now)) }
 {
     header_is_its_front();

@@ -1,18 +1,17 @@
 //! What a router keeps towards one peer.
 
-ghost use Rattle.std.specs.Prelude.{◌≡◌, ◌≤◌, true, false, length, Option, IfOk, OnOk, OnErr, is_some, ℕ};
-ghost use Rattle.bgp_codec.specs.declared.message.Message.{Message};
-ghost use Rattle.bgp_codec.specs.Faults.{reading};
-ghost use Rattle.bgp_codec.specs.Spelling.{IsWritable};
+ghost use Rattle.std.specs.Prelude.{◌≡◌, ◌≤◌, ◌++◌, [], true, false, cond, length, None, IfOk, OnOk, OnErr, is_some, ℕ};
+ghost use Rattle.bgp_codec.specs.Header.{header_fault};
+ghost use Rattle.bgp_codec.specs.Spelling.{IsWritable, written};
 ghost use Rattle.bgp_framing.specs.Held.{is_waiting};
 ghost use Rattle.session_fsm.specs.Table.{IsGoodEvent, IsHoldTime};
 ghost use Rattle.outbox.specs.Items.{next_item, octets_waiting};
-ghost use Rattle.router_model.specs.Sides.{met, reset, second, signed, carried, is_up, uses, fed, without_front, marked, comes, draft_of, NoMessage, front, event_of, at_hand};
-ghost use Rattle.router_side.specs.declared.draft.Sketch.{Sketch};
-ghost use Rattle.router_side.specs.Sayings.{told_of, kept_of, IsSayable, IsSayableWhere};
+ghost use Rattle.run_model.specs.Octets.{passing};
+ghost use Rattle.router_model.specs.Sides.{met, reset, second, signed, carried, acted_with, is_up, uses, fed, rest_behind, without_front, marked, comes, draft_of, NoMessage, front, event_of, at_hand};
+ghost use Rattle.router_side.specs.Sayings.{told_of, all_entries, all_sizes, size_where, IsSayable, IsSayableWhere};
 ghost use Rattle.router_side.specs.Drafts.{draft, hand};
 ghost use Rattle.router_side.specs.Histories.{history};
-ghost use Rattle.router_side.specs.SideOf.{side, side_opening, put_next, told_by, HasRoom, HasRoomToTell, HasRoomToMark};
+ghost use Rattle.router_side.specs.SideOf.{side, side_opening, put_next, told_by, IsInFront, HasRoom, HasRoomToTell, HasRoomToMark};
 
 use crate::at_hand::Given;
 use crate::draft::Sketch;
@@ -136,29 +135,79 @@ impl SideEnd {
         Ok(())
     }
 
-    /// Carries a draft out for which there is room. It takes no memory, and cannot be refused.
-    #[tactic(auto, using(crate::proofs::Said::acted_is))]
-    pub fn commit(&mut self, alloc: Global, own_open: &Message, given: Given, made: &Sketch)
+    // Carries a draft out, but for the UPDATE that it acts on.
+    fn carry(&mut self, alloc: Global, own_open: &Message, told: &Option<Message>, made: &Sketch)
         requires own { IsSayable own_open.now }
-        requires told { IsSayableWhere (told_of (hand given)) }
-        requires kept { IsSayableWhere (kept_of (hand given)) }
-        requires room { HasRoom own_open.now (told_of (hand given)) made.now self.old }
-        ensures { side self.new ≡ carried (hand given) (side self.old) (draft own_open.now (hand given) made.now) }
+        requires told { IsSayableWhere told.now }
+        requires octets { all_sizes (length (written own_open.now)) (size_where told.now) made.now.says ≤ self.old.outbox.room }
+        requires places { length made.now.says ≤ self.old.outbox.places }
+        ensures session { self.new.session ≡ made.now.session }
+        ensures link { self.new.link ≡ made.now.link }
+        ensures outbox { self.new.outbox.passing ≡ self.old.outbox.passing ++ passing written (all_entries own_open.now told.now made.now.says) }
+        ensures held { self.new.framer.octets ≡ cond made.now.drops [] self.old.framer.octets }
+        ensures acted { self.new.acted ≡ self.old.acted }
+        ensures sent { self.new.sent ≡ self.old.sent }
     {
         self.session = made.session;
         self.link = made.link;
-        let (told, kept) = split(given);
         append_all(
             alloc,
             &mut self.outbox,
             own_open,
-            &told,
+            told,
             made.says.as_slice(),
         );
         if made.drops {
             self.framer.clear();
         }
-        self.acted.count(made.acts, self.link.epoch(), &kept);
+    }
+
+    /// Carries out a draft of an event that brings no message, for which there is room. It takes no
+    /// memory, and cannot be refused.
+    pub fn commit(&mut self, alloc: Global, own_open: &Message, made: &Sketch)
+        requires own { IsSayable own_open.now }
+        requires room { HasRoom own_open.now None made.now self.old }
+        ensures { side self.new ≡ carried NoMessage (side self.old) (draft own_open.now NoMessage made.now) }
+    {
+        self.carry(alloc, own_open, &None, made);
+    }
+
+    /// Carries out a draft of the message or fault in front, for which there is room: a message is taken
+    /// away, a fault stays. It takes no memory, and cannot be refused.
+    pub fn commit_front(&mut self, alloc: Global, own_open: &Message, given: Given, made: &Sketch)
+        requires own { IsSayable own_open.now }
+        requires told { IsSayableWhere (told_of (hand given)) }
+        requires waits { is_waiting (side self.old).held ≡ true }
+        requires front { IsInFront (side self.old).held (hand given) }
+        requires room { HasRoom own_open.now (told_of (hand given)) made.now self.old }
+        ensures { side self.new ≡ carried (hand given) (without_front (side self.old)) (draft own_open.now (hand given) made.now) }
+    {
+        count_front(
+            &mut self.acted,
+            &self.framer,
+            made.acts,
+            &given,
+            made.link.epoch(),
+        );
+        self.drop_front();
+        let told = telling(given);
+        self.carry(alloc, own_open, &told, made);
+    }
+
+    // The message in front is taken away; a fault stays. It takes no memory.
+    fn drop_front(&mut self)
+        requires { is_waiting self.old.framer.octets ≡ true }
+        ensures held { self.new.framer.octets ≡ rest_behind (header_fault self.old.framer.octets) self.old.framer.octets }
+        ensures session { self.new.session ≡ self.old.session }
+        ensures link { self.new.link ≡ self.old.link }
+        ensures outbox { self.new.outbox ≡ self.old.outbox }
+        ensures acted { self.new.acted ≡ self.old.acted }
+        ensures sent { self.new.sent ≡ self.old.sent }
+    {
+        header_is_its_front();
+        if let Next::Whole(..) = self.framer.next() {
+            self.framer.drop_front();
+        }
     }
 }
 
@@ -239,23 +288,9 @@ impl SideEnd {
         ensures read { IfOk result (λ read. read ≡ front rule.now (side self.now).held) }
         ensures good { IfOk result (λ read. IsGoodEvent (event_of read)) }
         ensures told { IfOk result (λ read. IsSayableWhere (told_of (at_hand read))) }
-        ensures kept { IfOk result (λ read. IsSayableWhere (kept_of (at_hand read))) }
         ensures writable { IfOk result (λ read. IfOk read (IsWritable rule.now)) }
     {
         read_front(alloc, &self.framer, rule)
-    }
-
-    /// The message in front is taken away; a fault stays. It takes no memory, and leaves the room that a
-    /// draft has.
-    pub fn drop_front(&mut self)
-        requires { is_waiting (side self.old).held ≡ true }
-        ensures side { side self.new ≡ without_front (side self.old) }
-        ensures same { (own_open : Message) (told : Option Message) (made : Sketch) → HasRoom own_open told made self.old → HasRoom own_open told made self.new }
-    {
-        header_is_its_front();
-        if let Next::Whole(..) = self.framer.next() {
-            self.framer.drop_front();
-        }
     }
 }
 
@@ -351,14 +386,37 @@ impl SideEnd {
     }
 }
 
-// The message that tells of what is at hand, and the UPDATE as a message.
-fn split(given: Given) -> (Option<Message>, Option<Message>)
-    ensures told { result.0 ≡ told_of (hand given) }
-    ensures kept { result.1 ≡ kept_of (hand given) }
+// The message that tells of what is at hand.
+fn telling(given: Given) -> Option<Message>
+    ensures { result ≡ told_of (hand given) }
 {
     match given {
-        Given::Nothing => (None, None),
-        Given::Fault(notice) => (Some(Message::NoticeMsg(notice)), None),
-        Given::Update(update) => (None, Some(Message::UpdateMsg(update))),
+        Given::Nothing | Given::Update(_) => None,
+        Given::Fault(notice) => Some(Message::NoticeMsg(notice)),
+    }
+}
+
+// The UPDATE at hand, which stands in front, joins those acted on where it is one of them, in the octets of
+// its frame. It takes no memory.
+fn count_front(acted: &mut History, framer: &Framer, acts: bool, given: &Given, epoch: u32)
+    requires waits { is_waiting framer.now.octets ≡ true }
+    requires front { IsInFront framer.now.octets (hand given.now) }
+    requires room { 4096 ≤ acted.old.room }
+    requires place { 1 ≤ acted.old.places }
+    ensures { history acted.new.told ≡ acted_with acts (hand given.now) epoch (history acted.old.told) }
+{
+    header_is_its_front();
+    if !acts {
+        return;
+    }
+    match given {
+        Given::Nothing | Given::Fault(_) => {}
+        Given::Update(_) => match framer.next() {
+            Next::Whole(_, end) => {
+                let (frame, _) = framer.bytes().split_at(end);
+                acted.keep_frame(epoch, frame);
+            }
+            Next::More | Next::Bad(_) => unreachable!(),
+        },
     }
 }

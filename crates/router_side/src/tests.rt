@@ -19,11 +19,11 @@ fn a_side_opens(rt: HostRuntime) -> Result<(), Fail> {
     let mut side = SideEnd::new(rt.alloc(), config)?;
     let made = side.meet(&own_open, FsmEvent::ManualStart);
     side.reserve(&own_open, &Given::Nothing, &made)?;
-    side.commit(rt.alloc(), &own_open, Given::Nothing, &made);
+    side.commit(rt.alloc(), &own_open, &made);
     assert_eq!(rt; side.state(), State::Connect);
     let made = side.sign(&own_open, Sign::Dial(1));
     side.reserve(&own_open, &Given::Nothing, &made)?;
-    side.commit(rt.alloc(), &own_open, Given::Nothing, &made);
+    side.commit(rt.alloc(), &own_open, &made);
     assert_eq!(rt; side.state(), State::OpenSent);
     assert_eq!(rt; side.epoch(), 1);
     assert_eq!(rt; side.octets_waiting(), 19);

@@ -1,15 +1,16 @@
 //! Drafts that are carried out.
 
-ghost use Rattle.std.specs.Prelude.{◌≡◌, false, ℕ, List};
+ghost use Rattle.std.specs.Prelude.{◌≡◌, true, false, ℕ, List, None};
+ghost use Rattle.bgp_framing.specs.Held.{is_waiting};
 ghost use Rattle.ranked_policy.specs.Plans.{Linked};
 ghost use Rattle.snap_marker.specs.Recordings.{closed};
 ghost use Rattle.snap_marker.specs.Parts.{snapshots_of, IsOver, AreOf};
-ghost use Rattle.router_model.specs.Sides.{carried, NoMessage};
+ghost use Rattle.router_model.specs.Sides.{carried, without_front, NoMessage};
 ghost use Rattle.router_model.specs.Step.{close_at};
-ghost use Rattle.router_side.specs.Sayings.{told_of, kept_of, IsSayable, IsSayableWhere};
+ghost use Rattle.router_side.specs.Sayings.{told_of, IsSayable, IsSayableWhere};
 ghost use Rattle.router_side.specs.Drafts.{draft, hand};
 ghost use Rattle.router_side.specs.Freshness.{KeepsFresh};
-ghost use Rattle.router_side.specs.SideOf.{side, HasRoom};
+ghost use Rattle.router_side.specs.SideOf.{side, IsInFront, HasRoom};
 ghost use Rattle.router_core.specs.Views.{sides_of, IsFound, IsSame, Carries};
 ghost use Rattle.router_core.specs.Following.{standing, Followed};
 
@@ -30,9 +31,31 @@ fn standing(end: &SideEnd) -> Option<u32>
     if end.is_up() { Some(end.epoch()) } else { None }
 }
 
-/// The draft of the side towards a peer is carried out, for which there is room; the tables follow its
-/// session. It takes no memory.
+/// The draft of an event that brings no message is carried out, for which there is room; the tables
+/// follow the session. It takes no memory.
 pub(super) fn carry(
+    alloc: Global,
+    end: &mut SideEnd,
+    tables: &mut Rib<'_>,
+    peer: Asn,
+    own_open: &Message,
+    made: &Sketch,
+)
+    requires linked { Linked tables.old.net.links tables.old.router peer }
+    requires own { IsSayable own_open.now }
+    requires room { HasRoom own_open.now None made.now end.old }
+    ensures side { side end.new ≡ carried NoMessage (side end.old) (draft own_open.now NoMessage made.now) }
+    ensures tables { Followed tables.old tables.new peer (standing (side end.old)) (standing (side end.new)) }
+{
+    let was = standing(end);
+    end.commit(alloc, own_open, made);
+    let now = standing(end);
+    follow(tables, peer, was, now);
+}
+
+/// The draft of the message or fault in front is carried out, for which there is room; the tables follow
+/// the session. It takes no memory.
+pub(super) fn carry_front(
     alloc: Global,
     end: &mut SideEnd,
     tables: &mut Rib<'_>,
@@ -44,13 +67,14 @@ pub(super) fn carry(
     requires linked { Linked tables.old.net.links tables.old.router peer }
     requires own { IsSayable own_open.now }
     requires told { IsSayableWhere (told_of (hand given)) }
-    requires kept { IsSayableWhere (kept_of (hand given)) }
+    requires waits { is_waiting (side end.old).held ≡ true }
+    requires front { IsInFront (side end.old).held (hand given) }
     requires room { HasRoom own_open.now (told_of (hand given)) made.now end.old }
-    ensures side { side end.new ≡ carried (hand given) (side end.old) (draft own_open.now (hand given) made.now) }
+    ensures side { side end.new ≡ carried (hand given) (without_front (side end.old)) (draft own_open.now (hand given) made.now) }
     ensures tables { Followed tables.old tables.new peer (standing (side end.old)) (standing (side end.new)) }
 {
     let was = standing(end);
-    end.commit(alloc, own_open, given, made);
+    end.commit_front(alloc, own_open, given, made);
     let now = standing(end);
     follow(tables, peer, was, now);
 }
@@ -94,15 +118,7 @@ impl Router<'_> {
         if end.reserve(&self.own_open, &nothing, made).is_err() {
             return Err(RouterError::Memory);
         }
-        carry(
-            alloc,
-            end,
-            &mut self.tables,
-            peer,
-            &self.own_open,
-            nothing,
-            made,
-        );
+        carry(alloc, end, &mut self.tables, peer, &self.own_open, made);
         close(&mut self.marks, peer, made.left);
         self.stamp = stamp;
         Ok(Stepped::Did)

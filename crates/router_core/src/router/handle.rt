@@ -14,7 +14,7 @@ ghost use Rattle.router_side.specs.SideOf.{side};
 ghost use Rattle.router_core.specs.Views.{IsSame, Answers};
 ghost use Rattle.router_core.specs.Handling.{update_acted, copy_where, seen_where, Hears, HandlesFront};
 
-use super::carry::{carry, close};
+use super::carry::{carry_front, close};
 use super::{GREATEST_STAMP, Router};
 use bgp_codec::{Message, Rule, Update, Width};
 use ranked_policy::Asn;
@@ -116,9 +116,8 @@ fn handle_front(
     end.reserve(own_open, &given, &made)?;
     let copy = copy_for(alloc, marks, peer, made.acts, &given)?;
     hear(tables, peer, made.acts, &given)?;
-    end.drop_front();
     record(marks, peer, made.left, copy);
-    carry(alloc, end, tables, peer, own_open, given, &made);
+    carry_front(alloc, end, tables, peer, own_open, given, &made);
     Ok(())
 }
 

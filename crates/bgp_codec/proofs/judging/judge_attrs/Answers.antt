@@ -1,6 +1,6 @@
 use Rattle.std.proofs.Common.{arith}
 use Rattle.std.proofs.lemmas.Result.{err_from_is_err_and}
-use Rattle.bgp_codec.specs.Updates.{attrs_reading}
+use Rattle.bgp_codec.specs.UpdateReading.{attrs_reading}
 use Rattle.bgp_codec.proofs.EachLemmas.{some_left, none_left}
 use Rattle.bgp_codec.proofs.AttrSteps.{attrs_go_on, attrs_end, attr_shorter}
 use Rattle.bgp_codec.proofs.JudgingLemmas.{judged_from, attrs_judged, attr_judged}

@@ -2,7 +2,7 @@
 use Rattle.std.proofs.Common.{◌≡◌, length}
 use Rattle.bgp_codec.specs.declared.attributes.Attrs.{Attrs}
 use Rattle.bgp_codec.specs.Judging.{Remembers}
-use Rattle.bgp_codec.specs.Updates.{attrs_reading, attrs_from}
+use Rattle.bgp_codec.specs.UpdateReading.{attrs_reading, attrs_from}
 use Rattle.bgp_codec.proofs.judging.judge_attrs.Given as goal
 
 abbrev pub invariant-attrs : goal.invariant-attrs

@@ -1,6 +1,6 @@
 use Rattle.std.proofs.Common.{arith}
 use Rattle.std.proofs.lemmas.Result.{err_from_is_err_and}
-use Rattle.bgp_codec.specs.Updates.{prefix_at}
+use Rattle.bgp_codec.specs.UpdateReading.{prefix_at}
 use Rattle.bgp_codec.proofs.EachLemmas.{some_left, none_left}
 use Rattle.bgp_codec.proofs.PrefixLemmas.{prefix_shortens}
 use Rattle.bgp_codec.proofs.JudgingLemmas.{judged_from, behind_more, behind_stop, behind_end}

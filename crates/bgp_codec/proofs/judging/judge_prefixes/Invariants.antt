@@ -1,6 +1,6 @@
 -- what was passed stands before what is left to read
 use Rattle.std.proofs.Common.{length}
-use Rattle.bgp_codec.specs.Updates.{prefix_at}
+use Rattle.bgp_codec.specs.UpdateReading.{prefix_at}
 use Rattle.bgp_codec.proofs.JudgingLemmas.{Behind}
 use Rattle.bgp_codec.proofs.judging.judge_prefixes.Given as goal
 

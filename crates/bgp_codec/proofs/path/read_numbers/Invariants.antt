@@ -1,6 +1,6 @@
 -- what was read, before what is left to read, is what is read of all
 use Rattle.std.proofs.Common.{◌≡◌, ◌++◌, length}
-use Rattle.bgp_codec.specs.Updates.{numbers_of}
+use Rattle.bgp_codec.specs.UpdateReading.{numbers_of}
 use Rattle.bgp_codec.proofs.path.read_numbers.Given as goal
 
 abbrev pub invariant-numbers : goal.invariant-numbers

@@ -1,5 +1,5 @@
 use Rattle.std.proofs.lemmas.Result.{err_from_is_err_and}
-use Rattle.bgp_codec.specs.Updates.{segment_at}
+use Rattle.bgp_codec.specs.UpdateReading.{segment_at}
 use Rattle.bgp_codec.proofs.EachLemmas.{each_go_on, each_stop, each_end, some_left, none_left}
 use Rattle.bgp_codec.proofs.PathLemmas.{segment_shortens}
 use Rattle.bgp_codec.proofs.path.read_path.Goals as goal

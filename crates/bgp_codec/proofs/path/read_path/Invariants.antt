@@ -1,6 +1,6 @@
 -- what was read, before what is left to read, is what is read of all
 use Rattle.std.proofs.Common.{◌≡◌, length}
-use Rattle.bgp_codec.specs.Updates.{path_reading}
+use Rattle.bgp_codec.specs.UpdateReading.{path_reading}
 use Rattle.bgp_codec.proofs.EachLemmas.{with_front}
 use Rattle.bgp_codec.proofs.path.read_path.Given as goal
 

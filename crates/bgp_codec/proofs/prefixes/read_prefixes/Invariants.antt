@@ -1,6 +1,6 @@
 -- what was read, before what is left to read, is what is read of all
 use Rattle.std.proofs.Common.{◌≡◌, length}
-use Rattle.bgp_codec.specs.Updates.{prefixes_reading}
+use Rattle.bgp_codec.specs.UpdateReading.{prefixes_reading}
 use Rattle.bgp_codec.proofs.EachLemmas.{with_front}
 use Rattle.bgp_codec.proofs.prefixes.read_prefixes.Given as goal
 

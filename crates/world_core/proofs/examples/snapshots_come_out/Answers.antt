@@ -5,7 +5,7 @@ use Rattle.bgp_codec.specs.Faults.{reading}
 use Rattle.bgp_codec.specs.Header.{begins_with_marker, header_fault}
 use Rattle.bgp_codec.specs.Opens.{open_reading}
 use Rattle.bgp_codec.specs.Reading.{all_in}
-use Rattle.bgp_codec.specs.Updates.{update_reading, attrs_in}
+use Rattle.bgp_codec.specs.UpdateReading.{update_reading, attrs_in}
 use Rattle.bgp_codec.specs.Spelling.{header_of, framed}
 use Rattle.router_model.specs.Sides.{comes, meets, obeys, answers}
 use Rattle.world_core.proofs.examples.snapshots_come_out.Goals as goal

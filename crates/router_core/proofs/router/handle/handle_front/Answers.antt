@@ -1,4 +1,4 @@
-use Rattle.std.proofs.Common.{◌∙◌, ap, subst}
+use Rattle.std.proofs.Common.{◌∙◌, ℕ, List, ap, sym, subst}
 use Rattle.std.specs.Prelude.{Result, IfOk}
 use Rattle.bgp_codec.specs.declared.message.Message.{Message}
 use Rattle.bgp_codec.specs.declared.fault.Fault.{Fault}
@@ -18,6 +18,14 @@ use Rattle.router_core.proofs.router.handle.handle_front.Goals as goal
 pub record-requires-clause-link : goal.record-requires-clause-link
 record-requires-clause-link c = link_on c.args.marks.now.unfinished c.copy_for.new.marks.unfinished c.args.peer c.copy_for.ensures.over c.requires.link
 
+-- what is at hand is in front
+pub carry_front-requires-clause-front : goal.carry_front-requires-clause-front
+carry_front-requires-clause-front c =
+    let held = ap (λ (s : Side). s.held) c.in_ok-reserve.ensures.side in (
+      c.args.peer,
+      c.opened-event.ensures.given ∙ ap at_hand c.in_ok-read.ensures.read ∙ sym (ap (λ (octets : List ℕ). at_hand (front (rule_of c.args.peer) octets)) held),
+    )
+
 pub returns-clause-ok : goal.returns-clause-ok
 returns-clause-ok c =
     let o = c.args.own_open.now in
@@ -28,7 +36,7 @@ returns-clause-ok c =
     let read = c.in_ok-read.ensures.read in
     let hand_is = c.opened-event.ensures.given ∙ ap at_hand read in
     let event_is = c.opened-event.ensures.event ∙ ap event_of read in
-    let dropped = c.drop_front.ensures.side ∙ ap without_front c.in_ok-reserve.ensures.side in
+    let reserved = c.in_ok-reserve.ensures.side in
     record {
       hand = h;
       draft = a;
@@ -37,9 +45,9 @@ returns-clause-ok c =
       draft_is =
           c.handle-made.ensures ∙ ap (λ (k : AtHand). comes o k (draft_of s.session s.link) c.opened-event.result.0) hand_is
           ∙ ap (λ (e : FsmEvent). comes o (at_hand m) (draft_of s.session s.link) e) event_is;
-      side = c.carry.ensures.side ∙ ap (λ (z : Side). carried h z a) dropped;
+      side = c.carry_front.ensures.side ∙ ap (λ (z : Side). carried h (without_front z) a) reserved;
       hears = c.in_ok-hear.ensures.ok;
-      follows = subst (λ (z : Side). Followed c.hear.new.tables c.carry.new.tables c.args.peer (standing z) (standing (side c.carry.new.end))) dropped c.carry.ensures.tables;
+      follows = subst (λ (z : Side). Followed c.hear.new.tables c.carry_front.new.tables c.args.peer (standing z) (standing (side c.carry_front.new.end))) reserved c.carry_front.ensures.tables;
       writable = subst (λ (k : Result Message Fault). IfOk k (IsWritable (rule_of c.args.peer))) read c.in_ok-read.ensures.writable;
       sees =
           c.record.ensures.sees (update_acted a.acts h) c.in_ok-copy.ensures.copy

@@ -5,22 +5,22 @@ use Rattle.bgp_codec.specs.declared.message.Message.TheVariants.{UpdateMsg}
 use Rattle.bgp_codec.specs.declared.update.Update.{Update}
 use Rattle.bgp_codec.specs.Spelling.{written}
 use Rattle.router_side.specs.declared.history.Place.{Place}
-use Rattle.router_side.specs.declared.history.Told.{Told}
 use Rattle.router_side.specs.Histories.{history, told_in, AreKept}
 use Rattle.router_side.specs.Sayings.{acted_where, update_in, IsSayable}
-use Rattle.router_side.proofs.Kept.{history_on, kept_on, told_on, one_kept, one_told}
+use Rattle.router_side.proofs.Kept.{kept_on, one_kept, written_kept, history_grown}
 use Rattle.router_side.proofs.history.History.keep.Goals as goal
 
 -- its octets stand behind those of the others
 pub invariant_of-self : goal.invariant_of-self
 invariant_of-self c =
     let m = c.in-UpdateMsg.is in
+    let u = c.in-UpdateMsg.field-0 in
     let new = written c.args.message.now in
     let p : Place = record { epoch = c.args.epoch; len = c.len.result - c.len-before.result } in
     let grown = ap length c.put_message.ensures.items ∙ length-append c.self.inside.octets.items new in
     let len : p.len ≡ length new = omega (arith, grown, c.len.ensures, c.len-before.ensures, c.put_message.new.out.ok.0, c.self.inside.octets.ok.0) in
-    let one = one_kept p new c.in-UpdateMsg.field-0 (subst IsSayable m c.requires.sayable) (ap written m) len in
-    let all = kept_on c.self.inside.places.items c.self.inside.octets.items new p c.self.invariant one in
+    let w = written_kept c.written_is_read.ensures new u (subst IsSayable m c.requires.sayable) (ap written m) in
+    let all = kept_on c.self.inside.places.items c.self.inside.octets.items new p c.self.invariant (one_kept p new (w.0, (u, w.1)) len) in
     subst (λ (ps : List Place). AreKept ps c.put_message.new.out.items) (sym c.push_reserved.ensures.items)
     (subst (λ (os : List ℕ). AreKept (c.self.inside.places.items ++ p ∷ []) os) (sym c.put_message.ensures.items) all)
 
@@ -32,15 +32,11 @@ returns-in-UpdateMsg-clause-told c =
     let ps = c.self.inside.places.items in
     let os = c.self.inside.octets.items in
     let p : Place = record { epoch = c.args.epoch; len = c.len.result - c.len-before.result } in
-    let t : Told = record { epoch = c.args.epoch; update = u } in
     let grown = ap length c.put_message.ensures.items ∙ length-append os new in
     let len : p.len ≡ length new = omega (arith, grown, c.len.ensures, c.len-before.ensures, c.put_message.new.out.ok.0, c.self.inside.octets.ok.0) in
-    let one = one_told c.written_is_read.ensures p new u (subst IsSayable m c.requires.sayable) (ap written m) len in
-    let told =
-    ap (λ (xs : List Place). told_in xs c.put_message.new.out.items) c.push_reserved.ensures.items
-    ∙ ap (λ (xs : List ℕ). told_in (ps ++ p ∷ []) xs) c.put_message.ensures.items
-    ∙ told_on ps os new p c.self.invariant
-    ∙ ap (λ (ts : List Told). told_in ps os ++ ts) one in
-    ap history told ∙ history_on (told_in ps os) t
+    let w = written_kept c.written_is_read.ensures new u (subst IsSayable m c.requires.sayable) (ap written m) in
+    ap history (ap (λ (xs : List Place). told_in xs c.put_message.new.out.items) c.push_reserved.ensures.items
+    ∙ ap (λ (xs : List ℕ). told_in (ps ++ p ∷ []) xs) c.put_message.ensures.items)
+    ∙ history_grown ps os new p u c.self.invariant w.1 len
     ∙ ap (λ (h : ℕ → List Update). acted_where true (update_in (UpdateMsg u)) c.args.epoch h) (ap (λ v. history v.told) c.self.view_is)
     ∙ sym (ap (λ (k : Message). acted_where true (update_in k) c.args.epoch (history c.args.self.now.told)) m)

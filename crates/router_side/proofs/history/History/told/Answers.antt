@@ -1,5 +1,4 @@
 use Rattle.std.proofs.Common.{◌≡◌, ◌++◌, ◌∷◌, ◌+◌, ◌∙◌, ℕ, List, [], drop, get_or, append_assoc, sym, ap, subst}
-use Rattle.std.specs.Prelude.{Result}
 use Rattle.std.proofs.lemmas.List.{append-nil, drop_more, drop_all}
 use Rattle.bgp_codec.specs.Faults.{reading}
 use Rattle.router_side.specs.declared.history.Place.{Place}

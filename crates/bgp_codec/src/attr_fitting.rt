@@ -1,0 +1,99 @@
+//! Which values attributes may have in a message that is written: those that a reader can answer.
+
+ghost use Rattle.std.specs.Prelude.{◌≡◌, true, IfSome, ◌^◌, ◌≤◌, ◌<◌, ◌↔◌, IsTrue};
+ghost use Rattle.std.specs.List.{AllByRecursion};
+ghost use Rattle.bgp_codec.specs.Opens.{is_unicast};
+ghost use Rattle.bgp_codec.specs.Updates.{SegmentFits, RawFits, IsRising, AttrsFit};
+
+use crate::attributes::{Aggregator, Attrs, OPTIONAL, Raw, high_flags, is_known};
+use crate::items::Items;
+use crate::open::is_unicast;
+use crate::path::{Segment, path_fits};
+
+// Whether these are attributes that the table does not know, with Optional and no low flag.
+fn raws_fit(raws: &[Raw]) -> bool
+    ensures { IsTrue result ↔ AllByRecursion RawFits raws.now }
+{
+    for raw in raws {
+        if is_known(raw.code) || raw.flags < OPTIONAL || high_flags(raw.flags) != raw.flags {
+            return false;
+        }
+    }
+    true
+}
+
+// Whether they stand in rising order of code.
+fn is_rising(raws: &[Raw]) -> bool
+    ensures { IsTrue result ↔ IsRising raws.now }
+{
+    let mut left = raws;
+    'raws: while let [raw, rest @ ..] = left {
+        if let [next, ..] = rest {
+            if raw.code >= next.code {
+                return false;
+            }
+        }
+        left = rest;
+    }
+    true
+}
+
+// Whether an ORIGIN, where there is one, may be read.
+fn origin_fits(origin: Option<u8>) -> bool
+    ensures { IsTrue result ↔ IfSome origin (λ o. o ≤ 2) }
+{
+    match origin {
+        None => true,
+        Some(origin) => origin <= 2,
+    }
+}
+
+// Whether a NEXT_HOP, where there is one, may be read.
+fn next_hop_fits(next_hop: Option<u32>) -> bool
+    ensures { IsTrue result ↔ IfSome next_hop (λ n. (n < 2 ^ 32) × (is_unicast n ≡ true)) }
+{
+    match next_hop {
+        None => true,
+        Some(address) => is_unicast(address),
+    }
+}
+
+// A number that is there fits four octets.
+fn is_four_octets(_number: Option<u32>)
+    ensures { IfSome _number (λ n. n < 2 ^ 32) }
+{}
+
+// Whether an AGGREGATOR, where there is one, may be read.
+fn aggregator_fits(aggregator: Option<Aggregator>) -> bool
+    ensures { IsTrue result ↔ IfSome aggregator (λ g. (g.asn < 2 ^ 16) × (g.addr < 2 ^ 32)) }
+{
+    match aggregator {
+        None => true,
+        Some(by) => by.asn <= 0xffff,
+    }
+}
+
+// Whether an AS_PATH, where there is one, may be read.
+fn as_path_fits(path: &Option<Items<Segment>>) -> bool
+    ensures { IsTrue result ↔ IfSome path.now (AllByRecursion SegmentFits) }
+{
+    match path {
+        None => true,
+        Some(path) => path_fits(path.as_slice()),
+    }
+}
+
+// Whether the attributes have values that may be read.
+pub(crate) fn attrs_fit(attrs: &Attrs) -> bool
+    ensures { IsTrue result ↔ AttrsFit attrs.now }
+{
+    is_four_octets(attrs.med);
+    is_four_octets(attrs.local_pref);
+    let raws = attrs.other.as_slice();
+    origin_fits(attrs.origin)
+        && as_path_fits(&attrs.path)
+        && next_hop_fits(attrs.next_hop)
+        && aggregator_fits(attrs.aggregator)
+        && raws_fit(raws)
+        && is_rising(raws)
+}

@@ -1,0 +1,221 @@
+//! The reader of attributes (RFC 4271 sections 4.3 and 6.3): one after the other, each with all its
+//! checks.
+
+ghost use Rattle.std.specs.Prelude.{◌≡◌, true, IfErr, insert, slice_index, ◌==◌, ◌≤◌, length};
+ghost use Rattle.std.specs.List.{list_any};
+ghost use Rattle.bgp_codec.specs.Reading.{Gives, IsNoWant};
+ghost use Rattle.bgp_codec.specs.AttrTable.{is_known};
+ghost use Rattle.bgp_codec.specs.UpdateReading.{is_extended, head_size, value_size, attr_at, has_code, put_raw, with_value, with_attr, other_reading, no_attrs, attrs_reading};
+ghost use Rattle.bgp_codec.specs.declared.attributes.Raw.{Raw};
+
+use crate::attributes::{
+    AGGREGATOR, AS_PATH, ATOMIC_AGGREGATE, Aggregator, Attrs, EXTENDED, LOCAL_PREF,
+    MULTI_EXIT_DISC, NEXT_HOP, OPTIONAL, ORIGIN, Raw, flags_fit, high_flags, is_known, is_partial,
+    size_fits,
+};
+use crate::fault::{
+    ATTRIBUTE_FLAGS_ERROR, ATTRIBUTE_LENGTH_ERROR, CodecError, INVALID_NEXT_HOP_ATTRIBUTE,
+    INVALID_ORIGIN_ATTRIBUTE, MALFORMED_ATTRIBUTE_LIST, UNRECOGNIZED_WELL_KNOWN_ATTRIBUTE,
+    attr_fault, update_fault,
+};
+use crate::items::Items;
+use crate::numbers::{address_at, number_at, octet_at};
+use crate::octets::Octets;
+use crate::open::is_unicast;
+use crate::path::read_path;
+use crate::rule::Asn;
+use std::alloc::Global;
+
+// Whether an attribute has its length in two octets: the flag Extended Length.
+fn is_extended(flags: u8) -> bool
+    ensures { result ≡ is_extended flags }
+{
+    flags / EXTENDED % 2 == 1
+}
+
+// How many octets stand before the value of the attribute in front, and how many the value has.
+fn attr_sizes(octets: &[u8]) -> (usize, usize)
+    ensures { result ≡ (head_size octets.now, value_size octets.now) }
+{
+    if is_extended(octet_at(octets, 0)) {
+        (4, number_at(octets, 2) as usize)
+    } else {
+        (3, octet_at(octets, 2) as usize)
+    }
+}
+
+// The attribute in front, its value, and what follows it. It takes no memory.
+pub(crate) fn read_attr(alloc: Global, octets: &[u8]) -> Result<(&[u8], &[u8], &[u8]), CodecError>
+    ensures gives { Gives (λ read. (read.0.now, read.1.now, read.2.now)) result (attr_at octets.now) }
+    ensures memory { IfErr result IsNoWant }
+{
+    let (head, size) = attr_sizes(octets);
+    if octets.len() < head + size {
+        return Err(update_fault(alloc, MALFORMED_ATTRIBUTE_LIST));
+    }
+    let (attr, rest) = octets.split_at(head + size);
+    let (_, value) = attr.split_at(head);
+    Ok((attr, value, rest))
+}
+
+// Whether one of them has this code.
+fn any_has_code(raws: &[Raw], code: u8) -> bool
+    ensures { result ≡ list_any (λ r. r.code == code) raws.now }
+{
+    for raw in raws {
+        if raw.code == code {
+            return true;
+        }
+    }
+    false
+}
+
+// Whether an attribute of this code is there.
+fn has_code(attrs: &Attrs, code: u8) -> bool
+    ensures { result ≡ has_code attrs.now code }
+{
+    match code {
+        ORIGIN => attrs.origin.is_some(),
+        AS_PATH => attrs.path.is_some(),
+        NEXT_HOP => attrs.next_hop.is_some(),
+        MULTI_EXIT_DISC => attrs.med.is_some(),
+        LOCAL_PREF => attrs.local_pref.is_some(),
+        ATOMIC_AGGREGATE => attrs.atomic,
+        AGGREGATOR => attrs.aggregator.is_some(),
+        _ => any_has_code(attrs.other.as_slice(), code),
+    }
+}
+
+// The place of the first of a greater code.
+fn place_of(raws: &[Raw], code: u8) -> usize
+    ensures within { result ≤ length raws.now }
+    ensures place { (r : Raw) → r.code ≡ code → put_raw r raws.now ≡ insert raws.now result r }
+{
+    for (place, raw) in raws.iter().enumerate() {
+        if code < raw.code {
+            return place;
+        }
+    }
+    raws.len()
+}
+
+// Takes an attribute that the table does not know.
+fn add_other(alloc: Global, attrs: &mut Attrs, attr: &[u8], value: &[u8]) -> Result<(), CodecError>
+    ensures { Gives (λ _. attrs.new) result (other_reading attrs.old attr.now value.now) }
+{
+    let (flags, code) = (octet_at(attr, 0), octet_at(attr, 1));
+    if flags < OPTIONAL {
+        return Err(attr_fault(alloc, UNRECOGNIZED_WELL_KNOWN_ATTRIBUTE, attr));
+    }
+    let value = Octets::from_slice(alloc, value)?;
+    let place = place_of(attrs.other.as_slice(), code);
+    let flags = high_flags(flags);
+    attrs.other.insert(place, Raw { flags, code, value })?;
+    Ok(())
+}
+
+// Takes the value of an attribute of a known code, whose flags and length are good.
+fn add_value(alloc: Global, attrs: &mut Attrs, attr: &[u8], value: &[u8]) -> Result<(), CodecError>
+    requires { is_known (slice_index attr.now 1) ≡ true }
+    ensures { Gives (λ _. attrs.new) result (with_value attrs.old attr.now value.now) }
+{
+    match octet_at(attr, 1) {
+        ORIGIN => {
+            let origin = octet_at(value, 0);
+            if origin > 2 {
+                return Err(attr_fault(alloc, INVALID_ORIGIN_ATTRIBUTE, attr));
+            }
+            attrs.origin = Some(origin);
+        }
+        AS_PATH => attrs.path = Some(read_path(alloc, value)?),
+        NEXT_HOP => {
+            let next_hop = address_at(value, 0);
+            if !is_unicast(next_hop) {
+                return Err(attr_fault(alloc, INVALID_NEXT_HOP_ATTRIBUTE, attr));
+            }
+            attrs.next_hop = Some(next_hop);
+        }
+        MULTI_EXIT_DISC => attrs.med = Some(address_at(value, 0)),
+        LOCAL_PREF => attrs.local_pref = Some(address_at(value, 0)),
+        ATOMIC_AGGREGATE => attrs.atomic = true,
+        AGGREGATOR => {
+            attrs.aggregator = Some(Aggregator {
+                asn: Asn::from(number_at(value, 0)),
+                addr: address_at(value, 2),
+                partial: is_partial(octet_at(attr, 0)),
+            });
+        }
+        _ => unreachable!(),
+    }
+    Ok(())
+}
+
+// Takes one attribute more: no repeat of a code, an unknown one is optional, then its flags, its
+// length and its value by the table.
+fn add_attr(alloc: Global, attrs: &mut Attrs, attr: &[u8], value: &[u8]) -> Result<(), CodecError>
+    ensures { Gives (λ _. attrs.new) result (with_attr attrs.old attr.now value.now) }
+{
+    let (flags, code) = (octet_at(attr, 0), octet_at(attr, 1));
+    if has_code(attrs, code) {
+        return Err(update_fault(alloc, MALFORMED_ATTRIBUTE_LIST));
+    }
+    if !is_known(code) {
+        return add_other(alloc, attrs, attr, value);
+    }
+    if !flags_fit(code, flags) {
+        return Err(attr_fault(alloc, ATTRIBUTE_FLAGS_ERROR, attr));
+    }
+    if !size_fits(code, value.len()) {
+        return Err(attr_fault(alloc, ATTRIBUTE_LENGTH_ERROR, attr));
+    }
+    add_value(alloc, attrs, attr, value)
+}
+
+// No attribute.
+fn no_attrs(alloc: Global) -> Attrs
+    ensures { result ≡ no_attrs }
+{
+    Attrs {
+        origin: None,
+        path: None,
+        next_hop: None,
+        med: None,
+        local_pref: None,
+        atomic: false,
+        aggregator: None,
+        other: Items::new(alloc),
+    }
+}
+
+// How many attributes octets consist of that the table does not know, if they are good: what a list
+// of them has to hold.
+fn count_others(octets: &[u8]) -> usize
+    ensures { result ≤ length octets.now }
+{
+    let mut count = 0usize;
+    let mut at = 0usize;
+    'attrs: while at < octets.len() {
+        let (_, left) = octets.split_at(at);
+        let (head, size) = attr_sizes(left);
+        if !is_known(octet_at(left, 1)) {
+            count = count + 1;
+        }
+        at = at + head + size;
+    }
+    count
+}
+
+// The attributes that octets consist of.
+pub(crate) fn read_attrs(alloc: Global, octets: &[u8]) -> Result<Attrs, CodecError>
+    ensures { Gives (λ attrs. attrs) result (attrs_reading octets.now) }
+{
+    let mut attrs = no_attrs(alloc);
+    attrs.other.reserve(count_others(octets))?;
+    let mut left = octets;
+    'attrs: while !left.is_empty() {
+        let (attr, value, rest) = read_attr(alloc, left)?;
+        add_attr(alloc, &mut attrs, attr, value)?;
+        left = rest;
+    }
+    Ok(attrs)
+}

@@ -1,0 +1,214 @@
+//! The writer of attributes (RFC 4271 section 4.3): in rising order of code, in the one form that is
+//! written.
+
+ghost use Rattle.std.specs.Prelude.{◌≡◌, if◌then◌else◌, ℕ, List, Some, None, IfSome, nat_le, ◌+◌, ◌-◌, ◌^◌, ◌≤◌, ◌<◌, ◌++◌, ◌∷◌, [], filter, length, min, vec_len, vec_capacity};
+ghost use Rattle.std.specs.Option.{option_map};
+ghost use Rattle.std.specs.Int.{w32, to_be_bytes};
+ghost use Rattle.std.specs.List.{flat_map, AllByRecursion};
+ghost use Rattle.bgp_codec.specs.AttrTable.{origin_code, path_code, atomic_code, transitive_flag, flags_of};
+ghost use Rattle.bgp_codec.specs.Updates.{SegmentFits, RawFits, AttrsFit, stands, given, raw_of, path_octets, aggregator_raw, raw_octets, attrs_octets};
+ghost use Rattle.bgp_codec.specs.declared.attributes.Raw.{Raw};
+
+use crate::attributes::{
+    AGGREGATOR, AS_PATH, ATOMIC_AGGREGATE, Aggregator, Attrs, EXTENDED, LOCAL_PREF,
+    MULTI_EXIT_DISC, NEXT_HOP, ORIGIN, PARTIAL, Raw, flags_of,
+};
+use crate::items::Items;
+use crate::path::{Segment, path_len, put_path};
+
+// How many octets an attribute has that is written, with a value of so many octets, as far as a
+// `usize` counts.
+fn attr_len(size: usize) -> usize
+    ensures { result ≡ min (2 ^ 64 - 1) ((if nat_le 256 size then 4 else 3) + size) }
+{
+    let head = if size >= 256 { 4usize } else { 3 };
+    head.saturating_add(size)
+}
+
+// How many octets an attribute has that may be there.
+fn given_len(is_there: bool, len: usize) -> usize
+    ensures { result ≡ (if is_there then len else 0) }
+{
+    if is_there { len } else { 0 }
+}
+
+// Whether an unknown code stands below all known ones, or above them.
+fn stands(before: bool, code: u8) -> bool
+    ensures { (r : Raw) → r.code ≡ code → result ≡ stands before r }
+{
+    if before { code == 0 } else { code != 0 }
+}
+
+// How many octets the unknown attributes below the known ones have, or those above them, as far as
+// a `usize` counts.
+fn raws_len(raws: &[Raw], before: bool) -> usize
+    ensures { result ≡ min (2 ^ 64 - 1) (length (flat_map raw_octets (filter (stands before) raws.now))) }
+{
+    let mut len = 0usize;
+    for raw in raws {
+        if stands(before, raw.code) {
+            len = len.saturating_add(attr_len(raw.value.len()));
+        }
+    }
+    len
+}
+
+// How many octets the path has as an attribute, as far as a `usize` counts.
+fn path_attr_len(path: &Option<Items<Segment>>) -> usize
+    ensures { result ≡ min (2 ^ 64 - 1) (length (flat_map raw_octets (given transitive_flag path_code (option_map path_octets path.now)))) }
+{
+    match path {
+        None => 0,
+        Some(path) => attr_len(path_len(path.as_slice())),
+    }
+}
+
+// How many octets the attributes have that are written, as far as a `usize` counts.
+pub(crate) fn attrs_len(attrs: &Attrs) -> usize
+    ensures { result ≡ min (2 ^ 64 - 1) (length (attrs_octets attrs.now)) }
+{
+    let raws = attrs.other.as_slice();
+    let fixed = given_len(attrs.origin.is_some(), 4)
+        + given_len(attrs.next_hop.is_some(), 7)
+        + given_len(attrs.med.is_some(), 7)
+        + given_len(attrs.local_pref.is_some(), 7)
+        + given_len(attrs.atomic, 3)
+        + given_len(attrs.aggregator.is_some(), 9);
+    raws_len(raws, true)
+        .saturating_add(fixed)
+        .saturating_add(path_attr_len(&attrs.path))
+        .saturating_add(raws_len(raws, false))
+}
+
+// Appends flags, code and length of an attribute with a value of so many octets, for which there is
+// room: Extended Length for 256 octets or more.
+fn put_head(out: &mut Vec<u8>, flags: u8, code: u8, size: usize)
+    requires flags { flags ≤ 224 }
+    requires size { size < 2 ^ 16 }
+    requires room { vec_len out.old + (if nat_le 256 size then 4 else 3) ≤ vec_capacity out.old }
+    ensures items { (value : List ℕ) → length value ≡ size → out.new.items ++ value ≡ out.old.items ++ raw_octets (raw_of flags code value) }
+    ensures len { vec_len out.new ≡ vec_len out.old + (if nat_le 256 size then 4 else 3) }
+    ensures capacity { vec_capacity out.old ≤ vec_capacity out.new }
+{
+    let [high, low] = (size as u16).to_be_bytes();
+    if size >= 256 {
+        out.push_reserved(flags + EXTENDED);
+        out.push_reserved(code);
+        out.push_reserved(high);
+        out.push_reserved(low);
+    } else {
+        out.push_reserved(flags);
+        out.push_reserved(code);
+        out.push_reserved(low);
+    }
+}
+
+// Appends an attribute, for which there is room.
+fn put_attr(out: &mut Vec<u8>, flags: u8, code: u8, value: &[u8])
+    requires flags { flags ≤ 224 }
+    requires size { length value.now < 2 ^ 16 }
+    requires room { vec_len out.old + length (raw_octets (raw_of flags code value.now)) ≤ vec_capacity out.old }
+    ensures items { out.new.items ≡ out.old.items ++ raw_octets (raw_of flags code value.now) }
+    ensures capacity { vec_capacity out.old ≤ vec_capacity out.new }
+{
+    put_head(out, flags, code, value.len());
+    out.extend_from_slice(value).unwrap();
+}
+
+// Appends the unknown attributes below the known ones, or those above them, for which there is room.
+fn put_raws(out: &mut Vec<u8>, raws: &[Raw], before: bool)
+    requires fit { AllByRecursion RawFits raws.now }
+    requires size { length (flat_map raw_octets (filter (stands before) raws.now)) < 2 ^ 16 }
+    requires room { vec_len out.old + length (flat_map raw_octets (filter (stands before) raws.now)) ≤ vec_capacity out.old }
+    ensures items { out.new.items ≡ out.old.items ++ flat_map raw_octets (filter (stands before) raws.now) }
+    ensures capacity { vec_capacity out.old ≤ vec_capacity out.new }
+{
+    for raw in raws {
+        if stands(before, raw.code) {
+            put_attr(out, raw.flags, raw.code, raw.value.as_slice());
+        }
+    }
+}
+
+// Appends ORIGIN where it is there, for which there is room.
+fn put_origin(out: &mut Vec<u8>, origin: Option<u8>)
+    requires room { vec_len out.old + length (flat_map raw_octets (given transitive_flag origin_code (option_map (λ o. o ∷ []) origin))) ≤ vec_capacity out.old }
+    ensures items { out.new.items ≡ out.old.items ++ flat_map raw_octets (given transitive_flag origin_code (option_map (λ o. o ∷ []) origin)) }
+    ensures capacity { vec_capacity out.old ≤ vec_capacity out.new }
+{
+    if let Some(origin) = origin {
+        put_attr(out, flags_of(ORIGIN), ORIGIN, &[origin]);
+    }
+}
+
+// Appends AS_PATH where it is there, for which there is room.
+fn put_path_attr(out: &mut Vec<u8>, path: &Option<Items<Segment>>)
+    requires fit { IfSome path.now (AllByRecursion SegmentFits) }
+    requires size { length (flat_map raw_octets (given transitive_flag path_code (option_map path_octets path.now))) < 2 ^ 16 }
+    requires room { vec_len out.old + length (flat_map raw_octets (given transitive_flag path_code (option_map path_octets path.now))) ≤ vec_capacity out.old }
+    ensures items { out.new.items ≡ out.old.items ++ flat_map raw_octets (given transitive_flag path_code (option_map path_octets path.now)) }
+    ensures capacity { vec_capacity out.old ≤ vec_capacity out.new }
+{
+    if let Some(path) = path {
+        put_head(out, flags_of(AS_PATH), AS_PATH, path_len(path.as_slice()));
+        put_path(out, path.as_slice());
+    }
+}
+
+// Appends an attribute of four octets where it is there, for which there is room.
+fn put_number(out: &mut Vec<u8>, code: u8, number: Option<u32>)
+    requires room { vec_len out.old + length (flat_map raw_octets (given (flags_of code) code (option_map (to_be_bytes w32) number))) ≤ vec_capacity out.old }
+    ensures items { out.new.items ≡ out.old.items ++ flat_map raw_octets (given (flags_of code) code (option_map (to_be_bytes w32) number)) }
+    ensures capacity { vec_capacity out.old ≤ vec_capacity out.new }
+{
+    if let Some(number) = number {
+        put_attr(out, flags_of(code), code, &number.to_be_bytes());
+    }
+}
+
+// Appends ATOMIC_AGGREGATE where it is there, for which there is room.
+fn put_atomic(out: &mut Vec<u8>, atomic: bool)
+    requires room { vec_len out.old + length (flat_map raw_octets (given transitive_flag atomic_code (if atomic then Some [] else None))) ≤ vec_capacity out.old }
+    ensures items { out.new.items ≡ out.old.items ++ flat_map raw_octets (given transitive_flag atomic_code (if atomic then Some [] else None)) }
+    ensures capacity { vec_capacity out.old ≤ vec_capacity out.new }
+{
+    if atomic {
+        put_attr(out, flags_of(ATOMIC_AGGREGATE), ATOMIC_AGGREGATE, &[]);
+    }
+}
+
+// Appends AGGREGATOR where it is there, for which there is room.
+fn put_aggregator(out: &mut Vec<u8>, aggregator: Option<Aggregator>)
+    requires fit { IfSome aggregator (λ g. (g.asn < 2 ^ 16) × (g.addr < 2 ^ 32)) }
+    requires room { vec_len out.old + length (flat_map raw_octets (aggregator_raw aggregator)) ≤ vec_capacity out.old }
+    ensures items { out.new.items ≡ out.old.items ++ flat_map raw_octets (aggregator_raw aggregator) }
+    ensures capacity { vec_capacity out.old ≤ vec_capacity out.new }
+{
+    if let Some(by) = aggregator {
+        let [high, low] = (by.asn as u16).to_be_bytes();
+        let [a, b, c, d] = by.addr.to_be_bytes();
+        let partial = if by.partial { PARTIAL } else { 0 };
+        let flags = flags_of(AGGREGATOR) + partial;
+        put_attr(out, flags, AGGREGATOR, &[high, low, a, b, c, d]);
+    }
+}
+
+// Appends the attributes in rising order of code, for which there is room.
+pub(crate) fn put_attrs(out: &mut Vec<u8>, attrs: &Attrs)
+    requires fit { AttrsFit attrs.now }
+    requires size { length (attrs_octets attrs.now) < 2 ^ 16 }
+    requires room { vec_len out.old + length (attrs_octets attrs.now) ≤ vec_capacity out.old }
+    ensures items { out.new.items ≡ out.old.items ++ attrs_octets attrs.now }
+    ensures capacity { vec_capacity out.old ≤ vec_capacity out.new }
+{
+    let raws = attrs.other.as_slice();
+    put_raws(out, raws, true);
+    put_origin(out, attrs.origin);
+    put_path_attr(out, &attrs.path);
+    put_number(out, NEXT_HOP, attrs.next_hop);
+    put_number(out, MULTI_EXIT_DISC, attrs.med);
+    put_number(out, LOCAL_PREF, attrs.local_pref);
+    put_atomic(out, attrs.atomic);
+    put_aggregator(out, attrs.aggregator);
+    put_raws(out, raws, false);
+}
