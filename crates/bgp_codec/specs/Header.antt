@@ -4,6 +4,7 @@ use Rattle.std.specs.List.{starts_with}
 use Rattle.std.specs.Int.{w16, from_be_bytes}
 use Rattle.marker_lanes.specs.Marker.{marker}
 use Rattle.bgp_codec.specs.declared.fault.Fault.{Fault}
+use Rattle.bgp_codec.specs.declared.fault.TheConstants.{MESSAGE_HEADER_ERROR, CONNECTION_NOT_SYNCHRONIZED, BAD_MESSAGE_LENGTH, BAD_MESSAGE_TYPE}
 
 -- a fault with its code, subcode and data
 abbrev pub fault_of : ℕ → ℕ → List ℕ → Fault
@@ -41,10 +42,10 @@ length_fits kind len =
 -- the first check that fails in a header of nineteen octets, whatever stands behind it
 unfoldable pub header_fault : List ℕ → Option Fault
 header_fault octets =
-    if not (begins_with_marker octets) then Some (fault_of 1 1 [])
-    else if not (is_message_len (length_field octets)) then Some (fault_of 1 2 (length_octets octets))
-    else if not (is_kind (kind_field octets)) then Some (fault_of 1 3 (kind_field octets ∷ []))
-    else if not (length_fits (kind_field octets) (length_field octets)) then Some (fault_of 1 2 (length_octets octets))
+    if not (begins_with_marker octets) then Some (fault_of MESSAGE_HEADER_ERROR CONNECTION_NOT_SYNCHRONIZED [])
+    else if not (is_message_len (length_field octets)) then Some (fault_of MESSAGE_HEADER_ERROR BAD_MESSAGE_LENGTH (length_octets octets))
+    else if not (is_kind (kind_field octets)) then Some (fault_of MESSAGE_HEADER_ERROR BAD_MESSAGE_TYPE (kind_field octets ∷ []))
+    else if not (length_fits (kind_field octets) (length_field octets)) then Some (fault_of MESSAGE_HEADER_ERROR BAD_MESSAGE_LENGTH (length_octets octets))
     else None
 
 -- a frame: the octets of one message whose header is good, and whose Length is their number

@@ -3,6 +3,7 @@ use Rattle.std.specs.Prelude.{◌≡◌, ℕ, ◌+◌, ◌^◌, ◌/◌, ◌<◌
 use Rattle.std.specs.List.{flat_map, AllByRecursion}
 use Rattle.std.specs.Int.{w16, w32, to_be_bytes, from_be_bytes}
 use Rattle.bgp_codec.specs.declared.fault.Fault.{Fault}
+use Rattle.bgp_codec.specs.declared.fault.TheConstants.{OPEN_MESSAGE_ERROR, UNSUPPORTED_VERSION_NUMBER, OPEN_UNSPECIFIC, BAD_PEER_AS, BAD_BGP_IDENTIFIER, UNSUPPORTED_OPTIONAL_PARAMETER, UNACCEPTABLE_HOLD_TIME}
 use Rattle.bgp_codec.specs.declared.open.Cap.{Cap}
 use Rattle.bgp_codec.specs.declared.open.Open.{Open}
 use Rattle.bgp_codec.specs.declared.rule.Rule.{Rule}
@@ -65,13 +66,13 @@ pub record SpellsOpen (rule : Rule) (body : List ℕ) (o : Open) : Type 0 where
 
 -- a fault of an OPEN without data
 abbrev pub open_fault : ℕ → Fault
-open_fault sub = fault_of 2 sub []
+open_fault sub = fault_of OPEN_MESSAGE_ERROR sub []
 
 -- a value in front, its length at 1 and its octets from 2, and what follows it
 abbrev pub value_at : List ℕ → Result (List ℕ × List ℕ) Fault
-value_at [] = Err (open_fault 0)
-value_at (kind ∷ []) = Err (open_fault 0)
-value_at (kind ∷ len ∷ rest) = if nat_lt (length rest) len then Err (open_fault 0) else Ok (take len rest, drop len rest)
+value_at [] = Err (open_fault OPEN_UNSPECIFIC)
+value_at (kind ∷ []) = Err (open_fault OPEN_UNSPECIFIC)
+value_at (kind ∷ len ∷ rest) = if nat_lt (length rest) len then Err (open_fault OPEN_UNSPECIFIC) else Ok (take len rest, drop len rest)
 
 abbrev pub cap_of : ℕ → List ℕ → Cap
 cap_of code value = record { code = code; value = value }
@@ -85,7 +86,7 @@ caps_reading octets = all_of cap_at octets
 
 -- a parameter in front: its value is inside, its kind is 2, its capabilities fill it
 abbrev pub param_at : Reader (List Cap)
-param_at octets = value_at octets >>= λ v. if not (slice_index octets 0 == 2) then Err (open_fault 4) else (caps_reading v.0 >>= λ caps. Ok (caps, v.1))
+param_at octets = value_at octets >>= λ v. if not (slice_index octets 0 == 2) then Err (open_fault UNSUPPORTED_OPTIONAL_PARAMETER) else (caps_reading v.0 >>= λ caps. Ok (caps, v.1))
 
 abbrev pub params_reading : List ℕ → Result (List (List Cap)) Fault
 params_reading octets = all_of param_at octets
@@ -110,9 +111,9 @@ open_behind body octets = params_reading octets >>= λ params. Ok (open_of body 
 -- version, AS, hold time, identifier, that the parameters fill the rest, then the parameters
 unfoldable pub open_reading : Rule → List ℕ → Result Open Fault
 open_reading rule body =
-    if not (slice_index body 0 == 4) then Err (fault_of 2 1 (0 ∷ 4 ∷ []))
-    else if not (is_peer rule.peer (asn_field body)) then Err (open_fault 2)
-    else if not (is_hold_time (hold_field body)) then Err (open_fault 6)
-    else if not (is_unicast (id_field body)) then Err (open_fault 3)
-    else if not (length body == 10 + slice_index body 9) then Err (open_fault 0)
+    if not (slice_index body 0 == 4) then Err (fault_of OPEN_MESSAGE_ERROR UNSUPPORTED_VERSION_NUMBER (0 ∷ 4 ∷ []))
+    else if not (is_peer rule.peer (asn_field body)) then Err (open_fault BAD_PEER_AS)
+    else if not (is_hold_time (hold_field body)) then Err (open_fault UNACCEPTABLE_HOLD_TIME)
+    else if not (is_unicast (id_field body)) then Err (open_fault BAD_BGP_IDENTIFIER)
+    else if not (length body == 10 + slice_index body 9) then Err (open_fault OPEN_UNSPECIFIC)
     else open_behind body (drop 10 body)

@@ -4,6 +4,7 @@ use Rattle.std.specs.List.{list_any}
 use Rattle.std.specs.Int.{w16, w32, from_be_bytes}
 use Rattle.prefix_lanes.specs.Bits.{PrefixView, masked}
 use Rattle.bgp_codec.specs.declared.fault.Fault.{Fault}
+use Rattle.bgp_codec.specs.declared.fault.TheConstants.{UPDATE_MESSAGE_ERROR, MALFORMED_ATTRIBUTE_LIST, UNRECOGNIZED_WELL_KNOWN_ATTRIBUTE, MISSING_WELL_KNOWN_ATTRIBUTE, ATTRIBUTE_FLAGS_ERROR, ATTRIBUTE_LENGTH_ERROR, INVALID_ORIGIN_ATTRIBUTE, INVALID_NEXT_HOP_ATTRIBUTE, INVALID_NETWORK_FIELD, MALFORMED_AS_PATH}
 use Rattle.bgp_codec.specs.declared.path.Segment.{Segment}
 use Rattle.bgp_codec.specs.declared.path.SegmentKind.{SegmentKind}
 use Rattle.bgp_codec.specs.declared.path.SegmentKind.TheVariants.{AsSet, AsSequence}
@@ -19,11 +20,11 @@ use Rattle.bgp_codec.specs.Updates.{octet_count, segment_code, raw_of, missing, 
 
 -- a fault of an UPDATE without data
 abbrev pub update_fault : ℕ → Fault
-update_fault sub = fault_of 3 sub []
+update_fault sub = fault_of UPDATE_MESSAGE_ERROR sub []
 
 -- with an attribute as its data
 abbrev pub attr_fault : ℕ → List ℕ → Fault
-attr_fault sub attr = fault_of 3 sub attr
+attr_fault sub attr = fault_of UPDATE_MESSAGE_ERROR sub attr
 
 -- two octets, and four, from a place on
 abbrev pub number_at : List ℕ → ℕ → ℕ
@@ -38,9 +39,9 @@ prefix_of len octets = record { addr = masked (address_at octets 0) len; len = l
 
 -- at most 32 bits, and the octets that hold them inside
 abbrev pub prefix_at : Reader PrefixView
-prefix_at [] = Err (update_fault 10)
+prefix_at [] = Err (update_fault INVALID_NETWORK_FIELD)
 prefix_at (len ∷ rest) =
-    if nat_lt 32 len || nat_lt (length rest) (octet_count len) then Err (update_fault 10)
+    if nat_lt 32 len || nat_lt (length rest) (octet_count len) then Err (update_fault INVALID_NETWORK_FIELD)
     else Ok (prefix_of len (take (octet_count len) rest), drop (octet_count len) rest)
 
 abbrev pub prefixes_reading : List ℕ → Result (List PrefixView) Fault
@@ -61,10 +62,10 @@ segment_of code octets = segment_with (if code == segment_code AsSet then AsSet 
 
 -- AS_SET or AS_SEQUENCE, at least one number, and all inside
 abbrev pub segment_at : Reader Segment
-segment_at [] = Err (update_fault 11)
-segment_at (code ∷ []) = Err (update_fault 11)
+segment_at [] = Err (update_fault MALFORMED_AS_PATH)
+segment_at (code ∷ []) = Err (update_fault MALFORMED_AS_PATH)
 segment_at (code ∷ count ∷ rest) =
-    if not ((code == segment_code AsSet) || (code == segment_code AsSequence)) || ((count == 0) || nat_lt (length rest) (2 * count)) then Err (update_fault 11)
+    if not ((code == segment_code AsSet) || (code == segment_code AsSequence)) || ((count == 0) || nat_lt (length rest) (2 * count)) then Err (update_fault MALFORMED_AS_PATH)
     else Ok (segment_of code (take (2 * count) rest), drop (2 * count) rest)
 
 abbrev pub path_reading : List ℕ → Result (List Segment) Fault
@@ -85,7 +86,7 @@ value_size octets = if is_extended (slice_index octets 0) then number_at octets 
 abbrev pub attr_at : List ℕ → Result (List ℕ × List ℕ × List ℕ) Fault
 attr_at octets =
     let size = head_size octets + value_size octets in
-    if nat_lt (length octets) size then Err (update_fault 1)
+    if nat_lt (length octets) size then Err (update_fault MALFORMED_ATTRIBUTE_LIST)
     else Ok (take size octets, drop (head_size octets) (take size octets), drop size octets)
 
 -- no attribute
@@ -140,9 +141,9 @@ aggregator_of value flags = record { asn = number_at value 0; addr = address_at 
 abbrev pub with_value : Attrs → List ℕ → List ℕ → Result Attrs Fault
 with_value a attr value =
     let code = slice_index attr 1 in
-    if code == origin_code then (if nat_lt 2 (slice_index value 0) then Err (attr_fault 6 attr) else Ok (with_origin a (slice_index value 0)))
+    if code == origin_code then (if nat_lt 2 (slice_index value 0) then Err (attr_fault INVALID_ORIGIN_ATTRIBUTE attr) else Ok (with_origin a (slice_index value 0)))
     else if code == path_code then (path_reading value >>= λ p. Ok (with_path a p))
-    else if code == next_hop_code then (if is_unicast (address_at value 0) then Ok (with_next_hop a (address_at value 0)) else Err (attr_fault 8 attr))
+    else if code == next_hop_code then (if is_unicast (address_at value 0) then Ok (with_next_hop a (address_at value 0)) else Err (attr_fault INVALID_NEXT_HOP_ATTRIBUTE attr))
     else if code == med_code then Ok (with_med a (address_at value 0))
     else if code == local_pref_code then Ok (with_local_pref a (address_at value 0))
     else if code == atomic_code then Ok (with_atomic a)
@@ -152,17 +153,17 @@ with_value a attr value =
 abbrev pub other_reading : Attrs → List ℕ → List ℕ → Result Attrs Fault
 other_reading a attr value =
     let flags = slice_index attr 0 in
-    if nat_lt flags optional_flag then Err (attr_fault 2 attr) else Ok (with_other a (put_raw (raw_of (high_flags flags) (slice_index attr 1) value) a.other))
+    if nat_lt flags optional_flag then Err (attr_fault UNRECOGNIZED_WELL_KNOWN_ATTRIBUTE attr) else Ok (with_other a (put_raw (raw_of (high_flags flags) (slice_index attr 1) value) a.other))
 
 -- one attribute more: no repeat of a code, an unknown one is optional, the flags, the length and the value by the table
 abbrev pub with_attr : Attrs → List ℕ → List ℕ → Result Attrs Fault
 with_attr a attr value =
     let flags = slice_index attr 0 in
     let code = slice_index attr 1 in
-    if has_code a code then Err (update_fault 1)
+    if has_code a code then Err (update_fault MALFORMED_ATTRIBUTE_LIST)
     else if not (is_known code) then other_reading a attr value
-    else if not (flags_fit code flags) then Err (attr_fault 4 attr)
-    else if not (size_fits code (length value)) then Err (attr_fault 5 attr)
+    else if not (flags_fit code flags) then Err (attr_fault ATTRIBUTE_FLAGS_ERROR attr)
+    else if not (size_fits code (length value)) then Err (attr_fault ATTRIBUTE_LENGTH_ERROR attr)
     else with_value a attr value
 
 -- the attributes that octets consist of, behind those that were read, of which there are at most so many
@@ -179,8 +180,8 @@ attrs_reading octets = attrs_from no_attrs octets
 
 -- the announced prefixes: what is mandatory is there, then the prefixes, then the peer
 abbrev pub announced_by : Option ℕ → Option ℕ → Attrs → List ℕ → Result (List PrefixView) Fault
-announced_by (Some code) peer a octets = Err (fault_of 3 3 (code ∷ []))
-announced_by None peer a octets = prefixes_reading octets >>= λ ps. if is_from peer a then Ok ps else Err (update_fault 11)
+announced_by (Some code) peer a octets = Err (fault_of UPDATE_MESSAGE_ERROR MISSING_WELL_KNOWN_ATTRIBUTE (code ∷ []))
+announced_by None peer a octets = prefixes_reading octets >>= λ ps. if is_from peer a then Ok ps else Err (update_fault MALFORMED_AS_PATH)
 
 abbrev pub announced_reading : Option ℕ → Attrs → List ℕ → Result (List PrefixView) Fault
 announced_reading peer a octets = announced_by (missing a) peer a octets
@@ -209,5 +210,5 @@ unfoldable pub update_reading : Option ℕ → List ℕ → Result Update Fault
 update_reading peer body =
     let first = withdrawn_len body in
     let second = attrs_len body in
-    if nat_lt (length body) (4 + first) || nat_lt (length body) (4 + (first + second)) then Err (update_fault 1)
+    if nat_lt (length body) (4 + first) || nat_lt (length body) (4 + (first + second)) then Err (update_fault MALFORMED_ATTRIBUTE_LIST)
     else parts_reading peer (take first (drop 2 body)) (take second (drop (4 + first) body)) (drop (4 + (first + second)) body)

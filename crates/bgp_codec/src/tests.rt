@@ -6,6 +6,7 @@ use super::*;
 use crate::rule::NOBODY;
 use prefix_lanes::Prefix;
 use std::alloc::{AllocError, Global};
+use std::process::Abort;
 use std::test::Fail;
 
 fn first_nineteen(octets: &[u8]) -> [u8; 19]
@@ -83,6 +84,37 @@ fn a_marker_with_another_octet(rt: HostRuntime) -> Result<(), Fail> {
     Ok(())
 }
 
+// Whether a message is writable, and is written as a Marker and these octets.
+fn is_written_as(alloc: Global, message: &Message, tail: &[u8]) -> Result<bool, AllocError> {
+    let wanted = marked(alloc, tail)?;
+    let mut out = Vec::new(alloc);
+    Ok(
+        is_writable(message, &NOBODY)
+            && encode(message, &NOBODY, &mut out).is_ok()
+            && out.as_slice() == wanted.as_slice(),
+    )
+}
+
+// How many octets a message has that is written behind one octet, or nothing where it is too long:
+// then the vector is as it was.
+fn written_behind_one(
+    rt: &impl Abort,
+    alloc: Global,
+    message: &Message,
+) -> Result<Option<usize>, Fail> {
+    assert!(rt; is_writable(message, &NOBODY));
+    let mut out = vec![in alloc; 7u8]?;
+    let room = out.capacity();
+    match encode(message, &NOBODY, &mut out) {
+        Ok(()) => Ok(Some(out.len() - 1)),
+        Err(CodecError::TooLong) => {
+            assert_eq!(rt; (out.as_slice(), out.capacity()), ([7u8].as_slice(), room));
+            Ok(None)
+        }
+        Err(_) => Err("memory".into()),
+    }
+}
+
 // A fault's NOTIFICATION, written out, is the message of the standard's figure.
 #[test]
 fn a_fault_is_told(rt: HostRuntime) -> Result<(), Fail> {
@@ -93,35 +125,24 @@ fn a_fault_is_told(rt: HostRuntime) -> Result<(), Fail> {
         extra: Octets::short(alloc, &[5]),
     };
     let message = Message::NoticeMsg(notice_of(alloc, &fault)?);
-    assert!(rt; is_writable(&message, &NOBODY));
-    let mut out = vec![in alloc; 7u8]?;
-    assert!(rt; encode(&message, &NOBODY, &mut out).is_ok());
-    let wanted = marked(alloc, b"\x00\x16\x03\x01\x03\x05")?;
-    assert_eq!(rt; out.first().copied(), Some(7));
-    assert_eq!(rt; &out[1..], wanted.as_slice());
+    assert!(rt; is_written_as(alloc, &message, b"\x00\x16\x03\x01\x03\x05")?);
     Ok(())
+}
+
+fn notice_with(alloc: Global, len: usize) -> Result<Message, AllocError> {
+    Ok(Message::NoticeMsg(Notice {
+        code: 6,
+        sub: 0,
+        extra: Octets::from_vec(vec![in alloc; 0u8; len]?),
+    }))
 }
 
 // The longest NOTIFICATION is written, and one octet more is refused with the vector as it was.
 #[test]
 fn the_longest_message(rt: HostRuntime) -> Result<(), Fail> {
-    let alloc = rt.alloc();
-    for (len, fits) in [(4075usize, true), (4076, false)] {
-        let message = Message::NoticeMsg(Notice {
-            code: 6,
-            sub: 0,
-            extra: Octets::from_vec(vec![in alloc; 0u8; len]?),
-        });
-        let mut out = vec![in alloc; 7u8]?;
-        let room = out.capacity();
-        let answer = encode(&message, &NOBODY, &mut out);
-        if fits {
-            assert!(rt; answer.is_ok());
-            assert_eq!(rt; out.len(), 4097);
-        } else {
-            assert!(rt; matches!(answer, Err(CodecError::TooLong)));
-            assert_eq!(rt; (out.as_slice(), out.capacity()), ([7u8].as_slice(), room));
-        }
+    for (len, wanted) in [(4075usize, Some(4096)), (4076, None)] {
+        let message = notice_with(rt.alloc(), len)?;
+        assert_eq!(rt; written_behind_one(&rt, rt.alloc(), &message)?, wanted);
     }
     Ok(())
 }
@@ -149,61 +170,64 @@ fn laws_are_called(_rt: HostRuntime) {
     laws::fault_fits_a_message();
 }
 
-// An OPEN of RFC 4271 section 4.2 with a capability of RFC 5492: what is written is the standard's
-// layout, and what is read back is the same.
-#[test]
-fn an_open_is_written_and_read(rt: HostRuntime) -> Result<(), Fail> {
-    let alloc = rt.alloc();
+// The parameters of an OPEN: one with one capability, and one with none.
+fn two_parameters(alloc: Global, cap: Cap) -> Result<Items<Items<Cap>>, AllocError> {
     let mut caps = Vec::new(alloc);
-    caps.push(Cap {
-        code: 65,
-        value: Octets::short(alloc, &[0, 0, 253, 233]),
-    })?;
+    caps.push(cap)?;
     let mut params = Vec::new(alloc);
     params.push(Items::from_vec(caps))?;
     params.push(Items::new(alloc))?;
+    Ok(Items::from_vec(params))
+}
+
+// An OPEN of RFC 4271 section 4.2 with a capability of RFC 5492: what is written is the standard's
+// layout.
+#[test]
+fn an_open_is_written(rt: HostRuntime) -> Result<(), Fail> {
+    let alloc = rt.alloc();
+    let four_octets = Cap {
+        code: 65,
+        value: Octets::short(alloc, &[0, 0, 253, 233]),
+    };
     let message = Message::OpenMsg(Open {
         asn: 65001,
         hold: 90,
         id: 0x0a00_0001,
-        params: Items::from_vec(params),
+        params: two_parameters(alloc, four_octets)?,
     });
-    assert!(rt; is_writable(&message, &NOBODY));
-    let mut out = Vec::new(alloc);
-    assert!(rt; encode(&message, &NOBODY, &mut out).is_ok());
-    let wanted = marked(
-        alloc,
-        b"\x00\x27\x01\x04\xfd\xe9\x00\x5a\x0a\x00\x00\x01\x0a\x02\x06\x41\x04\x00\x00\xfd\xe9\x02\x00",
-    )?;
-    assert_eq!(rt; out.as_slice(), wanted.as_slice());
+    let wanted =
+        b"\x00\x27\x01\x04\xfd\xe9\x00\x5a\x0a\x00\x00\x01\x0a\x02\x06\x41\x04\x00\x00\xfd\xe9\x02\x00";
+    assert!(rt; is_written_as(alloc, &message, wanted)?);
     Ok(())
+}
+
+// An OPEN with this hold time, this identifier, and two parameters: a capability whose value has so
+// many octets, and none.
+fn open_with(alloc: Global, hold: u16, id: u32, value_len: usize) -> Result<Message, AllocError> {
+    let cap = Cap {
+        code: 1,
+        value: Octets::from_vec(vec![in alloc; 7u8; value_len]?),
+    };
+    Ok(Message::OpenMsg(Open {
+        asn: 1,
+        hold,
+        id,
+        params: two_parameters(alloc, cap)?,
+    }))
 }
 
 // What cannot be read is not writable: a hold time of 1, an identifier of a network of the future,
 // a value of 256 octets, parameters of 256 octets.
 #[test]
 fn opens_that_are_not_writable(rt: HostRuntime) -> Result<(), Fail> {
-    let alloc = rt.alloc();
     for (hold, id, value_len, wanted) in [
-        (90u16, 0x0a00_0001u32, 251usize, true),
+        (90u16, 0x0a00_0001u32, 249usize, true),
         (1, 0x0a00_0001, 0, false),
         (90, 0xe000_0001, 0, false),
-        (90, 0x0a00_0001, 252, false),
+        (90, 0x0a00_0001, 250, false),
         (90, 0x0a00_0001, 256, false),
     ] {
-        let mut caps = Vec::new(alloc);
-        caps.push(Cap {
-            code: 1,
-            value: Octets::from_vec(vec![in alloc; 7u8; value_len]?),
-        })?;
-        let mut params = Vec::new(alloc);
-        params.push(Items::from_vec(caps))?;
-        let message = Message::OpenMsg(Open {
-            asn: 1,
-            hold,
-            id,
-            params: Items::from_vec(params),
-        });
+        let message = open_with(rt.alloc(), hold, id, value_len)?;
         assert_eq!(rt;
             is_writable(&message, &NOBODY),
             wanted,
@@ -273,36 +297,48 @@ fn update(
     })
 }
 
+// Unknown attributes of these codes, each with a value of so many octets.
+fn raws(alloc: Global, codes: &[u8], len: usize) -> Result<Vec<Raw>, AllocError> {
+    let mut raws = Vec::new(alloc);
+    for code in codes {
+        raws.push(raw(alloc, *code, len)?)?;
+    }
+    Ok(raws)
+}
+
+// A path of one AS_SEQUENCE, and of an AS_SET behind it where there are numbers for one.
+fn segments(alloc: Global, numbers: &[Asn], set: &[Asn]) -> Result<Vec<Segment>, AllocError> {
+    let mut segments = Vec::new(alloc);
+    segments.push(segment(alloc, SegmentKind::AsSequence, numbers)?)?;
+    if !set.is_empty() {
+        segments.push(segment(alloc, SegmentKind::AsSet, set)?)?;
+    }
+    Ok(segments)
+}
+
 // An UPDATE of RFC 4271 section 4.3: withdrawn prefixes, attributes in rising order of code, the
 // announced prefixes with their other bits zero.
 #[test]
 fn an_update_is_written(rt: HostRuntime) -> Result<(), Fail> {
     let alloc = rt.alloc();
-    let mut segments = Vec::new(alloc);
-    segments.push(segment(alloc, SegmentKind::AsSequence, &[1, 2])?)?;
-    segments.push(segment(alloc, SegmentKind::AsSet, &[3])?)?;
-    let mut other = Vec::new(alloc);
-    other.push(raw(alloc, 0, 1)?)?;
-    other.push(raw(alloc, 8, 0)?)?;
-    let message = Message::UpdateMsg(update(alloc, segments, other, &[(0x0a01_ffff, 17), (0, 0)])?);
-    assert!(rt; is_writable(&message, &NOBODY));
-    let mut out = Vec::new(alloc);
-    assert!(rt; encode(&message, &NOBODY, &mut out).is_ok());
-    let mut wanted = marked(alloc, b"\x00\x51\x02\x00\x03\x10\x0a\x01\x00\x32")?;
-    for part in [
-        b"\xc0\x00\x01\x07".as_slice(),
-        b"\x40\x01\x01\x00",
-        b"\x40\x02\x0a\x02\x02\x00\x01\x00\x02\x01\x01\x00\x03",
-        b"\x40\x03\x04\x0a\x00\x00\x01",
-        b"\x80\x04\x04\x00\x00\x00\x05",
-        b"\x40\x06\x00",
-        b"\xe0\x07\x06\x00\x07\x0a\x00\x00\x02",
-        b"\xc0\x08\x00",
-        b"\x11\x0a\x01\x80\x00",
-    ] {
-        wanted.extend_from_slice(part)?;
-    }
-    assert_eq!(rt; out.as_slice(), wanted.as_slice());
+    let announced = [(0x0a01_ffff, 17), (0, 0)];
+    let message = Message::UpdateMsg(update(
+        alloc,
+        segments(alloc, &[1, 2], &[3])?,
+        raws(alloc, &[0, 8], 1)?,
+        &announced,
+    )?);
+    let wanted = b"\x00\x52\x02\x00\x03\x10\x0a\x01\x00\x33\
+        \xc0\x00\x01\x07\
+        \x40\x01\x01\x00\
+        \x40\x02\x0a\x02\x02\x00\x01\x00\x02\x01\x01\x00\x03\
+        \x40\x03\x04\x0a\x00\x00\x01\
+        \x80\x04\x04\x00\x00\x00\x05\
+        \x40\x06\x00\
+        \xe0\x07\x06\x00\x07\x0a\x00\x00\x02\
+        \xc0\x08\x01\x07\
+        \x11\x0a\x01\x80\x00";
+    assert!(rt; is_written_as(alloc, &message, wanted)?);
     Ok(())
 }
 
@@ -321,14 +357,8 @@ fn updates_that_are_not_writable(rt: HostRuntime) -> Result<(), Fail> {
         (&many[..1], [8, 8], false),
         (&many[..1], [7, 8], false),
     ] {
-        let mut segments = Vec::new(alloc);
-        segments.push(segment(alloc, SegmentKind::AsSequence, numbers)?)?;
-        let mut other = Vec::new(alloc);
-        for code in codes {
-            other.push(raw(alloc, code, 3)?)?;
-        }
-        let message = Message::UpdateMsg(update(alloc, segments, other, &[(0, 0)])?);
-        assert_eq!(rt; is_writable(&message, &NOBODY), wanted, "{codes:?}");
+        let is_good = is_writable_with(alloc, numbers, &codes)?;
+        assert_eq!(rt; is_good, wanted, "{codes:?}");
     }
     let mut message = update(alloc, Vec::new(alloc), Vec::new(alloc), &[(0, 0)])?;
     message.attrs.path = None;
@@ -336,26 +366,26 @@ fn updates_that_are_not_writable(rt: HostRuntime) -> Result<(), Fail> {
     Ok(())
 }
 
+fn is_writable_with(alloc: Global, numbers: &[Asn], codes: &[u8]) -> Result<bool, AllocError> {
+    let path = segments(alloc, numbers, &[])?;
+    let message = update(alloc, path, raws(alloc, codes, 3)?, &[(0, 0)])?;
+    Ok(is_writable(&Message::UpdateMsg(message), &NOBODY))
+}
+
+// An UPDATE with an unknown attribute of so many octets.
+fn update_with(alloc: Global, len: usize) -> Result<Message, AllocError> {
+    let other = raws(alloc, &[200], len)?;
+    let update = update(alloc, Vec::new(alloc), other, &[(0, 0)])?;
+    Ok(Message::UpdateMsg(update))
+}
+
 // The longest UPDATE is written, and a writable one of an octet more is refused with the vector as
 // it was. Its unknown attribute needs Extended Length.
 #[test]
 fn the_longest_update(rt: HostRuntime) -> Result<(), Fail> {
-    let alloc = rt.alloc();
-    for (len, fits) in [(4032usize, true), (4033, false)] {
-        let mut other = Vec::new(alloc);
-        other.push(raw(alloc, 200, len)?)?;
-        let message = Message::UpdateMsg(update(alloc, Vec::new(alloc), other, &[(0, 0)])?);
-        assert!(rt; is_writable(&message, &NOBODY));
-        let mut out = vec![in alloc; 7u8]?;
-        let room = out.capacity();
-        let answer = encode(&message, &NOBODY, &mut out);
-        if fits {
-            assert!(rt; answer.is_ok());
-            assert_eq!(rt; out.len(), 4097);
-        } else {
-            assert!(rt; matches!(answer, Err(CodecError::TooLong)));
-            assert_eq!(rt; (out.as_slice(), out.capacity()), ([7u8].as_slice(), room));
-        }
+    for (len, wanted) in [(4032usize, Some(4096)), (4033, None)] {
+        let message = update_with(rt.alloc(), len)?;
+        assert_eq!(rt; written_behind_one(&rt, rt.alloc(), &message)?, wanted);
     }
     Ok(())
 }

@@ -113,7 +113,7 @@ fn read_parts(
 pub(crate) fn parts_of(alloc: Global, body: &[u8]) -> Result<(&[u8], &[u8], &[u8]), CodecError>
     requires { 4 ≤ length body.now }
     ensures ok { IfOk result (λ parts. (peer : Option ℕ) → update_reading peer body.now ≡ parts_reading peer parts.0.now parts.1.now parts.2.now) }
-    ensures err { IfErr result (λ error. (error ≡ CodecError.Fault (update_fault 1)) × ((peer : Option ℕ) → update_reading peer body.now ≡ Err (update_fault 1))) }
+    ensures err { IfErr result (λ error. (error ≡ CodecError.Fault (update_fault MALFORMED_ATTRIBUTE_LIST)) × ((peer : Option ℕ) → update_reading peer body.now ≡ Err (update_fault MALFORMED_ATTRIBUTE_LIST))) }
 {
     let first = number_at(body, 0) as usize;
     let second = number_at(body, 2 + first) as usize;

@@ -3,7 +3,8 @@
 
 use super::*;
 use bgp_codec::{Fault, Message, Notice, Octets};
-use std::alloc::Global;
+use ranked_policy::Network;
+use std::alloc::{AllocError, Global};
 use std::process::Abort;
 use std::test::Fail;
 
@@ -19,13 +20,33 @@ fn refusal(alloc: Global, text: &[u8]) -> Option<Refused> {
     }
 }
 
+// The code of why a network text is refused.
+fn refusal_code(alloc: Global, text: &[u8]) -> Option<Code> {
+    match refusal(alloc, text) {
+        Some(Refused { line: _, code }) => Some(code),
+        None => None,
+    }
+}
+
+// A text with a line more behind it.
+fn with_line(alloc: Global, text: &[u8], line: &[u8]) -> Result<Vec<u8>, AllocError> {
+    let mut longer = text.to_vec(alloc)?;
+    longer.extend_from_slice(line)?;
+    Ok(longer)
+}
+
+// What a text with a line more behind it is refused for.
+fn code_behind(alloc: Global, text: &[u8], line: &[u8]) -> Result<Option<Code>, AllocError> {
+    let longer = with_line(alloc, text, line)?;
+    Ok(refusal_code(alloc, longer.as_slice()))
+}
+
 // What a line behind the base is refused for.
 fn code_behind_base(alloc: Global, line: &[u8]) -> Result<Option<Code>, Fail> {
-    let mut text = BASE.to_vec(alloc)?;
-    text.extend_from_slice(line)?;
+    let text = with_line(alloc, BASE, line)?;
     match refusal(alloc, text.as_slice()) {
         Some(Refused { line: 6, code }) => Ok(Some(code)),
-        Some(_) => Err("another line")?,
+        Some(Refused { line: _, code: _ }) => Err("another line".into()),
         None => Ok(None),
     }
 }
@@ -151,24 +172,34 @@ fn the_first_of_two_codes_on_a_line(rt: HostRuntime) -> Result<(), Fail> {
     )
 }
 
-// Routers 1 to so many, of which each is linked with the one before it.
-fn line_of_routers(alloc: Global, count: u32) -> Result<Vec<u8>, Fail> {
-    let mut text = Vec::new(alloc);
+// Appends a line.
+fn push(text: &mut Vec<u8>, line: Result<String, AllocError>) -> Result<(), AllocError> {
+    let line = line?;
+    text.extend_from_slice(line.as_bytes())
+}
+
+// Appends routers 1 to so many, of which each is linked with the one before it.
+fn push_routers(alloc: Global, text: &mut Vec<u8>, count: u32) -> Result<(), AllocError> {
     for i in 0..count {
         let number = i + 1;
-        text.extend_from_slice(format!(in alloc; "router {number} 10.0.0.{number}\n")?.as_bytes())?;
+        push(text, format!(in alloc; "router {number} 10.0.0.{number}\n"))?;
         if i > 0 {
-            text.extend_from_slice(format!(in alloc; "link {i} {number}\n")?.as_bytes())?;
+            push(text, format!(in alloc; "link {i} {number}\n"))?;
         }
     }
+    Ok(())
+}
+
+fn line_of_routers(alloc: Global, count: u32) -> Result<Vec<u8>, AllocError> {
+    let mut text = Vec::new(alloc);
+    push_routers(alloc, &mut text, count)?;
     Ok(text)
 }
 
 // What a line behind so many routers is refused for.
-fn code_behind_routers(alloc: Global, count: u32, line: &[u8]) -> Result<Option<Code>, Fail> {
-    let mut text = line_of_routers(alloc, count)?;
-    text.extend_from_slice(line)?;
-    Ok(refusal(alloc, text.as_slice()).map(|refused| refused.code))
+fn code_behind_routers(alloc: Global, count: u32, line: &[u8]) -> Result<Option<Code>, AllocError> {
+    let text = line_of_routers(alloc, count)?;
+    code_behind(alloc, text.as_slice(), line)
 }
 
 #[test]
@@ -193,28 +224,51 @@ fn limits_on_counts(rt: HostRuntime) -> Result<(), Fail> {
     Ok(())
 }
 
-#[test]
-fn limits_on_links_and_origins(rt: HostRuntime) -> Result<(), Fail> {
-    let alloc = rt.alloc();
-    let mut links = line_of_routers(alloc, 20)?;
-    for i in 2..17u32 {
+// Appends links of router 1 with each from 3 to `last`.
+fn push_links(alloc: Global, text: &mut Vec<u8>, last: u32) -> Result<(), AllocError> {
+    for i in 2..last {
         let peer = i + 1;
-        links.extend_from_slice(format!(in alloc; "link {peer} 1\n")?.as_bytes())?;
+        push(text, format!(in alloc; "link {peer} 1\n"))?;
     }
-    assert_eq!(rt; refusal(alloc, links.as_slice()), None);
-    links.extend_from_slice(b"link 1 18")?;
+    Ok(())
+}
+
+#[test]
+fn limits_on_links(rt: HostRuntime) -> Result<(), Fail> {
+    let mut links = line_of_routers(rt.alloc(), 20)?;
+    push_links(rt.alloc(), &mut links, 17)?;
+    limits_on_links_in(&rt, rt.alloc(), links.as_slice())
+}
+
+fn limits_on_links_in(rt: &impl Abort, alloc: Global, links: &[u8]) -> Result<(), Fail> {
+    assert_eq!(rt; refusal(alloc, links), None);
     assert_eq!(rt;
-        refusal(alloc, links.as_slice()).map(|r| r.code),
+        code_behind(alloc, links, b"link 1 18")?,
         Some(Code::OutOfLimit)
     );
-    let mut origins = line_of_routers(alloc, 1)?;
-    for i in 0..256u32 {
-        origins.extend_from_slice(format!(in alloc; "origin 1 10.{i}.0.0/16\n")?.as_bytes())?;
+    Ok(())
+}
+
+// Appends origins of so many prefixes.
+fn push_origins(alloc: Global, text: &mut Vec<u8>, count: u32) -> Result<(), AllocError> {
+    for i in 0..count {
+        push(text, format!(in alloc; "origin 1 10.{i}.0.0/16\n"))?;
     }
-    assert_eq!(rt; refusal(alloc, origins.as_slice()), None);
-    origins.extend_from_slice(b"origin 1 11.0.0.0/16\n")?;
+    Ok(())
+}
+
+#[test]
+fn limits_on_origins(rt: HostRuntime) -> Result<(), Fail> {
+    let mut origins = line_of_routers(rt.alloc(), 1)?;
+    push_origins(rt.alloc(), &mut origins, 256)?;
+    limits_on_origins_in(&rt, rt.alloc(), origins.as_slice())
+}
+
+fn limits_on_origins_in(rt: &impl Abort, alloc: Global, origins: &[u8]) -> Result<(), Fail> {
+    assert_eq!(rt; refusal(alloc, origins), None);
+    let over = with_line(alloc, origins, b"origin 1 11.0.0.0/16\n")?;
     assert_eq!(rt;
-        refusal(alloc, origins.as_slice()),
+        refusal(alloc, over.as_slice()),
         Some(Refused {
             line: 258,
             code: Code::OutOfLimit
@@ -223,60 +277,88 @@ fn limits_on_links_and_origins(rt: HostRuntime) -> Result<(), Fail> {
     Ok(())
 }
 
-// A rule of router 1 of twenty routers with so many paths: the first goes straight to the origin,
-// and each other one through one or two routers.
-fn rule_of(alloc: Global, paths: u32) -> Result<Vec<u8>, Fail> {
-    let mut text = b"rank 20 10.0.0.0/8 20".to_vec(alloc)?;
+// Appends the paths of a rule of router 20 of twenty: the first is its own, and each other one goes
+// through one or two routers.
+fn push_paths(alloc: Global, text: &mut Vec<u8>, paths: u32) -> Result<(), AllocError> {
     for i in 1..paths {
-        let by = if i < 20 {
-            format!(in alloc; " 20-{i}")?
+        if i < 20 {
+            push(text, format!(in alloc; " 20-{i}"))?;
         } else {
             let i = i - 18;
-            format!(in alloc; " 20-1-{i}")?
-        };
-        text.extend_from_slice(by.as_bytes())?;
+            push(text, format!(in alloc; " 20-1-{i}"))?;
+        }
     }
+    Ok(())
+}
+
+fn rule_of(alloc: Global, paths: u32) -> Result<Vec<u8>, AllocError> {
+    let mut text = b"rank 20 10.0.0.0/8 20".to_vec(alloc)?;
+    push_paths(alloc, &mut text, paths)?;
     Ok(text)
 }
 
 #[test]
-fn limits_on_rules(rt: HostRuntime) -> Result<(), Fail> {
-    let alloc = rt.alloc();
-    let full = rule_of(alloc, 32)?;
-    assert_eq!(rt; code_behind_routers(alloc, 20, full.as_slice())?, None);
-    let over = rule_of(alloc, 33)?;
+fn limits_on_paths(rt: HostRuntime) -> Result<(), Fail> {
+    let full = rule_of(rt.alloc(), 32)?;
+    let over = rule_of(rt.alloc(), 33)?;
+    limits_on_paths_in(&rt, rt.alloc(), full.as_slice(), over.as_slice())
+}
+
+// A repeat stands before that there are too many, with zeros in front as well.
+fn limits_on_paths_in(
+    rt: &impl Abort,
+    alloc: Global,
+    full: &[u8],
+    over: &[u8],
+) -> Result<(), Fail> {
+    assert_eq!(rt; code_behind_routers(alloc, 20, full)?, None);
     assert_eq!(rt;
-        code_behind_routers(alloc, 20, over.as_slice())?,
+        code_behind_routers(alloc, 20, over)?,
         Some(Code::OutOfLimit)
     );
-    // A repeat stands before that, with zeros in front as well.
-    let mut again = over.as_slice().to_vec(alloc)?;
-    again.extend_from_slice(b" 020-01")?;
+    let again = with_line(alloc, over, b" 020-01")?;
     assert_eq!(rt;
         code_behind_routers(alloc, 20, again.as_slice())?,
         Some(Code::Repeated)
     );
-    let mut rules = line_of_routers(alloc, 1)?;
-    for i in 0..64u32 {
-        rules.extend_from_slice(format!(in alloc; "rank 1 10.{i}.0.0/16 1\n")?.as_bytes())?;
+    Ok(())
+}
+
+// Appends so many rules of one router.
+fn push_rules(alloc: Global, text: &mut Vec<u8>, count: u32) -> Result<(), AllocError> {
+    for i in 0..count {
+        push(text, format!(in alloc; "rank 1 10.{i}.0.0/16 1\n"))?;
     }
-    assert_eq!(rt; refusal(alloc, rules.as_slice()), None);
-    let mut repeated = rules.as_slice().to_vec(alloc)?;
-    repeated.extend_from_slice(b"rank 1 10.7.0.0/16")?;
+    Ok(())
+}
+
+#[test]
+fn limits_on_rules(rt: HostRuntime) -> Result<(), Fail> {
+    let mut rules = line_of_routers(rt.alloc(), 1)?;
+    push_rules(rt.alloc(), &mut rules, 64)?;
+    limits_on_rules_in(&rt, rt.alloc(), rules.as_slice())
+}
+
+fn limits_on_rules_in(rt: &impl Abort, alloc: Global, rules: &[u8]) -> Result<(), Fail> {
+    assert_eq!(rt; refusal(alloc, rules), None);
     assert_eq!(rt;
-        refusal(alloc, repeated.as_slice()).map(|r| r.code),
+        code_behind(alloc, rules, b"rank 1 10.7.0.0/16")?,
         Some(Code::Repeated)
     );
-    rules.extend_from_slice(b"rank 1 11.0.0.0/8")?;
     assert_eq!(rt;
-        refusal(alloc, rules.as_slice()).map(|r| r.code),
+        code_behind(alloc, rules, b"rank 1 11.0.0.0/8")?,
         Some(Code::OutOfLimit)
     );
-    // A count stands before that the network is not connected.
-    let mut routers = line_of_routers(alloc, 64)?;
+    Ok(())
+}
+
+// A count stands before that the network is not connected.
+#[test]
+fn a_count_stands_before_connection(rt: HostRuntime) -> Result<(), Fail> {
+    let mut routers = line_of_routers(rt.alloc(), 64)?;
     routers.extend_from_slice(b"router 65 10.0.0.65")?;
     assert_eq!(rt;
-        refusal(alloc, routers.as_slice()),
+        refusal(rt.alloc(), routers.as_slice()),
         Some(Refused {
             line: 128,
             code: Code::OutOfLimit
@@ -349,6 +431,11 @@ fn a_network_as_it_is_read(rt: HostRuntime) -> Result<(), Fail> {
     let text: &[u8] =
         b"pipe 1\nrouter 9 10.0.0.9\nhold 0\nrouter 3 10.0.0.3\nlink 9 3\norigin 9 10.1.2.3/16\nrank 3 10.0.0.0/8 3-9 3\nrestart 5\n";
     let network = read_network(alloc, text).map_err(|_| "refused")?;
+    a_network_as_it_is_read_in(&rt, &network);
+    Ok(())
+}
+
+fn a_network_as_it_is_read_in(rt: &impl Abort, network: &Network) {
     let settings = network.settings();
     assert_eq!(rt; settings.hold, 0);
     assert_eq!(rt; settings.restart, 5);
@@ -357,7 +444,6 @@ fn a_network_as_it_is_read(rt: HostRuntime) -> Result<(), Fail> {
     assert_eq!(rt; network.routers().len(), 2);
     assert_eq!(rt; network.links().len(), 1);
     assert_eq!(rt; network.origins().len(), 1);
-    Ok(())
 }
 
 // What an assignment behind the base is refused for.
@@ -370,6 +456,13 @@ fn refused_assignment(alloc: Global, text: &[u8]) -> Result<Option<Refused>, Fai
             Err(refused) => Some(refused),
         },
     )
+}
+
+// What a line behind the first entry of an assignment is refused for.
+fn refused_behind_an_entry(alloc: Global, line: &[u8]) -> Result<Option<Refused>, Fail> {
+    let front = b"\n x\n assignment\t\r\npath 2 10.1.0.0/16 none\n";
+    let text = with_line(alloc, front, line)?;
+    refused_assignment(alloc, text.as_slice())
 }
 
 #[test]
@@ -401,9 +494,7 @@ fn assignments(rt: HostRuntime) -> Result<(), Fail> {
         ),
     ];
     for (line, code) in rows {
-        let mut text = b"\n x\n assignment\t\r\npath 2 10.1.0.0/16 none\n".to_vec(alloc)?;
-        text.extend_from_slice(line)?;
-        let found = refused_assignment(alloc, text.as_slice())?;
+        let found = refused_behind_an_entry(alloc, line)?;
         assert_eq!(rt; found, code.map(|code| Refused { line: 5, code }));
     }
     Ok(())
@@ -423,30 +514,41 @@ fn sections(rt: HostRuntime) -> Result<(), Fail> {
 
 #[test]
 fn lines_stand_behind_what_was_there(rt: HostRuntime) -> Result<(), Fail> {
-    let alloc = rt.alloc();
-    let notice = Message::NoticeMsg(Notice {
-        code: 1,
-        sub: 2,
-        extra: Octets::from_slice(alloc, &[0, 20])?,
-    });
-    let fault = Fault {
-        code: 1,
-        sub: 2,
-        extra: Octets::from_slice(alloc, &[0x10, 0x01])?,
-    };
-    let mut out = b"front\n".to_vec(alloc)?;
-    message_line(&Message::AliveMsg, &mut out)?;
-    message_line(&notice, &mut out)?;
-    fault_lines(&fault, &mut out)?;
-    truncated_line(18, &mut out)?;
-    refused_line(7, b"N1", &mut out)?;
-    unstable_line(2, &[], &[2, 65535], &mut out)?;
-    stable_line(&mut out)?;
+    let mut out = b"front\n".to_vec(rt.alloc())?;
+    put_lines(rt.alloc(), &mut out)?;
     assert_eq!(rt;
         out.as_slice(),
         b"front\nkeepalive\nnotification 1 2 0014\nfault 1 2\nffffffffffffffffffffffffffffffff00170301021001\ntruncated 18\nrefused 7 N1\nunstable 2 has none best 2-65535\nstable\n".as_slice()
     );
     Ok(())
+}
+
+fn put_lines(alloc: Global, out: &mut Vec<u8>) -> Result<(), AllocError> {
+    message_line(&Message::AliveMsg, out)?;
+    put_notice(alloc, out)?;
+    put_fault(alloc, out)?;
+    truncated_line(18, out)?;
+    refused_line(7, b"N1", out)?;
+    unstable_line(2, &[], &[2, 65535], out)?;
+    stable_line(out)
+}
+
+fn put_notice(alloc: Global, out: &mut Vec<u8>) -> Result<(), AllocError> {
+    let notice = Message::NoticeMsg(Notice {
+        code: 1,
+        sub: 2,
+        extra: Octets::from_slice(alloc, &[0, 20])?,
+    });
+    message_line(&notice, out)
+}
+
+fn put_fault(alloc: Global, out: &mut Vec<u8>) -> Result<(), AllocError> {
+    let fault = Fault {
+        code: 1,
+        sub: 2,
+        extra: Octets::short(alloc, &[0x10, 0x01]),
+    };
+    fault_lines(&fault, out)
 }
 
 // A line that is refused leaves what stood there; one that is not, all of it.

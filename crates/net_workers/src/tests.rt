@@ -6,13 +6,20 @@ ghost use Rattle.worker_loop.specs.Script.{given_by};
 
 use crate::{Chore, Limits, Record, RunFault, ScriptGate, run_net};
 use prefix_lanes::Prefix;
-use ranked_policy::{Asn, NetBuilder, Network, Settings};
+use ranked_policy::{Asn, NetBuilder, NetError, Network, Settings};
 use router_model::Command;
 use snap_collector::Outcome;
 use std::alloc::{AllocError, Global};
 use std::sync::Wait;
 use std::test::*;
 use std::thread::Threads;
+
+fn push_two_routers(net: &mut NetBuilder, prefix: Prefix) -> Result<(), NetError> {
+    net.push_router(1, 0x0a00_0001)?;
+    net.push_router(2, 0x0a00_0002)?;
+    net.push_link(1, 2)?;
+    net.push_origin(1, prefix)
+}
 
 // Routers 1 and 2 of one link, router 1 the origin of 10.1.0.0/16.
 fn two_routers(alloc: Global, prefix: Prefix) -> Result<Network, Fail> {
@@ -23,10 +30,7 @@ fn two_routers(alloc: Global, prefix: Prefix) -> Result<Network, Fail> {
         pipe: 64,
     };
     let mut net = NetBuilder::new(alloc, settings)?;
-    net.push_router(1, 0x0a00_0001)?;
-    net.push_router(2, 0x0a00_0002)?;
-    net.push_link(1, 2)?;
-    net.push_origin(1, prefix)?;
+    push_two_routers(&mut net, prefix)?;
     match net.finish() {
         Ok(net) => Ok(net),
         Err((_, error)) => Err(error.into()),

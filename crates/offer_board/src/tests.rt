@@ -1,11 +1,17 @@
 //! What a board of two linked routers answers.
 
 use crate::BoardState;
-use ranked_policy::{NetBuilder, Network, Settings};
+use ranked_policy::{NetBuilder, NetError, Network, Settings};
 use snap_collector::{CollectError, Taken};
 use snap_marker::{Cause, Lost, Offer, Part};
 use std::alloc::Global;
 use std::test::*;
+
+fn push_two_routers(net: &mut NetBuilder) -> Result<(), NetError> {
+    net.push_router(1, 0x0a00_0001)?;
+    net.push_router(2, 0x0a00_0002)?;
+    net.push_link(1, 2)
+}
 
 fn two_routers(alloc: Global) -> Result<Network, Fail> {
     let settings = Settings {
@@ -15,9 +21,7 @@ fn two_routers(alloc: Global) -> Result<Network, Fail> {
         pipe: 64,
     };
     let mut net = NetBuilder::new(alloc, settings)?;
-    net.push_router(1, 0x0a00_0001)?;
-    net.push_router(2, 0x0a00_0002)?;
-    net.push_link(1, 2)?;
+    push_two_routers(&mut net)?;
     match net.finish() {
         Ok(net) => Ok(net),
         Err((_, error)) => Err(error.into()),

@@ -4,6 +4,7 @@ use crate::laws::{
 };
 use prefix_lanes::Prefix;
 use std::alloc::{AllocError, Global};
+use std::process::Abort;
 use std::test::Fail;
 
 const SETTINGS: Settings = Settings {
@@ -30,23 +31,36 @@ fn prefix(addr: u32, len: u8) -> Result<Prefix, &'static str> {
     Prefix::new(addr, len).ok_or("no prefix is that long")
 }
 
+// What owns a network or a list makes it, and what borrows it has the steps: each `?` of an owner is
+// a way out on which all that it owns is dropped.
+
+fn push_path(alloc: Global, paths: &mut Vec<Path>, numbers: &[Asn]) -> Result<(), AllocError> {
+    let path = Path::from_slice(alloc, numbers)?;
+    paths.push(path).map_err(|_| AllocError)
+}
+
 fn paths(alloc: Global, lists: &[&[Asn]]) -> Result<Vec<Path>, AllocError> {
     let mut paths = Vec::new(alloc);
     for list in lists {
-        paths.push(Path::from_slice(alloc, list)?)?;
+        push_path(alloc, &mut paths, list)?;
     }
     Ok(paths)
 }
 
-/// Routers 1 to `count`, each linked with the next.
-fn line(alloc: Global, count: u32) -> Result<NetBuilder, NetError> {
-    let mut net = NetBuilder::new(alloc, SETTINGS)?;
+/// Adds routers 1 to `count`, each linked with the next.
+fn push_line(net: &mut NetBuilder, count: u32) -> Result<(), NetError> {
     for i in 0..count {
         net.push_router(i + 1, TEN | (i + 1))?;
     }
     for i in 1..count {
         net.push_link(i, i + 1)?;
     }
+    Ok(())
+}
+
+fn line(alloc: Global, count: u32) -> Result<NetBuilder, NetError> {
+    let mut net = NetBuilder::new(alloc, SETTINGS)?;
+    push_line(&mut net, count)?;
     Ok(net)
 }
 
@@ -54,6 +68,11 @@ fn line(alloc: Global, count: u32) -> Result<NetBuilder, NetError> {
 /// each other, 4 has rules for 10.0.0.0/8 and 10.1.0.0/16.
 fn disagree(alloc: Global) -> Result<NetBuilder, Fail> {
     let mut net = line(alloc, 4)?;
+    push_disagree(alloc, &mut net)?;
+    Ok(net)
+}
+
+fn push_disagree(alloc: Global, net: &mut NetBuilder) -> Result<(), Fail> {
     for (a, b) in [(1, 3), (2, 4)] {
         net.push_link(a, b)?;
     }
@@ -61,17 +80,22 @@ fn disagree(alloc: Global) -> Result<NetBuilder, Fail> {
     for prefix in [sixteen, prefix(0x0b00_0000, 8)?] {
         net.push_origin(1, prefix)?;
     }
-    let rules: [(Asn, Prefix, &[&[Asn]]); 5] = [
-        (1, sixteen, &[&[1, 2], &[1]]),
-        (2, sixteen, &[&[2, 3, 1], &[2, 1], &[2]]),
-        (3, sixteen, &[&[3, 2, 1], &[3, 1]]),
-        (4, prefix(TEN, 8)?, &[&[4, 2, 1]]),
-        (4, sixteen, &[&[4, 3, 1], &[4, 2, 1]]),
-    ];
-    for (router, prefix, lists) in rules {
-        net.push_rule(router, prefix, paths(alloc, lists)?)?;
-    }
-    Ok(net)
+    push_rule(alloc, net, 1, sixteen, &[&[1, 2], &[1]])?;
+    push_rule(alloc, net, 2, sixteen, &[&[2, 3, 1], &[2, 1], &[2]])?;
+    push_rule(alloc, net, 3, sixteen, &[&[3, 2, 1], &[3, 1]])?;
+    push_rule(alloc, net, 4, prefix(TEN, 8)?, &[&[4, 2, 1]])?;
+    push_rule(alloc, net, 4, sixteen, &[&[4, 3, 1], &[4, 2, 1]])
+}
+
+fn push_rule(
+    alloc: Global,
+    net: &mut NetBuilder,
+    router: Asn,
+    prefix: Prefix,
+    lists: &[&[Asn]],
+) -> Result<(), Fail> {
+    let paths = paths(alloc, lists)?;
+    Ok(net.push_rule(router, prefix, paths)?)
 }
 
 fn finished(net: NetBuilder) -> Result<Network, NetError> {
@@ -83,16 +107,30 @@ fn finished(net: NetBuilder) -> Result<Network, NetError> {
 
 #[test]
 fn path_lists(rt: HostRuntime) -> Result<(), Fail> {
-    let alloc = rt.alloc();
-    assert!(rt; Path::new(alloc).is_empty());
-    let long = Path::from_slice(alloc, &[1, 2, 3, 4, 5, 6, 7, 8, 9])?;
+    assert!(rt; Path::new(rt.alloc()).is_empty());
+    let long = Path::from_slice(rt.alloc(), &[1, 2, 3, 4, 5, 6, 7, 8, 9])?;
+    path_lists_in(&rt, &long);
+    Ok(())
+}
+
+fn path_lists_in(rt: &impl Abort, long: &Path) {
     assert_eq!(rt; long.len(), 9);
     assert!(rt; !long.is_empty());
-    let on = Path::from_router(alloc, 2, &[3, 1])?;
-    assert_eq!(rt; on.as_slice(), [2, 3, 1].as_slice());
-    assert!(rt; on == Path::from_slice(alloc, &[2, 3, 1])?);
-    assert!(rt; on != Path::from_slice(alloc, &[2, 1])?);
+}
+
+#[test]
+fn path_equality(rt: HostRuntime) -> Result<(), Fail> {
+    let on = Path::from_router(rt.alloc(), 2, &[3, 1])?;
+    let same = Path::from_slice(rt.alloc(), &[2, 3, 1])?;
+    let other = Path::from_slice(rt.alloc(), &[2, 1])?;
+    path_equality_in(&rt, &on, &same, &other);
     Ok(())
+}
+
+fn path_equality_in(rt: &impl Abort, on: &Path, same: &Path, other: &Path) {
+    assert_eq!(rt; on.as_slice(), [2, 3, 1].as_slice());
+    assert!(rt; on == same);
+    assert!(rt; on != other);
 }
 
 /// The path of these numbers up to the first 0.
@@ -143,11 +181,19 @@ const PERMITTED: [(Asn, u32, [Asn; 4], bool); 17] = [
 fn permitted(rt: HostRuntime) -> Result<(), Fail> {
     let alloc = rt.alloc();
     let net = finished(disagree(alloc)?)?;
+    permitted_in(&rt, alloc, &net)
+}
+
+fn permits(net: &Network, router: Asn, number: u32, path: &Path) -> Result<bool, Fail> {
+    let table = net.policies(router).ok_or("no such router")?;
+    Ok(table.for_prefix(&known_prefix(number)?).permits(path))
+}
+
+fn permitted_in(rt: &impl Abort, alloc: Global, net: &Network) -> Result<(), Fail> {
     for (router, number, numbers, want) in PERMITTED {
-        let table = net.policies(router).ok_or("no such router")?;
         let path = short_path(alloc, numbers)?;
-        let permits = table.for_prefix(&known_prefix(number)?).permits(&path);
-        assert_eq!(rt; permits, want, "{router}: {path:?}");
+        let permits = permits(net, router, number, &path)?;
+        assert_eq!(rt; permits, want, "{router}: {numbers:?}");
     }
     Ok(())
 }
@@ -169,11 +215,25 @@ const PREFERRED: [(Asn, u32, [Asn; 4], [Asn; 4], bool); 9] = [
 fn preferred(rt: HostRuntime) -> Result<(), Fail> {
     let alloc = rt.alloc();
     let net = finished(disagree(alloc)?)?;
+    preferred_in(&rt, alloc, &net)
+}
+
+fn prefers(
+    net: &Network,
+    router: Asn,
+    number: u32,
+    one: &Path,
+    other: &Path,
+) -> Result<bool, Fail> {
+    let table = net.policies(router).ok_or("no such router")?;
+    Ok(table.for_prefix(&known_prefix(number)?).prefers(one, other))
+}
+
+fn preferred_in(rt: &impl Abort, alloc: Global, net: &Network) -> Result<(), Fail> {
     for (router, number, a, b, want) in PREFERRED {
-        let table = net.policies(router).ok_or("no such router")?;
-        let a = short_path(alloc, a)?;
-        let b = short_path(alloc, b)?;
-        let prefers = table.for_prefix(&known_prefix(number)?).prefers(&a, &b);
+        let one = short_path(alloc, a)?;
+        let other = short_path(alloc, b)?;
+        let prefers = prefers(net, router, number, &one, &other)?;
         assert_eq!(rt; prefers, want, "{router}: {a:?} {b:?}");
     }
     Ok(())
@@ -231,9 +291,37 @@ fn settings(rt: HostRuntime) {
     }
 }
 
+// What a builder answers. These helpers ensure nothing, so that one answer is not carried along to the
+// next.
+fn adds_router(net: &mut NetBuilder, asn: Asn, id: u32) -> Result<(), NetError> {
+    net.push_router(asn, id)
+}
+
+fn adds_link(net: &mut NetBuilder, one: Asn, other: Asn) -> Result<(), NetError> {
+    net.push_link(one, other)
+}
+
+fn adds_origin(net: &mut NetBuilder, router: Asn, prefix: Prefix) -> Result<(), NetError> {
+    net.push_origin(router, prefix)
+}
+
+fn adds_rule(
+    net: &mut NetBuilder,
+    router: Asn,
+    prefix: Prefix,
+    paths: Vec<Path>,
+) -> Result<(), NetError> {
+    net.push_rule(router, prefix, paths)
+}
+
 #[test]
 fn router_refusals(rt: HostRuntime) -> Result<(), Fail> {
     let mut net = line(rt.alloc(), 2)?;
+    router_refusals_in(&rt, &mut net);
+    Ok(())
+}
+
+fn router_refusals_in(rt: &impl Abort, net: &mut NetBuilder) {
     let cases = [
         (1, TEN | 9, REPEATED),
         (9, TEN | 1, REPEATED),
@@ -246,7 +334,7 @@ fn router_refusals(rt: HostRuntime) -> Result<(), Fail> {
         (9, 0x0100_0000, Ok(())),
     ];
     for (asn, id, want) in cases {
-        assert_eq!(rt; net.push_router(asn, id), want, "{asn} {id:x}");
+        assert_eq!(rt; adds_router(net, asn, id), want, "{asn} {id:x}");
     }
     let mut last = 0;
     for router in net.routers() {
@@ -254,7 +342,6 @@ fn router_refusals(rt: HostRuntime) -> Result<(), Fail> {
         last = router.asn;
     }
     assert_eq!(rt; last, 65535);
-    Ok(())
 }
 
 /// Routers stand by rising number, prefixes by address and then by length.
@@ -263,6 +350,10 @@ fn places(rt: HostRuntime) -> Result<(), Fail> {
     let mut built = disagree(rt.alloc())?;
     built.push_origin(4, prefix(TEN, 8)?)?;
     let net = finished(built)?;
+    places_in(&rt, &net)
+}
+
+fn places_in(rt: &impl Abort, net: &Network) -> Result<(), Fail> {
     for (asn, place) in [
         (1, Some(0)),
         (3, Some(2)),
@@ -295,7 +386,7 @@ fn places(rt: HostRuntime) -> Result<(), Fail> {
 fn router_limit(rt: HostRuntime) -> Result<(), Fail> {
     let mut net = line(rt.alloc(), 64)?;
     for (asn, want) in [(65, LIMIT), (1, REPEATED), (0, LIMIT)] {
-        assert_eq!(rt; net.push_router(asn, TEN | 65), want, "{asn}");
+        assert_eq!(rt; adds_router(&mut net, asn, TEN | 65), want, "{asn}");
     }
     assert_eq!(rt; finished(net)?.routers().len(), 64);
     Ok(())
@@ -304,6 +395,11 @@ fn router_limit(rt: HostRuntime) -> Result<(), Fail> {
 #[test]
 fn link_refusals(rt: HostRuntime) -> Result<(), Fail> {
     let mut net = line(rt.alloc(), 18)?;
+    link_refusals_in(&rt, &mut net);
+    Ok(())
+}
+
+fn link_refusals_in(rt: &impl Abort, net: &mut NetBuilder) {
     let cases = [
         (1, 2, REPEATED),
         (2, 1, REPEATED),
@@ -313,20 +409,23 @@ fn link_refusals(rt: HostRuntime) -> Result<(), Fail> {
         (99, 1, UNKNOWN),
     ];
     for (a, b, want) in cases {
-        assert_eq!(rt; net.push_link(a, b), want, "{a} {b}");
+        assert_eq!(rt; adds_link(net, a, b), want, "{a} {b}");
     }
     for i in 3..18u32 {
-        assert_eq!(rt; net.push_link(1, i), Ok(()), "at {i}");
+        assert_eq!(rt; adds_link(net, 1, i), Ok(()), "at {i}");
     }
     for (a, b) in [(1, 18), (18, 1)] {
-        assert_eq!(rt; net.push_link(a, b), LIMIT, "{a} {b}");
+        assert_eq!(rt; adds_link(net, a, b), LIMIT, "{a} {b}");
     }
-    Ok(())
 }
 
 #[test]
 fn origin_refusals(rt: HostRuntime) -> Result<(), Fail> {
     let mut net = line(rt.alloc(), 2)?;
+    origin_refusals_in(&rt, &mut net)
+}
+
+fn origin_refusals_in(rt: &impl Abort, net: &mut NetBuilder) -> Result<(), Fail> {
     let eight = prefix(TEN, 8)?;
     for (asn, want) in [
         (9, UNKNOWN),
@@ -335,17 +434,17 @@ fn origin_refusals(rt: HostRuntime) -> Result<(), Fail> {
         (1, REPEATED),
         (9, REPEATED),
     ] {
-        assert_eq!(rt; net.push_origin(asn, eight), want, "{asn}");
+        assert_eq!(rt; adds_origin(net, asn, eight), want, "{asn}");
     }
     for i in 0..255u32 {
         assert_eq!(rt;
-            net.push_origin(1, prefix((254 - i) << 8, 24)?),
+            adds_origin(net, 1, prefix((254 - i) << 8, 24)?),
             Ok(()),
             "at {i}"
         );
     }
-    assert_eq!(rt; net.push_origin(1, prefix(TEN, 9)?), LIMIT);
-    assert_eq!(rt; net.push_origin(2, prefix(0, 24)?), REPEATED);
+    assert_eq!(rt; adds_origin(net, 1, prefix(TEN, 9)?), LIMIT);
+    assert_eq!(rt; adds_origin(net, 2, prefix(0, 24)?), REPEATED);
     let mut last = None;
     for origin in net.origins() {
         assert!(rt; last < Some(origin.prefix));
@@ -383,12 +482,25 @@ const RULES: [(Asn, [[Asn; 4]; 3], Result<(), NetError>); 9] = [
 fn rule_refusals(rt: HostRuntime) -> Result<(), Fail> {
     let alloc = rt.alloc();
     let mut net = disagree(alloc)?;
+    rule_refusals_in(&rt, alloc, &mut net)
+}
+
+fn rule_refusals_in(rt: &impl Abort, alloc: Global, net: &mut NetBuilder) -> Result<(), Fail> {
     let nine = prefix(TEN, 9)?;
     for (router, lists, want) in RULES {
-        let answer = net.push_rule(router, nine, short_paths(alloc, &lists)?);
+        let answer = adds_rule(net, router, nine, short_paths(alloc, &lists)?);
         assert_eq!(rt; answer, want, "{router} {lists:?}");
     }
     Ok(())
+}
+
+/// The paths of router 1 to each from 2 to below `last`.
+fn ways_of_two(alloc: Global, last: Asn) -> Result<Vec<Path>, AllocError> {
+    let mut list = Vec::new(alloc);
+    for i in 2..last {
+        push_path(alloc, &mut list, &[1, i])?;
+    }
+    Ok(list)
 }
 
 /// A router has at most 64 rules, a rule at most 32 paths, a path at most 16 routers.
@@ -396,27 +508,28 @@ fn rule_refusals(rt: HostRuntime) -> Result<(), Fail> {
 fn rule_limits(rt: HostRuntime) -> Result<(), Fail> {
     let alloc = rt.alloc();
     let mut net = line(alloc, 40)?;
+    rule_limits_in(&rt, alloc, &mut net)
+}
+
+fn rule_limits_in(rt: &impl Abort, alloc: Global, net: &mut NetBuilder) -> Result<(), Fail> {
     let long = [1, 2, 3, 4, 5, 6, 7, 8, 9, 10, 11, 12, 13, 14, 15, 16];
     assert_eq!(rt;
-        net.push_rule(1, prefix(0, 1)?, paths(alloc, &[&long])?),
+        adds_rule(net, 1, prefix(0, 1)?, paths(alloc, &[&long])?),
         Ok(())
     );
     let longer = [1, 2, 3, 4, 5, 6, 7, 8, 9, 10, 11, 12, 13, 14, 15, 16, 17];
     assert_eq!(rt;
-        net.push_rule(1, prefix(0, 2)?, paths(alloc, &[&longer])?),
+        adds_rule(net, 1, prefix(0, 2)?, paths(alloc, &[&longer])?),
         Err(NetError::TooLong)
     );
     for (last, want) in [(35, LIMIT), (34, Ok(()))] {
-        let mut list = Vec::new(alloc);
-        for i in 2..last {
-            list.push(Path::from_slice(alloc, &[1, i])?)?;
-        }
-        assert_eq!(rt; net.push_rule(1, prefix(0, 0)?, list), want, "{last}");
+        let list = ways_of_two(alloc, last)?;
+        assert_eq!(rt; adds_rule(net, 1, prefix(0, 0)?, list), want, "{last}");
     }
     for i in 2..65u32 {
         let want = if i < 64 { Ok(()) } else { LIMIT };
         assert_eq!(rt;
-            net.push_rule(1, prefix(i << 8, 24)?, Vec::new(alloc)),
+            adds_rule(net, 1, prefix(i << 8, 24)?, Vec::new(alloc)),
             want,
             "at {i}"
         );
@@ -424,29 +537,41 @@ fn rule_limits(rt: HostRuntime) -> Result<(), Fail> {
     Ok(())
 }
 
+/// The refusal of a builder that cannot finish, which gives it back.
+fn refused(net: NetBuilder) -> Result<(NetBuilder, NetError), Fail> {
+    match net.finish() {
+        Ok(_) => Err("accepted".into()),
+        Err((net, error)) => Ok((net, error)),
+    }
+}
+
 #[test]
 fn finishing(rt: HostRuntime) -> Result<(), Fail> {
-    let Err((mut net, error)) = NetBuilder::new(rt.alloc(), SETTINGS)?.finish() else {
-        return Err("accepted without a router".into());
-    };
+    let (mut net, error) = refused(NetBuilder::new(rt.alloc(), SETTINGS)?)?;
     assert_eq!(rt; error, NetError::Limit);
-    for i in 1..4u32 {
-        net.push_router(i, TEN | i)?;
-    }
-    net.push_link(1, 2)?;
-    let Err((mut net, error)) = net.finish() else {
-        return Err("accepted in two parts".into());
-    };
+    push_two_parts(&mut net)?;
+    let (mut net, error) = refused(net)?;
     assert_eq!(rt; error, NetError::NotConnected);
-    net.push_link(3, 2)?;
+    adds_link(&mut net, 3, 2)?;
     assert!(rt; net.finish().is_ok());
     Ok(())
+}
+
+fn push_two_parts(net: &mut NetBuilder) -> Result<(), NetError> {
+    for i in 1..4u32 {
+        adds_router(net, i, TEN | i)?;
+    }
+    adds_link(net, 1, 2)
 }
 
 #[test]
 fn readers(rt: HostRuntime) -> Result<(), Fail> {
     let alloc = rt.alloc();
     let net = finished(disagree(alloc)?)?;
+    readers_in(&rt, alloc, &net)
+}
+
+fn readers_in(rt: &impl Abort, alloc: Global, net: &Network) -> Result<(), Fail> {
     assert_eq!(rt; net.settings(), SETTINGS);
     assert_eq!(rt; net.links().len(), 5);
     assert_eq!(rt; net.origins().len(), 2);
@@ -471,6 +596,10 @@ fn links_of_a_router(rt: HostRuntime) -> Result<(), Fail> {
 #[test]
 fn questions(rt: HostRuntime) -> Result<(), Fail> {
     let net = finished(disagree(rt.alloc())?)?;
+    questions_in(&rt, &net)
+}
+
+fn questions_in(rt: &impl Abort, net: &Network) -> Result<(), Fail> {
     let sixteen = prefix(0x0a01_0000, 16)?;
     for (asn, known, linked, origin) in [
         (1, true, true, true),

@@ -6,7 +6,7 @@ use crate::laws::{
 };
 use bgp_codec::{Attrs, Items, Numbers, Segment, SegmentKind, Update};
 use prefix_lanes::Prefix;
-use ranked_policy::{Asn, NetBuilder, Network, Path, Settings};
+use ranked_policy::{Asn, NetBuilder, NetError, Network, Path, Settings};
 use std::alloc::{AllocError, Global};
 use std::process::Abort;
 use std::test::Fail;
@@ -47,25 +47,29 @@ fn named_prefixes() -> Result<Prefixes, &'static str> {
     })
 }
 
-// Links of a ring of four routers, 1 - 2 - 4 - 3 - 1.
-fn ring(alloc: Global) -> Result<NetBuilder, Fail> {
-    let mut net = NetBuilder::new(alloc, SETTINGS)?;
-    for i in 0..4u32 {
-        net.push_router(i + 1, 0x0a00_0001 + i)?;
+// Routers 1 to `count`, with these links.
+fn push_links(net: &mut NetBuilder, count: u32, links: &[(Asn, Asn)]) -> Result<(), NetError> {
+    for i in 0..count {
+        net.push_router(i + 1, 0x0a00_0000 | (i + 1))?;
     }
-    net.push_link(1, 2)?;
-    net.push_link(2, 4)?;
-    net.push_link(4, 3)?;
-    net.push_link(3, 1)?;
-    Ok(net)
+    for (one, other) in links {
+        net.push_link(*one, *other)?;
+    }
+    Ok(())
 }
 
-fn network(alloc: Global) -> Result<Network, Fail> {
-    let named = named_prefixes()?;
-    let mut net = ring(alloc)?;
+fn push_origins(net: &mut NetBuilder, named: &Prefixes) -> Result<(), NetError> {
     net.push_origin(4, named.far)?;
     net.push_origin(1, named.long)?;
-    net.push_origin(1, named.short)?;
+    net.push_origin(1, named.short)
+}
+
+// A ring of four routers, 1 - 2 - 4 - 3 - 1.
+fn network(alloc: Global) -> Result<Network, Fail> {
+    let named = named_prefixes()?;
+    let mut net = NetBuilder::new(alloc, SETTINGS)?;
+    push_links(&mut net, 4, &[(1, 2), (2, 4), (4, 3), (3, 1)])?;
+    push_origins(&mut net, &named)?;
     match net.finish() {
         Ok(net) => Ok(net),
         Err((_, error)) => Err(error.into()),
@@ -261,6 +265,43 @@ fn is_other(word: Option<&Word>) -> bool {
     }
 }
 
+// What a peer says of a prefix. These helpers ensure nothing, so that what a test asks of the tables
+// is not carried along from one question to the next.
+fn heard<'a>(rib: &'a Rib<'_>, peer: Asn, prefix: &Prefix) -> &'a [Asn] {
+    path_of(rib.word_heard(peer, prefix))
+}
+
+fn is_heard(rib: &Rib, peer: Asn, prefix: &Prefix) -> bool {
+    rib.word_heard(peer, prefix).is_some()
+}
+
+fn is_heard_as_other(rib: &Rib, peer: Asn, prefix: &Prefix) -> bool {
+    is_other(rib.word_heard(peer, prefix))
+}
+
+// What a peer was told of a prefix.
+fn sent<'a>(rib: &'a Rib<'_>, peer: Asn, prefix: &Prefix) -> &'a [Asn] {
+    path_of(rib.word_sent(peer, prefix))
+}
+
+fn is_sent(rib: &Rib, peer: Asn, prefix: &Prefix) -> bool {
+    rib.word_sent(peer, prefix).is_some()
+}
+
+fn kept<'a>(rib: &'a Rib<'_>, prefix: &Prefix) -> &'a [Asn] {
+    rib.path(prefix)
+}
+
+fn decides(alloc: Global, rib: &mut Rib) -> Result<Option<Prefix>, RibError> {
+    rib.decide(alloc)
+}
+
+// Whether the best of a prefix is this path.
+fn best_is(alloc: Global, rib: &Rib, prefix: &Prefix, path: &[Asn]) -> Result<bool, Fail> {
+    let found = best(alloc, rib, prefix)?;
+    Ok(found.as_slice() == path)
+}
+
 // The words of a peer follow its UPDATEs: the last of three mentions stays.
 fn the_last_of_three_in(
     rt: &impl Abort,
@@ -270,22 +311,13 @@ fn the_last_of_three_in(
 ) -> Result<(), Fail> {
     hears(alloc, rib, 2, &[2, 1], &[named.short, named.long])?;
     hear(rib, 2, &update(alloc, &[named.short], None, &[])?)?;
-    assert!(rt; rib.word_heard(2, &named.short).is_none());
-    assert_eq!(rt;
-        path_of(rib.word_heard(2, &named.long)),
-        [2u32, 1].as_slice()
-    );
+    assert!(rt; !is_heard(rib, 2, &named.short));
+    assert_eq!(rt; heard(rib, 2, &named.long), [2u32, 1].as_slice());
     hears(alloc, rib, 2, &[2, 4, 3, 1], &[named.short])?;
-    assert_eq!(rt;
-        path_of(rib.word_heard(2, &named.short)),
-        [2u32, 4, 3, 1].as_slice()
-    );
-    assert_eq!(rt;
-        path_of(rib.word_heard(2, &named.long)),
-        [2u32, 1].as_slice()
-    );
-    assert!(rt; rib.word_heard(3, &named.short).is_none());
-    assert!(rt; rib.word_sent(2, &named.short).is_none());
+    assert_eq!(rt; heard(rib, 2, &named.short), [2u32, 4, 3, 1].as_slice());
+    assert_eq!(rt; heard(rib, 2, &named.long), [2u32, 1].as_slice());
+    assert!(rt; !is_heard(rib, 3, &named.short));
+    assert!(rt; !is_sent(rib, 2, &named.short));
     Ok(())
 }
 
@@ -307,12 +339,12 @@ fn a_long_path_in(
 ) -> Result<(), Fail> {
     let path = [2u32, 4, 3, 5, 6, 7, 8, 9, 10, 1];
     hears(alloc, rib, 2, &path, &[named.far, named.short])?;
-    assert_eq!(rt; path_of(rib.word_heard(2, &named.far)), path.as_slice());
-    assert_eq!(rt; path_of(rib.word_heard(2, &named.short)), path.as_slice());
-    assert!(rt; rib.word_heard(2, &named.long).is_none());
+    assert_eq!(rt; heard(rib, 2, &named.far), path.as_slice());
+    assert_eq!(rt; heard(rib, 2, &named.short), path.as_slice());
+    assert!(rt; !is_heard(rib, 2, &named.long));
     keeps(alloc, rib, &named.far, &path)?;
     tells(rib, 3, &named.far)?;
-    assert_eq!(rt; path_of(rib.word_sent(3, &named.far)), path.as_slice());
+    assert_eq!(rt; sent(rib, 3, &named.far), path.as_slice());
     Ok(())
 }
 
@@ -335,11 +367,8 @@ fn announced_and_withdrawn_in(
     hears(alloc, rib, 3, &[3, 4, 2, 1], &[named.short, named.long])?;
     let both = announces(alloc, &[3, 1], &[named.short], &[named.short, named.long])?;
     hear(rib, 3, &both)?;
-    assert_eq!(rt;
-        path_of(rib.word_heard(3, &named.short)),
-        [3u32, 1].as_slice()
-    );
-    assert!(rt; rib.word_heard(3, &named.long).is_none());
+    assert_eq!(rt; heard(rib, 3, &named.short), [3u32, 1].as_slice());
+    assert!(rt; !is_heard(rib, 3, &named.long));
     Ok(())
 }
 
@@ -356,8 +385,8 @@ fn announced_and_withdrawn(rt: HostRuntime) -> Result<(), Fail> {
 fn a_set_in(rt: &impl Abort, alloc: Global, rib: &mut Rib, named: &Prefixes) -> Result<(), Fail> {
     let set = one_segment(alloc, SegmentKind::AsSet, &[2, 1])?;
     hear(rib, 2, &update(alloc, &[], Some(set), &[named.short])?)?;
-    assert!(rt; is_other(rib.word_heard(2, &named.short)));
-    assert!(rt; best(alloc, rib, &named.short)?.is_empty());
+    assert!(rt; is_heard_as_other(rib, 2, &named.short));
+    assert!(rt; best_is(alloc, rib, &named.short, &[])?);
     assert_eq!(rt; rib.dirty(), None);
     Ok(())
 }
@@ -381,8 +410,8 @@ fn several_segments_and_none_in(
     let two = two_segments(alloc, &[2], &[1])?;
     hear(rib, 2, &update(alloc, &[], Some(two), &[named.long])?)?;
     hear(rib, 3, &update(alloc, &[], None, &[named.long])?)?;
-    assert!(rt; is_other(rib.word_heard(2, &named.long)));
-    assert!(rt; is_other(rib.word_heard(3, &named.long)));
+    assert!(rt; is_heard_as_other(rib, 2, &named.long));
+    assert!(rt; is_heard_as_other(rib, 3, &named.long));
     Ok(())
 }
 
@@ -403,13 +432,10 @@ fn a_prefix_of_nobody_in(
     named: &Prefixes,
 ) -> Result<(), Fail> {
     hears(alloc, rib, 2, &[2, 1], &[named.stray, named.short])?;
-    assert!(rt; rib.word_heard(2, &named.stray).is_none());
-    assert!(rt; rib.path(&named.stray).is_empty());
+    assert!(rt; !is_heard(rib, 2, &named.stray));
+    assert!(rt; kept(rib, &named.stray).is_empty());
     assert!(rt; !rib.is_originated(&named.stray));
-    assert_eq!(rt;
-        path_of(rib.word_heard(2, &named.short)),
-        [2u32, 1].as_slice()
-    );
+    assert_eq!(rt; heard(rib, 2, &named.short), [2u32, 1].as_slice());
     Ok(())
 }
 
@@ -435,20 +461,14 @@ fn forgets_one_of_two_in(
     tells(rib, 2, &named.short)?;
     tells(rib, 3, &named.short)?;
     forgets(rib, 2)?;
-    assert!(rt; rib.word_heard(2, &named.short).is_none());
-    assert!(rt; rib.word_heard(2, &named.long).is_none());
-    assert!(rt; rib.word_sent(2, &named.short).is_none());
-    assert_eq!(rt;
-        path_of(rib.word_heard(3, &named.long)),
-        [3u32, 1].as_slice()
-    );
-    assert_eq!(rt;
-        path_of(rib.word_sent(3, &named.short)),
-        [4u32, 2, 1].as_slice()
-    );
+    assert!(rt; !is_heard(rib, 2, &named.short));
+    assert!(rt; !is_heard(rib, 2, &named.long));
+    assert!(rt; !is_sent(rib, 2, &named.short));
+    assert_eq!(rt; heard(rib, 3, &named.long), [3u32, 1].as_slice());
+    assert_eq!(rt; sent(rib, 3, &named.short), [4u32, 2, 1].as_slice());
     assert!(rt; !rib.is_established(2) && rib.is_established(3));
-    assert_eq!(rt; rib.decide(alloc)?, Some(named.short));
-    assert_eq!(rt; rib.path(&named.short), [4u32, 3, 1].as_slice());
+    assert_eq!(rt; decides(alloc, rib)?, Some(named.short));
+    assert_eq!(rt; kept(rib, &named.short), [4u32, 3, 1].as_slice());
     Ok(())
 }
 
@@ -459,12 +479,6 @@ fn forgets_one_of_two(rt: HostRuntime) -> Result<(), Fail> {
     let net = network(alloc)?;
     let mut rib = joined(alloc, &net, 4, &[2, 3])?;
     forgets_one_of_two_in(&rt, alloc, &mut rib, &named)
-}
-
-// Whether the best of a prefix is this path.
-fn best_is(alloc: Global, rib: &Rib, prefix: &Prefix, path: &[Asn]) -> Result<bool, Fail> {
-    let found = best(alloc, rib, prefix)?;
-    Ok(found.as_slice() == path)
 }
 
 // The tables of router 4, to which both peers have told of two prefixes, none of them Established.
@@ -510,12 +524,11 @@ fn an_origin_in(
 ) -> Result<(), Fail> {
     hears(alloc, rib, 2, &[2, 1], &[named.short, named.long])?;
     originates(rib, &named.long)?;
-    let own = best(alloc, rib, &named.long)?;
-    assert_eq!(rt; own.as_slice(), [1u32].as_slice());
-    assert!(rt; best(alloc, rib, &named.short)?.is_empty());
+    assert!(rt; best_is(alloc, rib, &named.long, &[1])?);
+    assert!(rt; best_is(alloc, rib, &named.short, &[])?);
     assert!(rt; rib.is_originated(&named.long) && !rib.is_originated(&named.short));
     withdraws(rib, &named.long)?;
-    assert!(rt; best(alloc, rib, &named.long)?.is_empty());
+    assert!(rt; best_is(alloc, rib, &named.long, &[])?);
     Ok(())
 }
 
@@ -535,7 +548,7 @@ fn decided_in_order_in(
     rib: &mut Rib,
     named: &Prefixes,
 ) -> Result<(), Fail> {
-    assert_eq!(rt; rib.decide(alloc)?, None);
+    assert_eq!(rt; decides(alloc, rib)?, None);
     hears(
         alloc,
         rib,
@@ -545,15 +558,15 @@ fn decided_in_order_in(
     )?;
     originates(rib, &named.far)?;
     assert_eq!(rt; rib.dirty(), Some(named.short));
-    assert!(rt; rib.path(&named.short).is_empty());
-    assert_eq!(rt; rib.decide(alloc)?, Some(named.short));
-    assert_eq!(rt; rib.decide(alloc)?, Some(named.long));
-    assert_eq!(rt; rib.decide(alloc)?, Some(named.far));
-    assert_eq!(rt; rib.decide(alloc)?, None);
-    assert_eq!(rt; rib.path(&named.short), [4u32, 2, 1].as_slice());
-    assert_eq!(rt; rib.path(&named.far), [4u32].as_slice());
+    assert!(rt; kept(rib, &named.short).is_empty());
+    assert_eq!(rt; decides(alloc, rib)?, Some(named.short));
+    assert_eq!(rt; decides(alloc, rib)?, Some(named.long));
+    assert_eq!(rt; decides(alloc, rib)?, Some(named.far));
+    assert_eq!(rt; decides(alloc, rib)?, None);
+    assert_eq!(rt; kept(rib, &named.short), [4u32, 2, 1].as_slice());
+    assert_eq!(rt; kept(rib, &named.far), [4u32].as_slice());
     rib.clear();
-    assert!(rt; rib.path(&named.far).is_empty() && !rib.is_originated(&named.far));
+    assert!(rt; kept(rib, &named.far).is_empty() && !rib.is_originated(&named.far));
     assert_eq!(rt; rib.dirty(), Some(named.short));
     Ok(())
 }
@@ -576,8 +589,8 @@ fn another_path_is_kept_in(
 ) -> Result<(), Fail> {
     hears(alloc, rib, 2, &[2, 1], &[named.short])?;
     keeps(alloc, rib, &named.short, &[4, 3, 1])?;
-    assert_eq!(rt; rib.decide(alloc)?, Some(named.short));
-    assert_eq!(rt; rib.path(&named.short), [4u32, 2, 1].as_slice());
+    assert_eq!(rt; decides(alloc, rib)?, Some(named.short));
+    assert_eq!(rt; kept(rib, &named.short), [4u32, 2, 1].as_slice());
     Ok(())
 }
 

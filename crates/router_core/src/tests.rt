@@ -14,6 +14,13 @@ mod strays;
 mod walking;
 mod whole;
 
+fn push_two_routers(net: &mut NetBuilder) -> Result<(), Fail> {
+    net.push_router(1, 0x0a00_0001)?;
+    net.push_router(2, 0x0a00_0002)?;
+    net.push_link(1, 2)?;
+    Ok(net.push_origin(1, Prefix::new(0x0a01_0000, 16).ok_or("a prefix")?)?)
+}
+
 // Router 1 has identifier 10.0.0.1, router 2 has 10.0.0.2, a link joins them, and 1 is the origin of
 // 10.1.0.0/16.
 fn two_routers(alloc: Global, cut: usize) -> Result<Network, Fail> {
@@ -24,10 +31,7 @@ fn two_routers(alloc: Global, cut: usize) -> Result<Network, Fail> {
         pipe: 64,
     };
     let mut net = NetBuilder::new(alloc, settings)?;
-    net.push_router(1, 0x0a00_0001)?;
-    net.push_router(2, 0x0a00_0002)?;
-    net.push_link(1, 2)?;
-    net.push_origin(1, Prefix::new(0x0a01_0000, 16).ok_or("a prefix")?)?;
+    push_two_routers(&mut net)?;
     match net.finish() {
         Ok(net) => Ok(net),
         Err((_, error)) => Err(error.into()),

@@ -5,6 +5,7 @@ use bgp_codec::{Attrs, Items, Update};
 use prefix_lanes::Prefix;
 use ranked_policy::{Asn, Path};
 use std::alloc::{AllocError, Global};
+use std::process::Abort;
 use std::test::*;
 
 fn prefix(addr: u32) -> Prefix {
@@ -30,16 +31,18 @@ fn withdrawal(alloc: Global, addr: u32) -> Result<Update, AllocError> {
     })
 }
 
-/// The state that router 1 records: one path, one prefix originated, the links to the peers, open but
-/// for the one over which the marker came.
-fn part(alloc: Global, number: u32, peers: &[Asn], first: Option<Asn>) -> Result<Part, AllocError> {
+fn one_path(alloc: Global) -> Result<Vec<KeptPath>, AllocError> {
+    let path = Path::from_slice(alloc, &[1])?;
     let mut kept = Vec::new(alloc);
     kept.push(KeptPath {
         prefix: prefix(0x0a01_0000),
-        path: Path::from_slice(alloc, &[1])?,
+        path,
     })?;
-    let mut originated = Vec::new(alloc);
-    originated.push(prefix(0x0a01_0000))?;
+    Ok(kept)
+}
+
+// Empty channels to these peers, open but for the one over which the marker came.
+fn channels(alloc: Global, peers: &[Asn], first: Option<Asn>) -> Result<Vec<Channel>, AllocError> {
     let mut channels = Vec::new(alloc);
     for peer in peers {
         channels.push(Channel {
@@ -49,14 +52,38 @@ fn part(alloc: Global, number: u32, peers: &[Asn], first: Option<Asn>) -> Result
             updates: Vec::new(alloc),
         })?;
     }
+    Ok(channels)
+}
+
+/// The state that router 1 records: one path, one prefix originated, the links to the peers, open but
+/// for the one over which the marker came.
+fn part(alloc: Global, number: u32, peers: &[Asn], first: Option<Asn>) -> Result<Part, AllocError> {
     Ok(Part {
         router: 1,
         number,
-        kept,
-        originated,
+        kept: one_path(alloc)?,
+        originated: Vec::from_slice(alloc, &[prefix(0x0a01_0000)])?,
         pending: true,
-        channels,
+        channels: channels(alloc, peers, first)?,
     })
+}
+
+/// A recording begins; it ensures nothing, so that one call is not carried along to the next.
+fn begin(
+    alloc: Global,
+    marks: &mut MarkState,
+    number: u32,
+    peers: &[Asn],
+    first: Option<Asn>,
+    not_up: Option<Asn>,
+) -> Result<bool, AllocError> {
+    let part = part(alloc, number, peers, first)?;
+    Ok(marks.begin(part, not_up).is_ok())
+}
+
+/// The offer at hand is made.
+fn make(marks: &mut MarkState) {
+    marks.offer_made();
 }
 
 /// A marker, where a link leads to the peer.
@@ -112,26 +139,30 @@ fn lost(number: u32, peer: Asn, cause: Cause) -> Option<Lost> {
 /// open still.
 #[test]
 fn a_recording_ends_with_the_last_marker(rt: HostRuntime) -> Result<(), Fail> {
-    let alloc = rt.alloc();
-    let mut marks = MarkState::new(alloc);
-    assert_eq!(rt;
-        marks.begin(part(alloc, 4, &[2, 3], Some(2))?, None),
-        Ok(())
-    );
+    let mut marks = MarkState::new(rt.alloc());
+    a_recording_ends_with_the_last_marker_in(&rt, rt.alloc(), &mut marks)
+}
+
+fn a_recording_ends_with_the_last_marker_in(
+    rt: &impl Abort,
+    alloc: Global,
+    marks: &mut MarkState,
+) -> Result<(), Fail> {
+    assert!(rt; begin(alloc, marks, 4, &[2, 3], Some(2), None)?);
     assert_eq!(rt; marks.last(), 4);
     for peer in [2, 3, 3] {
-        assert_eq!(rt; hear(alloc, &mut marks, peer)?, peer == 3);
+        assert_eq!(rt; hear(alloc, marks, peer)?, peer == 3);
     }
-    mark(&mut marks, 3, 3);
+    mark(marks, 3, 3);
     assert!(rt; marks.next_offer().is_none());
     assert!(rt; marks.unfinished().is_some());
-    mark(&mut marks, 3, 4);
+    mark(marks, 3, 4);
     assert!(rt; marks.unfinished().is_none());
     assert_eq!(rt;
         updates_of(alloc, marks.next_offer())?.as_slice(),
         [0usize, 2].as_slice()
     );
-    marks.offer_made();
+    make(marks);
     assert!(rt; marks.next_offer().is_none());
     Ok(())
 }
@@ -139,12 +170,19 @@ fn a_recording_ends_with_the_last_marker(rt: HostRuntime) -> Result<(), Fail> {
 /// A router without links, or whose only peer sent the marker, offers its part at once.
 #[test]
 fn nothing_to_wait_for(rt: HostRuntime) -> Result<(), Fail> {
-    let alloc = rt.alloc();
-    let mut marks = MarkState::new(alloc);
-    assert_eq!(rt; marks.begin(part(alloc, 1, &[], None)?, None), Ok(()));
-    assert_eq!(rt; marks.begin(part(alloc, 2, &[2], Some(2))?, None), Ok(()));
+    let mut marks = MarkState::new(rt.alloc());
+    nothing_to_wait_for_in(&rt, rt.alloc(), &mut marks)
+}
+
+fn nothing_to_wait_for_in(
+    rt: &impl Abort,
+    alloc: Global,
+    marks: &mut MarkState,
+) -> Result<(), Fail> {
+    assert!(rt; begin(alloc, marks, 1, &[], None, None)?);
+    assert!(rt; begin(alloc, marks, 2, &[2], Some(2), None)?);
     assert_eq!(rt; marks.next_offer().map(|offer| offer.number()), Some(1));
-    marks.offer_made();
+    make(marks);
     assert_eq!(rt; marks.next_offer().map(|offer| offer.number()), Some(2));
     assert_eq!(rt; marks.next_offer().map(|offer| offer.router()), Some(1));
     Ok(())
@@ -154,30 +192,28 @@ fn nothing_to_wait_for(rt: HostRuntime) -> Result<(), Fail> {
 /// peer, the incarnation and the cause.
 #[test]
 fn recordings_are_lost(rt: HostRuntime) -> Result<(), Fail> {
-    let alloc = rt.alloc();
-    let mut marks = MarkState::new(alloc);
-    assert_eq!(rt; marks.begin(part(alloc, 1, &[2, 3], None)?, None), Ok(()));
+    let mut marks = MarkState::new(rt.alloc());
+    recordings_are_lost_in(&rt, rt.alloc(), &mut marks)
+}
+
+fn recordings_are_lost_in(
+    rt: &impl Abort,
+    alloc: Global,
+    marks: &mut MarkState,
+) -> Result<(), Fail> {
+    assert!(rt; begin(alloc, marks, 1, &[2, 3], None, None)?);
     marks.on_close(3, 7);
     assert_eq!(rt; lost_of(marks.next_offer()), lost(1, 3, Cause::Closed));
     marks.on_close(2, 7);
-    marks.offer_made();
+    make(marks);
     assert!(rt; marks.next_offer().is_none());
-    assert_eq!(rt;
-        marks.begin(part(alloc, 2, &[2, 3], None)?, Some(2)),
-        Ok(())
-    );
+    assert!(rt; begin(alloc, marks, 2, &[2, 3], None, Some(2))?);
     assert_eq!(rt; lost_of(marks.next_offer()), lost(2, 2, Cause::NotUp));
-    marks.offer_made();
-    assert_eq!(rt;
-        marks.begin(part(alloc, 3, &[2, 3], Some(2))?, None),
-        Ok(())
-    );
-    assert_eq!(rt;
-        marks.begin(part(alloc, 5, &[2, 3], None)?, Some(3)),
-        Ok(())
-    );
+    make(marks);
+    assert!(rt; begin(alloc, marks, 3, &[2, 3], Some(2), None)?);
+    assert!(rt; begin(alloc, marks, 5, &[2, 3], None, Some(3))?);
     assert_eq!(rt; lost_of(marks.next_offer()), lost(3, 3, Cause::Superseded));
-    marks.offer_made();
+    make(marks);
     assert_eq!(rt; lost_of(marks.next_offer()), lost(5, 3, Cause::NotUp));
     Ok(())
 }
@@ -185,11 +221,14 @@ fn recordings_are_lost(rt: HostRuntime) -> Result<(), Fail> {
 /// A copy of an offer has what the offer has.
 #[test]
 fn offers_are_copied(rt: HostRuntime) -> Result<(), Fail> {
-    let alloc = rt.alloc();
-    let mut marks = MarkState::new(alloc);
-    assert_eq!(rt; marks.begin(part(alloc, 1, &[2], None)?, None), Ok(()));
-    assert!(rt; hear(alloc, &mut marks, 2)?);
-    mark(&mut marks, 2, 1);
+    let mut marks = MarkState::new(rt.alloc());
+    offers_are_copied_in(&rt, rt.alloc(), &mut marks)
+}
+
+fn offers_are_copied_in(rt: &impl Abort, alloc: Global, marks: &mut MarkState) -> Result<(), Fail> {
+    assert!(rt; begin(alloc, marks, 1, &[2], None, None)?);
+    assert!(rt; hear(alloc, marks, 2)?);
+    mark(marks, 2, 1);
     let Some(offer) = marks.next_offer() else {
         return Err(Fail::new("no offer"));
     };

@@ -1,9 +1,17 @@
 use super::*;
 use prefix_lanes::Prefix;
-use ranked_policy::{Asn, NetBuilder, Network, Settings};
+use ranked_policy::{Asn, NetBuilder, NetError, Network, Settings};
 use router_model::{Command, RouterError};
 use std::alloc::{AllocError, Global};
+use std::process::Abort;
 use std::test::Fail;
+
+fn push_two_routers(net: &mut NetBuilder, prefix: Prefix) -> Result<(), NetError> {
+    net.push_router(1, 0x0a00_0001)?;
+    net.push_router(2, 0x0a00_0002)?;
+    net.push_link(1, 2)?;
+    net.push_origin(1, prefix)
+}
 
 // Routers 1 and 2 of one link, router 1 the origin of 10.1.0.0/16.
 fn two_routers(alloc: Global, prefix: Prefix) -> Result<Network, Fail> {
@@ -14,10 +22,7 @@ fn two_routers(alloc: Global, prefix: Prefix) -> Result<Network, Fail> {
         pipe: 64,
     };
     let mut net = NetBuilder::new(alloc, settings)?;
-    net.push_router(1, 0x0a00_0001)?;
-    net.push_router(2, 0x0a00_0002)?;
-    net.push_link(1, 2)?;
-    net.push_origin(1, prefix)?;
+    push_two_routers(&mut net, prefix)?;
     match net.finish() {
         Ok(net) => Ok(net),
         Err((_, error)) => Err(error.into()),
@@ -59,48 +64,77 @@ fn keeps(world: &World<'_>, number: Asn, prefix: &Prefix, path: &[Asn]) -> bool 
     }
 }
 
+// What a world answers, and what it has done. These helpers ensure nothing, so that one answer is not
+// carried along to the next.
+fn fault_of(world: &mut World<'_>, event: Event) -> Option<StepFault> {
+    world.step(&event).err()
+}
+
+fn fault_of_order(world: &mut World<'_>, order: Order) -> Option<StepFault> {
+    world.obey(&order).err()
+}
+
+fn count(world: &World<'_>) -> usize {
+    world.run().len()
+}
+
+fn ten_one() -> Result<Prefix, &'static str> {
+    Prefix::new(0x0a01_0000, 16).ok_or("a prefix")
+}
+
+// The routes of both routers once they arrived, 29 events after the start.
+fn arrived(rt: &impl Abort, world: &World<'_>, prefix: &Prefix) {
+    assert_eq!(rt; count(world), 29);
+    assert!(rt; keeps(world, 1, prefix, &[1]));
+    assert!(rt; keeps(world, 2, prefix, &[2, 1]));
+}
+
 #[test]
 fn routes_arrive_after_29_events(rt: HostRuntime) -> Result<(), Fail> {
-    let prefix = Prefix::new(0x0a01_0000, 16).ok_or("a prefix")?;
+    let prefix = ten_one()?;
     let net = two_routers(rt.alloc(), prefix)?;
     let events = schedule(rt.alloc(), prefix)?;
     let Ok(world) = play(rt.alloc(), &net, events.as_slice()) else {
         return Err("the schedule is played".into());
     };
-    assert_eq!(rt; world.run().len(), 29);
-    assert!(rt; keeps(&world, 1, &prefix, &[1]));
-    assert!(rt; keeps(&world, 2, &prefix, &[2, 1]));
+    arrived(&rt, &world, &prefix);
     Ok(())
 }
 
 #[test]
 fn who_is_not_there_is_refused(rt: HostRuntime) -> Result<(), Fail> {
-    let prefix = Prefix::new(0x0a01_0000, 16).ok_or("a prefix")?;
-    let net = two_routers(rt.alloc(), prefix)?;
+    let net = two_routers(rt.alloc(), ten_one()?)?;
     let mut world = World::new(rt.alloc(), &net)?;
-    assert!(rt; world.step(&Event::Tick(3)) == Err(StepFault::NoSuchRouter));
-    assert!(rt; world.step(&Event::Put(1, 3)) == Err(StepFault::NoSuchRouter));
-    assert!(rt; world.step(&Event::Put(1, 1)) == Err(StepFault::NoSuchLink));
+    who_is_not_there_is_refused_in(&rt, &mut world);
     Ok(())
+}
+
+fn who_is_not_there_is_refused_in(rt: &impl Abort, world: &mut World<'_>) {
+    assert!(rt; fault_of(world, Event::Tick(3)) == Some(StepFault::NoSuchRouter));
+    assert!(rt; fault_of(world, Event::Put(1, 3)) == Some(StepFault::NoSuchRouter));
+    assert!(rt; fault_of(world, Event::Put(1, 1)) == Some(StepFault::NoSuchLink));
 }
 
 #[test]
 fn an_old_snapshot_is_refused(rt: HostRuntime) -> Result<(), Fail> {
-    let prefix = Prefix::new(0x0a01_0000, 16).ok_or("a prefix")?;
-    let net = two_routers(rt.alloc(), prefix)?;
+    let net = two_routers(rt.alloc(), ten_one()?)?;
     let mut world = World::new(rt.alloc(), &net)?;
-    let event = Event::Command(1, Command::Snapshot(1));
-    assert!(rt; world.step(&event).is_ok());
-    assert!(rt;
-        world.step(&event) == Err(StepFault::Refused(RouterError::OldSnapshot { last: 1 }))
-    );
-    assert_eq!(rt; world.run().len(), 1);
+    an_old_snapshot_is_refused_in(&rt, &mut world);
     Ok(())
+}
+
+const OLD: Option<StepFault> = Some(StepFault::Refused(RouterError::OldSnapshot { last: 1 }));
+
+fn an_old_snapshot_is_refused_in(rt: &impl Abort, world: &mut World<'_>) {
+    let event = Event::Command(1, Command::Snapshot(1));
+    assert!(rt; fault_of(world, event).is_none());
+    assert!(rt; fault_of(world, event) == OLD);
+    assert_eq!(rt; count(world), 1);
 }
 
 // Whether an order of one event is obeyed.
 fn does(world: &mut World<'_>, event: Event) -> bool {
-    world.obey(&Order::One(event)).is_ok()
+    fault_of_order(world, Order::One(event)).is_none()
 }
 
 // Both start and router 1 originates, each by its order.
@@ -112,36 +146,35 @@ fn starts(world: &mut World<'_>, prefix: Prefix) -> bool {
 
 #[test]
 fn rounds_are_turns_of_every_router(rt: HostRuntime) -> Result<(), Fail> {
-    let prefix = Prefix::new(0x0a01_0000, 16).ok_or("a prefix")?;
+    let prefix = ten_one()?;
     let net = two_routers(rt.alloc(), prefix)?;
     let mut world = World::new(rt.alloc(), &net)?;
     assert!(rt; starts(&mut world, prefix));
-    assert!(rt; world.obey(&Order::Rounds(40)).is_ok());
-    assert_eq!(rt; world.run().len(), 29);
-    assert!(rt; keeps(&world, 1, &prefix, &[1]));
-    assert!(rt; keeps(&world, 2, &prefix, &[2, 1]));
+    assert!(rt; fault_of_order(&mut world, Order::Rounds(40)).is_none());
+    arrived(&rt, &world, &prefix);
     Ok(())
 }
 
 #[test]
 fn a_refused_order_keeps_the_steps_before(rt: HostRuntime) -> Result<(), Fail> {
-    let prefix = Prefix::new(0x0a01_0000, 16).ok_or("a prefix")?;
-    let net = two_routers(rt.alloc(), prefix)?;
+    let net = two_routers(rt.alloc(), ten_one()?)?;
     let mut world = World::new(rt.alloc(), &net)?;
-    let snapshot = Order::One(Event::Command(1, Command::Snapshot(1)));
-    assert!(rt; world.obey(&snapshot).is_ok());
-    let old = StepFault::Refused(RouterError::OldSnapshot { last: 1 });
-    assert!(rt; world.obey(&snapshot) == Err(old));
-    assert_eq!(rt; world.run().len(), 1);
+    a_refused_order_keeps_the_steps_before_in(&rt, &mut world);
     Ok(())
+}
+
+fn a_refused_order_keeps_the_steps_before_in(rt: &impl Abort, world: &mut World<'_>) {
+    let snapshot = Event::Command(1, Command::Snapshot(1));
+    assert!(rt; does(world, snapshot));
+    assert!(rt; fault_of_order(world, Order::One(snapshot)) == OLD);
+    assert_eq!(rt; count(world), 1);
 }
 
 #[test]
 fn ticks_pass_at_every_router(rt: HostRuntime) -> Result<(), Fail> {
-    let prefix = Prefix::new(0x0a01_0000, 16).ok_or("a prefix")?;
-    let net = two_routers(rt.alloc(), prefix)?;
+    let net = two_routers(rt.alloc(), ten_one()?)?;
     let mut world = World::new(rt.alloc(), &net)?;
-    assert!(rt; world.obey(&Order::Ticks(2)).is_ok());
-    assert_eq!(rt; world.run().len(), 4);
+    assert!(rt; fault_of_order(&mut world, Order::Ticks(2)).is_none());
+    assert_eq!(rt; count(&world), 4);
     Ok(())
 }

@@ -37,24 +37,25 @@ impl Dice {
     }
 }
 
+fn ranked(alloc: Global) -> Result<Vec<Path>, AllocError> {
+    let mut ranked = Vec::new(alloc);
+    ranked.push(Path::from_slice(alloc, &[4, 3, 1])?)?;
+    ranked.push(Path::from_slice(alloc, &[4, 2, 1])?)?;
+    Ok(ranked)
+}
+
 // A ring with a chord, prefixes of three origins, and a rule that ranks two paths for one of them.
 fn meshed(alloc: Global) -> Result<Network, Fail> {
     let named = named_prefixes()?;
     let mut net = NetBuilder::new(alloc, SETTINGS)?;
-    for i in 0..5u32 {
-        net.push_router(i + 1, 0x0a00_0001 + i)?;
-    }
-    for (one, other) in [(1, 2), (2, 4), (4, 3), (3, 1), (4, 5), (5, 1)] {
-        net.push_link(one, other)?;
-    }
-    net.push_origin(4, named.far)?;
-    net.push_origin(1, named.long)?;
-    net.push_origin(1, named.short)?;
+    push_links(
+        &mut net,
+        5,
+        &[(1, 2), (2, 4), (4, 3), (3, 1), (4, 5), (5, 1)],
+    )?;
+    push_origins(&mut net, &named)?;
     net.push_origin(5, prefix(0x0a00_0000, 8)?)?;
-    let mut ranked = Vec::new(alloc);
-    ranked.push(Path::from_slice(alloc, &[4, 3, 1])?)?;
-    ranked.push(Path::from_slice(alloc, &[4, 2, 1])?)?;
-    net.push_rule(ROUTER, named.long, ranked)?;
+    net.push_rule(ROUTER, named.long, ranked(alloc)?)?;
     match net.finish() {
         Ok(net) => Ok(net),
         Err((_, error)) => Err(error.into()),
@@ -104,6 +105,63 @@ fn random_update(
     update(alloc, withdrawn.as_slice(), path, nlri.as_slice())
 }
 
+// Calls on both; each ensures nothing, so that one is not carried along to the next.
+fn both_hear(rib: &mut Rib, lists: &mut Lists, peer: Asn, update: &Update) -> Result<(), Fail> {
+    hear(rib, peer, update)?;
+    Ok(lists.hear(peer, update)?)
+}
+
+fn both_tell(rib: &mut Rib, lists: &mut Lists, peer: Asn, prefix: &Prefix) -> Result<(), Fail> {
+    tells(rib, peer, prefix)?;
+    Ok(lists.tell(peer, prefix)?)
+}
+
+fn both_come_up(rib: &mut Rib, lists: &mut Lists, peer: Asn) -> Result<(), Fail> {
+    comes_up(rib, peer)?;
+    Ok(lists.come_up(peer)?)
+}
+
+fn both_forget(rib: &mut Rib, lists: &mut Lists, peer: Asn) -> Result<(), Fail> {
+    forgets(rib, peer)?;
+    lists.forget(peer);
+    Ok(())
+}
+
+fn both_originate(rib: &mut Rib, lists: &mut Lists, prefix: &Prefix) -> Result<(), Fail> {
+    originates(rib, prefix)?;
+    Ok(lists.originate(prefix)?)
+}
+
+fn both_withdraw(rib: &mut Rib, lists: &mut Lists, prefix: &Prefix) -> Result<(), Fail> {
+    withdraws(rib, prefix)?;
+    lists.withdraw(prefix);
+    Ok(())
+}
+
+fn both_keep(
+    alloc: Global,
+    rib: &mut Rib,
+    lists: &mut Lists,
+    prefix: &Prefix,
+    path: &[Asn],
+) -> Result<(), Fail> {
+    keeps(alloc, rib, prefix, path)?;
+    Ok(lists.set(prefix, Path::from_slice(alloc, path)?)?)
+}
+
+fn both_clear(rib: &mut Rib, lists: &mut Lists) {
+    rib.clear();
+    lists.clear();
+}
+
+fn both_decide(alloc: Global, rib: &mut Rib, lists: &mut Lists) -> Result<(), Fail> {
+    if let Some(prefix) = decides(alloc, rib)? {
+        let best = lists.best(&prefix)?;
+        lists.set(&prefix, best)?;
+    }
+    Ok(())
+}
+
 // One random call on both.
 fn step(
     alloc: Global,
@@ -118,46 +176,23 @@ fn step(
     match dice.roll(40) {
         0..=13 => {
             let update = random_update(alloc, dice, peer, prefixes)?;
-            hear(rib, peer, &update)?;
-            lists.hear(peer, &update)?;
+            both_hear(rib, lists, peer, &update)
         }
-        14..=21 => {
-            tells(rib, peer, &prefix)?;
-            lists.tell(peer, &prefix)?;
-        }
-        22..=24 => {
-            comes_up(rib, peer)?;
-            lists.come_up(peer)?;
-        }
-        25 | 26 => {
-            forgets(rib, peer)?;
-            lists.forget(peer);
-        }
-        27 | 28 => {
-            originates(rib, &named.far)?;
-            lists.originate(&named.far)?;
-        }
-        29 => {
-            withdraws(rib, &named.far)?;
-            lists.withdraw(&named.far);
-        }
+        14..=21 => both_tell(rib, lists, peer, &prefix),
+        22..=24 => both_come_up(rib, lists, peer),
+        25 | 26 => both_forget(rib, lists, peer),
+        27 | 28 => both_originate(rib, lists, &named.far),
+        29 => both_withdraw(rib, lists, &named.far),
         30 | 31 => {
             let path = dice.one_of(&[[4u32, 2, 1], [4, 3, 1], [4, 5, 1]], [4, 9, 1]);
-            keeps(alloc, rib, &prefix, &path)?;
-            lists.set(&prefix, Path::from_slice(alloc, &path)?)?;
+            both_keep(alloc, rib, lists, &prefix, &path)
         }
         32 => {
-            rib.clear();
-            lists.clear();
+            both_clear(rib, lists);
+            Ok(())
         }
-        _ => {
-            if let Some(prefix) = rib.decide(alloc)? {
-                let best = lists.best(&prefix)?;
-                lists.set(&prefix, best)?;
-            }
-        }
+        _ => both_decide(alloc, rib, lists),
     }
-    Ok(())
 }
 
 // Both say the same of a peer.
@@ -172,13 +207,12 @@ fn same_of_peer(
     assert_eq!(rt; waiting(rib, peer)?, lists.waiting(peer));
     for prefix in prefixes {
         if rib.network().names(prefix) {
-            let heard = rib.word_heard(peer, prefix);
-            assert_eq!(rt; path_of(heard), lists.heard(peer, prefix));
-            assert_eq!(rt; is_other(heard), lists.heard_other(peer, prefix));
-            let sent = rib.word_sent(peer, prefix);
-            assert_eq!(rt; path_of(sent), lists.sent(peer, prefix));
+            assert_eq!(rt; heard(rib, peer, prefix), lists.heard(peer, prefix));
+            let is_other = is_heard_as_other(rib, peer, prefix);
+            assert_eq!(rt; is_other, lists.heard_other(peer, prefix));
+            assert_eq!(rt; sent(rib, peer, prefix), lists.sent(peer, prefix));
         } else {
-            assert!(rt; rib.word_heard(peer, prefix).is_none());
+            assert!(rt; !is_heard(rib, peer, prefix));
         }
     }
     Ok(())
@@ -196,7 +230,7 @@ fn same(
         same_of_peer(rt, rib, lists, peer, prefixes)?;
     }
     for prefix in prefixes {
-        assert_eq!(rt; rib.path(prefix), lists.path(prefix));
+        assert_eq!(rt; kept(rib, prefix), lists.path(prefix));
         assert_eq!(rt; rib.is_originated(prefix), lists.is_originated(prefix));
         if rib.network().names(prefix) {
             let found = best(alloc, rib, prefix)?;

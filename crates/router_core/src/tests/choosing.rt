@@ -1,5 +1,15 @@
 use super::*;
 
+fn push_three_routers(net: &mut NetBuilder) -> Result<(), Fail> {
+    for number in 1u32..=3 {
+        net.push_router(number, 0x0a00_0000 + number)?;
+    }
+    net.push_link(1, 2)?;
+    net.push_link(1, 3)?;
+    net.push_origin(1, least()?)?;
+    Ok(net.push_origin(1, greatest()?)?)
+}
+
 // Router 1 has links to 2 and 3, and is the origin of 10.0.0.0/8 and of 10.1.0.0/16.
 pub(super) fn three_routers(alloc: Global) -> Result<Network, Fail> {
     let settings = Settings {
@@ -9,13 +19,7 @@ pub(super) fn three_routers(alloc: Global) -> Result<Network, Fail> {
         pipe: 64,
     };
     let mut net = NetBuilder::new(alloc, settings)?;
-    for number in 1u32..=3 {
-        net.push_router(number, 0x0a00_0000 + number)?;
-    }
-    net.push_link(1, 2)?;
-    net.push_link(1, 3)?;
-    net.push_origin(1, least()?)?;
-    net.push_origin(1, greatest()?)?;
+    push_three_routers(&mut net)?;
     match net.finish() {
         Ok(net) => Ok(net),
         Err((_, error)) => Err(error.into()),

@@ -2,7 +2,7 @@
 
 use crate::tests::{lost, part};
 use crate::{CollectError, Collector, Outcome, Taken, Why};
-use ranked_policy::{NetBuilder, Network, Settings};
+use ranked_policy::{NetBuilder, NetError, Network, Settings};
 use snap_marker::Offer;
 use std::alloc::Global;
 use std::test::*;
@@ -14,11 +14,15 @@ const SETTINGS: Settings = Settings {
     pipe: 4,
 };
 
-fn network(alloc: Global) -> Result<Network, Fail> {
-    let mut net = NetBuilder::new(alloc, SETTINGS)?;
+fn push_two_routers(net: &mut NetBuilder) -> Result<(), NetError> {
     net.push_router(1, 0x0a00_0001)?;
     net.push_router(2, 0x0a00_0002)?;
-    net.push_link(1, 2)?;
+    net.push_link(1, 2)
+}
+
+fn network(alloc: Global) -> Result<Network, Fail> {
+    let mut net = NetBuilder::new(alloc, SETTINGS)?;
+    push_two_routers(&mut net)?;
     match net.finish() {
         Ok(net) => Ok(net),
         Err((_, error)) => Err(error.into()),

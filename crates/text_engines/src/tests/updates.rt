@@ -42,6 +42,42 @@ fn fault_text(alloc: Global, codes: &str, notice: &str) -> Result<String, AllocE
     format!(in alloc; "fault {codes}\nffffffffffffffffffffffffffffffff{notice}\n")
 }
 
+// Whether this input is answered by this text and this status.
+fn is_decoded(alloc: Global, input: &str, text: &str, status: u8) -> bool {
+    let (out, got) = decoded(alloc, input.as_bytes());
+    out.as_slice() == text.as_bytes() && got == Some(status)
+}
+
+// Whether what stands behind a Marker is answered so.
+fn is_marked_decoded(
+    alloc: Global,
+    tail: &str,
+    text: &str,
+    status: u8,
+) -> Result<bool, AllocError> {
+    let input = format!(in alloc; "{MARKER}{tail}")?;
+    Ok(is_decoded(alloc, &input, text, status))
+}
+
+// Whether an UPDATE of these three parts is answered by a fault, its codes and its NOTIFICATION.
+fn is_faulty(
+    alloc: Global,
+    [withdrawn, attributes, nlri]: [&str; 3],
+    codes: &str,
+    notice: &str,
+) -> Result<bool, AllocError> {
+    let input = update(alloc, withdrawn, attributes, nlri)?;
+    let text = fault_text(alloc, codes, notice)?;
+    Ok(is_decoded(alloc, &input, &text, 1))
+}
+
+// Whether so many octets of the message are answered as a rest.
+fn is_truncated(alloc: Global, len: usize) -> Result<bool, AllocError> {
+    let input = hex::encode(alloc, &MESSAGE[..len.min(MESSAGE.len())])?;
+    let text = format!(in alloc; "truncated {len}\n")?;
+    Ok(is_decoded(alloc, &input, &text, 1))
+}
+
 // UPDATEs that are read, with their lines.
 #[test]
 fn good_updates(rt: HostRuntime) -> Result<(), Fail> {
@@ -177,9 +213,8 @@ fn good_updates(rt: HostRuntime) -> Result<(), Fail> {
         ),
     ] {
         let input = update(alloc, withdrawn, attributes, nlri)?;
-        let (out, got) = decoded(alloc, input.as_bytes());
-        assert_eq!(rt; out.as_slice(), text.as_bytes(), "{sentence}");
-        assert_eq!(rt; got, Some(0), "{sentence}");
+        let is_read = is_decoded(alloc, &input, text, 0);
+        assert!(rt; is_read, "{sentence}");
     }
     Ok(())
 }
@@ -204,20 +239,15 @@ fn lengths_of_the_parts(rt: HostRuntime) -> Result<(), Fail> {
         ("both together past the end", "001b 02 0003 100a01 0002 00"),
         ("before the withdrawn prefixes", "0019 02 0001 21 0002 00"),
     ] {
-        let input = format!(in alloc; "{MARKER}{tail}")?;
         let text = fault_text(alloc, "3 1", "0015030301")?;
-        let (out, got) = decoded(alloc, input.as_bytes());
-        assert_eq!(rt; out.as_slice(), text.as_bytes(), "{sentence}");
-        assert_eq!(rt; got, Some(1), "{sentence}");
+        let is_told = is_marked_decoded(alloc, tail, &text, 1)?;
+        assert!(rt; is_told, "{sentence}");
     }
     for (tail, text) in [
         ("0018 02 0001 00 0000", "update withdraw 0.0.0.0/0\n"),
         ("001b 02 0000 0004 40010100", "update\n"),
     ] {
-        let input = format!(in alloc; "{MARKER}{tail}")?;
-        let (out, got) = decoded(alloc, input.as_bytes());
-        assert_eq!(rt; out.as_slice(), text.as_bytes());
-        assert_eq!(rt; got, Some(0));
+        assert!(rt; is_marked_decoded(alloc, tail, text, 0)?);
     }
     Ok(())
 }
@@ -254,11 +284,8 @@ fn malformed_attributes(rt: HostRuntime) -> Result<(), Fail> {
         ("a repeat with faulty flags", "40010100 c0010100"),
         ("a repeat that is not optional", "c00900 400900"),
     ] {
-        let input = update(alloc, "", attributes, "")?;
-        let text = fault_text(alloc, "3 1", "0015030301")?;
-        let (out, got) = decoded(alloc, input.as_bytes());
-        assert_eq!(rt; out.as_slice(), text.as_bytes(), "{sentence}");
-        assert_eq!(rt; got, Some(1), "{sentence}");
+        let is_told = is_faulty(alloc, ["", attributes, ""], "3 1", "0015030301")?;
+        assert!(rt; is_told, "{sentence}");
     }
     Ok(())
 }
@@ -281,11 +308,8 @@ fn attributes_that_are_not_optional(rt: HostRuntime) -> Result<(), Fail> {
             "001a0303025008000107",
         ),
     ] {
-        let input = update(alloc, "", attributes, "")?;
-        let text = fault_text(alloc, "3 2", notice)?;
-        let (out, got) = decoded(alloc, input.as_bytes());
-        assert_eq!(rt; out.as_slice(), text.as_bytes(), "{sentence}");
-        assert_eq!(rt; got, Some(1), "{sentence}");
+        let is_told = is_faulty(alloc, ["", attributes, ""], "3 2", notice)?;
+        assert!(rt; is_told, "{sentence}");
     }
     Ok(())
 }
@@ -340,11 +364,8 @@ fn faulty_flags(rt: HostRuntime) -> Result<(), Fail> {
             "001a030304c001020000",
         ),
     ] {
-        let input = update(alloc, "", attributes, "")?;
-        let text = fault_text(alloc, "3 4", notice)?;
-        let (out, got) = decoded(alloc, input.as_bytes());
-        assert_eq!(rt; out.as_slice(), text.as_bytes(), "{sentence}");
-        assert_eq!(rt; got, Some(1), "{sentence}");
+        let is_told = is_faulty(alloc, ["", attributes, ""], "3 4", notice)?;
+        assert!(rt; is_told, "{sentence}");
     }
     Ok(())
 }
@@ -406,11 +427,8 @@ fn faulty_lengths(rt: HostRuntime) -> Result<(), Fail> {
             "0020030305c00708000000010a000001",
         ),
     ] {
-        let input = update(alloc, "", attributes, "")?;
-        let text = fault_text(alloc, "3 5", notice)?;
-        let (out, got) = decoded(alloc, input.as_bytes());
-        assert_eq!(rt; out.as_slice(), text.as_bytes(), "{sentence}");
-        assert_eq!(rt; got, Some(1), "{sentence}");
+        let is_told = is_faulty(alloc, ["", attributes, ""], "3 5", notice)?;
+        assert!(rt; is_told, "{sentence}");
     }
     Ok(())
 }
@@ -427,11 +445,8 @@ fn faulty_origins(rt: HostRuntime) -> Result<(), Fail> {
             "001a0303065001000103",
         ),
     ] {
-        let input = update(alloc, "", attributes, "")?;
-        let text = fault_text(alloc, "3 6", notice)?;
-        let (out, got) = decoded(alloc, input.as_bytes());
-        assert_eq!(rt; out.as_slice(), text.as_bytes(), "{sentence}");
-        assert_eq!(rt; got, Some(1), "{sentence}");
+        let is_told = is_faulty(alloc, ["", attributes, ""], "3 6", notice)?;
+        assert!(rt; is_told, "{sentence}");
     }
     Ok(())
 }
@@ -449,11 +464,8 @@ fn faulty_paths(rt: HostRuntime) -> Result<(), Fail> {
         ("an octet behind a segment", "4002050201000102"),
         ("a second segment of type 4", "400208 02010001 04010002"),
     ] {
-        let input = update(alloc, "", attributes, "")?;
-        let text = fault_text(alloc, "3 11", "001503030b")?;
-        let (out, got) = decoded(alloc, input.as_bytes());
-        assert_eq!(rt; out.as_slice(), text.as_bytes(), "{sentence}");
-        assert_eq!(rt; got, Some(1), "{sentence}");
+        let is_told = is_faulty(alloc, ["", attributes, ""], "3 11", "001503030b")?;
+        assert!(rt; is_told, "{sentence}");
     }
     Ok(())
 }
@@ -474,11 +486,8 @@ fn faulty_next_hops(rt: HostRuntime) -> Result<(), Fail> {
             "001c03030840030400ffffff",
         ),
     ] {
-        let input = update(alloc, "", attributes, "")?;
-        let text = fault_text(alloc, "3 8", notice)?;
-        let (out, got) = decoded(alloc, input.as_bytes());
-        assert_eq!(rt; out.as_slice(), text.as_bytes(), "{sentence}");
-        assert_eq!(rt; got, Some(1), "{sentence}");
+        let is_told = is_faulty(alloc, ["", attributes, ""], "3 8", notice)?;
+        assert!(rt; is_told, "{sentence}");
     }
     Ok(())
 }
@@ -507,11 +516,8 @@ fn the_first_attribute_decides(rt: HostRuntime) -> Result<(), Fail> {
             "001903030640010103",
         ),
     ] {
-        let input = update(alloc, "", attributes, "")?;
-        let text = fault_text(alloc, codes, notice)?;
-        let (out, got) = decoded(alloc, input.as_bytes());
-        assert_eq!(rt; out.as_slice(), text.as_bytes(), "{sentence}");
-        assert_eq!(rt; got, Some(1), "{sentence}");
+        let is_told = is_faulty(alloc, ["", attributes, ""], codes, notice)?;
+        assert!(rt; is_told, "{sentence}");
     }
     Ok(())
 }
@@ -627,11 +633,8 @@ fn faulty_parts(rt: HostRuntime) -> Result<(), Fail> {
             "001503030a",
         ),
     ] {
-        let input = update(alloc, withdrawn, attributes, nlri)?;
-        let text = fault_text(alloc, codes, notice)?;
-        let (out, got) = decoded(alloc, input.as_bytes());
-        assert_eq!(rt; out.as_slice(), text.as_bytes(), "{sentence}");
-        assert_eq!(rt; got, Some(1), "{sentence}");
+        let is_told = is_faulty(alloc, [withdrawn, attributes, nlri], codes, notice)?;
+        assert!(rt; is_told, "{sentence}");
     }
     Ok(())
 }
@@ -680,16 +683,10 @@ fn the_first_number_of_the_path(rt: HostRuntime) -> Result<(), Fail> {
 fn each_beginning(rt: HostRuntime) -> Result<(), Fail> {
     let alloc = rt.alloc();
     for n in 1..MESSAGE.len() {
-        let input = hex::encode(alloc, &MESSAGE[..n])?;
-        let text = format!(in alloc; "truncated {n}\n")?;
-        let (out, got) = decoded(alloc, input.as_bytes());
-        assert_eq!(rt; out.as_slice(), text.as_bytes());
-        assert_eq!(rt; got, Some(1));
+        assert!(rt; is_truncated(alloc, n)?);
     }
     let input = hex::encode(alloc, &MESSAGE)?;
-    let (out, got) = decoded(alloc, input.as_bytes());
-    assert_eq!(rt; out.as_slice(), ROUTE.as_bytes());
-    assert_eq!(rt; got, Some(0));
+    assert!(rt; is_decoded(alloc, &input, ROUTE, 0));
     Ok(())
 }
 
@@ -768,17 +765,13 @@ fn the_longest_updates(rt: HostRuntime) -> Result<(), Fail> {
     }
     withdrawn.push_str("00 0000")?;
     text.push_str(" 0.0.0.0/0\n")?;
-    let (out, got) = decoded(alloc, withdrawn.as_bytes());
-    assert!(rt; out.as_slice() == text.as_bytes());
-    assert_eq!(rt; got, Some(0));
+    assert!(rt; is_decoded(alloc, &withdrawn, &text, 0));
 
     let mut long = format!(in alloc; "{MARKER}1000 02 0000 0fe6 {ATTRIBUTES} d0090fd0")?;
     for _ in 0..4048u32 {
         long.push_str("5a")?;
     }
     long.push_str("100a01")?;
-    let (out, got) = decoded(alloc, long.as_bytes());
-    assert_eq!(rt; out.as_slice(), ROUTE.as_bytes());
-    assert_eq!(rt; got, Some(0));
+    assert!(rt; is_decoded(alloc, &long, ROUTE, 0));
     Ok(())
 }
