@@ -66,12 +66,12 @@ fn keeps(world: &World<'_>, number: Asn, prefix: &Prefix, path: &[Asn]) -> bool 
 
 // What a world answers, and what it has done. These helpers ensure nothing, so that one answer is not
 // carried along to the next.
-fn fault_of(world: &mut World<'_>, event: Event) -> Option<StepFault> {
-    world.step(&event).err()
+fn fault_of(world: &mut World<'_>, event: &Event) -> Option<StepFault> {
+    world.step(event).err()
 }
 
-fn fault_of_order(world: &mut World<'_>, order: Order) -> Option<StepFault> {
-    world.obey(&order).err()
+fn fault_of_order(world: &mut World<'_>, order: &Order) -> Option<StepFault> {
+    world.obey(order).err()
 }
 
 fn count(world: &World<'_>) -> usize {
@@ -110,9 +110,9 @@ fn who_is_not_there_is_refused(rt: HostRuntime) -> Result<(), Fail> {
 }
 
 fn who_is_not_there_is_refused_in(rt: &impl Abort, world: &mut World<'_>) {
-    assert!(rt; fault_of(world, Event::Tick(3)) == Some(StepFault::NoSuchRouter));
-    assert!(rt; fault_of(world, Event::Put(1, 3)) == Some(StepFault::NoSuchRouter));
-    assert!(rt; fault_of(world, Event::Put(1, 1)) == Some(StepFault::NoSuchLink));
+    assert!(rt; fault_of(world, &Event::Tick(3)) == Some(StepFault::NoSuchRouter));
+    assert!(rt; fault_of(world, &Event::Put(1, 3)) == Some(StepFault::NoSuchRouter));
+    assert!(rt; fault_of(world, &Event::Put(1, 1)) == Some(StepFault::NoSuchLink));
 }
 
 #[test]
@@ -127,14 +127,14 @@ const OLD: Option<StepFault> = Some(StepFault::Refused(RouterError::OldSnapshot 
 
 fn an_old_snapshot_is_refused_in(rt: &impl Abort, world: &mut World<'_>) {
     let event = Event::Command(1, Command::Snapshot(1));
-    assert!(rt; fault_of(world, event).is_none());
-    assert!(rt; fault_of(world, event) == OLD);
+    assert!(rt; fault_of(world, &event).is_none());
+    assert!(rt; fault_of(world, &event) == OLD);
     assert_eq!(rt; count(world), 1);
 }
 
 // Whether an order of one event is obeyed.
 fn does(world: &mut World<'_>, event: Event) -> bool {
-    fault_of_order(world, Order::One(event)).is_none()
+    fault_of_order(world, &Order::One(event)).is_none()
 }
 
 // Both start and router 1 originates, each by its order.
@@ -150,7 +150,7 @@ fn rounds_are_turns_of_every_router(rt: HostRuntime) -> Result<(), Fail> {
     let net = two_routers(rt.alloc(), prefix)?;
     let mut world = World::new(rt.alloc(), &net)?;
     assert!(rt; starts(&mut world, prefix));
-    assert!(rt; fault_of_order(&mut world, Order::Rounds(40)).is_none());
+    assert!(rt; fault_of_order(&mut world, &Order::Rounds(40)).is_none());
     arrived(&rt, &world, &prefix);
     Ok(())
 }
@@ -164,9 +164,9 @@ fn a_refused_order_keeps_the_steps_before(rt: HostRuntime) -> Result<(), Fail> {
 }
 
 fn a_refused_order_keeps_the_steps_before_in(rt: &impl Abort, world: &mut World<'_>) {
-    let snapshot = Event::Command(1, Command::Snapshot(1));
-    assert!(rt; does(world, snapshot));
-    assert!(rt; fault_of_order(world, Order::One(snapshot)) == OLD);
+    let snapshot = Order::One(Event::Command(1, Command::Snapshot(1)));
+    assert!(rt; fault_of_order(world, &snapshot).is_none());
+    assert!(rt; fault_of_order(world, &snapshot) == OLD);
     assert_eq!(rt; count(world), 1);
 }
 
@@ -174,7 +174,7 @@ fn a_refused_order_keeps_the_steps_before_in(rt: &impl Abort, world: &mut World<
 fn ticks_pass_at_every_router(rt: HostRuntime) -> Result<(), Fail> {
     let net = two_routers(rt.alloc(), ten_one()?)?;
     let mut world = World::new(rt.alloc(), &net)?;
-    assert!(rt; fault_of_order(&mut world, Order::Ticks(2)).is_none());
+    assert!(rt; fault_of_order(&mut world, &Order::Ticks(2)).is_none());
     assert_eq!(rt; count(&world), 4);
     Ok(())
 }
