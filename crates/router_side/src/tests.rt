@@ -1,3 +1,6 @@
+ghost use Rattle.session_fsm.specs.Table.{IsGoodEvent};
+ghost use Rattle.router_side.specs.Sayings.{IsSayable};
+
 use super::*;
 use bgp_codec::Message;
 use bgp_codec::laws::written_has_a_header;
@@ -7,9 +10,6 @@ use session_fsm::{FsmEvent, SessionConfig, State};
 use std::alloc::{AllocError, Global};
 use std::process::Abort;
 use std::test::Fail;
-
-ghost use Rattle.session_fsm.specs.Table.{IsGoodEvent};
-ghost use Rattle.router_side.specs.Sayings.{IsSayable};
 
 const SESSION: SessionConfig = SessionConfig {
     hold: 90,
