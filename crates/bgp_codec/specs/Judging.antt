@@ -1,6 +1,6 @@
 -- What is remembered of attributes that are passed without memory for their values.
 use Rattle.std.specs.Prelude.{◌≡◌, ◌<◌, ℕ, false, List, [], ◌∷◌, length, Option, Some, None, slice_index_or}
-use Rattle.bgp_codec.specs.declared.judging.Came.{Came}
+use Rattle.bgp_codec.specs.declared.fault_search.Came.{Came}
 use Rattle.bgp_codec.specs.declared.attributes.Attrs.{Attrs}
 use Rattle.bgp_codec.specs.Updates.{path_numbers}
 use Rattle.bgp_codec.specs.UpdateReading.{has_code}

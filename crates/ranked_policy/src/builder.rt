@@ -6,9 +6,9 @@ ghost use Rattle.ranked_policy.specs.Plans.{IsPlan, IsNetwork, IsRouter, IsOrigi
 ghost use Rattle.ranked_policy.specs.Adding.{IsRefused, MeetsAll, SettingsMeet, RouterMeets, LinkMeets, OriginMeets, RuleMeets, NetworkMeets, AddsRouter, AddsOrigin, AddsRule, empty_plan, with_link};
 ghost use Rattle.ranked_policy.specs.Ways.{HasWay};
 
+use crate::admission::{is_settings, judge_link, judge_origin, judge_router, judge_rule};
 use crate::connected::is_connected;
 use crate::items::Items;
-use crate::judging::{is_settings, judge_link, judge_origin, judge_router, judge_rule};
 use crate::network::{Link, Network, Origin, Router, Rule, Settings};
 use crate::path::{Asn, Path};
 use crate::places::{

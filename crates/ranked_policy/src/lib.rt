@@ -14,10 +14,10 @@
 //! Left out: choices among the paths heard, and stable assignments; texts; networks that change.
 #![tactic(auto)]
 
+mod admission;
 mod builder;
 mod connected;
 mod items;
-mod judging;
 pub mod laws;
 mod network;
 mod onward;

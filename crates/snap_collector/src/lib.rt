@@ -19,16 +19,16 @@
 
 mod answer;
 mod collector;
-mod judging;
 pub mod laws;
 mod members;
 mod outcome;
+mod outcomes;
 
 pub use answer::{CollectError, Taken};
 pub use collector::Collector;
-pub use judging::{decides, has_offered, verdict};
 pub use members::{Member, is_member};
 pub use outcome::{Outcome, Why};
+pub use outcomes::{decides, has_offered, verdict};
 
 #[cfg(test)]
 mod tests;

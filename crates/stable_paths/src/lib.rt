@@ -14,15 +14,15 @@
 mod assignment;
 mod choosing;
 mod instance;
-mod judging;
 pub mod laws;
 mod refusal;
+mod stability;
 mod verdict;
 
 pub use assignment::{Assigned, Assignment};
 pub use instance::Instance;
-pub use judging::{check, may_have};
 pub use refusal::StableError;
+pub use stability::{check, may_have};
 pub use verdict::Check;
 
 #[cfg(test)]

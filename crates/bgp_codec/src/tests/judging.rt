@@ -1,6 +1,6 @@
 //! The first fault of a frame, with and without memory for what stands before it.
 
-use crate::judging::{judge_open, judge_update};
+use crate::fault_search::{judge_open, judge_update};
 use crate::rule::NOBODY;
 use crate::*;
 use std::alloc::{AllocError, Global};
