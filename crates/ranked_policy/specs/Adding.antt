@@ -11,6 +11,7 @@ use Rattle.ranked_policy.specs.declared.network.Rule.{Rule}
 use Rattle.ranked_policy.specs.declared.refusal.NetError.{NetError}
 use Rattle.ranked_policy.specs.declared.refusal.NetError.TheVariants.{NotSimple, TooLong, Repeated, Memory, UnknownRouter, Limit, BadNumber, NotConnected}
 use Rattle.ranked_policy.specs.Paths.{IsSimple, BeginsWith}
+use Rattle.ranked_policy.specs.declared.limits.TheConstants.{MOST_ROUTERS, MOST_LINKS, MOST_PREFIXES, MOST_RULES, MOST_PATHS, LONGEST_PATH}
 use Rattle.ranked_policy.specs.Plans.{Plan, Joins, touches, IsRouter, IsNamed, IsConnected, IsAsn, IsUnicast, IsSettings}
 
 -- the order in which refusals are judged: want of memory last
@@ -62,7 +63,7 @@ empty_plan s = record { settings = s; routers = []; links = []; origins = [] }
 -- a router
 abbrev pub RouterMeets : List Router → ℕ → ℕ → NetError → Type 0
 RouterMeets routers u id Repeated = All (λ r. (r.asn ≢ u) × (r.id ≢ id)) routers
-RouterMeets routers u id Limit = length routers < 64
+RouterMeets routers u id Limit = length routers < MOST_ROUTERS
 RouterMeets routers u id BadNumber = IsAsn u × IsUnicast id
 RouterMeets routers u id e = Unit {0}
 
@@ -76,7 +77,7 @@ pub record AddsRouter (old new : Plan) (u id : ℕ) : Type 0 where
 abbrev pub LinkMeets : List Router → List Link → ℕ → ℕ → NetError → Type 0
 LinkMeets routers links a b Repeated = (a ≢ b) × All (λ link. Joins link a b → ⊥) links
 LinkMeets routers links a b UnknownRouter = IsRouter routers a × IsRouter routers b
-LinkMeets routers links a b Limit = (count_by (touches a) links < 16) × (count_by (touches b) links < 16)
+LinkMeets routers links a b Limit = (count_by (touches a) links < MOST_LINKS) × (count_by (touches b) links < MOST_LINKS)
 LinkMeets routers links a b e = Unit {0}
 
 abbrev pub with_link : Plan → ℕ → ℕ → Plan
@@ -86,7 +87,7 @@ with_link net a b = record net { links = net.links ++ (record { one = a; other =
 abbrev pub OriginMeets : List Router → List Origin → ℕ → PrefixView → NetError → Type 0
 OriginMeets routers origins u q Repeated = IsNamed origins q → ⊥
 OriginMeets routers origins u q UnknownRouter = IsRouter routers u
-OriginMeets routers origins u q Limit = length origins < 256
+OriginMeets routers origins u q Limit = length origins < MOST_PREFIXES
 OriginMeets routers origins u q e = Unit {0}
 
 pub record AddsOrigin (old new : Plan) (u : ℕ) (q : PrefixView) : Type 0 where
@@ -98,12 +99,12 @@ pub record AddsOrigin (old new : Plan) (u : ℕ) (q : PrefixView) : Type 0 where
 -- a rule
 abbrev pub RuleMeets : List Router → ℕ → PrefixView → List (List ℕ) → NetError → Type 0
 RuleMeets routers u q paths NotSimple = All (λ path. BeginsWith path u × IsSimple path) paths
-RuleMeets routers u q paths TooLong = All (λ path. length path ≤ 16) paths
+RuleMeets routers u q paths TooLong = All (λ path. length path ≤ LONGEST_PATH) paths
 RuleMeets routers u q paths Repeated =
     AllPairs (λ path later. path ≢ later) paths
     × All (λ r. r.asn ≡ u → All (λ rule. rule.prefix ≢ q) r.rules) routers
 RuleMeets routers u q paths UnknownRouter = IsRouter routers u × All (All (IsRouter routers)) paths
-RuleMeets routers u q paths Limit = (length paths ≤ 32) × All (λ r. r.asn ≡ u → length r.rules < 64) routers
+RuleMeets routers u q paths Limit = (length paths ≤ MOST_PATHS) × All (λ r. r.asn ≡ u → length r.rules < MOST_RULES) routers
 RuleMeets routers u q paths e = Unit {0}
 
 -- a router has one more rule

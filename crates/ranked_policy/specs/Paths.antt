@@ -1,6 +1,7 @@
 -- Paths of routers, and the paths that a router may use (Griffin, Shepherd and Wilfong 2002, section 2).
 use Rattle.std.specs.Prelude.{ℕ, ◌≡◌, ◌≢◌, ◌≤◌, List, [], ◌∷◌, ◌++◌, length}
 use Rattle.std.specs.List.{AllPairs}
+use Rattle.ranked_policy.specs.declared.limits.TheConstants.{LONGEST_PATH}
 
 -- a path is a list of AS numbers, the nearest router first and the origin last; no router is in a simple one twice
 abbrev pub IsSimple : List ℕ → Type 0
@@ -16,5 +17,5 @@ EndsWith path v = (front : List ℕ) × (path ≡ front ++ v ∷ [])
 pub record IsRoute (u : ℕ) (IsOrigin : ℕ → Type 0) (path : List ℕ) : Type 0 where
   pub begins : BeginsWith path u
   pub simple : IsSimple path
-  pub short : length path ≤ 16
+  pub short : length path ≤ LONGEST_PATH
   pub ends : (v : ℕ) × IsOrigin v × EndsWith path v

@@ -8,6 +8,7 @@ use Rattle.ranked_policy.specs.declared.network.Router.{Router}
 use Rattle.ranked_policy.specs.declared.network.Link.{Link}
 use Rattle.ranked_policy.specs.declared.network.Origin.{Origin}
 use Rattle.ranked_policy.specs.declared.network.Rule.{Rule}
+use Rattle.ranked_policy.specs.declared.limits.TheConstants.{GREATEST_ASN, LEAST_HOLD, GREATEST_CUT, GREATEST_PIPE, MOST_ROUTERS, MOST_LINKS, MOST_PREFIXES, MOST_RULES, MOST_PATHS, LONGEST_PATH}
 use Rattle.ranked_policy.specs.Paths.{IsSimple, BeginsWith}
 
 -- a network as plain data: the routers by rising number, the origins by rising prefix, links and rules as they were named
@@ -60,7 +61,7 @@ IsConnected routers links = (u v : ℕ) → IsRouter routers u → IsRouter rout
 
 -- an AS number of two octets that a speaker may have (RFC 4271 section 4.2, RFC 7607)
 abbrev pub IsAsn : ℕ → Type 0
-IsAsn u = (1 ≤ u) × (u ≤ 65535)
+IsAsn u = (1 ≤ u) × (u ≤ GREATEST_ASN)
 
 -- an identifier is an address of one host (RFC 4271 section 4.2)
 abbrev pub IsUnicast : ℕ → Type 0
@@ -68,9 +69,9 @@ IsUnicast address = (1 ≤ address / 16777216) × (address / 16777216 ≤ 223)
 
 -- the hold time that each OPEN proposes (RFC 4271 section 4.2), the octets of a piece, the items of a pipe
 pub record IsSettings (s : Settings) : Type 0 where
-  pub hold : (s.hold ≡ 0) ⊎ (3 ≤ s.hold)
-  pub cut : (1 ≤ s.cut) × (s.cut ≤ 4096)
-  pub pipe : (1 ≤ s.pipe) × (s.pipe ≤ 1024)
+  pub hold : (s.hold ≡ 0) ⊎ (LEAST_HOLD ≤ s.hold)
+  pub cut : (1 ≤ s.cut) × (s.cut ≤ GREATEST_CUT)
+  pub pipe : (1 ≤ s.pipe) × (s.pipe ≤ GREATEST_PIPE)
 
 -- prefixes by address, then by length
 abbrev pub IsBefore : PrefixView → PrefixView → Type 0
@@ -81,11 +82,11 @@ pub record AreLinks (all : List ℕ) (links : List Link) : Type 0 where
   pub known : All (λ link. Contains all link.one × Contains all link.other) links
   pub apart : All (λ link. link.one ≢ link.other) links
   pub distinct : AllPairs (λ link later. Joins link later.one later.other → ⊥) links
-  pub few : (u : ℕ) → count_by (touches u) links ≤ 16
+  pub few : (u : ℕ) → count_by (touches u) links ≤ MOST_LINKS
 
 -- origins among the routers with these numbers, each prefix once
 pub record AreOrigins (all : List ℕ) (origins : List Origin) : Type 0 where
-  pub few : length origins ≤ 256
+  pub few : length origins ≤ MOST_PREFIXES
   pub rising : AllPairs (λ origin later. IsBefore origin.prefix later.prefix) origins
   pub canonical : All (λ origin. IsCanonical origin.prefix) origins
   pub known : All (λ origin. Contains all origin.router) origins
@@ -94,13 +95,13 @@ pub record AreOrigins (all : List ℕ) (origins : List Origin) : Type 0 where
 pub record AreRanked (all : List ℕ) (u : ℕ) (paths : List (List ℕ)) : Type 0 where
   pub begins : All (λ path. BeginsWith path u) paths
   pub simple : All IsSimple paths
-  pub short : All (λ path. length path ≤ 16) paths
+  pub short : All (λ path. length path ≤ LONGEST_PATH) paths
   pub distinct : AllPairs (λ path later. path ≢ later) paths
   pub known : All (All (Contains all)) paths
-  pub few : length paths ≤ 32
+  pub few : length paths ≤ MOST_PATHS
 
 pub record AreRules (all : List ℕ) (u : ℕ) (rules : List Rule) : Type 0 where
-  pub few : length rules ≤ 64
+  pub few : length rules ≤ MOST_RULES
   pub canonical : All (λ rule. IsCanonical rule.prefix) rules
   pub distinct : AllPairs (λ rule later. rule.prefix ≢ later.prefix) rules
   pub ranked : All (λ rule. AreRanked all u rule.paths) rules
@@ -108,7 +109,7 @@ pub record AreRules (all : List ℕ) (u : ℕ) (rules : List Rule) : Type 0 wher
 -- it is within the limits, names only its own routers, and repeats nothing
 pub record IsPlan (net : Plan) : Type 0 where
   pub settings : IsSettings net.settings
-  pub few : length net.routers ≤ 64
+  pub few : length net.routers ≤ MOST_ROUTERS
   pub rising : AllPairs (λ u v. u < v) (numbers net.routers)
   pub in_range : All IsAsn (numbers net.routers)
   pub distinct : AllPairs (λ a b. a ≢ b) (identifiers net.routers)

@@ -4,6 +4,7 @@ use Rattle.std.specs.Bool.{Decides}
 use Rattle.std.specs.List.{list_any, Contains}
 use mathlib.Core.Logic.{◌⊎◌}
 use Rattle.prefix_lanes.specs.Bits.{PrefixView, bits}
+use Rattle.ranked_policy.specs.declared.limits.TheConstants.{LONGEST_PATH}
 use Rattle.ranked_policy.specs.declared.network.Rule.{Rule}
 use Rattle.ranked_policy.specs.Policies.{Table, IsTable, IsPermitted, IsPreferred}
 
@@ -50,7 +51,7 @@ ends_at passes (u ∷ v ∷ vs) = ends_at passes (v ∷ vs)
 
 -- a way of at most 16 routers from u to an origin
 abbrev pub is_route : ℕ → (ℕ → Bool) → List ℕ → Bool
-is_route u is_origin path = starts_at u path && (is_simple path && (nat_le (length path) 16 && ends_at is_origin path))
+is_route u is_origin path = starts_at u path && (is_simple path && (nat_le (length path) LONGEST_PATH && ends_at is_origin path))
 
 -- ---- which of two paths comes first
 

@@ -6,34 +6,26 @@ ghost use Rattle.ranked_policy.specs.Paths.{IsSimple, BeginsWith};
 ghost use Rattle.ranked_policy.specs.Plans.{IsRouter, IsOrigin, IsNamed, Linked, Joins, touches, IsAsn, IsUnicast, IsSettings};
 ghost use Rattle.ranked_policy.specs.Adding.{IsJudged, RouterMeets, LinkMeets, OriginMeets, RuleMeets};
 
+use crate::limits::{
+    GREATEST_ASN, GREATEST_CUT, GREATEST_PIPE, LEAST_HOLD, LONGEST_PATH, MOST_LINKS, MOST_PATHS,
+    MOST_PREFIXES, MOST_ROUTERS, MOST_RULES,
+};
 use crate::network::{Link, Origin, Router, Rule, Settings};
 use crate::path::{Asn, Path};
-use crate::policy::{MOST_ROUTERS, begins_with, is_listed, is_simple};
+use crate::policy::{begins_with, is_listed, is_simple};
 use crate::refusal::NetError;
 use prefix_lanes::Prefix;
-
-const MOST: usize = 64;
-
-const MOST_LINKS: usize = 16;
-
-const MOST_PREFIXES: usize = 256;
-
-const MOST_RULES: usize = 64;
-
-const MOST_PATHS: usize = 32;
-
-const GREATEST_ASN: Asn = 65535;
 
 // Whether each setting is in its range.
 pub(crate) fn is_settings(settings: &Settings) -> bool
     ensures { IsTrue result ↔ IsSettings settings.now }
 {
     let _restart = settings.restart;
-    (settings.hold == 0 || settings.hold >= 3)
+    (settings.hold == 0 || settings.hold >= LEAST_HOLD)
         && 1 <= settings.cut
-        && settings.cut <= 4096
+        && settings.cut <= GREATEST_CUT
         && 1 <= settings.pipe
-        && settings.pipe <= 1024
+        && settings.pipe <= GREATEST_PIPE
 }
 
 // Whether a router can have the number and the identifier.
@@ -62,7 +54,7 @@ pub(crate) fn judge_router(routers: &[Router], asn: Asn, id: u32) -> Result<(), 
     if !is_new_router(routers, asn, id) {
         return Err(NetError::Repeated);
     }
-    if routers.len() >= MOST {
+    if routers.len() >= MOST_ROUTERS {
         return Err(NetError::Limit);
     }
     if !is_numbered(asn, id) {
@@ -167,10 +159,10 @@ fn are_simple(router: Asn, paths: &[Path]) -> bool
 
 // Whether each path is within its limit.
 fn are_short(paths: &[Path]) -> bool
-    ensures { IsTrue result ↔ All (λ path. length path ≤ 16) paths.now }
+    ensures { IsTrue result ↔ All (λ path. length path ≤ LONGEST_PATH) paths.now }
 {
     for path in paths {
-        if path.len() > MOST_ROUTERS {
+        if path.len() > LONGEST_PATH {
             return false;
         }
     }
@@ -216,7 +208,7 @@ fn is_unruled(routers: &[Router], asn: Asn, prefix: &Prefix) -> bool
 
 // Whether the router can have one more rule.
 fn has_room(routers: &[Router], asn: Asn) -> bool
-    ensures { IsTrue result ↔ All (λ r. r.asn ≡ asn → length r.rules < 64) routers.now }
+    ensures { IsTrue result ↔ All (λ r. r.asn ≡ asn → length r.rules < MOST_RULES) routers.now }
 {
     for router in routers {
         if router.asn == asn && router.rules.len() >= MOST_RULES {

@@ -5,20 +5,19 @@ ghost use Rattle.std.specs.List.{All, AllPairs};
 ghost use Rattle.ranked_policy.specs.Plans.{numbers, IsRouter, IsConnected};
 ghost use Rattle.ranked_policy.specs.Reaching.{IsMarked, LeadsTo, IsClosed};
 
+use crate::limits::MOST_ROUTERS;
 use crate::network::{Link, Router};
 use crate::places::place_of_router;
-
-const MOST: usize = 64;
 
 /// Whether links lead from each router to each other one: the routers that are reached from the
 /// first are marked until no link leads on.
 pub(crate) fn is_connected(routers: &[Router], links: &[Link]) -> bool
-    requires few { length routers.now ≤ 64 }
+    requires few { length routers.now ≤ MOST_ROUTERS }
     requires rising { AllPairs (λ u v. u < v) (numbers routers.now) }
     requires known { All (λ link. IsRouter routers.now link.one × IsRouter routers.now link.other) links.now }
     ensures { IsTrue result ↔ IsConnected routers.now links.now }
 {
-    let mut reached = [false; MOST];
+    let mut reached = [false; MOST_ROUTERS];
     reached[0] = true;
     'marking: while let Some(place) = next_place(routers, links, &reached) {
         reached[place] = true;

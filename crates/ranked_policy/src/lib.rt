@@ -19,6 +19,7 @@ mod builder;
 mod connected;
 mod items;
 pub mod laws;
+mod limits;
 mod network;
 mod onward;
 mod path;
@@ -31,6 +32,10 @@ mod ways;
 
 pub use builder::NetBuilder;
 pub use items::Items;
+pub use limits::{
+    GREATEST_ASN, GREATEST_CUT, GREATEST_PIPE, LEAST_HOLD, LONGEST_PATH, MOST_LINKS, MOST_PATHS,
+    MOST_PREFIXES, MOST_ROUTERS, MOST_RULES,
+};
 pub use network::{Link, Network, Origin, Router, Rule, Settings};
 pub use path::{Asn, Path};
 pub use policy::{Chosen, Only, Policy, Ranked, Shortest};

@@ -17,9 +17,9 @@ pub struct Settings {
     pub hold: u16,
     /// Seconds until a session that closed starts again by itself, 0 for never.
     pub restart: u16,
-    /// The most octets that pass over a link in one piece, 1 to 4096.
+    /// The most octets that pass over a link in one piece, 1 to [`GREATEST_CUT`](crate::GREATEST_CUT).
     pub cut: usize,
-    /// How many items a one-way pipe of a link holds, 1 to 1024.
+    /// How many items a one-way pipe of a link holds, 1 to [`GREATEST_PIPE`](crate::GREATEST_PIPE).
     pub pipe: usize,
 }
 

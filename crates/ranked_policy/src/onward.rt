@@ -6,8 +6,9 @@ ghost use Rattle.ranked_policy.specs.Choosing.{chosen_permits, chosen_prefers};
 ghost use Rattle.ranked_policy.specs.Orders.{ComesFirst, IsShorter};
 ghost use Rattle.ranked_policy.specs.Paths.{IsSimple, EndsWith};
 
+use crate::limits::LONGEST_PATH;
 use crate::path::{Asn, Path};
-use crate::policy::{Chosen, MOST_ROUTERS, ends_at, is_shorter, is_simple};
+use crate::policy::{Chosen, ends_at, is_shorter, is_simple};
 
 // Whether both have the same numbers in the same order.
 fn are_same(one: &[Asn], other: &[Asn]) -> bool
@@ -92,7 +93,7 @@ impl Chosen<'_> {
             }
             Chosen::Shortest(all) => {
                 router == all.router
-                    && rest.len() < MOST_ROUTERS
+                    && rest.len() < LONGEST_PATH
                     && ends_onward(all.origin, router, rest)
                     && is_simple_onward(router, rest)
             }

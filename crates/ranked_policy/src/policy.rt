@@ -5,6 +5,7 @@ ghost use Rattle.std.specs.List.{Contains};
 ghost use Rattle.ranked_policy.specs.Paths.{IsRoute, IsSimple, BeginsWith, EndsWith};
 ghost use Rattle.ranked_policy.specs.Orders.{ComesFirst, ComesEarlier, IsShorter};
 
+use crate::limits::LONGEST_PATH;
 use crate::path::{Asn, Path};
 
 /// A policy for one prefix. Its law: the permitted paths stand in one strict total order.
@@ -111,7 +112,7 @@ impl Policy for Shortest {
         let numbers = path.as_slice();
         begins_with(self.router, numbers)
             && is_simple(numbers)
-            && numbers.len() <= MOST_ROUTERS
+            && numbers.len() <= LONGEST_PATH
             && ends_at(self.origin, numbers)
     }
 
@@ -119,9 +120,6 @@ impl Policy for Shortest {
         is_shorter(a.as_slice(), b.as_slice())
     }
 }
-
-/// How many routers a path has at most.
-pub(crate) const MOST_ROUTERS: usize = 16;
 
 // Whether the path is one of these.
 pub(crate) fn is_listed(paths: &[Path], path: &Path) -> bool

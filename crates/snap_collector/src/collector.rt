@@ -11,7 +11,7 @@ ghost use Rattle.snap_collector.specs.Verdicts.{verdict, decides};
 use crate::answer::{CollectError, Taken};
 use crate::members::{Member, is_member};
 use crate::outcome::Outcome;
-use crate::outcomes::{decides, has_offered, verdict};
+use crate::verdicts::{decides, has_offered, verdict};
 use ranked_policy::{Asn, Network};
 use snap_marker::{Offer, Part};
 use std::alloc::{AllocError, Global};

@@ -22,13 +22,13 @@ mod collector;
 pub mod laws;
 mod members;
 mod outcome;
-mod outcomes;
+mod verdicts;
 
 pub use answer::{CollectError, Taken};
 pub use collector::Collector;
 pub use members::{Member, is_member};
 pub use outcome::{Outcome, Why};
-pub use outcomes::{decides, has_offered, verdict};
+pub use verdicts::{decides, has_offered, verdict};
 
 #[cfg(test)]
 mod tests;

@@ -2,7 +2,7 @@ use Rattle.std.proofs.Common.{◌≡◌, drop}
 use Rattle.run_model.specs.Offers as model
 use Rattle.snap_collector.specs.Collecting.{made_in}
 use Rattle.snap_collector.specs.Verdicts.{any_lost, abandoned_or}
-use Rattle.snap_collector.proofs.outcomes.first_lost.Given as goal
+use Rattle.snap_collector.proofs.verdicts.first_lost.Given as goal
 
 -- what is left decides
 abbrev pub invariant-loop-offer : goal.invariant-loop-offer

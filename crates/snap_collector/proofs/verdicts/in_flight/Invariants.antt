@@ -1,7 +1,7 @@
 use Rattle.std.proofs.Common.{◌≡◌, drop}
 use Rattle.snap_collector.specs.Collecting.{made_in}
 use Rattle.snap_collector.specs.Verdicts.{in_flight}
-use Rattle.snap_collector.proofs.outcomes.in_flight.Given as goal
+use Rattle.snap_collector.proofs.verdicts.in_flight.Given as goal
 
 -- what is left decides
 abbrev pub invariant-loop-offer : goal.invariant-loop-offer

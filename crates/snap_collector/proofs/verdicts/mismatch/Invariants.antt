@@ -1,7 +1,7 @@
 use Rattle.std.proofs.Common.{◌≡◌, ◌==◌, not, drop}
 use Rattle.snap_collector.specs.Collecting.{made_in}
 use Rattle.snap_collector.specs.Verdicts.{has_part}
-use Rattle.snap_collector.proofs.outcomes.mismatch.Given as goal
+use Rattle.snap_collector.proofs.verdicts.mismatch.Given as goal
 
 -- what is left decides
 abbrev pub invariant-loop-offer : goal.invariant-loop-offer

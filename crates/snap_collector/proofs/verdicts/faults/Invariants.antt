@@ -1,7 +1,7 @@
 use Rattle.std.proofs.Common.{◌≡◌, drop, map}
 use Rattle.snap_collector.specs.Collecting.{made_in, member_of}
 use Rattle.snap_collector.specs.Verdicts.{first_fault}
-use Rattle.snap_collector.proofs.outcomes.faults.Given as goal
+use Rattle.snap_collector.proofs.verdicts.faults.Given as goal
 
 -- what is left decides
 abbrev pub invariant-loop-member : goal.invariant-loop-member

@@ -1,6 +1,6 @@
 use Rattle.std.proofs.Common.{◌≡◌, drop}
 use Rattle.snap_collector.specs.Collecting.{made_in, has_offered}
-use Rattle.snap_collector.proofs.outcomes.has_offered.Given as goal
+use Rattle.snap_collector.proofs.verdicts.has_offered.Given as goal
 
 -- what is left decides
 abbrev pub invariant-loop-offer : goal.invariant-loop-offer
