@@ -6,6 +6,7 @@ use Rattle.std.specs.BTreeSet.{BTreeSet, contains}
 use Rattle.std.specs.List.{list_any}
 use Rattle.prefix_lanes.specs.Bits.{PrefixView}
 use Rattle.ranked_policy.specs.Plans.{Plan}
+use Rattle.ranked_policy.specs.declared.limits.TheConstants.{LONGEST_PATH}
 use Rattle.net_text.specs.declared.code.Code.{Code}
 use Rattle.net_text.specs.declared.code.Code.TheVariants as kinds
 use Rattle.net_text.specs.declared.code.Refused.{Refused}
@@ -30,7 +31,7 @@ abbrev pub path_line : Plan → ℕ → List Entry → List Text → Result (Lis
 path_line net line entries (a ∷ b ∷ c ∷ []) =
     router_word net.routers a >>= λ u. origin_word net.origins b >>= λ q. assigned_word net.routers c >>= λ _.
     if list_any (gives u q) entries then Err kinds.Repeated
-    else if nat_lt 16 (length (assigned_path c)) then Err kinds.OutOfLimit
+    else if nat_lt LONGEST_PATH (length (assigned_path c)) then Err kinds.OutOfLimit
     else Ok (entries ++ (record { line = line; router = u; prefix = q; path = assigned_path c }) ∷ [])
 path_line net line entries words = Err kinds.BadForm
 

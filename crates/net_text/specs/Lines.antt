@@ -7,6 +7,7 @@ use Rattle.ranked_policy.specs.declared.network.Router.{Router}
 use Rattle.ranked_policy.specs.declared.network.Link.{Link}
 use Rattle.ranked_policy.specs.declared.network.Origin.{Origin}
 use Rattle.ranked_policy.specs.declared.network.Rule.{Rule}
+use Rattle.ranked_policy.specs.declared.limits.TheConstants.{LEAST_HOLD, GREATEST_CUT, GREATEST_PIPE, MOST_ROUTERS, MOST_LINKS, MOST_PREFIXES, MOST_RULES, MOST_PATHS, LONGEST_PATH}
 use Rattle.ranked_policy.specs.Plans.{touches}
 use Rattle.ranked_policy.specs.Adding.{with_link}
 use Rattle.net_text.specs.declared.code.Code.{Code}
@@ -18,7 +19,7 @@ use Rattle.net_text.specs.declared.draft.Draft.{Draft}
 use Rattle.net_text.specs.Lexing.{Text, same, words_of, is_skipped, is_ascii}
 use Rattle.net_text.specs.Words.{◌>>=◌, is_number, value_of, number_word, asn_word, router_word, id_word, prefix_word, is_prefix, is_named, path_of, rule_path_words}
 
--- ---- settings: hold 0 or 3 to 65535 seconds, restart 0 to 65535 seconds, cut 1 to 4096 octets, pipe 1 to 1024 items
+-- ---- settings: seconds of the hold time and until a restart, octets of a cut, items of a pipe
 
 abbrev pub setting_of : Text → Option Setting
 setting_of word =
@@ -29,10 +30,10 @@ setting_of word =
     else None
 
 abbrev pub in_range : Setting → ℕ → Bool
-in_range Hold n = ((n == 0) || nat_le 3 n) && nat_le n 65535
+in_range Hold n = ((n == 0) || nat_le LEAST_HOLD n) && nat_le n 65535
 in_range Restart n = nat_le n 65535
-in_range Cut n = nat_le 1 n && nat_le n 4096
-in_range Pipe n = nat_le 1 n && nat_le n 1024
+in_range Cut n = nat_le 1 n && nat_le n GREATEST_CUT
+in_range Pipe n = nat_le 1 n && nat_le n GREATEST_PIPE
 
 abbrev pub set_to : Setting → ℕ → Settings → Settings
 set_to Hold n s = record s { hold = n }
@@ -67,7 +68,7 @@ settings_behind s [] = s
 settings_behind s (line ∷ lines) = settings_behind (told (words_of line) s) lines
 
 abbrev pub usual : Settings
-usual = record { hold = 90; restart = 0; cut = 4096; pipe = 64 }
+usual = record { hold = 90; restart = 0; cut = GREATEST_CUT; pipe = 64 }
 
 abbrev pub settings_of : List Text → Settings
 settings_of lines = settings_behind usual lines
@@ -103,7 +104,7 @@ abbrev pub router_line : Draft → List Text → Result Draft Code
 router_line d (a ∷ b ∷ []) =
     asn_word a >>= λ u. id_word b >>= λ id.
     if is_taken d.net.routers u id then Err Repeated
-    else if nat_le 64 (length d.net.routers) then Err OutOfLimit
+    else if nat_le MOST_ROUTERS (length d.net.routers) then Err OutOfLimit
     else Ok (with_router d u id)
 router_line d words = Err BadForm
 
@@ -116,7 +117,7 @@ abbrev pub link_line : Draft → List Text → Result Draft Code
 link_line d (a ∷ b ∷ []) =
     router_word d.net.routers a >>= λ u. router_word d.net.routers b >>= λ v.
     if (u == v) || list_any (joins u v) d.net.links then Err Repeated
-    else if nat_le 16 (count_by (touches u) d.net.links) || nat_le 16 (count_by (touches v) d.net.links) then Err OutOfLimit
+    else if nat_le MOST_LINKS (count_by (touches u) d.net.links) || nat_le MOST_LINKS (count_by (touches v) d.net.links) then Err OutOfLimit
     else Ok (record d { net = with_link d.net u v })
 link_line d words = Err BadForm
 
@@ -136,7 +137,7 @@ abbrev pub origin_line : Draft → List Text → Result Draft Code
 origin_line d (a ∷ b ∷ []) =
     router_word d.net.routers a >>= λ u. prefix_word b >>= λ q.
     if is_named d.net.origins q then Err Repeated
-    else if nat_le 256 (length d.net.origins) then Err OutOfLimit
+    else if nat_le MOST_PREFIXES (length d.net.origins) then Err OutOfLimit
     else Ok (with_origin d u q)
 origin_line d words = Err BadForm
 
@@ -148,13 +149,13 @@ are_distinct (path ∷ paths) = not (list_any (same path) paths) && are_distinct
 
 -- each path has at most 16 routers
 abbrev pub are_short : List (List ℕ) → Bool
-are_short paths = list_all (λ path. nat_le (length path) 16) paths
+are_short paths = list_all (λ path. nat_le (length path) LONGEST_PATH) paths
 
 abbrev pub is_ruled : List Router → ℕ → PrefixView → Bool
 is_ruled routers u q = list_any (λ r. (r.asn == u) && list_any (λ rule. is_prefix rule.prefix q) r.rules) routers
 
 abbrev pub is_full : List Router → ℕ → Bool
-is_full routers u = list_any (λ r. (r.asn == u) && nat_le 64 (length r.rules)) routers
+is_full routers u = list_any (λ r. (r.asn == u) && nat_le MOST_RULES (length r.rules)) routers
 
 abbrev pub ruled : ℕ → Rule → Router → Router
 ruled u rule r = if r.asn == u then record r { rules = r.rules ++ rule ∷ [] } else r
@@ -165,7 +166,7 @@ with_rule d u q paths = record d { net = record d.net { routers = map (ruled u (
 abbrev pub rule_fault : List Router → ℕ → PrefixView → List Text → Result (Unit {0}) Code
 rule_fault routers u q words =
     if is_ruled routers u q || not (are_distinct (map path_of words)) then Err Repeated
-    else if nat_lt 32 (length words) || is_full routers u || not (are_short (map path_of words)) then Err OutOfLimit
+    else if nat_lt MOST_PATHS (length words) || is_full routers u || not (are_short (map path_of words)) then Err OutOfLimit
     else Ok tt
 
 abbrev pub rule_line : Draft → List Text → Result Draft Code
@@ -186,7 +187,7 @@ pub record IsLongRule (d : Draft) (words : List Text) : Type 0 where
   pub covered : prefix_word second ≡ Ok prefix
   pub good : rule_path_words d.net.routers asn paths ≡ Ok tt
   pub free : is_ruled d.net.routers asn prefix ≡ false
-  pub long : 32 < length paths
+  pub long : MOST_PATHS < length paths
 
 -- the words of a line say such a rule
 pub record HasLongRule (d : Draft) (line : List Text) : Type 0 where

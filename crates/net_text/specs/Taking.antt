@@ -1,6 +1,7 @@
 -- What is left of a word, and which words can be taken into memory as a path.
 use Rattle.std.specs.Prelude.{◌≡◌, ◌≤◌, Bool, true, false, List, [], length}
 use Rattle.std.specs.List.{list_all}
+use Rattle.ranked_policy.specs.declared.limits.TheConstants.{LONGEST_PATH}
 use Rattle.net_text.specs.Lexing.{Text, parts}
 use Rattle.net_text.specs.Words.{is_asn, path_of}
 
@@ -12,4 +13,4 @@ parts_left false word = []
 -- numbers that an AS can have, at most 16
 pub record IsTakeable (word : Text) : Type 0 where
   pub numbers : list_all is_asn (path_of word) ≡ true
-  pub short : length (path_of word) ≤ 16
+  pub short : length (path_of word) ≤ LONGEST_PATH

@@ -2,6 +2,7 @@
 use Rattle.std.specs.Prelude.{ℕ, ◌+◌, ◌-◌, ◌*◌, ◌/◌, ◌^◌, ◌==◌, ◌&&◌, not, nat_le, Bool, true, false, List, [], ◌∷◌, map, Option, Some, None, Result, Ok, Err, if◌then◌else◌, codes, min}
 use Rattle.std.specs.List.{list_all, list_any}
 use Rattle.prefix_lanes.specs.Bits.{PrefixView, masked}
+use Rattle.ranked_policy.specs.declared.limits.TheConstants.{GREATEST_ASN}
 use Rattle.ranked_policy.specs.declared.network.Router.{Router}
 use Rattle.ranked_policy.specs.declared.network.Origin.{Origin}
 use Rattle.net_text.specs.declared.code.Code.{Code}
@@ -42,7 +43,7 @@ number_word test word =
 
 -- an AS number of two octets that a speaker may have (RFC 4271 section 4.2, RFC 7607)
 abbrev pub is_asn : ℕ → Bool
-is_asn u = nat_le 1 u && nat_le u 65535
+is_asn u = nat_le 1 u && nat_le u GREATEST_ASN
 
 abbrev pub is_router : List Router → ℕ → Bool
 is_router routers u = list_any (λ r. r.asn == u) routers

@@ -11,11 +11,13 @@ ghost use Rattle.net_text.specs.Steps.{Steps, RefusesOr, StepsOr};
 use crate::code::Code;
 use crate::draft::Draft;
 use crate::lexing::{is_ascii, is_skipped, next_word, one_word, same, two_words};
-use crate::paths::{MAX_PATHS, are_distinct, are_short, count_words, judge_rule_paths, take_paths};
+use crate::paths::{are_distinct, are_short, count_words, judge_rule_paths, take_paths};
 use crate::settings::{Setting, judge_setting, naming, setting_of, was_named};
 use crate::words::{asn_word, id_word, is_named, is_prefix, prefix_word, router_word};
 use prefix_lanes::Prefix;
-use ranked_policy::{Asn, Link, Router, Rule};
+use ranked_policy::{
+    Asn, Link, MOST_LINKS, MOST_PATHS, MOST_PREFIXES, MOST_ROUTERS, MOST_RULES, Router, Rule,
+};
 use std::alloc::Global;
 
 // What a line of a setting says.
@@ -53,7 +55,7 @@ fn read_router(draft: &mut Draft, words: &[u8]) -> Result<(), Code>
     if is_taken(draft.net.routers(), asn, id) {
         return Err(Code::Repeated);
     }
-    if draft.net.routers().len() >= 64 {
+    if draft.net.routers().len() >= MOST_ROUTERS {
         return Err(Code::OutOfLimit);
     }
     draft.add_router(asn, id)
@@ -87,7 +89,9 @@ fn read_link(draft: &mut Draft, words: &[u8]) -> Result<(), Code>
     if a == b || is_linked(draft.net.links(), a, b) {
         return Err(Code::Repeated);
     }
-    if count_links(draft.net.links(), a) >= 16 || count_links(draft.net.links(), b) >= 16 {
+    if count_links(draft.net.links(), a) >= MOST_LINKS
+        || count_links(draft.net.links(), b) >= MOST_LINKS
+    {
         return Err(Code::OutOfLimit);
     }
     draft.add_link(a, b)
@@ -104,7 +108,7 @@ fn read_origin(draft: &mut Draft, words: &[u8]) -> Result<(), Code>
     if is_named(draft.net.origins(), &prefix) {
         return Err(Code::Repeated);
     }
-    if draft.net.origins().len() >= 256 {
+    if draft.net.origins().len() >= MOST_PREFIXES {
         return Err(Code::OutOfLimit);
     }
     draft.add_origin(asn, prefix)
@@ -128,12 +132,11 @@ fn is_ruled(routers: &[Router], asn: Asn, prefix: &Prefix) -> bool
 fn is_full(routers: &[Router], asn: Asn) -> bool
     ensures { result ≡ is_full routers.now asn }
 {
-    routers
-        .iter()
-        .any(|router| router.asn == asn && router.rules.len() >= 64)
+    routers.iter().any(|router| router.asn == asn && router.rules.len() >= MOST_RULES)
 }
 
-// Judges that a rule does not repeat, and then its counts. Only more than 32 paths may want memory,
+// Judges that a rule does not repeat, and then its counts. Only more paths than a rule may have
+// want memory,
 // before it is known whether two of them are one.
 fn judge_rule(
     alloc: Global,
@@ -143,7 +146,7 @@ fn judge_rule(
     words: &[u8],
 ) -> Result<(), Code>
     ensures ok { OnOk result (rule_fault routers.now asn prefix.now (words_of words.now) ≡ Ok tt) }
-    ensures err { IfErr result (λ code. RefusesOr ((is_ruled routers.now asn prefix.now ≡ false) × (32 < length (words_of words.now))) code (rule_fault routers.now asn prefix.now (words_of words.now))) }
+    ensures err { IfErr result (λ code. RefusesOr ((is_ruled routers.now asn prefix.now ≡ false) × (MOST_PATHS < length (words_of words.now))) code (rule_fault routers.now asn prefix.now (words_of words.now))) }
 {
     if is_ruled(routers, asn, prefix) {
         return Err(Code::Repeated);
@@ -154,7 +157,7 @@ fn judge_rule(
     if !distinct {
         return Err(Code::Repeated);
     }
-    if count_words(words) > MAX_PATHS || is_full(routers, asn) || !are_short(words) {
+    if count_words(words) > MOST_PATHS || is_full(routers, asn) || !are_short(words) {
         return Err(Code::OutOfLimit);
     }
     Ok(())

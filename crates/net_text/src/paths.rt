@@ -11,12 +11,9 @@ ghost use Rattle.net_text.specs.Taking.{parts_left, IsTakeable};
 use crate::code::Code;
 use crate::lexing::{cut, next_word, same};
 use crate::words::{is_asn, is_number, is_router, value_of};
-use ranked_policy::{Asn, Path, Router};
+use ranked_policy::{Asn, LONGEST_PATH, MOST_PATHS, Path, Router};
 use std::alloc::{AllocError, Global};
 use std::collections::BTreeSet;
-
-/// The most paths that a rule may have.
-pub(crate) const MAX_PATHS: usize = 32;
 
 // The first part of a path, what is behind it, and whether that is a part or more.
 fn next_part(word: &[u8]) -> (&[u8], &[u8], bool)
@@ -239,24 +236,24 @@ fn has_repeat(alloc: Global, words: &[u8]) -> Result<bool, AllocError>
 // need memory: compared in pairs they could take hours.
 pub(crate) fn are_distinct(alloc: Global, words: &[u8]) -> Result<bool, AllocError>
     ensures ok { IfOk result (λ distinct. distinct ≡ are_distinct (map path_of (words_of words.now))) }
-    ensures err { IfErr result (λ _. 32 < length (words_of words.now)) }
+    ensures err { IfErr result (λ _. MOST_PATHS < length (words_of words.now)) }
 {
-    if count_words(words) <= MAX_PATHS {
+    if count_words(words) <= MOST_PATHS {
         return Ok(are_apart(words));
     }
     let repeats = has_repeat(alloc, words)?;
     Ok(!repeats)
 }
 
-// Whether the path has at most 16 routers.
+// Whether the path has no more routers than it may.
 fn is_short(word: &[u8]) -> bool
-    ensures { result ≡ nat_le (length (path_of word.now)) 16 }
+    ensures { result ≡ nat_le (length (path_of word.now)) LONGEST_PATH }
 {
     let (mut left, mut more) = (word, true);
     let mut count = 0usize;
     'parts: while more {
         let (_, rest, on) = next_part(left);
-        if count == 16 {
+        if count == LONGEST_PATH {
             return false;
         }
         count += 1;
@@ -266,7 +263,7 @@ fn is_short(word: &[u8]) -> bool
     true
 }
 
-// Whether each path has at most 16 routers.
+// Whether each path has no more routers than it may.
 pub(crate) fn are_short(words: &[u8]) -> bool
     ensures { result ≡ are_short (map path_of (words_of words.now)) }
 {
@@ -298,7 +295,7 @@ fn take_path(alloc: Global, word: &[u8]) -> Result<Path, AllocError>
     requires { IsTakeable word.now }
     ensures { IfOk result (λ path. path ≡ path_of word.now) }
 {
-    let mut numbers = [0; 16];
+    let mut numbers = [0; LONGEST_PATH];
     let mut count = 0usize;
     let (mut left, mut more) = (word, true);
     'parts: while more {
@@ -341,9 +338,9 @@ pub(crate) fn judge_assigned(routers: &[Router], word: &[u8]) -> Result<(), Code
     judge_path(routers, word)
 }
 
-// Whether the path of an assignment has at most 16 routers.
+// Whether the path of an assignment has no more routers than it may.
 pub(crate) fn is_short_assigned(word: &[u8]) -> bool
-    ensures { result ≡ nat_le (length (assigned_path word.now)) 16 }
+    ensures { result ≡ nat_le (length (assigned_path word.now)) LONGEST_PATH }
 {
     is_none(word) || is_short(word)
 }

@@ -9,7 +9,7 @@ ghost use Rattle.net_text.specs.Lines.{setting_of, in_range, set_to, was_named, 
 use crate::code::Code;
 use crate::lexing::{next_line, next_word, same};
 use crate::words::{is_number, value_of};
-use ranked_policy::Settings;
+use ranked_policy::{GREATEST_CUT, GREATEST_PIPE, LEAST_HOLD, Settings};
 
 /// What a line may set.
 #[derive(Clone, Copy, Debug, PartialEq, Eq)]
@@ -59,10 +59,10 @@ fn in_range(setting: Setting, number: u64) -> bool
     ensures { result ≡ in_range setting number }
 {
     match setting {
-        Setting::Hold => (number == 0 || 3 <= number) && number <= 65535,
+        Setting::Hold => (number == 0 || u64::from(LEAST_HOLD) <= number) && number <= 65535,
         Setting::Restart => number <= 65535,
-        Setting::Cut => 1 <= number && number <= 4096,
-        Setting::Pipe => 1 <= number && number <= 1024,
+        Setting::Cut => 1 <= number && number <= GREATEST_CUT as u64,
+        Setting::Pipe => 1 <= number && number <= GREATEST_PIPE as u64,
     }
 }
 
@@ -167,7 +167,7 @@ pub(crate) fn settings_of(text: &[u8]) -> Settings
     let mut settings = Settings {
         hold: 90,
         restart: 0,
-        cut: 4096,
+        cut: GREATEST_CUT,
         pipe: 64,
     };
     let mut left = text;

@@ -7,7 +7,7 @@ ghost use Rattle.net_text.specs.Words.{is_digit, is_number, value_of, is_octet, 
 use crate::code::Code;
 use crate::lexing::cut;
 use prefix_lanes::Prefix;
-use ranked_policy::{Asn, Origin, Router};
+use ranked_policy::{Asn, GREATEST_ASN, Origin, Router};
 
 fn is_digit(x: u8) -> bool
     ensures { result ≡ is_digit x }
@@ -45,7 +45,7 @@ pub fn value_of(word: &[u8]) -> u64
 pub(crate) fn is_asn(number: u64) -> bool
     ensures { result ≡ is_asn number }
 {
-    1 <= number && number <= 65535
+    1 <= number && number <= u64::from(GREATEST_ASN)
 }
 
 // A number that an AS can have (RFC 4271 section 4.2, RFC 7607).

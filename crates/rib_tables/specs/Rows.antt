@@ -3,6 +3,7 @@ use Rattle.std.specs.Prelude.{ℕ, ◌≡◌, ◌≢◌, ◌<◌, ◌≤◌, ◌
 use Rattle.std.specs.List.{All, AllPairs}
 use Rattle.prefix_lanes.specs.Bits.{PrefixView}
 use Rattle.ranked_policy.specs.declared.network.Origin.{Origin}
+use Rattle.ranked_policy.specs.declared.limits.TheConstants.{MOST_PREFIXES}
 use Rattle.ranked_policy.specs.Plans.{Plan, IsNetwork, IsRouter, IsOrigin, Linked}
 use Rattle.ranked_policy.specs.Policies.{Table, IsTableOf, Originates}
 use Rattle.rib_tables.specs.declared.word.Word.{Word}
@@ -134,7 +135,7 @@ pub record IsRib (net : Plan) (router : ℕ) (peers : List Peer) (keys : List Pr
 pub record AreFit (keys : List PrefixView) (peers : ℕ) (rows : List Row) : Type 0 where
   pub listed : keys ≡ map (λ r. r.prefix) rows
   pub once : AllPairs (λ p q. p ≢ q) keys
-  pub few : length keys ≤ 256
+  pub few : length keys ≤ MOST_PREFIXES
   pub heard : (i : ℕ) (r : Row) → slice_get rows i ≡ Some r → length r.heard ≡ peers
   pub sent : (i : ℕ) (r : Row) → slice_get rows i ≡ Some r → length r.sent ≡ peers
 

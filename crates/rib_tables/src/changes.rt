@@ -18,7 +18,7 @@ use crate::word::{Word, announced};
 use bgp_codec::Update;
 use indexmap::IndexSet;
 use prefix_lanes::Prefix;
-use ranked_policy::{Asn, Path};
+use ranked_policy::{Asn, MOST_PREFIXES, Path};
 use std::alloc::Global;
 
 // The place of a prefix.
@@ -198,7 +198,7 @@ pub(crate) fn hear_update(
 
 // Takes all words of a peer away. It takes no memory.
 pub(crate) fn forget_words(alloc: Global, rows: &mut [Row], dirty: &mut PlaceSet, peer: usize)
-    requires few { length rows.old ≤ 256 }
+    requires few { length rows.old ≤ MOST_PREFIXES }
     requires words { (i : ℕ) (r : Row) → slice_get rows.old i ≡ Some r → (peer < length r.heard) × (peer < length r.sent) }
     ensures rows { rows.new ≡ map (forgetting peer) rows.old }
     ensures dirty { MarksSpeaking peer rows.old dirty.old dirty.new }
@@ -215,7 +215,7 @@ pub(crate) fn forget_words(alloc: Global, rows: &mut [Row], dirty: &mut PlaceSet
 
 // Puts in each place where a peer said a path. It takes no memory.
 pub(crate) fn mark_words(rows: &[Row], dirty: &mut PlaceSet, peer: usize)
-    requires few { length rows.now ≤ 256 }
+    requires few { length rows.now ≤ MOST_PREFIXES }
     requires words { (i : ℕ) (r : Row) → slice_get rows.now i ≡ Some r → peer < length r.heard }
     ensures { MarksSpeaking peer rows.now dirty.old dirty.new }
 {
@@ -228,7 +228,7 @@ pub(crate) fn mark_words(rows: &[Row], dirty: &mut PlaceSet, peer: usize)
 
 // The places of which a peer was not told.
 pub(crate) fn untold(rows: &[Row], peer: usize) -> PlaceSet
-    requires few { length rows.now ≤ 256 }
+    requires few { length rows.now ≤ MOST_PREFIXES }
     requires words { (i : ℕ) (r : Row) → slice_get rows.now i ≡ Some r → peer < length r.sent }
     ensures { (i : ℕ) (r : Row) → slice_get rows.now i ≡ Some r → (has result i ≡ true ↔ (slice_get r.sent peer ≢ Some (Sequence r.kept))) }
 {
@@ -243,7 +243,7 @@ pub(crate) fn untold(rows: &[Row], peer: usize) -> PlaceSet
 
 // What the peers wait for at one place, after a change of its row.
 fn wait_anew(peers: &[Peer], row: &Row, place: usize, waits: &mut [PlaceSet])
-    requires place { place < 256 }
+    requires place { place < MOST_PREFIXES }
     requires len { length waits.old ≡ length peers.now }
     requires sent { length row.now.sent ≡ length peers.now }
     ensures len { length waits.new ≡ length waits.old }
@@ -262,7 +262,7 @@ fn wait_anew(peers: &[Peer], row: &Row, place: usize, waits: &mut [PlaceSet])
 
 // The same, of a `Vec`.
 pub(crate) fn wait_all(peers: &[Peer], row: &Row, place: usize, waits: &mut Vec<PlaceSet>)
-    requires place { place < 256 }
+    requires place { place < MOST_PREFIXES }
     requires len { length waits.old.items ≡ length peers.now }
     requires sent { length row.now.sent ≡ length peers.now }
     ensures len { length waits.new.items ≡ length waits.old.items }
@@ -274,7 +274,7 @@ pub(crate) fn wait_all(peers: &[Peer], row: &Row, place: usize, waits: &mut Vec<
 
 // The same, of a `Vec`.
 pub(crate) fn forget_all(alloc: Global, rows: &mut Vec<Row>, dirty: &mut PlaceSet, peer: usize)
-    requires few { length rows.old.items ≤ 256 }
+    requires few { length rows.old.items ≤ MOST_PREFIXES }
     requires words { (i : ℕ) (r : Row) → slice_get rows.old.items i ≡ Some r → (peer < length r.heard) × (peer < length r.sent) }
     ensures rows { rows.new.items ≡ map (forgetting peer) rows.old.items }
     ensures dirty { MarksSpeaking peer rows.old.items dirty.old dirty.new }
@@ -320,7 +320,7 @@ pub(crate) fn originate_at(rows: &mut Vec<Row>, place: usize, now: bool)
 
 // Keeps no path for any prefix, and originates none. It takes no memory.
 fn clear_rows(alloc: Global, rows: &mut [Row], dirty: &mut PlaceSet)
-    requires { length rows.old ≤ 256 }
+    requires { length rows.old ≤ MOST_PREFIXES }
     ensures rows { rows.new ≡ map clearing rows.old }
     ensures dirty { (i : ℕ) → i < length rows.old → has dirty.new i ≡ true }
 {
@@ -334,7 +334,7 @@ fn clear_rows(alloc: Global, rows: &mut [Row], dirty: &mut PlaceSet)
 
 // The same, of a `Vec`.
 pub(crate) fn clear_all(alloc: Global, rows: &mut Vec<Row>, dirty: &mut PlaceSet)
-    requires { length rows.old.items ≤ 256 }
+    requires { length rows.old.items ≤ MOST_PREFIXES }
     ensures rows { rows.new.items ≡ map clearing rows.old.items }
     ensures dirty { (i : ℕ) → i < length rows.old.items → has dirty.new i ≡ true }
 {
@@ -343,7 +343,7 @@ pub(crate) fn clear_all(alloc: Global, rows: &mut Vec<Row>, dirty: &mut PlaceSet
 
 // What a peer waits for. It takes no memory.
 fn awaited(peer: &Peer, rows: &[Row], place: usize) -> PlaceSet
-    requires few { length rows.now ≤ 256 }
+    requires few { length rows.now ≤ MOST_PREFIXES }
     requires words { (i : ℕ) (r : Row) → slice_get rows.now i ≡ Some r → place < length r.sent }
     ensures { IsWaiting place peer.now rows.now result }
 {
@@ -356,7 +356,7 @@ fn awaited(peer: &Peer, rows: &[Row], place: usize) -> PlaceSet
 
 // What each peer waits for, after a change of all rows. It takes no memory.
 pub(crate) fn await_all(peers: &[Peer], rows: &[Row], waits: &mut Vec<PlaceSet>)
-    requires few { length rows.now ≤ 256 }
+    requires few { length rows.now ≤ MOST_PREFIXES }
     requires words { (i : ℕ) (r : Row) → slice_get rows.now i ≡ Some r → length r.sent ≡ length peers.now }
     requires len { length waits.old.items ≡ length peers.now }
     ensures { AreWaiting peers.now rows.now waits.new.items }

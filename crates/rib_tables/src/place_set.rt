@@ -1,12 +1,11 @@
-//! Sets of places, for at most 256 prefixes.
+//! Sets of places, for as many prefixes as a network may name.
 
 ghost use Rattle.std.specs.Prelude.{◌≡◌, ◌≢◌, ◌<◌, ℕ, true, false, MatchOption};
 ghost use Rattle.rib_tables.specs.Places.{has};
 
-/// How many places there are at most: a network names at most 256 prefixes.
-pub(crate) const MOST_PLACES: usize = 256;
+use ranked_policy::MOST_PREFIXES;
 
-/// A set of places below 256, a bit for each.
+/// A set of places below [`MOST_PREFIXES`], a bit for each.
 #[derive(Clone, Copy, Debug, PartialEq, Eq)]
 pub struct PlaceSet {
     words: [u64; 4],
@@ -22,7 +21,7 @@ impl PlaceSet {
 
     // Whether the place is in the set.
     pub(crate) fn has(&self, place: usize) -> bool
-        requires { place < 256 }
+        requires { place < MOST_PREFIXES }
         ensures { result ≡ has self.now place }
     {
         (self.words[place / 64] >> (place % 64)) & 1 == 1
@@ -30,7 +29,7 @@ impl PlaceSet {
 
     // Puts the place in.
     pub(crate) fn put(&mut self, place: usize)
-        requires { place < 256 }
+        requires { place < MOST_PREFIXES }
         ensures here { has self.new place ≡ true }
         ensures others { (other : ℕ) → other ≢ place → has self.new other ≡ has self.old other }
     {
@@ -39,7 +38,7 @@ impl PlaceSet {
 
     // Takes the place out.
     pub(crate) fn take_out(&mut self, place: usize)
-        requires { place < 256 }
+        requires { place < MOST_PREFIXES }
         ensures here { has self.new place ≡ false }
         ensures others { (other : ℕ) → other ≢ place → has self.new other ≡ has self.old other }
     {
@@ -50,7 +49,7 @@ impl PlaceSet {
     pub(crate) fn first(&self) -> Option<usize>
         ensures { MatchOption result
             ((place : ℕ) → has self.now place ≡ false)
-            (λ first. (first < 256) × (has self.now first ≡ true) × ((place : ℕ) → place < first → has self.now place ≡ false)) }
+            (λ first. (first < MOST_PREFIXES) × (has self.now first ≡ true) × ((place : ℕ) → place < first → has self.now place ≡ false)) }
     {
         for (index, word) in self.words.iter().enumerate() {
             if *word != 0 {

@@ -11,11 +11,11 @@ ghost use Rattle.rib_tables.specs.Rows.{RowHears, IsRow, IsRowBest, AreDecided, 
 
 use crate::line::Line;
 use crate::paths::is_path;
-use crate::place_set::{MOST_PLACES, PlaceSet};
+use crate::place_set::PlaceSet;
 use crate::word::Word;
 use prefix_lanes::Prefix;
 use ranked_policy::laws::each_policy_is_an_order;
-use ranked_policy::{Asn, Chosen, Path};
+use ranked_policy::{Asn, Chosen, MOST_PREFIXES, Path};
 use std::alloc::{AllocError, Global};
 
 /// A peer of the router.
@@ -116,14 +116,14 @@ pub(crate) fn first_undecided<'r>(
     rows: &'r [Row],
     dirty: &mut PlaceSet,
 ) -> Option<(usize, Option<&'r [Asn]>)>
-    requires few { length rows.now ≤ 256 }
+    requires few { length rows.now ≤ MOST_PREFIXES }
     requires words { (i : ℕ) (r : Row) → slice_get rows.now i ≡ Some r → length r.heard ≡ length peers.now }
     ensures decided { (net : Plan) → AreJudged net router peers.now rows.now → AreDecided net router peers.now rows.now dirty.old → AreDecided net router peers.now rows.now dirty.new }
     ensures least { (net : Plan) → AreJudged net router peers.now rows.now → AreDecided net router peers.now rows.now dirty.old → MatchOption result (AllBest net router peers.now rows.now) (λ found. IsFirstUndecided net router peers.now rows.now found.0) }
     ensures best { (net : Plan) → AreJudged net router peers.now rows.now → IfSome result (λ found. (r : Row) → slice_get rows.now found.0 ≡ Some r → MatchOption found.1 (IsRowBest net router peers.now r []) (λ rest. IsRowBest net router peers.now r (router ∷ rest.now))) }
 {
     each_policy_is_an_order();
-    for _ in 0..MOST_PLACES {
+    for _ in 0..MOST_PREFIXES {
         let place = dirty.first()?;
         if place >= rows.len() {
             return None;
