@@ -1,6 +1,6 @@
 //! The words behind the program's name.
 
-ghost use Rattle.std.specs.Prelude.{◌≡◌, ◌&&◌, nat_le, true, ◌⊎◌, OnOk, OnErr};
+ghost use Rattle.std.specs.Prelude.{◌≡◌, ◌&&◌, nat_le, true, false, ◌⊎◌, OnOk, OnErr};
 ghost use Rattle.std.specs.List.{list_all};
 
 use crate::chores::RunOptions;
@@ -251,6 +251,8 @@ where
     T: Sink,
     ensures unfailed { OnOk result ((S.failed reader.new ≡ S.failed reader.old) × (T.failed writer.new ≡ T.failed writer.old)) }
     ensures failed { OnErr result ((S.failed reader.new ≡ true) ⊎ (T.failed writer.new ≡ true)) }
+    // Where a read failed nothing is written.
+    ensures silent { S.failed reader.old ≡ false → S.failed reader.new ≡ true → T.contents writer.new ≡ T.contents writer.old }
 {
     match read_words(alloc, words) {
         Ok(Asked::Decode(peer)) => {

@@ -1,6 +1,6 @@
 //! `bgpnet decode`: a stream of BGP octets in hex, as lines.
 
-ghost use Rattle.std.specs.Prelude.{◌≡◌, ℕ, List, ◌⊎◌, IfOk, OnOk, OnErr, true};
+ghost use Rattle.std.specs.Prelude.{◌≡◌, ℕ, List, ◌⊎◌, IfOk, OnOk, OnErr, true, false};
 ghost use Rattle.text_engines.specs.Decoding.{output, DecodeGives};
 ghost use Rattle.text_engines.specs.Digits.{HearsHex};
 ghost use Rattle.text_engines.specs.Engine.{Printed, PrintedFront};
@@ -40,6 +40,8 @@ pub fn decode_stream<S: Source, T: Sink>(
     // It answers a status only where no read and no write failed, and stops only where one did.
     ensures unfailed { OnOk result ((S.failed source.new ≡ S.failed source.old) × (T.failed sink.new ≡ T.failed sink.old)) }
     ensures failed { OnErr result ((S.failed source.new ≡ true) ⊎ (T.failed sink.new ≡ true)) }
+    // Where a read failed nothing is written.
+    ensures silent { S.failed source.old ≡ false → S.failed source.new ≡ true → T.contents sink.new ≡ T.contents sink.old }
     // A failed read or write leaves a beginning of the text.
     ensures stopped { OnErr result (PrintedFront rule.now (S.remaining source.old) (T.contents sink.old) (T.contents sink.new)) }
 {

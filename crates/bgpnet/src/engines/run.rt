@@ -1,6 +1,6 @@
 //! `bgpnet run`: the routes on which a network in threads settles.
 
-ghost use Rattle.std.specs.Prelude.{◌≡◌, ◌⊎◌, [], length, IfOk, OnOk, OnErr, true};
+ghost use Rattle.std.specs.Prelude.{◌≡◌, ◌⊎◌, [], length, IfOk, OnOk, OnErr, true, false};
 ghost use Rattle.std.specs.List.{AllByRecursion};
 ghost use Rattle.net_text.specs.Lexing.{lines_of};
 ghost use Rattle.text_engines.specs.Decoding.{output};
@@ -120,6 +120,8 @@ where
     // It answers a status only where no read and no write failed, and stops only where one did.
     ensures unfailed { OnOk result ((S.failed source.new ≡ S.failed source.old) × (T.failed sink.new ≡ T.failed sink.old)) }
     ensures failed { OnErr result ((S.failed source.new ≡ true) ⊎ (T.failed sink.new ≡ true)) }
+    // Where a read failed nothing is written.
+    ensures silent { S.failed source.old ≡ false → S.failed source.new ≡ true → T.contents sink.new ≡ T.contents sink.old }
     // A failed read or write leaves a beginning of the text.
     ensures stopped { OnErr result (PrintedFrontBy (Runs options.now) (S.remaining source.old) (T.contents sink.old) (T.contents sink.new)) }
 {
