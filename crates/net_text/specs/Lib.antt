@@ -9,3 +9,4 @@ pub mod Declaring
 pub mod Assignments
 pub mod Laws
 pub mod Printing
+pub mod Appending

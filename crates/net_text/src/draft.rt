@@ -1,6 +1,6 @@
 //! A network text, line by line.
 
-ghost use Rattle.std.specs.Prelude.{◌≡◌, IfOk, IfErr, if◌then◌else◌};
+ghost use Rattle.std.specs.Prelude.{◌≡◌, ◌≢◌, ◌≤◌, IfOk, IfErr, if◌then◌else◌};
 ghost use Rattle.ranked_policy.specs.Plans.{IsNetwork};
 ghost use Rattle.net_text.specs.Lexing.{lines_of, is_skipped};
 ghost use Rattle.net_text.specs.Networks.{empty_draft, SpellsNetwork, RefusesNetwork, FailsAsNetwork};
@@ -106,6 +106,7 @@ fn finish(draft: Draft, last: usize) -> Result<Network, Refused>
     ensures network { IfOk result IsNetwork }
     ensures line { IfErr result (λ refused. refused.line ≡ last) }
     ensures err { IfErr result (λ refused. FailsAsNetwork draft.net refused.code) }
+    ensures judged { IfErr result (λ refused. refused.code ≢ Code.Memory) }
 {
     match draft.net.finish() {
         Ok(net) => Ok(net),
@@ -136,6 +137,8 @@ fn last_said(text: &[u8], line: usize, last: usize) -> usize
 pub fn read_network(alloc: Global, text: &[u8]) -> Result<Network, Refused>
     ensures ok { IfOk result (SpellsNetwork (lines_of text.now)) }
     ensures err { IfErr result (λ refused. RefusesNetwork (lines_of text.now) refused.line refused.code) }
+    // Want of memory is answered at a line that was reached.
+    ensures reached { IfErr result (λ refused. refused.code ≡ Code.Memory → 1 ≤ refused.line) }
 {
     let mut draft = empty_draft(alloc, text);
     let (mut line, mut last) = (0usize, 0usize);

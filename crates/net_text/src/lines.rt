@@ -1,8 +1,9 @@
 //! The lines that messages and faults are printed as, and those that a check of an assignment
 //! prints. Each call appends whole lines, with their ends; a refused call changes nothing.
 
-ghost use Rattle.std.specs.Prelude.{◌≡◌, ◌++◌, ◌≤◌, length, OnOk, OnErr};
-ghost use Rattle.net_text.specs.Printing.{line, open_line, update_line, notice_line, message_line, fault_lines, truncated_line, refused_line, unstable_line, stable_line};
+ghost use Rattle.std.specs.Prelude.{◌≡◌, ◌+◌, ◌++◌, ◌<◌, ◌≤◌, codes, length, vec_len, vec_capacity, OnOk, OnErr};
+ghost use Rattle.net_text.specs.Printing.{line, message_line, fault_lines, truncated_line, refused_line, unstable_line, stable_line};
+ghost use Rattle.net_text.specs.Appending.{text_of, IsSendable};
 
 use crate::checks::{put_refused, put_unstable};
 use crate::messages::{put_fault, put_notice, put_open, put_truncated};
@@ -10,52 +11,67 @@ use crate::tail::Tail;
 use crate::updates::put_update;
 use bgp_codec::{Fault, Message, Notice, Open, Update};
 use ranked_policy::Asn;
-use std::alloc::AllocError;
+use std::alloc::{AllocError, Global};
 
-// Appends the line of an OPEN.
-fn open_line(message: &Open, out: &mut Vec<u8>) -> Result<(), AllocError>
-    ensures ok { OnOk result (out.new.items ≡ out.old.items ++ line (open_line message.now)) }
-    ensures err { OnErr result (out.new.items ≡ out.old.items) }
-{
-    let mut tail = Tail::behind(out);
-    let result = put_open(&mut tail, message);
-    *out = tail.finish(result.is_ok());
-    result
+// What a line, or two of a fault, is made of.
+#[derive(Clone, Copy)]
+enum Line<'a> {
+    Open(&'a Open),
+    Update(&'a Update),
+    Notice(&'a Notice),
+    Fault(&'a Fault),
+    // How many octets are left.
+    Truncated(usize),
+    // The line of the text, and the code.
+    Refused(usize, &'a [u8]),
+    // The router, the path that it has, and its best.
+    Unstable(Asn, &'a [Asn], &'a [Asn]),
 }
 
-// Appends the line of an UPDATE.
-fn update_line(message: &Update, out: &mut Vec<u8>) -> Result<(), AllocError>
-    ensures ok { OnOk result (out.new.items ≡ out.old.items ++ line (update_line message.now)) }
-    ensures err { OnErr result (out.new.items ≡ out.old.items) }
+// Writes the line. A refused call may leave a part of it.
+fn put_line(alloc: Global, out: &mut Tail, line: &Line) -> Result<(), AllocError>
+    requires { IsSendable line.now }
+    ensures text { OnOk result (out.new.text ≡ out.old.text ++ text_of line.now) }
+    ensures front { out.new.front ≡ out.old.front }
 {
-    let mut tail = Tail::behind(out);
-    let result = put_update(&mut tail, message);
-    *out = tail.finish(result.is_ok());
-    result
+    match line {
+        Line::Open(message) => put_open(out, message),
+        Line::Update(message) => put_update(out, message),
+        Line::Notice(notice) => put_notice(out, notice),
+        Line::Fault(fault) => put_fault(alloc, out, fault),
+        Line::Truncated(len) => put_truncated(out, *len),
+        Line::Refused(line, code) => put_refused(out, *line, code),
+        Line::Unstable(router, has, best) => put_unstable(out, *router, has, best),
+    }
 }
 
-// Appends the line of a NOTIFICATION.
-fn notice_line(message: &Notice, out: &mut Vec<u8>) -> Result<(), AllocError>
-    ensures ok { OnOk result (out.new.items ≡ out.old.items ++ line (notice_line message.now)) }
+// Appends the whole line, or nothing of it.
+fn append(out: &mut Vec<u8>, line: &Line) -> Result<(), AllocError>
+    requires { IsSendable line.now }
+    ensures ok { OnOk result (out.new.items ≡ out.old.items ++ text_of line.now) }
     ensures err { OnErr result (out.new.items ≡ out.old.items) }
 {
+    let alloc = *out.allocator();
     let mut tail = Tail::behind(out);
-    let result = put_notice(&mut tail, message);
+    let result = put_line(alloc, &mut tail, line);
     *out = tail.finish(result.is_ok());
     result
 }
 
 /// Appends the line of a message (RFC 4271 section 4): its kind, then what it says. It is refused
-/// only where memory was, and then changes nothing.
+/// only where memory was, and then changes nothing. A KEEPALIVE is refused only where the buffer
+/// had no room for its line.
 #[tactic(auto, unfolding(crate::specs::Printing::message_line))]
 pub fn message_line(message: &Message, out: &mut Vec<u8>) -> Result<(), AllocError>
     ensures ok { OnOk result (out.new.items ≡ out.old.items ++ line (message_line message.now)) }
     ensures err { OnErr result (out.new.items ≡ out.old.items) }
+    // Want of memory for a KEEPALIVE is answered only where room was missing.
+    ensures only { message.now ≡ Message.AliveMsg → OnErr result (vec_capacity out.old < vec_len out.old + length (codes "keepalive\n")) }
 {
     match message {
-        Message::OpenMsg(message) => open_line(message, out),
-        Message::UpdateMsg(message) => update_line(message, out),
-        Message::NoticeMsg(message) => notice_line(message, out),
+        Message::OpenMsg(message) => append(out, &Line::Open(message)),
+        Message::UpdateMsg(message) => append(out, &Line::Update(message)),
+        Message::NoticeMsg(notice) => append(out, &Line::Notice(notice)),
         Message::AliveMsg => out.extend_from_slice(b"keepalive\n"),
     }
 }
@@ -67,11 +83,7 @@ pub fn fault_lines(fault: &Fault, out: &mut Vec<u8>) -> Result<(), AllocError>
     ensures ok { OnOk result (out.new.items ≡ out.old.items ++ fault_lines fault.now) }
     ensures err { OnErr result (out.new.items ≡ out.old.items) }
 {
-    let alloc = *out.allocator();
-    let mut tail = Tail::behind(out);
-    let result = put_fault(alloc, &mut tail, fault);
-    *out = tail.finish(result.is_ok());
-    result
+    append(out, &Line::Fault(fault))
 }
 
 /// Appends the line of a rest of so many octets that is no whole message. It is refused only where
@@ -80,10 +92,7 @@ pub fn truncated_line(len: usize, out: &mut Vec<u8>) -> Result<(), AllocError>
     ensures ok { OnOk result (out.new.items ≡ out.old.items ++ truncated_line len) }
     ensures err { OnErr result (out.new.items ≡ out.old.items) }
 {
-    let mut tail = Tail::behind(out);
-    let result = put_truncated(&mut tail, len);
-    *out = tail.finish(result.is_ok());
-    result
+    append(out, &Line::Truncated(len))
 }
 
 /// Appends the line of a refusal: the line of the text that is refused, and the code of why. It is
@@ -92,10 +101,7 @@ pub fn refused_line(line: usize, code: &[u8], out: &mut Vec<u8>) -> Result<(), A
     ensures ok { OnOk result (out.new.items ≡ out.old.items ++ refused_line line code.now) }
     ensures err { OnErr result (out.new.items ≡ out.old.items) }
 {
-    let mut tail = Tail::behind(out);
-    let result = put_refused(&mut tail, line, code);
-    *out = tail.finish(result.is_ok());
-    result
+    append(out, &Line::Refused(line, code))
 }
 
 /// Appends the line of a router that would move: the path that it has, and its best. It is refused
@@ -109,17 +115,16 @@ pub fn unstable_line(
     ensures ok { OnOk result (out.new.items ≡ out.old.items ++ unstable_line router has.now best.now) }
     ensures err { OnErr result (out.new.items ≡ out.old.items) }
 {
-    let mut tail = Tail::behind(out);
-    let result = put_unstable(&mut tail, router, has, best);
-    *out = tail.finish(result.is_ok());
-    result
+    append(out, &Line::Unstable(router, has, best))
 }
 
-/// Appends the line that no router would move. It is refused only where memory was, and then
-/// changes nothing.
+/// Appends the line that no router would move. It is refused only where the buffer had no room for
+/// it and a growth was refused, and then changes nothing.
 pub fn stable_line(out: &mut Vec<u8>) -> Result<(), AllocError>
     ensures ok { OnOk result (out.new.items ≡ out.old.items ++ stable_line) }
     ensures err { OnErr result (out.new.items ≡ out.old.items) }
+    // Want of memory is answered only where room was missing.
+    ensures only { OnErr result (vec_capacity out.old < vec_len out.old + length stable_line) }
 {
     out.extend_from_slice(b"stable\n")
 }

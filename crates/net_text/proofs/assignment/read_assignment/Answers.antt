@@ -11,5 +11,6 @@ returns-in-Err-clause-err c =
 pub lines-preserved : goal.lines-preserved
 lines-preserved c = record {
   reached = reached_on (entry_reading c.args.network.now) c.args.before [] c.lines.entries c.read_line.new.entries _ _ _ c.lines.line c.next_line.result.0.now c.next_line.ensures.lines c.lines.invariant.reached c.in_default.ensures;
+  begun = omega (arith, c.lines.invariant.begun);
   inside = omega (arith, c.lines.invariant.inside, c.next_line.ensures.shorter);
 }

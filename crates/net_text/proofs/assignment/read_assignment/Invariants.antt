@@ -8,6 +8,7 @@ abbrev pub invariant-lines : goal.invariant-lines
 invariant-lines l =
     record {
       reached : EntriesReached l.network l.fn.before (lines_of l.text) l.line l.entries (lines_of l.left);
+      begun : l.fn.before ≤ l.line;
       inside : l.line + length l.left ≤ l.fn.before + length l.text;
     }
 
