@@ -23,6 +23,3 @@ pub use offer_board::Made;
 pub use place::{Board, Place};
 pub use record::{Journal, Limits, MOST_TURNS, Record, RunFault, Worked};
 pub use worker_loop::{Chore, Entry, Gate, ScriptGate};
-
-#[cfg(test)]
-mod tests;

@@ -20,6 +20,3 @@ pub use chore::Chore;
 pub use journal::{Entry, Journal};
 pub use script::ScriptGate;
 pub use worker::{Worker, WorkerFault};
-
-#[cfg(test)]
-mod tests;

@@ -16,6 +16,3 @@ mod world;
 pub use player::play;
 pub use schedule::{Event, Order, PlayFault, StepFault};
 pub use world::World;
-
-#[cfg(test)]
-mod tests;

@@ -1,9 +1,9 @@
 //! What a script gives.
 
-use crate::{Chore, Gate, ScriptGate};
 use std::alloc::{AllocError, Global};
 use std::sync::Wait;
 use std::test::*;
+use worker_loop::{Chore, Gate, ScriptGate};
 
 // The first two chores of a script that lists one for the second turn.
 fn first_two<R: Wait>(rt: &R, alloc: Global) -> Result<(Chore, Chore), AllocError> {

@@ -1,0 +1,31 @@
+use prefix_lanes::Prefix;
+use ranked_policy::{NetBuilder, NetError, Network, Settings};
+use std::alloc::Global;
+use std::test::Fail;
+
+mod playing;
+mod scripts;
+mod threads;
+
+fn push_two_routers(net: &mut NetBuilder, prefix: Prefix) -> Result<(), NetError> {
+    net.push_router(1, 0x0a00_0001)?;
+    net.push_router(2, 0x0a00_0002)?;
+    net.push_link(1, 2)?;
+    net.push_origin(1, prefix)
+}
+
+// Routers 1 and 2 of one link, router 1 the origin of 10.1.0.0/16.
+fn two_routers(alloc: Global, prefix: Prefix) -> Result<Network, Fail> {
+    let settings = Settings {
+        hold: 90,
+        restart: 0,
+        cut: 4096,
+        pipe: 64,
+    };
+    let mut net = NetBuilder::new(alloc, settings)?;
+    push_two_routers(&mut net, prefix)?;
+    match net.finish() {
+        Ok(net) => Ok(net),
+        Err((_, error)) => Err(error.into()),
+    }
+}
