@@ -1,6 +1,6 @@
+use super::*;
 use prefix_lanes::Prefix;
 use ranked_policy::{Asn, NetBuilder, Network, Settings};
-use router_core::*;
 use std::alloc::{AllocError, Global};
 use std::process::Abort;
 use std::test::Fail;
@@ -10,7 +10,6 @@ mod choosing;
 mod judging;
 mod offering;
 mod recording;
-mod side;
 mod strays;
 mod walking;
 mod whole;

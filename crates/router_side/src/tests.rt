@@ -1,11 +1,11 @@
 ghost use Rattle.session_fsm.specs.Table.{IsGoodEvent};
 ghost use Rattle.router_side.specs.Sayings.{IsSayable};
 
+use super::*;
 use bgp_codec::Message;
 use bgp_codec::laws::written_has_a_header;
 use link_epoch::Sign;
 use outbox::What;
-use router_side::*;
 use session_fsm::{FsmEvent, SessionConfig, State};
 use std::alloc::{AllocError, Global};
 use std::process::Abort;
