@@ -110,7 +110,9 @@ fn add_other(alloc: Global, attrs: &mut Attrs, attr: &[u8], value: &[u8]) -> Res
     let value = Octets::from_slice(alloc, value)?;
     let place = place_of(attrs.other.as_slice(), code);
     let flags = high_flags(flags);
-    attrs.other.insert(place, Raw { flags, code, value })?;
+    attrs
+        .other
+        .insert(alloc, place, Raw { flags, code, value })?;
     Ok(())
 }
 
@@ -210,7 +212,7 @@ pub(crate) fn read_attrs(alloc: Global, octets: &[u8]) -> Result<Attrs, CodecErr
     ensures { Gives (λ attrs. attrs) result (attrs_reading octets.now) }
 {
     let mut attrs = no_attrs(alloc);
-    attrs.other.reserve(count_others(octets))?;
+    attrs.other = Items::with_room(alloc, count_others(octets))?;
     let mut left = octets;
     'attrs: while !left.is_empty() {
         let (attr, value, rest) = read_attr(alloc, left)?;

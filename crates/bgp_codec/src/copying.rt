@@ -14,39 +14,35 @@ impl<T: Copy> Items<T> {
     fn copied(&self, alloc: Global) -> Result<Items<T>, AllocError>
         ensures { IfOk result (λ copy. copy ≡ self.now) }
     {
-        let mut items = Vec::new(alloc);
-        items.extend_from_slice(self.as_slice())?;
-        Ok(Items::from_vec(items))
+        match self.as_slice() {
+            [item] => Ok(Items::one(*item)),
+            items => Ok(Items::from_vec(Vec::from_slice(alloc, items)?)),
+        }
     }
 }
 
 fn copied_path(alloc: Global, path: &Items<Segment>) -> Result<Items<Segment>, AllocError>
     ensures { IfOk result (λ copy. copy ≡ path.now) }
 {
-    let mut copy = Vec::new(alloc);
-    copy.reserve_exact(path.as_slice().len())?;
+    let mut copy = Items::with_room(alloc, path.as_slice().len())?;
     for segment in path.as_slice() {
-        copy.push(Segment {
-            kind: segment.kind,
-            numbers: Numbers::from_slice(alloc, segment.numbers.as_slice())?,
-        })?;
+        let numbers = Numbers::from_slice(alloc, segment.numbers.as_slice())?;
+        let kind = segment.kind;
+        copy.push(alloc, Segment { kind, numbers })?;
     }
-    Ok(Items::from_vec(copy))
+    Ok(copy)
 }
 
 fn copied_others(alloc: Global, others: &Items<Raw>) -> Result<Items<Raw>, AllocError>
     ensures { IfOk result (λ copy. copy ≡ others.now) }
 {
-    let mut copy = Vec::new(alloc);
-    copy.reserve_exact(others.as_slice().len())?;
+    let mut copy = Items::with_room(alloc, others.as_slice().len())?;
     for raw in others.as_slice() {
-        copy.push(Raw {
-            flags: raw.flags,
-            code: raw.code,
-            value: Octets::from_slice(alloc, raw.value.as_slice())?,
-        })?;
+        let value = Octets::from_slice(alloc, raw.value.as_slice())?;
+        let (flags, code) = (raw.flags, raw.code);
+        copy.push(alloc, Raw { flags, code, value })?;
     }
-    Ok(Items::from_vec(copy))
+    Ok(copy)
 }
 
 impl Attrs {

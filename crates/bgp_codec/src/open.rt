@@ -68,15 +68,14 @@ fn read_cap(alloc: Global, octets: &[u8]) -> Result<(Cap, &[u8]), CodecError>
 fn read_caps(alloc: Global, octets: &[u8]) -> Result<Items<Cap>, CodecError>
     ensures { Gives (λ caps. caps) result (caps_reading octets.now) }
 {
-    let mut caps = Vec::new(alloc);
-    caps.reserve(count_values(octets, 1))?;
+    let mut caps = Items::with_room(alloc, count_values(octets, 1))?;
     let mut left = octets;
     'caps: while !left.is_empty() {
         let (cap, rest) = read_cap(alloc, left)?;
-        caps.push(cap)?;
+        caps.push(alloc, cap)?;
         left = rest;
     }
-    Ok(Items::from_vec(caps))
+    Ok(caps)
 }
 
 // The capabilities of the parameter in front, which has to be of kind 2, and what follows it.
@@ -94,15 +93,14 @@ fn read_param(alloc: Global, octets: &[u8]) -> Result<(Items<Cap>, &[u8]), Codec
 fn read_params(alloc: Global, octets: &[u8]) -> Result<Items<Items<Cap>>, CodecError>
     ensures { Gives (λ params. params) result (params_reading octets.now) }
 {
-    let mut params = Vec::new(alloc);
-    params.reserve(count_values(octets, 1))?;
+    let mut params = Items::with_room(alloc, count_values(octets, 1))?;
     let mut left = octets;
     'params: while !left.is_empty() {
         let (caps, rest) = read_param(alloc, left)?;
-        params.push(caps)?;
+        params.push(alloc, caps)?;
         left = rest;
     }
-    Ok(Items::from_vec(params))
+    Ok(params)
 }
 
 // Whether a number is the peer's, where a peer is named.

@@ -134,15 +134,14 @@ fn read_segment(alloc: Global, octets: &[u8]) -> Result<(Segment, &[u8]), CodecE
 pub(crate) fn read_path(alloc: Global, octets: &[u8]) -> Result<Items<Segment>, CodecError>
     ensures { Gives (λ path. path) result (path_reading octets.now) }
 {
-    let mut segments = Vec::new(alloc);
-    segments.reserve_exact(count_values(octets, 2))?;
+    let mut segments = Items::with_room(alloc, count_values(octets, 2))?;
     let mut left = octets;
     'segments: while !left.is_empty() {
         let (segment, rest) = read_segment(alloc, left)?;
-        segments.push(segment)?;
+        segments.push(alloc, segment)?;
         left = rest;
     }
-    Ok(Items::from_vec(segments))
+    Ok(segments)
 }
 
 // Whether this is the first number of a path, in whatever segment.

@@ -68,15 +68,14 @@ fn count_prefixes(octets: &[u8]) -> usize
 pub(crate) fn read_prefixes(alloc: Global, octets: &[u8]) -> Result<Items<Prefix>, CodecError>
     ensures { Gives (λ prefixes. prefixes) result (prefixes_reading octets.now) }
 {
-    let mut prefixes = Vec::new(alloc);
-    prefixes.reserve_exact(count_prefixes(octets))?;
+    let mut prefixes = Items::with_room(alloc, count_prefixes(octets))?;
     let mut left = octets;
     'prefixes: while !left.is_empty() {
         let (prefix, rest) = read_prefix(alloc, left)?;
-        prefixes.push(prefix)?;
+        prefixes.push(alloc, prefix)?;
         left = rest;
     }
-    Ok(Items::from_vec(prefixes))
+    Ok(prefixes)
 }
 
 // Each prefix is in the one form that is written: its other bits are zero.

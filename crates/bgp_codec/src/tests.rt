@@ -238,10 +238,10 @@ fn opens_that_are_not_writable(rt: HostRuntime) -> Result<(), Fail> {
 }
 
 #[test]
-fn items_give_their_vec_back(rt: HostRuntime) -> Result<(), Fail> {
+fn items_stand_alone_or_in_a_block(rt: HostRuntime) -> Result<(), Fail> {
+    assert_eq!(rt; Items::one(7u8).as_slice(), [7u8].as_slice());
     let items = Items::from_vec(vec![in rt.alloc(); 1u8, 2]?);
     assert_eq!(rt; items.as_slice(), [1u8, 2].as_slice());
-    assert_eq!(rt; items.into_vec().as_slice(), [1u8, 2].as_slice());
     Ok(())
 }
 

@@ -1,6 +1,6 @@
 //! The UPDATEs that tell of a kept path (RFC 4271 sections 4.3 and 5.1).
 
-ghost use Rattle.std.specs.Prelude.{◌≡◌, ◌≤◌, [], ◌∷◌, IfOk, length};
+ghost use Rattle.std.specs.Prelude.{◌≡◌, ◌≤◌, IfOk, length};
 ghost use Rattle.prefix_lanes.specs.Bits.{IsCanonical};
 ghost use Rattle.bgp_codec.specs.declared.message.Message.TheVariants.{UpdateMsg};
 ghost use Rattle.ranked_policy.specs.Plans.{IsNetwork, IsRouter, IsNamed, IsUnicast};
@@ -17,15 +17,6 @@ use std::alloc::{AllocError, Global};
 
 /// The value of ORIGIN for a route that the AS itself originates: IGP.
 const IGP: u8 = 0;
-
-// A list of one.
-fn only<T: Drop>(alloc: Global, one: T) -> Result<Items<T>, AllocError>
-    ensures { IfOk result (λ items. items ≡ one ∷ []) }
-{
-    let mut items = Vec::with_capacity(alloc, 1)?;
-    items.push(one)?;
-    Ok(Items::from_vec(items))
-}
 
 // No attributes.
 fn no_attributes(alloc: Global) -> Attrs
@@ -44,17 +35,17 @@ fn no_attributes(alloc: Global) -> Attrs
 }
 
 // One withdrawn prefix.
-fn withdrawal(alloc: Global, prefix: &Prefix) -> Result<Update, AllocError>
+fn withdrawal(alloc: Global, prefix: &Prefix) -> Update
     requires { IsCanonical prefix.now }
-    ensures update { IfOk result (λ update. update ≡ withdrawal prefix.now) }
-    ensures sayable { IfOk result (λ update. IsSayable (UpdateMsg update)) }
+    ensures update { result ≡ withdrawal prefix.now }
+    ensures sayable { IsSayable (UpdateMsg result) }
 {
     written_has_a_header();
-    Ok(Update {
-        withdrawn: only(alloc, *prefix)?,
+    Update {
+        withdrawn: Items::one(*prefix),
         attrs: no_attributes(alloc),
         nlri: Items::new(alloc),
-    })
+    }
 }
 
 // One announced prefix, its path as one AS_SEQUENCE.
@@ -73,7 +64,7 @@ fn announcement(alloc: Global, id: u32, prefix: &Prefix, path: &[Asn]) -> Result
     };
     let attrs = Attrs {
         origin: Some(IGP),
-        path: Some(only(alloc, segment)?),
+        path: Some(Items::one(segment)),
         next_hop: Some(id),
         med: None,
         local_pref: None,
@@ -84,7 +75,7 @@ fn announcement(alloc: Global, id: u32, prefix: &Prefix, path: &[Asn]) -> Result
     Ok(Update {
         withdrawn: Items::new(alloc),
         attrs,
-        nlri: only(alloc, *prefix)?,
+        nlri: Items::one(*prefix),
     })
 }
 
@@ -106,7 +97,7 @@ pub(crate) fn telling(
     ensures sayable { IfOk result (λ update. IsSayable (UpdateMsg update)) }
 {
     if path.is_empty() {
-        return withdrawal(alloc, prefix);
+        return Ok(withdrawal(alloc, prefix));
     }
     let router = network.router(number).unwrap();
     announcement(alloc, router.id, prefix, path)

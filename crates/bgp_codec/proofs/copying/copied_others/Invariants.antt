@@ -3,4 +3,4 @@ use Rattle.bgp_codec.proofs.copying.copied_others.Given as goal
 
 -- the items so far are copied
 abbrev pub invariant-loop-raw : goal.invariant-loop-raw
-invariant-loop-raw l = l.copy.items ≡ take l.raw-index l.others
+invariant-loop-raw l = l.copy ≡ take l.raw-index l.others

@@ -7,12 +7,12 @@ use Rattle.bgp_codec.proofs.open.read_caps.Goals as goal
 pub returns-in_err-cap : goal.returns-in_err-cap
 returns-in_err-cap c =
     let p = err_from_is_err_and c.from_residual-in_err-cap.result c.from_residual-in_err-cap.ensures.1 in
-    rw (p.1, p.2) (each_stop cap_at c.args.octets.now c.caps.left.now c.caps.caps.items c.in_err-cap.field-0.0 (some_left _ c.caps-test.ensures) c.caps.invariant c.in_err-cap.ensures)
+    rw (p.1, p.2) (each_stop cap_at c.args.octets.now c.caps.left.now c.caps.caps c.in_err-cap.field-0.0 (some_left _ c.caps-test.ensures) c.caps.invariant c.in_err-cap.ensures)
 
 pub caps-preserved : goal.caps-preserved
 caps-preserved c =
-    rw c.in_ok-push.ensures.items
-    (each_go_on cap_at c.args.octets.now c.caps.left.now c.in_ok-cap.rest.now c.caps.caps.items c.in_ok-cap.cap cap_shortens c.in_ok-cap.ensures c.caps.invariant)
+    rw c.in_ok-push.ensures.ok
+    (each_go_on cap_at c.args.octets.now c.caps.left.now c.in_ok-cap.rest.now c.caps.caps c.in_ok-cap.cap cap_shortens c.in_ok-cap.ensures c.caps.invariant)
 
 pub returns : goal.returns
-returns c = rw c.from_vec.ensures (each_end cap_at c.args.octets.now c.caps.left.now c.caps.caps.items (none_left _ c.caps-test.ensures) c.caps.invariant)
+returns c = (each_end cap_at c.args.octets.now c.caps.left.now c.caps.caps (none_left _ c.caps-test.ensures) c.caps.invariant)

@@ -5,7 +5,7 @@ use Rattle.bgp_codec.proofs.EachLemmas.{with_front}
 use Rattle.bgp_codec.proofs.open.read_caps.Given as goal
 
 abbrev pub invariant-caps : goal.invariant-caps
-invariant-caps l = caps_reading l.octets ≡ with_front l.caps.items (caps_reading l.left)
+invariant-caps l = caps_reading l.octets ≡ with_front l.caps (caps_reading l.left)
 
 abbrev pub decreases-caps : goal.decreases-caps
 decreases-caps l = length l.left

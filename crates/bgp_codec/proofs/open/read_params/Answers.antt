@@ -7,12 +7,12 @@ use Rattle.bgp_codec.proofs.open.read_params.Goals as goal
 pub returns-in_err-caps : goal.returns-in_err-caps
 returns-in_err-caps c =
     let p = err_from_is_err_and c.from_residual-in_err-caps.result c.from_residual-in_err-caps.ensures.1 in
-    rw (p.1, p.2) (each_stop param_at c.args.octets.now c.params.left.now c.params.params.items c.in_err-caps.field-0.0 (some_left _ c.params-test.ensures) c.params.invariant c.in_err-caps.ensures)
+    rw (p.1, p.2) (each_stop param_at c.args.octets.now c.params.left.now c.params.params c.in_err-caps.field-0.0 (some_left _ c.params-test.ensures) c.params.invariant c.in_err-caps.ensures)
 
 pub params-preserved : goal.params-preserved
 params-preserved c =
-    rw c.in_ok-push.ensures.items
-    (each_go_on param_at c.args.octets.now c.params.left.now c.in_ok-caps.rest.now c.params.params.items c.in_ok-caps.caps param_shortens c.in_ok-caps.ensures c.params.invariant)
+    rw c.in_ok-push.ensures.ok
+    (each_go_on param_at c.args.octets.now c.params.left.now c.in_ok-caps.rest.now c.params.params c.in_ok-caps.caps param_shortens c.in_ok-caps.ensures c.params.invariant)
 
 pub returns : goal.returns
-returns c = rw c.from_vec.ensures (each_end param_at c.args.octets.now c.params.left.now c.params.params.items (none_left _ c.params-test.ensures) c.params.invariant)
+returns c = (each_end param_at c.args.octets.now c.params.left.now c.params.params (none_left _ c.params-test.ensures) c.params.invariant)

@@ -5,7 +5,7 @@ use Rattle.bgp_codec.proofs.EachLemmas.{with_front}
 use Rattle.bgp_codec.proofs.prefixes.read_prefixes.Given as goal
 
 abbrev pub invariant-prefixes : goal.invariant-prefixes
-invariant-prefixes l = prefixes_reading l.octets ≡ with_front l.prefixes.items (prefixes_reading l.left)
+invariant-prefixes l = prefixes_reading l.octets ≡ with_front l.prefixes (prefixes_reading l.left)
 
 abbrev pub decreases-prefixes : goal.decreases-prefixes
 decreases-prefixes l = length l.left
