@@ -55,8 +55,8 @@ impl Model for Framer {
     ghost invariant = { λ framer. (8191 ≤ vec_capacity framer.octets) × (framer.used ≤ vec_len framer.octets) × IsFront (drop framer.used framer.octets.items) framer.front };
 }
 
-// What stands in front of these octets.
-fn next_of(alloc: Global, octets: &[u8]) -> Next
+/// What stands in front of these octets: what a framer answers that holds them. It takes no memory.
+pub fn next_message(alloc: Global, octets: &[u8]) -> Next
     ensures { IsNext octets.now result }
 {
     header_is_its_front();
@@ -80,7 +80,7 @@ fn next_of(alloc: Global, octets: &[u8]) -> Next
 fn front_of(alloc: Global, octets: &[u8]) -> Front
     ensures { IsFront octets.now result }
 {
-    match next_of(alloc, octets) {
+    match next_message(alloc, octets) {
         Next::Whole(_, end) => Front::Message(end),
         Next::More => Front::TooFew,
         Next::Bad(_) => Front::Faulty,
@@ -140,7 +140,7 @@ impl Framer {
         match self.front {
             Front::Message(len) => Next::Whole(0, len),
             Front::TooFew => Next::More,
-            Front::Faulty => next_of(*self.octets.allocator(), self.bytes()),
+            Front::Faulty => next_message(*self.octets.allocator(), self.bytes()),
         }
     }
 

@@ -2,7 +2,7 @@
 //!
 //! A stream is a list of frames, each the octets of one message with a good header (RFC 4271
 //! section 4.1), and a rest that begins with no frame. A [`Framer`] holds what was fed and not
-//! used yet, and says what stands in front of it.
+//! used yet, and says what stands in front of it; [`next_message`] says it of octets that are all there.
 //!
 //! Its contract: [`Framer::next`] is the first of the frames of the octets held, the fault of a
 //! faulty header that stands there, or that more octets are wanted. The laws of [`laws`] say that
@@ -14,7 +14,7 @@
 mod framer;
 pub mod laws;
 
-pub use framer::{Framer, Next};
+pub use framer::{Framer, Next, next_message};
 
 #[cfg(test)]
 mod tests;

@@ -264,7 +264,7 @@ inside demand net turns gates last out why other exact is = elim (are_limits_or 
 pub fault_gives : (demand : Demand) (net : Plan) (turns gates last : ℕ) (out : Output) (why : RunFault) → why ≢ fault.Memory → (why ≡ fault.BadLimits ↔ (AreLimits net turns gates → ⊥)) → out ≡ faulty why
     → ThreadsGive demand net turns gates last out
 fault_gives demand net turns gates last out fault.Memory kind exact is = absurd (kind refl)
-fault_gives demand net turns gates last out (fault.WorkerRefused u) kind exact is = inside demand net turns gates last out (fault.WorkerRefused u) (λ e. absurd cc) exact (inl is)
+fault_gives demand net turns gates last out (fault.WorkerRefused u) kind exact is = inside demand net turns gates last out (fault.WorkerRefused u) (λ e. absurd cc) exact (inl (u, is))
 fault_gives demand net turns gates last out fault.BadLimits kind exact is = inl (exact.0 refl, is)
 fault_gives demand net turns gates last out fault.BoardDiffers kind exact is = inside demand net turns gates last out fault.BoardDiffers (λ e. absurd cc) exact (inr is)
 

@@ -19,13 +19,14 @@ use Rattle.world_core.specs.Verdicts.{members_of}
 use Rattle.net_text.specs.declared.code.Code.{Code}
 use Rattle.net_text.specs.declared.code.Code.TheVariants as kinds
 use Rattle.net_text.specs.Lexing.{Text}
+use Rattle.net_text.specs.Printing.{code_text}
 use Rattle.schedule_text.specs.declared.schedule.ScheduledOrder.{ScheduledOrder}
 use Rattle.schedule_text.specs.Schedules.{SpellsSchedule, RefusesSchedule}
 use Rattle.schedule_text.specs.Reports.{stop_line}
 use Rattle.bgpnet.specs.declared.schedules.Stop.{Stop}
-use Rattle.text_engines.specs.Decoding.{Output, output}
+use Rattle.text_engines.specs.Decoding.{Output, output, refused}
 use Rattle.bgpnet.specs.Reporting.{AreDecided, deciding, outcome, recorded, snapshots_text, now_text}
-use Rattle.text_engines.specs.Inputs.{code_text, refused, InputGives, Prints}
+use Rattle.text_engines.specs.Inputs.{InputGives, Prints}
 
 -- ---- what is printed of a world
 

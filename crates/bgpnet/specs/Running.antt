@@ -18,14 +18,15 @@ use Rattle.net_text.specs.declared.code.Code.{Code}
 use Rattle.net_text.specs.declared.code.Code.TheVariants as kinds
 use Rattle.net_text.specs.Lexing.{Text, lines_of}
 use Rattle.net_text.specs.Networks.{SpellsNetwork, RefusesNetwork}
+use Rattle.net_text.specs.Printing.{code_text}
 use Rattle.net_workers.specs.declared.record.RunFault.{RunFault}
 use Rattle.net_workers.specs.declared.record.RunFault.TheVariants as fault
 use Rattle.net_workers.specs.Ran.{AreLimits}
 use Rattle.bgpnet.specs.declared.chores.RunOptions.{RunOptions}
 use Rattle.bgpnet.specs.declared.settled.Demand.{Demand}
 use Rattle.bgpnet.specs.declared.settled.Demand.TheVariants.{AsRecorded, EveryOrigin}
-use Rattle.text_engines.specs.Decoding.{Output, output, memory_output}
-use Rattle.text_engines.specs.Inputs.{code_text, refused}
+use Rattle.text_engines.specs.Decoding.{Output, output, refused, memory_output}
+use Rattle.text_engines.specs.declared.transfer.TheConstants.{INPUT_LIMIT}
 use Rattle.text_engines.specs.Checking.{at_prefix}
 use Rattle.bgpnet.specs.Reporting.{router_text, recorded, parts_text}
 use Rattle.bgpnet.specs.Gates.{HasRoom}
@@ -90,14 +91,21 @@ pub record PrintsUnsettled (demand : Demand) (net : Plan) (last : ℕ) (out : Ou
 abbrev pub SnapshotsGive : Demand → Plan → ℕ → Output → Type 0
 SnapshotsGive demand net last out = PrintsRoutes demand net last out ⊎ PrintsUnsettled demand net last out
 
+-- for a fault of a run
+abbrev pub faulty : RunFault → Output
+faulty (fault.WorkerRefused u) = refused 0 (codes "G2")
+faulty fault.BadLimits = refused 0 (codes "G3")
+faulty fault.BoardDiffers = refused 0 (codes "G4")
+faulty fault.Memory = memory_output
+
 -- a worker was refused, or the board and the journals differ
 abbrev pub IsRefusedInside : Output → Type 0
-IsRefusedInside out = (out ≡ refused 0 (codes "G2")) ⊎ (out ≡ refused 0 (codes "G4"))
+IsRefusedInside out = ((u : ℕ) × (out ≡ faulty (fault.WorkerRefused u))) ⊎ (out ≡ faulty fault.BoardDiffers)
 
 -- for so many chores of each worker, and so many gates
 abbrev pub ThreadsGive : Demand → Plan → (turns gates last : ℕ) → Output → Type 0
 ThreadsGive demand net turns gates last out =
-    ((AreLimits net turns gates → ⊥) × (out ≡ refused 0 (codes "G3")))
+    ((AreLimits net turns gates → ⊥) × (out ≡ faulty fault.BadLimits))
     ⊎ (AreLimits net turns gates × (IsRefusedInside out ⊎ SnapshotsGive demand net last out))
 
 -- what a run at the word of any gates prints: that, or that memory ran out
@@ -114,7 +122,7 @@ pub record PrintsStableRoutes (net : Plan) (last : ℕ) (out : Output) : Type 0 
 
 abbrev pub RunGives : RunOptions → Plan → Output → Type 0
 RunGives options net out =
-    ((HasRoom net options → ⊥) × (out ≡ refused 0 (codes "G3")))
+    ((HasRoom net options → ⊥) × (out ≡ faulty fault.BadLimits))
     ⊎ (HasRoom net options × (IsRefusedInside out ⊎ (PrintsStableRoutes net options.snapshots out ⊎ PrintsUnsettled EveryOrigin net options.snapshots out)))
 
 -- for its lines
@@ -126,7 +134,7 @@ LinesRun options lines out =
 -- for an input, which may be too long
 abbrev pub InputRuns : RunOptions → List ℕ → Output → Type 0
 InputRuns options input out =
-    (16777216 < length input × (out ≡ refused 0 (codes "N6"))) ⊎ ((length input ≤ 16777216) × LinesRun options (lines_of input) out)
+    (INPUT_LIMIT < length input × (out ≡ refused 0 (code_text kinds.OutOfLimit))) ⊎ ((length input ≤ INPUT_LIMIT) × LinesRun options (lines_of input) out)
 
 -- what the program prints: that, or that memory ran out
 abbrev pub Runs : RunOptions → List ℕ → Output → Type 0
@@ -169,10 +177,3 @@ abbrev pub CollectorGives : Demand → Plan → CollectorView → ℕ → Output
 CollectorGives demand net c last out =
     ((s : ℕ) × IsFirstWanted demand net c last s × (out ≡ output (parts_text net (decided_by c s)) 0))
     ⊎ (((s : ℕ) → 0 < s → s ≤ last → is_wanted demand net c s ≡ false) × (out ≡ output (codes "unsettled\n") 0))
-
--- what is printed for a fault of a run
-abbrev pub faulty : RunFault → Output
-faulty (fault.WorkerRefused u) = refused 0 (codes "G2")
-faulty fault.BadLimits = refused 0 (codes "G3")
-faulty fault.BoardDiffers = refused 0 (codes "G4")
-faulty fault.Memory = memory_output

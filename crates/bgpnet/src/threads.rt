@@ -18,8 +18,8 @@ use std::thread::Threads;
 use text_engines::refused_output;
 use world_core::laws::members_are_the_routers;
 
-// What is printed for a fault of the run, and the status; want of memory is no such fault.
-fn fault_output(alloc: Global, fault: RunFault) -> Result<(Vec<u8>, u8), AllocError>
+/// What is printed for a fault of the run, and the status; want of memory is no such fault.
+pub fn fault_output(alloc: Global, fault: RunFault) -> Result<(Vec<u8>, u8), AllocError>
     ensures kind { IfOk result (λ printed. fault ≢ Memory) }
     ensures output { IfOk result (λ printed. output printed.0.items printed.1 ≡ faulty fault) }
 {

@@ -1,10 +1,20 @@
 -- Numbers below 256 in decimal digits.
-use Rattle.std.proofs.Common.{◌≡◌, ℕ, zero, suc, ◌+◌, ◌*◌, ◌/◌, ◌%◌, ◌<◌, ◌≤◌, Bool, true, List, [], ◌∷◌, ◌++◌, length, take, drop, decimal, nat_lt, refl, ap, ◌∙◌, arith}
+use Rattle.std.proofs.Common.{◌≡◌, ℕ, zero, suc, ◌+◌, ◌*◌, ◌/◌, ◌%◌, ◌^◌, ◌<◌, ◌≤◌, Bool, true, List, [], ◌∷◌, ◌++◌, length, take, drop, decimal, nat_lt, refl, sym, ap, ◌∙◌, append_assoc, arith}
 use Rattle.std.specs.Prelude.{◌&&◌, if◌then◌else◌}
 use Rattle.std.specs.Str.{bytes_eq}
 use Rattle.std.specs.Cmp.Lexicographic.{bytes_decides}
 use Rattle.std.proofs.lemmas.Bool.Decides.{Decides-below_and}
 use Rattle.std.proofs.lemmas.Fmt.{decimal_digit, decimal_step}
+
+-- the last digit behind the others
+pub last_digit : (n : ℕ) → 10 ≤ n → n < 2 ^ 32 → decimal n ≡ decimal (n / 10) ++ ((48 + n % 10) ∷ [])
+last_digit n low high = decimal_step n low (omega arith)
+
+-- what a text has behind its front, where the last digit was written behind the others
+pub last_behind : (n m : ℕ) (front text new : List ℕ) → 10 ≤ n → n < 2 ^ 32 → m ≡ n / 10 → text ≡ front ++ decimal m → new ≡ text ++ ((48 + n % 10) ∷ []) → new ≡ front ++ decimal n
+last_behind n m front text new low high is others e =
+    let digits : decimal m ++ ((48 + n % 10) ∷ []) ≡ decimal n = ap (λ (k : ℕ). decimal k ++ ((48 + n % 10) ∷ [])) is ∙ sym (last_digit n low high) in
+    e ∙ ap (λ (ds : List ℕ). ds ++ ((48 + n % 10) ∷ [])) others ∙ append_assoc front (decimal m) ((48 + n % 10) ∷ []) ∙ ap (λ (ds : List ℕ). front ++ ds) digits
 
 -- the digits, by how many there are
 pub two_digits : (n : ℕ) → 10 ≤ n → n < 100 → decimal n ≡ (48 + n / 10) ∷ (48 + n % 10) ∷ []

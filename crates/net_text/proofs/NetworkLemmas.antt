@@ -51,6 +51,7 @@ refuses_network lines left rest line made next codes.NotConnected l h e = inl (r
 refuses_network lines left rest line made next codes.OutOfLimit l h e = inl (reached_fault (λ line d words. line_reading d words) 0 (empty_draft lines) made lines left rest line next codes.OutOfLimit l h e)
 refuses_network lines left rest line made next codes.NotSimple l h e = inl (reached_fault (λ line d words. line_reading d words) 0 (empty_draft lines) made lines left rest line next codes.NotSimple l h e)
 refuses_network lines left rest line made next codes.BadPrefix l h e = inl (reached_fault (λ line d words. line_reading d words) 0 (empty_draft lines) made lines left rest line next codes.BadPrefix l h e)
+refuses_network lines left rest line made next codes.NotPermitted l h e = inl (reached_fault (λ line d words. line_reading d words) 0 (empty_draft lines) made lines left rest line next codes.NotPermitted l h e)
 
 pub spells_network : (lines : List Text) (draft : Draft) (net : Plan) → draft_reading lines ≡ Ok draft → net ≡ draft.net → IsNetwork net → SpellsNetwork lines net
 spells_network lines draft net whole is network =
@@ -79,6 +80,7 @@ refuses_assignment net before lines left rest line made next codes.NotConnected 
 refuses_assignment net before lines left rest line made next codes.OutOfLimit l h e = reached_fault (entry_reading net) before [] made lines left rest line next codes.OutOfLimit l h e
 refuses_assignment net before lines left rest line made next codes.NotSimple l h e = reached_fault (entry_reading net) before [] made lines left rest line next codes.NotSimple l h e
 refuses_assignment net before lines left rest line made next codes.BadPrefix l h e = reached_fault (entry_reading net) before [] made lines left rest line next codes.BadPrefix l h e
+refuses_assignment net before lines left rest line made next codes.NotPermitted l h e = reached_fault (entry_reading net) before [] made lines left rest line next codes.NotPermitted l h e
 
 -- ---- the end of a text
 

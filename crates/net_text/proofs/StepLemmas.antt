@@ -66,6 +66,7 @@ refuses allowed codes.NotConnected judged read h e f = f
 refuses allowed codes.OutOfLimit judged read h e f = f
 refuses allowed codes.NotSimple judged read h e f = f
 refuses allowed codes.BadPrefix judged read h e f = f
+refuses allowed codes.NotPermitted judged read h e f = f
 
 -- ---- what good words are
 

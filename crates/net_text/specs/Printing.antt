@@ -14,6 +14,8 @@ use Rattle.bgp_codec.specs.declared.path.Segment.{Segment}
 use Rattle.bgp_codec.specs.declared.path.SegmentKind.TheVariants.{AsSet, AsSequence}
 use Rattle.bgp_codec.specs.declared.update.Update.{Update}
 use Rattle.bgp_codec.specs.Spelling.{written}
+use Rattle.net_text.specs.declared.code.Code.{Code}
+use Rattle.net_text.specs.declared.code.Code.TheVariants as kinds
 
 -- a buffer: what it had, and what was written behind that
 pub record Written : Type 0 where
@@ -119,6 +121,19 @@ truncated_line n = line (codes "truncated " ++ decimal n)
 abbrev pub numbers_text : List ℕ → List ℕ
 numbers_text [] = codes "none"
 numbers_text (number ∷ numbers) = join_with_byte 45 (map decimal (number ∷ numbers))
+
+-- the code of a refusal
+abbrev pub code_text : Code → List ℕ
+code_text kinds.BadForm = codes "N1"
+code_text kinds.Unreadable = codes "N2"
+code_text kinds.UnknownRouter = codes "N3"
+code_text kinds.Repeated = codes "N4"
+code_text kinds.NotConnected = codes "N5"
+code_text kinds.OutOfLimit = codes "N6"
+code_text kinds.NotSimple = codes "N7"
+code_text kinds.BadPrefix = codes "N8"
+code_text kinds.Memory = codes "N9"
+code_text kinds.NotPermitted = codes "S1"
 
 -- a line that is refused, and why
 unfoldable pub refused_line : ℕ → List ℕ → List ℕ

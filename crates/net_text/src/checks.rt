@@ -6,7 +6,6 @@ ghost use Rattle.std.specs.Prelude.{◌≡◌, ◌++◌, OnOk};
 ghost use Rattle.net_text.specs.Printing.{numbers_text, refused_line, unstable_line};
 
 use crate::tail::Tail;
-use crate::updates::put_numbers;
 use ranked_policy::Asn;
 use std::alloc::AllocError;
 
@@ -19,7 +18,7 @@ pub fn put_path(out: &mut Tail, numbers: &[Asn]) -> Result<(), AllocError>
     if numbers.is_empty() {
         out.put_text(b"none")
     } else {
-        put_numbers(out, numbers, b'-')
+        out.put_joined(numbers, b'-')
     }
 }
 

@@ -1,4 +1,7 @@
-//! Why a text is refused.
+//! Why a text is refused, and the codes that are printed for it: each stands here and nowhere else.
+
+ghost use Rattle.std.specs.Prelude.{◌≡◌};
+ghost use Rattle.net_text.specs.Printing.{code_text};
 
 use thiserror::Error;
 
@@ -13,35 +16,59 @@ use thiserror::Error;
 #[derive(Clone, Copy, Debug, PartialEq, Eq, Error)]
 pub enum Code {
     /// An unknown first word, a wrong number of words, or a byte past ASCII outside a comment.
-    #[error("N1")]
+    #[error("bad form")]
     BadForm,
     /// A number, an address or a path that cannot be read, or an identifier whose first octet is
     /// not 1 to 223 (RFC 4271 section 4.2).
-    #[error("N2")]
+    #[error("unreadable")]
     Unreadable,
     /// A router that no line before names.
-    #[error("N3")]
+    #[error("unknown router")]
     UnknownRouter,
     /// A router, an identifier, a link either way round, an origin's prefix, a rule of one router
     /// and prefix, a path in one rule, a setting, or an assignment that came before; or a link of a
     /// router with itself.
-    #[error("N4")]
+    #[error("repeated")]
     Repeated,
     /// Links do not lead from each router to each other one.
-    #[error("N5")]
+    #[error("not connected")]
     NotConnected,
     /// A number or a count outside its limit, or a network without routers.
-    #[error("N6")]
+    #[error("out of limit")]
     OutOfLimit,
     /// A path of a rule that is not simple or does not begin with the rule's router.
-    #[error("N7")]
+    #[error("path not simple")]
     NotSimple,
     /// A prefix that cannot be read, or one without an origin where an origin is asked for.
-    #[error("N8")]
+    #[error("bad prefix")]
     BadPrefix,
     /// A growth was refused.
-    #[error("N9")]
+    #[error("memory")]
     Memory,
+    /// A path of an assignment that its router may not have in the network. No reader of texts answers it:
+    /// who judges an assignment against its network does.
+    #[error("not permitted")]
+    NotPermitted,
+}
+
+impl Code {
+    /// The code as it is printed behind `refused` and a line.
+    pub fn text(self) -> &'static [u8]
+        ensures { result.now ≡ code_text self }
+    {
+        match self {
+            Code::BadForm => b"N1",
+            Code::Unreadable => b"N2",
+            Code::UnknownRouter => b"N3",
+            Code::Repeated => b"N4",
+            Code::NotConnected => b"N5",
+            Code::OutOfLimit => b"N6",
+            Code::NotSimple => b"N7",
+            Code::BadPrefix => b"N8",
+            Code::Memory => b"N9",
+            Code::NotPermitted => b"S1",
+        }
+    }
 }
 
 /// A text that was refused.

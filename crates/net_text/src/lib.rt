@@ -24,6 +24,7 @@
 mod assignment;
 mod checks;
 mod code;
+mod decimals;
 mod draft;
 mod entries;
 pub mod laws;

@@ -1,11 +1,14 @@
 //! The end of a buffer, where a line is being written.
 
-ghost use Rattle.std.specs.Prelude.{◌≡◌, ◌++◌, [], ◌∷◌, ◌≤◌, take, drop, decimal, vec_len, is_ok, if◌then◌else◌, OnOk};
+ghost use Rattle.std.specs.Prelude.{◌≡◌, ◌++◌, [], ◌∷◌, ◌≤◌, take, drop, map, decimal, vec_len, is_ok, if◌then◌else◌, OnOk};
+ghost use Rattle.std.specs.List.{join_with_byte};
 ghost use Rattle.hex.specs.Hex.{encode_lower};
 ghost use Rattle.net_text.specs.Printing.{hex_or_dash, address_text, prefixes_text};
 
+use crate::decimals::{put_decimal, put_joined};
 use crate::prefix_texts::put_prefixes;
-use crate::texts::{put_address, put_decimal, put_hex, put_hex_or_dash, put_len};
+use crate::texts::{put_address, put_hex, put_hex_or_dash, put_len};
+use bgp_codec::Asn;
 use prefix_lanes::Prefix;
 use std::alloc::AllocError;
 use std::marker::Model;
@@ -67,6 +70,14 @@ impl Tail {
         ensures front { self.new.front ≡ self.old.front }
     {
         put_decimal(&mut self.octets, number)
+    }
+
+    /// Writes numbers with a mark between them.
+    pub(crate) fn put_joined(&mut self, numbers: &[Asn], mark: u8) -> Result<(), AllocError>
+        ensures text { OnOk result (self.new.text ≡ self.old.text ++ join_with_byte mark (map decimal numbers.now)) }
+        ensures front { self.new.front ≡ self.old.front }
+    {
+        put_joined(&mut self.octets, numbers, mark)
     }
 
     /// Writes a count in decimal digits.

@@ -23,15 +23,6 @@ const OCTET_DIGITS: &[u8; 768] = b"\
     216217218219220221222223224225226227228229230231232233234235236237238239\
     240241242243244245246247248249250251252253254255";
 
-/// Appends a number in decimal digits.
-pub fn put_decimal(out: &mut Vec<u8>, number: u32) -> Result<(), AllocError>
-    ensures ok { OnOk result (out.new.items ≡ out.old.items ++ decimal number) }
-    ensures err { OnErr result (out.new.items ≡ out.old.items) }
-{
-    let mut buffer = Buffer::new();
-    out.extend_from_slice(buffer.format(number).as_bytes())
-}
-
 /// Writes an octet at a place, and answers the place behind it.
 pub fn write_mark(text: &mut [u8], at: usize, mark: u8) -> usize
     requires { at < length text.old }

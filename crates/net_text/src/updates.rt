@@ -1,28 +1,13 @@
 //! The line of an UPDATE: its path and its next hop as text.
 
-ghost use Rattle.std.specs.Prelude.{◌≡◌, ◌+◌, ◌*◌, ◌≤◌, ◌++◌, length, take, map, decimal, OnOk, OnErr};
+ghost use Rattle.std.specs.Prelude.{◌≡◌, ◌+◌, ◌*◌, ◌≤◌, ◌++◌, length, take, map, OnOk, OnErr};
 ghost use Rattle.std.specs.List.{join_with_byte};
 ghost use Rattle.net_text.specs.Printing.{line, update_line, withdrawn_text, announced_text, route_text, prefix_text, prefixes_text, segment_text, segments_text, path_text};
 
 use crate::tail::Tail;
-use bgp_codec::{Asn, Attrs, Items, Segment, SegmentKind, Update};
+use bgp_codec::{Attrs, Items, Segment, SegmentKind, Update};
 use prefix_lanes::Prefix;
 use std::alloc::AllocError;
-
-/// Appends numbers with a mark between them.
-pub fn put_numbers(out: &mut Tail, numbers: &[Asn], mark: u8) -> Result<(), AllocError>
-    ensures text { OnOk result (out.new.text ≡ out.old.text ++ join_with_byte mark (map decimal numbers.now)) }
-    ensures front { out.new.front ≡ out.old.front }
-{
-    if let [first, rest @ ..] = numbers {
-        out.put_decimal(*first)?;
-        for number in rest {
-            out.put_text(&[mark])?;
-            out.put_decimal(*number)?;
-        }
-    }
-    Ok(())
-}
 
 // Appends a segment: a set in braces, with commas, or a sequence, with dashes.
 #[tactic(auto, unfolding(crate::specs::Printing::segment_text))]
@@ -33,10 +18,10 @@ fn put_segment(out: &mut Tail, segment: &Segment) -> Result<(), AllocError>
     match segment.kind {
         SegmentKind::AsSet => {
             out.put_text(b"{")?;
-            put_numbers(out, segment.numbers.as_slice(), b',')?;
+            out.put_joined(segment.numbers.as_slice(), b',')?;
             out.put_text(b"}")
         }
-        SegmentKind::AsSequence => put_numbers(out, segment.numbers.as_slice(), b'-'),
+        SegmentKind::AsSequence => out.put_joined(segment.numbers.as_slice(), b'-'),
     }
 }
 

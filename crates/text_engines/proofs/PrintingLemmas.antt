@@ -20,12 +20,11 @@ module _ (once : SplitsOnce) (behind_one : SplitsBehindAFrame) (nothing : Splits
   some_split : (octets : List ℕ) → (frames : List (List ℕ)) × (rest : List ℕ) × Splits octets frames rest
   some_split octets = (once octets).0
 
-  front_splits : (held left : List ℕ) (n : ℕ) (fs : List (List ℕ)) (rest : List ℕ) → n ≤ length held → IsFrame (take n held) → Splits (drop n held ++ left) fs rest
-      → Splits (held ++ left) (take n held ∷ fs) rest
-  front_splits held left n fs rest h is s = (behind_one held left n h is).1 fs rest s
-
-  field_of_frame : (held : List ℕ) (n : ℕ) → n ≤ length held → IsFrame (take n held) → length_field held ≡ n
-  field_of_frame held n h is = (behind_one held [] n h is).0
+  front_splits : (held : List ℕ) (n : ℕ) (fs : List (List ℕ)) (rest : List ℕ) → n ≤ length held → IsFrame (take n held) → Splits (drop n held) fs rest
+      → Splits held (take n held ∷ fs) rest
+  front_splits held n fs rest h is s =
+      subst (λ (octets : List ℕ). Splits octets (take n held ∷ fs) rest) (append-nil held)
+      ((behind_one held [] n h is).1 fs rest (subst (λ (octets : List ℕ). Splits octets fs rest) (sym (append-nil (drop n held))) s))
 
   partial_splits : (held : List ℕ) → IsPartial held → Splits held [] held
   partial_splits held part = (nothing held).0 part
@@ -33,24 +32,25 @@ module _ (once : SplitsOnce) (behind_one : SplitsBehindAFrame) (nothing : Splits
   behind_twice : (a b new : List ℕ) (more : Output) → new ≡ a ++ b → behind a (behind b more) ≡ behind new more
   behind_twice a b new more e = ap (λ (t : List ℕ). output t more.status) (sym (append_assoc a b more.text) ∙ ap (λ (t : List ℕ). t ++ more.text) (sym e))
 
-  pub goes_on : (rule : Rule) (octets held left old new : List ℕ) (n : ℕ) → n ≤ length held → IsFrame (take n held) → PutsFrame rule (take n held) old new None
-      → Completes rule octets old (held ++ left) → Completes rule octets new (drop (length_field held) held ++ left)
+  pub goes_on : (rule : Rule) (octets held old new after : List ℕ) (n : ℕ) (x : Option ℕ) → x ≡ None → after ≡ drop n held → n ≤ length held → IsFrame (take n held)
+      → PutsFrame rule (take n held) old new x → Completes rule octets old held → Completes rule octets new after
   unfolding frames_output
-  goes_on rule octets held left old new n h is puts so_far more s =
-      let field : length_field held ≡ n = field_of_frame held n h is in
-      let split : Splits (drop n held ++ left) s.0 s.1 = subst (λ (k : ℕ). Splits (drop k held ++ left) s.0 s.1) field s.2 in
+  goes_on rule octets held old new after n x none a h is put so_far more s =
+      let puts : PutsFrame rule (take n held) old new None = subst (PutsFrame rule (take n held) old new) none put in
+      let split : Splits (drop n held) s.0 s.1 = subst (λ (rest : List ℕ). Splits rest s.0 s.1) a s.2 in
       let this : behind puts.0 more ≡ frames_output rule (take n held ∷ s.0) s.1 = sym (puts.2 more) ∙ ap (read_output (reading rule (take n held))) s.3 in
       subst (StreamGives rule octets) (behind_twice old puts.0 new more puts.1)
-      (so_far (behind puts.0 more) (take n held ∷ s.0, s.1, front_splits held left n s.0 s.1 h is split, this))
+      (so_far (behind puts.0 more) (take n held ∷ s.0, s.1, front_splits held n s.0 s.1 h is split, this))
 
-  pub ends : (rule : Rule) (octets held left old new : List ℕ) (n status : ℕ) → n ≤ length held → IsFrame (take n held) → PutsFrame rule (take n held) old new (Some status)
-      → Completes rule octets old (held ++ left) → StreamGives rule octets (output new status)
+  pub ends : (rule : Rule) (octets held old new : List ℕ) (n status : ℕ) (x : Option ℕ) → x ≡ Some status → n ≤ length held → IsFrame (take n held)
+      → PutsFrame rule (take n held) old new x → Completes rule octets old held → StreamGives rule octets (output new status)
   unfolding frames_output
-  ends rule octets held left old new n status h is puts so_far =
-      let s = some_split (drop n held ++ left) in
+  ends rule octets held old new n status x some h is put so_far =
+      let puts : PutsFrame rule (take n held) old new (Some status) = subst (PutsFrame rule (take n held) old new) some put in
+      let s = some_split (drop n held) in
       let this : output puts.0 status ≡ frames_output rule (take n held ∷ s.0) s.1 = sym (puts.2 (frames_output rule s.0 s.1)) in
       subst (StreamGives rule octets) (ap (λ (t : List ℕ). output t status) (sym puts.1))
-      (so_far (output puts.0 status) (take n held ∷ s.0, s.1, front_splits held left n s.0 s.1 h is s.2, this))
+      (so_far (output puts.0 status) (take n held ∷ s.0, s.1, front_splits held n s.0 s.1 h is s.2, this))
 
   rest_fault : (rest : List ℕ) (f : Fault) → 19 ≤ length rest → header_fault rest ≡ Some f → rest_output rest ≡ output (fault_lines f) 1
   unfolding rest_output
@@ -61,44 +61,20 @@ module _ (once : SplitsOnce) (behind_one : SplitsBehindAFrame) (nothing : Splits
   rest_short rest (inl short) = let b : nat_lt (length rest) 19 ≡ true = lt-ltb (length rest) 19 short in rw b refl
   rest_short rest (inr part) = let b : nat_lt (length rest) 19 ≡ false = le-ltb (length rest) 19 part.0 in rw (b, part.1) refl
 
-  pub stops_at_fault : (rule : Rule) (octets held left old new : List ℕ) (f : Fault) → 19 ≤ length held → header_fault held ≡ Some f → new ≡ old ++ fault_lines f
-      → Completes rule octets old (held ++ left) → StreamGives rule octets (output new 1)
+  fault_splits : (held : List ℕ) (f : Fault) → 19 ≤ length held → header_fault held ≡ Some f → Splits held [] held
+  fault_splits held f long bad = subst (λ (octets : List ℕ). Splits octets [] octets) (append-nil held) ((nothing held).1 f [] long bad).1
+
+  pub stops_at_fault : (rule : Rule) (octets held old new : List ℕ) (f : Fault) → 19 ≤ length held → header_fault held ≡ Some f → new ≡ old ++ fault_lines f
+      → Completes rule octets old held → StreamGives rule octets (output new 1)
   unfolding frames_output
-  stops_at_fault rule octets held left old new f long bad e so_far =
-      let stands = (nothing held).1 f left long bad in
-      let this : output (fault_lines f) 1 ≡ frames_output rule [] (held ++ left) = sym (rest_fault (held ++ left) f (omega (arith, length-append held left)) stands.0) in
-      subst (StreamGives rule octets) (ap (λ (t : List ℕ). output t 1) (sym e)) (so_far (output (fault_lines f) 1) ([], held ++ left, stands.1, this))
+  stops_at_fault rule octets held old new f long bad e so_far =
+      let this : output (fault_lines f) 1 ≡ frames_output rule [] held = sym (rest_fault held f long bad) in
+      subst (StreamGives rule octets) (ap (λ (t : List ℕ). output t 1) (sym e)) (so_far (output (fault_lines f) 1) ([], held, fault_splits held f long bad, this))
 
   pub stops_short : (rule : Rule) (octets held old new : List ℕ) (n status : ℕ) → n ≡ length held → IsPartial held → PutsShort n old new status
-      → Completes rule octets old (held ++ []) → StreamGives rule octets (output new status)
+      → Completes rule octets old held → StreamGives rule octets (output new status)
   unfolding frames_output
   stops_short rule octets held old new n status len part puts so_far =
       let this : short_output n ≡ frames_output rule [] held = ap short_output len ∙ sym (rest_short held part) in
-      let whole : Completes rule octets old held = subst (Completes rule octets old) (append-nil held) so_far in
-      let here : StreamGives rule octets (behind old (short_output n)) = whole (short_output n) ([], held, partial_splits held part, this) in
+      let here : StreamGives rule octets (behind old (short_output n)) = so_far (short_output n) ([], held, partial_splits held part, this) in
       subst (StreamGives rule octets) (ap (λ (t : List ℕ). output t (short_output n).status) (sym puts.0) ∙ ap (output new) (sym puts.1)) here
-
-  -- ---- the same, as a loop knows it
-
-  puts_at : (rule : Rule) (view held old new : List ℕ) (n : ℕ) (x y : Option ℕ) → view ≡ held → x ≡ y → PutsFrame rule (take n view) old new x → PutsFrame rule (take n held) old new y
-  puts_at rule view held old new n x y e q puts =
-      subst (λ (o : Option ℕ). PutsFrame rule (take n held) old new o) q (subst (λ (v : List ℕ). PutsFrame rule (take n v) old new x) e puts)
-
-  pub goes_on_at : (rule : Rule) (octets held left old new view after : List ℕ) (n : ℕ) (x : Option ℕ) → view ≡ held → x ≡ None → after ≡ drop (length_field held) held
-      → n ≤ length held → IsFrame (take n held) → PutsFrame rule (take n view) old new x → Completes rule octets old (held ++ left) → Completes rule octets new (after ++ left)
-  goes_on_at rule octets held left old new view after n x e q a h is puts so_far =
-      subst (λ (rest : List ℕ). Completes rule octets new (rest ++ left)) (sym a) (goes_on rule octets held left old new n h is (puts_at rule view held old new n x None e q puts) so_far)
-
-  pub ends_at : (rule : Rule) (octets held left old new view : List ℕ) (n status : ℕ) (x : Option ℕ) → view ≡ held → x ≡ Some status
-      → n ≤ length held → IsFrame (take n held) → PutsFrame rule (take n view) old new x → Completes rule octets old (held ++ left) → StreamGives rule octets (output new status)
-  ends_at rule octets held left old new view n status x e q h is puts so_far =
-      ends rule octets held left old new n status h is (puts_at rule view held old new n x (Some status) e q puts) so_far
-
-  left_none : (rule : Rule) (octets held left old : List ℕ) → true ≡ (length left == 0) → Completes rule octets old (held ++ left) → Completes rule octets old (held ++ [])
-  left_none rule octets held left old t so_far =
-      subst (λ (l : List ℕ). Completes rule octets old (held ++ l)) (nil_from_length left (eqb-true (length left) 0 (sym t))) so_far
-
-  pub stops_short_at : (rule : Rule) (octets held left old new : List ℕ) (n status : ℕ) → true ≡ (length left == 0) → n ≡ length held → IsPartial held → PutsShort n old new status
-      → Completes rule octets old (held ++ left) → StreamGives rule octets (output new status)
-  stops_short_at rule octets held left old new n status t len part puts so_far =
-      stops_short rule octets held old new n status len part puts (left_none rule octets held left old t so_far)

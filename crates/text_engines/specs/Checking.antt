@@ -13,9 +13,9 @@ use Rattle.net_text.specs.declared.assignment.Entry.{Entry}
 use Rattle.net_text.specs.Lexing.{Text}
 use Rattle.net_text.specs.Assignments.{assignment_reading, RefusesAssignment}
 use Rattle.net_text.specs.Words.{is_prefix}
-use Rattle.net_text.specs.Printing.{unstable_line, stable_line}
-use Rattle.text_engines.specs.Decoding.{Output, output}
-use Rattle.text_engines.specs.Inputs.{code_text, refused, InputGives, Prints}
+use Rattle.net_text.specs.Printing.{code_text, unstable_line, stable_line}
+use Rattle.text_engines.specs.Decoding.{Output, output, refused}
+use Rattle.text_engines.specs.Inputs.{InputGives, Prints}
 
 -- ---- what entries say of a prefix
 
@@ -90,7 +90,7 @@ VerdictGives net entries out = (All (IsStableAt net entries) net.origins × (out
 -- for the entries of an assignment
 abbrev pub EntriesGive : Plan → List Entry → Output → Type 0
 EntriesGive net entries out =
-    ((at : ℕ) × IsFirstStray net entries at × (out ≡ refused at (codes "S1")))
+    ((at : ℕ) × IsFirstStray net entries at × (out ≡ refused at (code_text kinds.NotPermitted)))
     ⊎ (All (MayStand net) entries × VerdictGives net entries out)
 
 -- for the lines of an assignment, so many lines standing before them

@@ -7,7 +7,9 @@ use Rattle.bgp_codec.specs.declared.rule.Rule.{Rule}
 use Rattle.bgp_codec.specs.Header.{header_fault}
 use Rattle.bgp_codec.specs.Faults.{reading}
 use Rattle.bgp_framing.specs.Frames.{Splits}
-use Rattle.net_text.specs.Printing.{line, message_line, fault_lines, truncated_line}
+use Rattle.net_text.specs.declared.code.Code.TheVariants as kinds
+use Rattle.net_text.specs.Printing.{line, message_line, fault_lines, truncated_line, code_text, refused_line}
+use Rattle.text_engines.specs.declared.transfer.TheConstants.{INPUT_LIMIT}
 
 -- a text, and the status that the program ends with
 pub record Output : Type 0 where
@@ -19,6 +21,10 @@ output text status = record { text = text; status = status }
 
 abbrev pub behind : List ℕ → Output → Output
 behind text more = output (text ++ more.text) more.status
+
+-- what is printed for a refused line
+abbrev pub refused : ℕ → List ℕ → Output
+refused at code = output (refused_line at code) 1
 
 -- what is printed for want of memory
 abbrev pub memory_output : Output
@@ -60,7 +66,7 @@ HexGives rule input out =
 
 -- for an input, which may be too long
 abbrev pub DecodeGives : Rule → List ℕ → Output → Type 0
-DecodeGives rule input out = (16777216 < length input × (out ≡ output (codes "refused 0 N6\n") 1)) ⊎ ((length input ≤ 16777216) × HexGives rule input out)
+DecodeGives rule input out = (INPUT_LIMIT < length input × (out ≡ refused 0 (code_text kinds.OutOfLimit))) ⊎ ((length input ≤ INPUT_LIMIT) × HexGives rule input out)
 
 -- what the program prints: that, or that memory ran out
 abbrev pub Prints : Rule → List ℕ → Output → Type 0

@@ -6,6 +6,7 @@ use Rattle.text_engines.specs.declared.digits.Digits.{Digits}
 use Rattle.text_engines.specs.declared.hex_input.HexInput.{HexInput}
 use Rattle.text_engines.specs.declared.hex_input.HexInput.TheVariants.{TooLong, BadHex, Octets}
 use Rattle.text_engines.specs.Decoding.{is_blank}
+use Rattle.text_engines.specs.declared.transfer.TheConstants.{INPUT_LIMIT}
 
 -- the octets of pairs of digits stand behind the old ones, where all are digits
 abbrev pub Adds : List ℕ → List ℕ → List ℕ → Bool → Type 0
@@ -27,6 +28,6 @@ without_blanks text = filter (λ octet. not (is_blank octet)) text
 
 -- what an input in hex is
 abbrev pub HearsHex : List ℕ → HexInput → Type 0
-HearsHex input TooLong = 16777216 < length input
-HearsHex input BadHex = (length input ≤ 16777216) × IsErr (decode_of (without_blanks input))
-HearsHex input (Octets octets) = (length input ≤ 16777216) × (decode_of (without_blanks input) ≡ Ok octets.items)
+HearsHex input TooLong = INPUT_LIMIT < length input
+HearsHex input BadHex = (length input ≤ INPUT_LIMIT) × IsErr (decode_of (without_blanks input))
+HearsHex input (Octets octets) = (length input ≤ INPUT_LIMIT) × (decode_of (without_blanks input) ≡ Ok octets.items)

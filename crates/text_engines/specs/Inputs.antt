@@ -1,29 +1,13 @@
 -- What is printed for an input that is a network with a section behind it.
-use Rattle.std.specs.Prelude.{◌≡◌, ◌≢◌, ℕ, ◌<◌, ◌≤◌, ◌-◌, List, length, codes, ◌⊎◌}
+use Rattle.std.specs.Prelude.{◌≡◌, ◌≢◌, ℕ, ◌<◌, ◌≤◌, ◌-◌, List, length, ◌⊎◌}
 use Rattle.ranked_policy.specs.Plans.{Plan}
 use Rattle.net_text.specs.declared.code.Code.{Code}
 use Rattle.net_text.specs.declared.code.Code.TheVariants as kinds
 use Rattle.net_text.specs.Lexing.{Text, lines_of, before_section, behind_section}
 use Rattle.net_text.specs.Networks.{SpellsNetwork, RefusesNetwork}
-use Rattle.net_text.specs.Printing.{refused_line}
-use Rattle.text_engines.specs.Decoding.{Output, output, memory_output}
-
--- ---- refusals
-
--- the code of a refusal
-abbrev pub code_text : Code → List ℕ
-code_text kinds.BadForm = codes "N1"
-code_text kinds.Unreadable = codes "N2"
-code_text kinds.UnknownRouter = codes "N3"
-code_text kinds.Repeated = codes "N4"
-code_text kinds.NotConnected = codes "N5"
-code_text kinds.OutOfLimit = codes "N6"
-code_text kinds.NotSimple = codes "N7"
-code_text kinds.BadPrefix = codes "N8"
-code_text kinds.Memory = codes "N9"
-
-abbrev pub refused : ℕ → List ℕ → Output
-refused at code = output (refused_line at code) 1
+use Rattle.net_text.specs.Printing.{code_text}
+use Rattle.text_engines.specs.Decoding.{Output, refused, memory_output}
+use Rattle.text_engines.specs.declared.transfer.TheConstants.{INPUT_LIMIT}
 
 -- ---- what is printed, where this says what is printed for a network and the lines of the section, so many standing before them
 
@@ -41,7 +25,7 @@ LinesGive Gives name lines out =
 -- for an input, which may be too long
 abbrev pub InputGives : (Plan → ℕ → List Text → Output → Type 0) → List ℕ → List ℕ → Output → Type 0
 InputGives Gives name input out =
-    (16777216 < length input × (out ≡ refused 0 (codes "N6"))) ⊎ ((length input ≤ 16777216) × LinesGive Gives name (lines_of input) out)
+    (INPUT_LIMIT < length input × (out ≡ refused 0 (code_text kinds.OutOfLimit))) ⊎ ((length input ≤ INPUT_LIMIT) × LinesGive Gives name (lines_of input) out)
 
 -- what the program prints: that, or that memory ran out
 abbrev pub Prints : (Plan → ℕ → List Text → Output → Type 0) → List ℕ → List ℕ → Output → Type 0

@@ -12,7 +12,7 @@ ghost use Rattle.text_engines.specs.Checking.{is_before, IsPlace, HasNoPlace, As
 
 use crate::refusals::refused_output;
 use crate::status::DONE;
-use net_text::{Entry, stable_line, unstable_line};
+use net_text::{Code, Entry, stable_line, unstable_line};
 use prefix_lanes::Prefix;
 use ranked_policy::{Asn, Network, Origin, Path};
 use stable_paths::{Assignment, Check, Instance, StableError, check, may_have};
@@ -167,7 +167,7 @@ pub fn entries_output(
     ensures { IfOk result (λ printed. EntriesGive network.now entries.now (output printed.0.items printed.1)) }
 {
     match first_stray(network, entries) {
-        Some(line) => refused_output(alloc, line, b"S1"),
+        Some(line) => refused_output(alloc, line, Code::NotPermitted.text()),
         None => verdict_output(alloc, network, entries),
     }
 }

@@ -11,7 +11,7 @@ use crate::assignments::entries_output;
 use crate::channel::{IoStopped, Sink, Source};
 use crate::refusals::{refused_output, text_output};
 use crate::transfer::{INPUT_LIMIT, InputError, read_input, want_of_memory, write_out};
-use net_text::{Split, read_assignment, read_network, split_at_section};
+use net_text::{Code, Split, read_assignment, read_network, split_at_section};
 use ranked_policy::Network;
 use std::alloc::{AllocError, Global};
 
@@ -47,7 +47,7 @@ fn check_output(alloc: Global, input: Vec<u8>) -> Result<(Vec<u8>, u8), AllocErr
     ensures { IfOk result (λ printed. CheckGives input.items (output printed.0.items printed.1)) }
 {
     if input.len() > INPUT_LIMIT {
-        return refused_output(alloc, 0, b"N6");
+        return refused_output(alloc, 0, Code::OutOfLimit.text());
     }
     let split = split_at_section(input.as_slice(), b"assignment");
     network_output(alloc, &split)

@@ -7,10 +7,12 @@ ghost use Rattle.text_engines.specs.Engine.{Printed, PrintedFront};
 
 use crate::channel::{IoStopped, Sink, Source};
 use crate::hex_input::{HexInput, read_hex};
+use crate::refusals::refused_output;
 use crate::status::REFUSED;
 use crate::stream::stream_output;
 use crate::transfer::{InputError, want_of_memory, write_out};
 use bgp_codec::Rule;
+use net_text::Code;
 use std::alloc::{AllocError, Global};
 
 // What is printed for an input, and the status.
@@ -18,7 +20,7 @@ fn decode_output(alloc: Global, rule: &Rule, heard: HexInput) -> Result<(Vec<u8>
     ensures { IfOk result (λ printed. (input : List ℕ) → HearsHex input heard → DecodeGives rule.now input (output printed.0.items printed.1)) }
 {
     match heard {
-        HexInput::TooLong => Ok((Vec::from_slice(alloc, b"refused 0 N6\n")?, REFUSED)),
+        HexInput::TooLong => refused_output(alloc, 0, Code::OutOfLimit.text()),
         HexInput::BadHex => Ok((Vec::from_slice(alloc, b"bad hex\n")?, REFUSED)),
         HexInput::Octets(octets) => stream_output(alloc, rule, octets.as_slice()),
     }

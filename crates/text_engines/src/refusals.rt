@@ -2,29 +2,12 @@
 
 ghost use Rattle.std.specs.Prelude.{◌≡◌, ◌≢◌, IfOk};
 ghost use Rattle.net_text.specs.declared.code.Code.TheVariants.{Memory};
-ghost use Rattle.text_engines.specs.Decoding.{output};
-ghost use Rattle.text_engines.specs.Inputs.{code_text, refused};
+ghost use Rattle.net_text.specs.Printing.{code_text};
+ghost use Rattle.text_engines.specs.Decoding.{output, refused};
 
 use crate::status::REFUSED;
 use net_text::{Code, Refused, refused_line};
 use std::alloc::{AllocError, Global};
-
-// The code of a refusal.
-fn code_text(code: Code) -> &'static [u8]
-    ensures { result.now ≡ code_text code }
-{
-    match code {
-        Code::BadForm => b"N1",
-        Code::Unreadable => b"N2",
-        Code::UnknownRouter => b"N3",
-        Code::Repeated => b"N4",
-        Code::NotConnected => b"N5",
-        Code::OutOfLimit => b"N6",
-        Code::NotSimple => b"N7",
-        Code::BadPrefix => b"N8",
-        Code::Memory => b"N9",
-    }
-}
 
 /// What is printed for a line that is refused, and the status.
 pub fn refused_output(alloc: Global, line: usize, code: &[u8]) -> Result<(Vec<u8>, u8), AllocError>
@@ -43,5 +26,5 @@ pub fn text_output(alloc: Global, text: &Refused) -> Result<(Vec<u8>, u8), Alloc
     if text.code == Code::Memory {
         return Err(AllocError);
     }
-    refused_output(alloc, text.line, code_text(text.code))
+    refused_output(alloc, text.line, text.code.text())
 }

@@ -8,7 +8,7 @@ use crate::status::{DONE, REFUSED};
 use bgp_codec::laws::{fault_fits_a_message, header_fault_is_short};
 use bgp_codec::{CodecError, Rule, decode};
 use bgp_framing::laws::{splits_behind_a_frame, splits_into_nothing, splits_once};
-use bgp_framing::{Framer, Next};
+use bgp_framing::{Next, next_message};
 use net_text::{fault_lines, message_line, truncated_line};
 use std::alloc::{AllocError, Global};
 
@@ -56,29 +56,23 @@ pub fn stream_output(alloc: Global, rule: &Rule, octets: &[u8]) -> Result<(Vec<u
     splits_behind_a_frame();
     splits_into_nothing();
     let mut out = Vec::new(alloc);
-    let mut framer = Framer::new(alloc)?;
     let mut left = octets;
     'front: loop {
-        match framer.next() {
+        match next_message(alloc, left) {
             Next::Whole(_, end) => {
-                let (frame, _) = framer.bytes().split_at(end);
+                let (frame, rest) = left.split_at(end);
                 if let Some(status) = put_frame(alloc, rule, frame, &mut out)? {
                     return Ok((out, status));
                 }
-                framer.drop_front();
+                left = rest;
             }
             Next::Bad(fault) => {
                 fault_lines(&fault, &mut out)?;
                 return Ok((out, REFUSED));
             }
             Next::More => {
-                if left.is_empty() {
-                    let status = put_rest(&mut out, framer.rest_len())?;
-                    return Ok((out, status));
-                }
-                let (piece, others) = left.split_at(left.len().min(4096));
-                framer.feed(piece);
-                left = others;
+                let status = put_rest(&mut out, left.len())?;
+                return Ok((out, status));
             }
         }
     }

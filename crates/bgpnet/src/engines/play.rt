@@ -8,7 +8,7 @@ ghost use Rattle.text_engines.specs.Inputs.{NetworkGives};
 ghost use Rattle.bgpnet.specs.Playing.{ScheduleGives, PlayGives, Plays};
 
 use crate::schedules::orders_output;
-use net_text::{Split, read_network, split_at_section};
+use net_text::{Code, Split, read_network, split_at_section};
 use ranked_policy::Network;
 use schedule_text::read_schedule;
 use std::alloc::{AllocError, Global};
@@ -49,7 +49,7 @@ fn play_output(alloc: Global, input: Vec<u8>) -> Result<(Vec<u8>, u8), AllocErro
     ensures { IfOk result (λ printed. PlayGives input.items (output printed.0.items printed.1)) }
 {
     if input.len() > INPUT_LIMIT {
-        return refused_output(alloc, 0, b"N6");
+        return refused_output(alloc, 0, Code::OutOfLimit.text());
     }
     let split = split_at_section(input.as_slice(), b"schedule");
     network_output(alloc, &split)

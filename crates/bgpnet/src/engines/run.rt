@@ -9,9 +9,9 @@ ghost use Rattle.bgpnet.specs.Running.{RunGives, LinesRun, InputRuns, Runs, Gate
 
 use crate::chores::{RunOptions, new_gates, spacing};
 use crate::settled::Demand;
-use crate::threads::threads_output;
-use net_text::read_network;
-use net_workers::{Gate, Limits};
+use crate::threads::{fault_output, threads_output};
+use net_text::{Code, read_network};
+use net_workers::{Gate, Limits, RunFault};
 use ranked_policy::Network;
 use std::alloc::{AllocError, Global};
 use std::sync::Wait;
@@ -69,7 +69,7 @@ where
     ensures { IfOk result (λ printed. RunGives options.now network.now (output printed.0.items printed.1)) }
 {
     let Some(spacing) = spacing(network, options) else {
-        return refused_output(alloc, 0, b"G3");
+        return fault_output(alloc, RunFault::BadLimits);
     };
     let last = options.snapshots;
     let gates = new_gates(alloc, network, spacing, last)?;
@@ -91,7 +91,7 @@ where
     ensures { IfOk result (λ printed. InputRuns options.now input.items (output printed.0.items printed.1)) }
 {
     if input.len() > INPUT_LIMIT {
-        return refused_output(alloc, 0, b"N6");
+        return refused_output(alloc, 0, Code::OutOfLimit.text());
     }
     match read_network(alloc, input.as_slice()) {
         Ok(network) => network_output(rt, alloc, options, &network),

@@ -2,6 +2,7 @@
 use Rattle.std.proofs.Common.{◌+◌, ◌-◌, ◌≡◌, ◌<◌, ℕ, List, length}
 use Rattle.std.specs.Io.KnownBytes.{Consumes}
 use Rattle.text_engines.specs.Digits.{HasRead, without_blanks}
+use Rattle.text_engines.specs.declared.transfer.TheConstants.{INPUT_LIMIT}
 use Rattle.text_engines.proofs.hex_input.read_hex_by.Given as goal
 
 abbrev pub invariant-chunks : goal.invariant-chunks
@@ -10,4 +11,4 @@ invariant-chunks g l =
     × (g.S.Source.failed l.source ≡ g.S.Source.failed l.fn.source) × (0 < length l.chunk)
 
 abbrev pub decreases-chunks : goal.decreases-chunks
-decreases-chunks g l = 16777216 + 1 - l.total
+decreases-chunks g l = INPUT_LIMIT + 1 - l.total

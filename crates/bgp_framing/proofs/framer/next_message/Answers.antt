@@ -1,5 +1,5 @@
 use Rattle.bgp_framing.proofs.FrontLemmas.{is_bad, is_partial, is_whole}
-use Rattle.bgp_framing.proofs.framer.next_of.Goals as goal
+use Rattle.bgp_framing.proofs.framer.next_message.Goals as goal
 
 pub returns-in-Err : goal.returns-in-Err
 returns-in-Err c = is_bad c.header_is_its_front.ensures c.args.octets.now c.in-Some.first.now c.in-Err.fault c.in-Some.ensures.cases.enough c.in-Some.ensures.cases.same c.in-Err.ensures.fault

@@ -1,0 +1,139 @@
+//! Numbers in decimal digits: at a place of a text, and behind what a buffer has.
+
+ghost use Rattle.std.specs.Prelude.{◌≡◌, ◌+◌, ◌*◌, ◌%◌, ◌<◌, ◌≤◌, ◌∷◌, [], ◌++◌, length, take, map, decimal, OnOk, OnErr};
+ghost use Rattle.std.specs.List.{flat_map, join_with_byte};
+
+use crate::texts::{write_mark, write_octet};
+use bgp_codec::Asn;
+use std::alloc::AllocError;
+
+// The most octets that may change where a number is written.
+const NUMBER_ROOM: usize = 11;
+
+// Writes the last digit of a number.
+fn write_last(text: &mut [u8], at: usize, number: u32) -> usize
+    requires { at < length text.old }
+    ensures end { result ≡ at + 1 }
+    ensures text { take result text.new ≡ take at text.old ++ (48 + number % 10) ∷ [] }
+{
+    write_mark(text, at, b'0' + (number % 10) as u8)
+}
+
+// Writes a number below 2560: of two digits or three by one look at a table, and a last one.
+fn write_below_2560(text: &mut [u8], at: usize, number: u32) -> usize
+    requires number { number < 2560 }
+    requires room { at + 4 ≤ length text.old }
+    ensures end { result ≤ at + 4 }
+    ensures text { take result text.new ≡ take at text.old ++ decimal number }
+{
+    if number < 256 {
+        return write_octet(text, at, number as u8);
+    }
+    let at = write_octet(text, at, (number / 10) as u8);
+    write_last(text, at, number)
+}
+
+fn write_below_25600(text: &mut [u8], at: usize, number: u32) -> usize
+    requires number { number < 25600 }
+    requires room { at + 5 ≤ length text.old }
+    ensures end { result ≤ at + 5 }
+    ensures text { take result text.new ≡ take at text.old ++ decimal number }
+{
+    if number < 2560 {
+        return write_below_2560(text, at, number);
+    }
+    let at = write_below_2560(text, at, number / 10);
+    write_last(text, at, number)
+}
+
+fn write_below_256000(text: &mut [u8], at: usize, number: u32) -> usize
+    requires number { number < 256000 }
+    requires room { at + 6 ≤ length text.old }
+    ensures end { result ≤ at + 6 }
+    ensures text { take result text.new ≡ take at text.old ++ decimal number }
+{
+    if number < 25_600 {
+        return write_below_25600(text, at, number);
+    }
+    let at = write_below_25600(text, at, number / 10);
+    write_last(text, at, number)
+}
+
+// Writes a number of six digits or more: what stands before the last five, and these.
+fn write_long(text: &mut [u8], at: usize, number: u32) -> usize
+    requires number { 256000 ≤ number }
+    requires room { at + 11 ≤ length text.old }
+    ensures end { result ≤ at + 11 }
+    ensures text { take result text.new ≡ take at text.old ++ decimal number }
+{
+    let at = write_below_256000(text, at, number / 100_000);
+    let at = write_last(text, at, number / 10_000);
+    let at = write_last(text, at, number / 1_000);
+    let at = write_last(text, at, number / 100);
+    let at = write_last(text, at, number / 10);
+    write_last(text, at, number)
+}
+
+// Writes a number at a place, and answers the place behind it. Eleven octets may change.
+fn write_decimal(text: &mut [u8], at: usize, number: u32) -> usize
+    requires { at + 11 ≤ length text.old }
+    ensures end { result ≤ at + 11 }
+    ensures text { take result text.new ≡ take at text.old ++ decimal number }
+{
+    if number < 256_000 {
+        return write_below_256000(text, at, number);
+    }
+    write_long(text, at, number)
+}
+
+// Writes numbers behind others, a mark before each, and answers the place behind them.
+fn write_marked(text: &mut [u8], start: usize, numbers: &[Asn], mark: u8) -> usize
+    requires { start + 12 * length numbers.now ≤ length text.old }
+    ensures { take result text.new ≡ take start text.old ++ flat_map (λ n. mark ∷ decimal n) numbers.now }
+{
+    let mut at = start;
+    for number in numbers {
+        at = write_mark(text, at, mark);
+        at = write_decimal(text, at, *number);
+    }
+    at
+}
+
+// Writes numbers with a mark between them, and answers the place behind them.
+fn write_joined(text: &mut [u8], start: usize, numbers: &[Asn], mark: u8) -> usize
+    requires { start + 12 * length numbers.now ≤ length text.old }
+    ensures { take result text.new ≡ take start text.old ++ join_with_byte mark (map decimal numbers.now) }
+{
+    match numbers {
+        [] => start,
+        [first, rest @ ..] => {
+            let at = write_decimal(text, start, *first);
+            write_marked(text, at, rest, mark)
+        }
+    }
+}
+
+/// Appends a number in decimal digits.
+pub fn put_decimal(out: &mut Vec<u8>, number: u32) -> Result<(), AllocError>
+    ensures ok { OnOk result (out.new.items ≡ out.old.items ++ decimal number) }
+    ensures err { OnErr result (out.new.items ≡ out.old.items) }
+{
+    let at = out.len();
+    out.resize(at + NUMBER_ROOM, 0)?;
+    let end = write_decimal(out.as_mut_slice(), at, number);
+    out.truncate(end);
+    Ok(())
+}
+
+/// Appends numbers with a mark between them. It grows once, by the most that they can take.
+pub fn put_joined(out: &mut Vec<u8>, numbers: &[Asn], mark: u8) -> Result<(), AllocError>
+    ensures ok { OnOk result (out.new.items ≡ out.old.items ++ join_with_byte mark (map decimal numbers.now)) }
+    ensures err { OnErr result (out.new.items ≡ out.old.items) }
+{
+    let start = out.len();
+    let room = numbers.len().saturating_mul(NUMBER_ROOM + 1);
+    out.resize(start.saturating_add(room), 0)?;
+    let end = write_joined(out.as_mut_slice(), start, numbers, mark);
+    out.truncate(end);
+    Ok(())
+}
