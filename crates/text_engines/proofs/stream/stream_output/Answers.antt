@@ -1,4 +1,4 @@
-use Rattle.std.proofs.Common.{arith}
+use Rattle.std.proofs.Common.{refl, arith}
 use Rattle.text_engines.proofs.PrintingLemmas.{goes_on, ends, stops_at_fault, stops_short}
 use Rattle.text_engines.proofs.stream.stream_output.Goals as goal
 
@@ -10,8 +10,8 @@ returns-in-Some c =
     ends c.splits_once.ensures c.splits_behind_a_frame.ensures c.splits_into_nothing.ensures c.args.rule.now c.args.octets.now c.front.left.now c.front.out.items c.put_frame.new.out.items c.in-Whole.end c.in-Some.status _
     c.in-Some.is c.in-Whole.ensures.1 c.in-Whole.ensures.2 (rw c.split_at.ensures.front at c.in_ok-status-in-Whole.ensures) c.front.invariant
 
-pub front-preserved-in-Whole : goal.front-preserved-in-Whole
-front-preserved-in-Whole c =
+pub front-preserved : goal.front-preserved
+front-preserved c =
     goes_on c.splits_once.ensures c.splits_behind_a_frame.ensures c.splits_into_nothing.ensures c.args.rule.now c.args.octets.now c.front.left.now c.front.out.items c.put_frame.new.out.items _ c.in-Whole.end _
     c.in_default.is c.split_at.ensures.back c.in-Whole.ensures.1 c.in-Whole.ensures.2 (rw c.split_at.ensures.front at c.in_ok-status-in-Whole.ensures) c.front.invariant
 
@@ -20,7 +20,7 @@ returns-in-Bad c =
     stops_at_fault c.splits_once.ensures c.splits_behind_a_frame.ensures c.splits_into_nothing.ensures c.args.rule.now c.args.octets.now c.front.left.now c.front.out.items c.fault_lines.new.out.items c.in-Bad.fault c.in-Bad.ensures.0 c.in-Bad.ensures.1
     c.in_ok-fault_lines-in-Bad.ensures.ok c.front.invariant
 
-pub returns : goal.returns
-returns c =
-    stops_short c.splits_once.ensures c.splits_behind_a_frame.ensures c.splits_into_nothing.ensures c.args.rule.now c.args.octets.now c.front.left.now c.front.out.items c.put_rest.new.out.items c.len.result _
-    c.len.ensures c.in-More.ensures c.in_ok-status-in-More.ensures c.front.invariant
+pub returns-in-More : goal.returns-in-More
+returns-in-More c =
+    stops_short c.splits_once.ensures c.splits_behind_a_frame.ensures c.splits_into_nothing.ensures c.args.rule.now c.args.octets.now c.front.left.now c.front.out.items c.put_rest.new.out.items _ _
+    refl c.in-More.ensures c.in_ok-status-in-More.ensures c.front.invariant
