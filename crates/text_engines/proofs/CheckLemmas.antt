@@ -1,6 +1,6 @@
 -- Entries and origins, one more at a time.
 use Rattle.std.proofs.Common.{◌≡◌, ℕ, zero, suc, ◌+◌, ◌-◌, ◌<◌, ◌≤◌, Bool, true, false, cond, List, [], ◌∷◌, ◌++◌, length, take, drop, get_or, refl, sym, ap, subst, ◌∙◌, arith, inl, inr, Result, Ok, Err, IfOk, Option, Some, None}
-use Rattle.std.specs.Prelude.{◌==◌, ◌&&◌, codes, IsTrue, OnErr, ◌⊎◌}
+use Rattle.std.specs.Prelude.{◌==◌, ◌&&◌, IsTrue, OnErr, ◌⊎◌}
 use Rattle.std.specs.List.{All}
 use Rattle.std.proofs.lemmas.Bool.{cases_order}
 use Rattle.std.proofs.lemmas.List.{take_more, drop_more, take_all, take-append-drop, length-take, get_or-take}

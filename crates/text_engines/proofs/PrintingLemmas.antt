@@ -1,11 +1,11 @@
 -- What is printed for what is held and left, and for the whole stream.
-use Rattle.std.proofs.Common.{◌≡◌, ℕ, ◌≤◌, true, false, List, [], ◌∷◌, ◌++◌, length, take, drop, Option, Some, None, refl, sym, ap, subst, ◌∙◌, append_assoc, arith, inl, inr}
-use Rattle.std.specs.Prelude.{nat_lt, ◌==◌}
-use Rattle.std.proofs.lemmas.Bool.{le-ltb, lt-ltb, eqb-true}
-use Rattle.std.proofs.lemmas.List.{append-nil, length-append, nil_from_length}
+use Rattle.std.proofs.Common.{◌≡◌, ℕ, ◌≤◌, true, false, List, [], ◌∷◌, ◌++◌, length, take, drop, Option, Some, None, refl, sym, ap, subst, ◌∙◌, append_assoc, inl, inr}
+use Rattle.std.specs.Prelude.{nat_lt}
+use Rattle.std.proofs.lemmas.Bool.{le-ltb, lt-ltb}
+use Rattle.std.proofs.lemmas.List.{append-nil}
 use Rattle.bgp_codec.specs.declared.fault.Fault.{Fault}
 use Rattle.bgp_codec.specs.declared.rule.Rule.{Rule}
-use Rattle.bgp_codec.specs.Header.{header_fault, length_field, IsFrame}
+use Rattle.bgp_codec.specs.Header.{header_fault, IsFrame}
 use Rattle.bgp_codec.specs.Faults.{reading}
 use Rattle.bgp_framing.specs.Frames.{Splits, SplitsOnce, SplitsBehindAFrame, SplitsIntoNothing, IsPartial}
 use Rattle.net_text.specs.Printing.{fault_lines}

@@ -1,4 +1,4 @@
-use Rattle.std.proofs.Common.{◌≡◌, ◌/◌, ◌++◌, take, decimal, arith}
+use Rattle.std.proofs.Common.{◌/◌, take, arith}
 use Rattle.net_text.proofs.DecimalLemmas.{last_behind}
 use Rattle.net_text.proofs.decimals.write_long.Goals as goal
 
