@@ -20,6 +20,3 @@ pub use outbox::{Item, PieceOctets, What};
 pub use router::{Call, GREATEST_STAMP, Router};
 pub use router_model::{Command, RouterError, Stepped};
 pub use snap_marker::Offer;
-
-#[cfg(test)]
-mod tests;

@@ -1,0 +1,161 @@
+//! The calls of a router, each without what it ensures: a proof of a function that makes several carries
+//! each answer's equation along.
+
+use prefix_lanes::Prefix;
+use ranked_policy::Asn;
+use router_core::{Call, Command, Item, Router, RouterError, Stepped};
+
+pub(super) type Answer = Result<Stepped, RouterError>;
+
+pub(super) const DID: Answer = Ok(Stepped::Did);
+
+pub(super) const NOTHING: Answer = Ok(Stepped::Nothing);
+
+pub(super) fn is_told(router: &mut Router<'_>, command: Command) -> Answer {
+    router.command(command)
+}
+
+pub(super) fn ticks(router: &mut Router<'_>) -> Answer {
+    router.tick()
+}
+
+pub(super) fn handles(router: &mut Router<'_>, peer: Asn) -> Answer {
+    router.handle(peer)
+}
+
+pub(super) fn decides(router: &mut Router<'_>) -> Answer {
+    router.decide()
+}
+
+pub(super) fn advertises(router: &mut Router<'_>) -> Answer {
+    router.advertise()
+}
+
+pub(super) fn takes_item(router: &mut Router<'_>, peer: Asn, item: &Item) -> Answer {
+    router.take_item(peer, item)
+}
+
+pub(super) fn judges(router: &mut Router<'_>, call: &Call) -> Answer {
+    router.judge(call)
+}
+
+pub(super) fn judges_take(router: &Router<'_>, peer: Asn, item: &Item) -> Answer {
+    router.judge_take(peer, item)
+}
+
+pub(super) fn may_take(router: &Router<'_>, peer: Asn) -> bool {
+    router.may_take(peer)
+}
+
+pub(super) fn stamp(router: &Router<'_>) -> u64 {
+    router.stamp()
+}
+
+pub(super) fn keeps(router: &Router<'_>, prefix: &Prefix, path: &[Asn]) -> bool {
+    router.kept(prefix) == path
+}
+
+// Puts the next item towards a peer, and answers it.
+pub(super) fn puts_next(router: &mut Router<'_>, peer: Asn) -> Result<Option<Item>, RouterError> {
+    let Some(item) = router.next_item(peer)? else {
+        return Ok(None);
+    };
+    router.item_put(peer);
+    Ok(Some(item))
+}
+
+// Whether nothing is left to put towards a peer.
+pub(super) fn is_drained(router: &Router<'_>, peer: Asn) -> bool {
+    match router.next_item(peer) {
+        Ok(None) => true,
+        Ok(Some(_)) | Err(_) => false,
+    }
+}
+
+// Whether something is.
+pub(super) fn waits(router: &Router<'_>, peer: Asn) -> bool {
+    match router.next_item(peer) {
+        Ok(Some(_)) => true,
+        Ok(None) | Err(_) => false,
+    }
+}
+
+pub(super) fn does(router: &mut Router<'_>, call: &Call) -> Answer {
+    match call {
+        Call::Obey(command) => is_told(router, *command),
+        Call::Tick => ticks(router),
+        Call::Handle(peer) => handles(router, *peer),
+        Call::Decide => decides(router),
+        Call::Advertise => advertises(router),
+    }
+}
+
+// So many seconds pass.
+pub(super) fn seconds(router: &mut Router<'_>, n: u32) -> bool {
+    for _ in 0..n {
+        if ticks(router) != DID {
+            return false;
+        }
+    }
+    true
+}
+
+// Its stamp after an answer: one above the greatest of its last and the item's, or its last.
+fn has_stamp(router: &Router<'_>, answer: Answer, last: u64, items: u64) -> bool {
+    let now = stamp(router);
+    match answer {
+        Ok(Stepped::Did) => now == last.max(items).saturating_add(1),
+        Ok(Stepped::Nothing) | Err(_) => now == last,
+    }
+}
+
+// A call is answered as it was judged.
+pub(super) fn does_as_judged(router: &mut Router<'_>, call: &Call) -> bool {
+    let last = stamp(router);
+    let judged = judges(router, call);
+    let answer = does(router, call);
+    answer == judged && has_stamp(router, answer, last, 0)
+}
+
+// An item too; it is refused where a message waits, and there alone.
+pub(super) fn takes_as_judged(router: &mut Router<'_>, peer: Asn, item: &Item) -> bool {
+    let last = stamp(router);
+    let held = !may_take(router, peer);
+    let judged = judges_take(router, peer, item);
+    let answer = takes_item(router, peer, item);
+    let refused = answer == Err(RouterError::Held { peer });
+    answer == judged && refused == held && has_stamp(router, answer, last, item.stamp)
+}
+
+// A call is answered so, and the stamp stays.
+pub(super) fn keeps_its_stamp(router: &mut Router<'_>, call: &Call, answer: Answer) -> bool {
+    let last = stamp(router);
+    does(router, call) == answer && stamp(router) == last
+}
+
+// It is judged so, and the stamp stays.
+pub(super) fn judges_alone(router: &mut Router<'_>, call: &Call, answer: Answer) -> bool {
+    let last = stamp(router);
+    judges(router, call) == answer && stamp(router) == last
+}
+
+// A prefix is originated, or withdrawn, and what then is kept is told.
+fn changes(router: &mut Router<'_>, command: Command) -> Answer {
+    is_told(router, command)?;
+    decides(router)?;
+    advertises(router)
+}
+
+// A prefix comes and goes until router 2 is told nothing more: whether that came to be.
+pub(super) fn fills(router: &mut Router<'_>, prefix: Prefix) -> bool {
+    let blocked = Err(RouterError::Blocked { peer: 2 });
+    for _ in 0..1000 {
+        if changes(router, Command::Originate(prefix)) == blocked {
+            return true;
+        }
+        if changes(router, Command::Withdraw(prefix)) == blocked {
+            return true;
+        }
+    }
+    false
+}

@@ -1,0 +1,158 @@
+//! Items that a peer puts, and those that come out.
+
+use super::answers::{Answer, DID, handles, judges_take, puts_next, takes_item};
+use ranked_policy::Asn;
+use router_core::{Item, PieceOctets, Router, What};
+use std::alloc::{AllocError, Global};
+
+// An item, its octets in a script.
+#[derive(Clone, Copy)]
+pub(super) enum Sent<'a> {
+    Dial(u32),
+    // The messages of an incarnation, each by what follows its marker.
+    Says(u32, &'a [&'a [u8]]),
+    // Octets of an incarnation that are no messages.
+    Octets(u32, &'a [u8]),
+    Mark(u32, u32),
+    Shut(u32),
+}
+
+// The octets of messages: of each a marker, and what follows it.
+fn spelled(alloc: Global, tails: &[&[u8]]) -> Result<Vec<u8>, AllocError> {
+    let mut octets = Vec::new(alloc);
+    for tail in tails {
+        octets.extend_from_slice(&[0xff; 16])?;
+        octets.extend_from_slice(tail)?;
+    }
+    Ok(octets)
+}
+
+fn copied(alloc: Global, octets: &[u8]) -> Result<Vec<u8>, AllocError> {
+    let mut copy = Vec::new(alloc);
+    copy.extend_from_slice(octets)?;
+    Ok(copy)
+}
+
+// A piece of these octets, where there was memory for 1 to 4096 of them.
+fn piece(epoch: u32, octets: Result<Vec<u8>, AllocError>) -> Option<What> {
+    match octets {
+        Ok(octets) => Some(What::Piece(epoch, PieceOctets::new(octets)?)),
+        Err(_) => None,
+    }
+}
+
+pub(super) fn what(alloc: Global, sent: &Sent<'_>) -> Option<What> {
+    match *sent {
+        Sent::Dial(epoch) => Some(What::Dial(epoch)),
+        Sent::Says(epoch, tails) => piece(epoch, spelled(alloc, tails)),
+        Sent::Octets(epoch, octets) => piece(epoch, copied(alloc, octets)),
+        Sent::Mark(epoch, number) => Some(What::Mark(epoch, number)),
+        Sent::Shut(epoch) => Some(What::Shut(epoch)),
+    }
+}
+
+// Its kind, its incarnation, and the number of a marker.
+fn numbers(what: &What) -> (u8, u32, u32) {
+    match what {
+        What::Dial(epoch) => (0, *epoch, 0),
+        What::Piece(epoch, _) => (1, *epoch, 0),
+        What::Mark(epoch, number) => (2, *epoch, *number),
+        What::Shut(epoch) => (3, *epoch, 0),
+    }
+}
+
+fn octets(what: &What) -> &[u8] {
+    match what {
+        What::Piece(_, octets) => octets.as_slice(),
+        What::Dial(_) | What::Mark(_, _) | What::Shut(_) => &[],
+    }
+}
+
+fn is_same(a: &What, b: &What) -> bool {
+    numbers(a) == numbers(b) && octets(a) == octets(b)
+}
+
+// Whether it is that item.
+fn is_sent(alloc: Global, item: &Item, sent: &Sent<'_>) -> bool {
+    match what(alloc, sent) {
+        Some(wanted) => is_same(&item.what, &wanted),
+        None => false,
+    }
+}
+
+// Whether the next item towards a peer is that one.
+pub(super) fn puts(alloc: Global, router: &mut Router<'_>, peer: Asn, sent: &Sent<'_>) -> bool {
+    match puts_next(router, peer) {
+        Ok(Some(item)) => is_sent(alloc, &item, sent),
+        Ok(None) | Err(_) => false,
+    }
+}
+
+// Whether the next item towards a peer has that stamp.
+pub(super) fn puts_at(router: &mut Router<'_>, peer: Asn, stamp: u64) -> bool {
+    match puts_next(router, peer) {
+        Ok(Some(item)) => item.stamp == stamp,
+        Ok(None) | Err(_) => false,
+    }
+}
+
+// Whether the next item towards a peer is octets of an incarnation.
+pub(super) fn puts_some(router: &mut Router<'_>, peer: Asn, epoch: u32) -> bool {
+    match puts_next(router, peer) {
+        Ok(Some(item)) => numbers(&item.what) == (1, epoch, 0),
+        Ok(None) | Err(_) => false,
+    }
+}
+
+// Puts all that waits towards a peer, of which there is little.
+pub(super) fn drains(router: &mut Router<'_>, peer: Asn) -> bool {
+    for _ in 0..8 {
+        match puts_next(router, peer) {
+            Ok(Some(_)) => {}
+            Ok(None) => return true,
+            Err(_) => return false,
+        }
+    }
+    true
+}
+
+// An item of a peer with this stamp, where there was memory for it.
+pub(super) fn made(alloc: Global, stamp: u64, sent: &Sent<'_>) -> Option<Item> {
+    let what = what(alloc, sent)?;
+    Some(Item { stamp, what })
+}
+
+// Whether the item of a peer is answered so.
+pub(super) fn takes(
+    alloc: Global,
+    router: &mut Router<'_>,
+    peer: Asn,
+    stamp: u64,
+    sent: &Sent<'_>,
+    answer: Answer,
+) -> bool {
+    match made(alloc, stamp, sent) {
+        Some(item) => takes_item(router, peer, &item) == answer,
+        None => false,
+    }
+}
+
+// Whether it is judged so.
+pub(super) fn judges_item(
+    alloc: Global,
+    router: &Router<'_>,
+    peer: Asn,
+    stamp: u64,
+    sent: &Sent<'_>,
+    answer: Answer,
+) -> bool {
+    match made(alloc, stamp, sent) {
+        Some(item) => judges_take(router, peer, &item) == answer,
+        None => false,
+    }
+}
+
+// Whether it is taken, and the message that it brings is handled.
+pub(super) fn hears(alloc: Global, router: &mut Router<'_>, peer: Asn, sent: &Sent<'_>) -> bool {
+    takes(alloc, router, peer, 0, sent, DID) && handles(router, peer) == DID
+}

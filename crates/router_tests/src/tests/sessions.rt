@@ -1,0 +1,145 @@
+//! Sessions: how they open, and what closes them.
+
+use super::answers::{DID, NOTHING};
+use super::items::Sent::{Dial, Octets, Says, Shut};
+use super::steps::Step::{Does, Hears, IsDrained, Puts, PutsAt, Takes};
+use super::steps::{ALIVE, OPEN_OF_ONE, OPEN_OF_TWO};
+use super::*;
+use router_core::{Call, Command, RouterError};
+
+// Both start; 2 takes the Dial of 1, whose stamp is 2. After 1 took the Dial of 2, its next piece is its
+// OPEN.
+#[test]
+fn sessions_open(rt: HostRuntime) -> Result<(), Fail> {
+    let script = [
+        Does(Call::Obey(Command::Start(2)), DID),
+        Does(Call::Obey(Command::Start(3)), Err(RouterError::NoSuchPeer)),
+        PutsAt(2, 2),
+        Takes(2, 0, Dial(1), DID),
+        Puts(2, Says(1, &[OPEN_OF_ONE])),
+        IsDrained(2),
+    ];
+    assert_eq!(rt; asks(rt.alloc(), &script)?, None);
+    Ok(())
+}
+
+// Nineteen octets whose first is no marker.
+const NO_HEADER: [u8; 19] = [
+    0xfe, 0xff, 0xff, 0xff, 0xff, 0xff, 0xff, 0xff, 0xff, 0xff, 0xff, 0xff, 0xff, 0xff, 0xff, 0xff,
+    0xff, 0xff, 0xff,
+];
+
+// A fault waits, so that nothing more is taken until it is handled. What comes out is Dial, the OPEN with a
+// NOTIFICATION 1/1 in one piece, and Shut.
+#[test]
+fn a_fault_in_a_header_closes(rt: HostRuntime) -> Result<(), Fail> {
+    let script = [
+        Takes(2, 0, Octets(1, &NO_HEADER), DID),
+        Takes(2, 0, Dial(2), Err(RouterError::Held { peer: 2 })),
+        Does(Call::Handle(2), DID),
+        Puts(2, Dial(1)),
+        Puts(2, Says(1, &[OPEN_OF_ONE, &[0x00, 0x15, 0x03, 0x01, 0x01]])),
+        Puts(2, Shut(1)),
+        IsDrained(2),
+        Does(Call::Handle(2), NOTHING),
+    ];
+    assert_eq!(rt; asks_joined(rt.alloc(), &script)?, None);
+    Ok(())
+}
+
+// An OPEN that names another number than the peer's, 3, with the identifier of the peer.
+const OPEN_OF_ANOTHER: &[u8] = &[
+    0x00, 0x1d, 0x01, 0x04, 0x00, 0x03, 0x00, 0x5a, 0x0a, 0x00, 0x00, 0x02, 0x00,
+];
+
+// NOTIFICATION 2/2.
+#[test]
+fn an_open_of_another_router_closes(rt: HostRuntime) -> Result<(), Fail> {
+    let script = [
+        Hears(2, Says(1, &[OPEN_OF_ANOTHER])),
+        Puts(2, Dial(1)),
+        Puts(2, Says(1, &[OPEN_OF_ONE, &[0x00, 0x15, 0x03, 0x02, 0x02]])),
+        Puts(2, Shut(1)),
+    ];
+    assert_eq!(rt; asks_joined(rt.alloc(), &script)?, None);
+    Ok(())
+}
+
+// Octets of incarnation 1 are gone in incarnation 2: the OPEN there is read as if nothing had come before
+// it, and answered by a KEEPALIVE.
+#[test]
+fn octets_of_an_old_incarnation_are_gone(rt: HostRuntime) -> Result<(), Fail> {
+    let script = [
+        Takes(2, 0, Octets(1, &[0xff]), DID),
+        Takes(2, 0, Shut(1), DID),
+        Takes(2, 0, Dial(2), DID),
+        Hears(2, Says(2, &[OPEN_OF_TWO])),
+        Puts(2, Dial(1)),
+        Puts(2, Says(1, &[OPEN_OF_ONE])),
+        Puts(2, Shut(1)),
+        Puts(2, Dial(2)),
+        Puts(2, Says(2, &[OPEN_OF_ONE, ALIVE])),
+        IsDrained(2),
+    ];
+    assert_eq!(rt; asks_joined(rt.alloc(), &script)?, None);
+    Ok(())
+}
+
+// An UPDATE whose path begins with another number than the peer's.
+const UPDATE_OF_ANOTHER: &[u8] = &[
+    0x00, 0x2c, 0x02, 0x00, 0x00, 0x00, 0x12, 0x40, 0x01, 0x01, 0x00, 0x40, 0x02, 0x04, 0x02, 0x01,
+    0x00, 0x01, 0x40, 0x03, 0x04, 0x0a, 0x00, 0x00, 0x01, 0x10, 0x0a, 0x01,
+];
+
+// NOTIFICATION 3/11.
+#[test]
+fn an_update_of_another_router_closes(rt: HostRuntime) -> Result<(), Fail> {
+    let script = [
+        Hears(2, Says(1, &[UPDATE_OF_ANOTHER])),
+        Puts(2, Says(1, &[&[0x00, 0x15, 0x03, 0x03, 0x0b]])),
+        Puts(2, Shut(1)),
+    ];
+    assert_eq!(rt; asks_established(rt.alloc(), &script)?, None);
+    Ok(())
+}
+
+// No stamp passes 2^62.
+#[test]
+fn no_stamp_is_left(rt: HostRuntime) -> Result<(), Fail> {
+    let script = [
+        Does(Call::Obey(Command::Start(2)), DID),
+        Takes(
+            2,
+            0x4000_0000_0000_0000,
+            Dial(1),
+            Err(RouterError::StampEnd),
+        ),
+        Takes(2, u64::MAX, Dial(1), Err(RouterError::StampEnd)),
+        Takes(2, 0x3fff_ffff_ffff_ffff, Dial(1), DID),
+        Does(Call::Obey(Command::Stop(2)), Err(RouterError::StampEnd)),
+    ];
+    assert_eq!(rt; asks(rt.alloc(), &script)?, None);
+    Ok(())
+}
+
+fn asks_at_cut(alloc: Global, cut: usize, script: &[Step<'_>]) -> Result<Option<usize>, Fail> {
+    let net = star(alloc, cut, 2)?;
+    asks_of(alloc, &net, 1, &[], script)
+}
+
+// A reset closes the incarnation, and dials the next; a stop closes that.
+#[test]
+fn a_reset_dials_anew(rt: HostRuntime) -> Result<(), Fail> {
+    let script = [
+        Does(Call::Obey(Command::Start(2)), DID),
+        Does(Call::Obey(Command::Reset(2)), DID),
+        Does(Call::Obey(Command::Stop(2)), DID),
+        Puts(2, Dial(1)),
+        Puts(2, Shut(1)),
+        Puts(2, Dial(2)),
+        Puts(2, Shut(2)),
+        IsDrained(2),
+    ];
+    assert_eq!(rt; asks_at_cut(rt.alloc(), 18, &script)?, None);
+    Ok(())
+}
