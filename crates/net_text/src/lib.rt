@@ -50,6 +50,3 @@ pub use lines::{
 };
 pub use sections::{Split, split_at_section};
 pub use tail::Tail;
-
-#[cfg(test)]
-mod tests;

@@ -41,6 +41,3 @@ pub use path::{Asn, Path};
 pub use policy::{Chosen, Only, Policy, Ranked, Shortest};
 pub use refusal::NetError;
 pub use table::PolicyTable;
-
-#[cfg(test)]
-mod tests;

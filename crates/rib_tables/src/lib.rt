@@ -37,6 +37,3 @@ pub use refusal::RibError;
 pub use rib::Rib;
 pub use row::{Peer, Row};
 pub use word::Word;
-
-#[cfg(test)]
-mod tests;

@@ -1,10 +1,10 @@
 //! The tables as plain lists, which each call goes over from one end to the other.
 
-use crate::word::{Word, announced};
-use bgp_codec::Update;
+use bgp_codec::{Attrs, SegmentKind, Update};
 use prefix_lanes::Prefix;
 use ranked_policy::{Asn, Network, Path, Policy};
-use std::alloc::Global;
+use rib_tables::Word;
+use std::alloc::{AllocError, Global};
 use std::test::Fail;
 
 // What a peer says of a prefix, or is told of it.
@@ -32,6 +32,25 @@ pub(super) struct Lists<'a> {
     established: Vec<Asn>,
     originated: Vec<Prefix>,
     kept: Vec<Kept>,
+}
+
+// The numbers of a path that is one AS_SEQUENCE.
+fn only_sequence(attrs: &Attrs) -> Option<&[Asn]> {
+    let Some(segments) = &attrs.path else {
+        return None;
+    };
+    match segments.as_slice() {
+        [only] if only.kind == SegmentKind::AsSequence => Some(only.numbers.as_slice()),
+        _ => None,
+    }
+}
+
+// What these attributes say of the prefixes that are announced with them.
+fn announced(alloc: Global, attrs: &Attrs) -> Result<Word, AllocError> {
+    match only_sequence(attrs) {
+        Some(numbers) => Ok(Word::Sequence(Path::from_slice(alloc, numbers)?)),
+        None => Ok(Word::Other),
+    }
 }
 
 fn last_of<'s>(said: &'s [Said], peer: Asn, prefix: &Prefix) -> &'s [Asn] {

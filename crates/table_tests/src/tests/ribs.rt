@@ -1,25 +1,21 @@
-use super::*;
-use crate::laws::{
+//! The tables of one router, call by call.
+
+use super::{SETTINGS, prefix};
+use bgp_codec::{Attrs, Items, Numbers, Segment, SegmentKind, Update};
+use prefix_lanes::Prefix;
+use ranked_policy::{Asn, NetBuilder, NetError, Network, Path};
+use rib_tables::laws::{
     the_best_is_among_the_paths, the_best_is_one, the_best_is_over_the_words,
     the_last_word_goes_on, the_last_word_is_one, the_last_word_stays, the_word_follows,
     the_words_follow, what_follows_is_the_last_mention,
 };
-use bgp_codec::{Attrs, Items, Numbers, Segment, SegmentKind, Update};
-use prefix_lanes::Prefix;
-use ranked_policy::{Asn, NetBuilder, NetError, Network, Path, Settings};
+use rib_tables::{Rib, RibError, Word};
 use std::alloc::{AllocError, Global};
 use std::process::Abort;
 use std::test::Fail;
 
 mod against_lists;
 mod lists;
-
-const SETTINGS: Settings = Settings {
-    hold: 90,
-    restart: 0,
-    cut: 4096,
-    pipe: 64,
-};
 
 // The prefixes of the tests: the network names all but the last.
 #[derive(Clone, Copy)]
@@ -32,10 +28,6 @@ struct Prefixes {
     far: Prefix,
     // 10.3.0.0/16, which nobody originates.
     stray: Prefix,
-}
-
-fn prefix(addr: u32, len: u8) -> Result<Prefix, &'static str> {
-    Prefix::new(addr, len).ok_or("no prefix is that long")
 }
 
 fn named_prefixes() -> Result<Prefixes, &'static str> {

@@ -1,8 +1,11 @@
 //! What no contract says: that good texts are read where there is memory, and what the definitions
 //! say of single texts.
 
-use super::*;
 use bgp_codec::{Fault, Message, Notice, Octets};
+use net_text::{
+    Code, Refused, fault_lines, message_line, read_assignment, read_network, refused_line,
+    split_at_section, stable_line, truncated_line, unstable_line,
+};
 use ranked_policy::Network;
 use std::alloc::{AllocError, Global};
 use std::process::Abort;

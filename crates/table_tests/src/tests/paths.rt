@@ -1,0 +1,33 @@
+//! Paths, as lists of numbers.
+
+use ranked_policy::Path;
+use std::process::Abort;
+use std::test::Fail;
+
+#[test]
+fn path_lists(rt: HostRuntime) -> Result<(), Fail> {
+    assert!(rt; Path::new(rt.alloc()).is_empty());
+    let long = Path::from_slice(rt.alloc(), &[1, 2, 3, 4, 5, 6, 7, 8, 9])?;
+    path_lists_in(&rt, &long);
+    Ok(())
+}
+
+fn path_lists_in(rt: &impl Abort, long: &Path) {
+    assert_eq!(rt; long.len(), 9);
+    assert!(rt; !long.is_empty());
+}
+
+#[test]
+fn path_equality(rt: HostRuntime) -> Result<(), Fail> {
+    let on = Path::from_router(rt.alloc(), 2, &[3, 1])?;
+    let same = Path::from_slice(rt.alloc(), &[2, 3, 1])?;
+    let other = Path::from_slice(rt.alloc(), &[2, 1])?;
+    path_equality_in(&rt, &on, &same, &other);
+    Ok(())
+}
+
+fn path_equality_in(rt: &impl Abort, on: &Path, same: &Path, other: &Path) {
+    assert_eq!(rt; on.as_slice(), [2, 3, 1].as_slice());
+    assert!(rt; on == same);
+    assert!(rt; on != other);
+}
