@@ -4,16 +4,20 @@ use super::*;
 use ranked_policy::{Items, Link};
 use std::process::Abort;
 
-/// Routers stand by rising number, prefixes by address and then by length.
-#[test]
-fn places(rt: HostRuntime) -> Result<(), Fail> {
-    let mut built = disagree(rt.alloc())?;
-    built.push_origin(4, prefix(TEN, 8)?)?;
-    let net = finished(built)?;
-    places_in(&rt, &net)
+// Each question ensures nothing, so that its answer is not carried along to the next.
+fn stands_at(net: &Network, asn: Asn, place: Option<usize>) -> bool {
+    net.place(asn) == place
 }
 
-fn places_in(rt: &impl Abort, net: &Network) -> Result<(), Fail> {
+fn prefix_stands_at(net: &Network, prefix: &Prefix, place: Option<usize>) -> bool {
+    net.prefix_place(prefix) == place
+}
+
+fn is_origin(net: &Network, asn: Asn, prefix: &Prefix) -> bool {
+    net.is_origin(asn, prefix)
+}
+
+fn router_places(rt: &impl Abort, net: &Network) {
     for (asn, place) in [
         (1, Some(0)),
         (3, Some(2)),
@@ -21,8 +25,11 @@ fn places_in(rt: &impl Abort, net: &Network) -> Result<(), Fail> {
         (0, None),
         (5, None),
     ] {
-        assert_eq!(rt; net.place(asn), place, "{asn}");
+        assert!(rt; stands_at(net, asn, place), "{asn}");
     }
+}
+
+fn prefix_places(rt: &impl Abort, net: &Network) -> Result<(), Fail> {
     for (addr, len, place) in [
         (TEN, 8, Some(0)),
         (0x0a01_0000, 16, Some(1)),
@@ -30,14 +37,54 @@ fn places_in(rt: &impl Abort, net: &Network) -> Result<(), Fail> {
         (TEN, 9, None),
         (0x0c00_0000, 8, None),
     ] {
-        assert_eq!(rt;
-            net.prefix_place(&prefix(addr, len)?),
-            place,
-            "{addr:x}/{len}"
-        );
+        let prefix = prefix(addr, len)?;
+        assert!(rt; prefix_stands_at(net, &prefix, place), "{addr:x}/{len}");
     }
-    assert!(rt; net.is_origin(4, &prefix(TEN, 8)?));
-    assert!(rt; !net.is_origin(1, &prefix(TEN, 8)?));
+    Ok(())
+}
+
+fn places_in(rt: &impl Abort, net: &Network) -> Result<(), Fail> {
+    let eight = prefix(TEN, 8)?;
+    router_places(rt, net);
+    prefix_places(rt, net)?;
+    assert!(rt; is_origin(net, 4, &eight));
+    assert!(rt; !is_origin(net, 1, &eight));
+    Ok(())
+}
+
+// A network of which router 4 originates 10.0.0.0/8 as well.
+fn with_eight(alloc: Global) -> Result<NetBuilder, Fail> {
+    let mut net = disagree(alloc)?;
+    adds_origin(&mut net, 4, prefix(TEN, 8)?)?;
+    Ok(net)
+}
+
+/// Routers stand by rising number, prefixes by address and then by length.
+#[test]
+fn places(rt: HostRuntime) -> Result<(), Fail> {
+    let net = finished(with_eight(rt.alloc())?)?;
+    places_in(&rt, &net)
+}
+
+fn has_settings(net: &Network, settings: Settings) -> bool {
+    net.settings() == settings
+}
+
+fn has_counts(net: &Network, links: usize, origins: usize, routers: usize) -> bool {
+    net.links().len() == links
+        && net.origins().len() == origins
+        && net.built().routers().len() == routers
+}
+
+fn has_peers(alloc: Global, net: &Network, router: Asn, peers: &[Asn]) -> Result<bool, AllocError> {
+    let found = net.peers(alloc, router)?;
+    Ok(found.as_slice() == peers)
+}
+
+fn readers_in(rt: &impl Abort, alloc: Global, net: &Network) -> Result<(), Fail> {
+    assert!(rt; has_settings(net, SETTINGS));
+    assert!(rt; has_counts(net, 5, 2, 4));
+    assert!(rt; has_peers(alloc, net, 2, &[1, 3, 4])?);
     Ok(())
 }
 
@@ -48,13 +95,8 @@ fn readers(rt: HostRuntime) -> Result<(), Fail> {
     readers_in(&rt, alloc, &net)
 }
 
-fn readers_in(rt: &impl Abort, alloc: Global, net: &Network) -> Result<(), Fail> {
-    assert_eq!(rt; net.settings(), SETTINGS);
-    assert_eq!(rt; net.links().len(), 5);
-    assert_eq!(rt; net.origins().len(), 2);
-    assert_eq!(rt; net.built().routers().len(), 4);
-    assert_eq!(rt; net.peers(alloc, 2)?.as_slice(), [1, 3, 4].as_slice());
-    Ok(())
+fn has_links(net: &Network, router: Asn, links: &[Link]) -> bool {
+    net.links_of(router) == links
 }
 
 #[test]
@@ -65,8 +107,49 @@ fn links_of_a_router(rt: HostRuntime) -> Result<(), Fail> {
         Link { one: 2, other: 3 },
         Link { one: 2, other: 4 },
     ];
-    assert_eq!(rt; net.links_of(2), links.as_slice());
-    assert_eq!(rt; net.links_of(5).len(), 0);
+    assert!(rt; has_links(&net, 2, &links));
+    assert!(rt; has_links(&net, 5, &[]));
+    Ok(())
+}
+
+// Whether the network says of a number whether it is a router, linked with 3, and an origin.
+fn is_known(net: &Network, asn: Asn) -> bool {
+    net.has_router(asn)
+}
+
+fn is_found(net: &Network, asn: Asn) -> bool {
+    net.router(asn).is_some()
+}
+
+fn is_linked(net: &Network, one: Asn, other: Asn) -> bool {
+    net.linked(one, other)
+}
+
+fn is_named(net: &Network, prefix: &Prefix) -> bool {
+    net.names(prefix)
+}
+
+const QUESTIONS: [(Asn, bool, bool, bool); 3] = [
+    (1, true, true, true),
+    (4, true, true, false),
+    (5, false, false, false),
+];
+
+fn questions_of_routers(rt: &impl Abort, net: &Network, prefix: &Prefix) {
+    for (asn, known, linked, origin) in QUESTIONS {
+        assert!(rt; is_known(net, asn) == known, "{asn}");
+        assert!(rt; is_found(net, asn) == known, "{asn}");
+        assert!(rt; is_linked(net, 3, asn) == linked, "{asn}");
+        assert!(rt; is_origin(net, asn, prefix) == origin, "{asn}");
+    }
+}
+
+fn questions_in(rt: &impl Abort, net: &Network) -> Result<(), Fail> {
+    let sixteen = prefix(0x0a01_0000, 16)?;
+    let eight = prefix(TEN, 8)?;
+    questions_of_routers(rt, net, &sixteen);
+    assert!(rt; is_named(net, &sixteen));
+    assert!(rt; !is_named(net, &eight));
     Ok(())
 }
 
@@ -76,30 +159,21 @@ fn questions(rt: HostRuntime) -> Result<(), Fail> {
     questions_in(&rt, &net)
 }
 
-fn questions_in(rt: &impl Abort, net: &Network) -> Result<(), Fail> {
-    let sixteen = prefix(0x0a01_0000, 16)?;
-    for (asn, known, linked, origin) in [
-        (1, true, true, true),
-        (4, true, true, false),
-        (5, false, false, false),
-    ] {
-        assert_eq!(rt; net.has_router(asn), known);
-        assert_eq!(rt; net.router(asn).is_some(), known);
-        assert_eq!(rt; net.linked(3, asn), linked);
-        assert_eq!(rt; net.is_origin(asn, &sixteen), origin);
-    }
-    assert!(rt; net.names(&sixteen));
-    assert!(rt; !net.names(&prefix(TEN, 8)?));
-    Ok(())
+fn is_empty_list(alloc: Global) -> bool {
+    let list: Items<Asn> = Items::new(alloc);
+    list.is_empty()
+}
+
+// Whether a list has these numbers, and gives them back.
+fn keeps_two(list: Vec<Asn>) -> bool {
+    let list = Items::from_vec(list);
+    list.len() == 2 && list.into_vec().as_slice() == [1, 2].as_slice()
 }
 
 #[test]
 fn items(rt: HostRuntime) -> Result<(), Fail> {
     let alloc = rt.alloc();
-    let list: Items<Asn> = Items::new(alloc);
-    assert!(rt; list.is_empty());
-    let list = Items::from_vec([1, 2].to_vec(alloc)?);
-    assert_eq!(rt; list.len(), 2);
-    assert_eq!(rt; list.into_vec().as_slice(), [1, 2].as_slice());
+    assert!(rt; is_empty_list(alloc));
+    assert!(rt; keeps_two([1, 2].to_vec(alloc)?));
     Ok(())
 }

@@ -4,6 +4,11 @@ use ranked_policy::Path;
 use std::process::Abort;
 use std::test::Fail;
 
+fn path_lists_in(rt: &impl Abort, long: &Path) {
+    assert_eq!(rt; long.len(), 9);
+    assert!(rt; !long.is_empty());
+}
+
 #[test]
 fn path_lists(rt: HostRuntime) -> Result<(), Fail> {
     assert!(rt; Path::new(rt.alloc()).is_empty());
@@ -12,9 +17,10 @@ fn path_lists(rt: HostRuntime) -> Result<(), Fail> {
     Ok(())
 }
 
-fn path_lists_in(rt: &impl Abort, long: &Path) {
-    assert_eq!(rt; long.len(), 9);
-    assert!(rt; !long.is_empty());
+fn path_equality_in(rt: &impl Abort, on: &Path, same: &Path, other: &Path) {
+    assert_eq!(rt; on.as_slice(), [2, 3, 1].as_slice());
+    assert!(rt; on == same);
+    assert!(rt; on != other);
 }
 
 #[test]
@@ -24,10 +30,4 @@ fn path_equality(rt: HostRuntime) -> Result<(), Fail> {
     let other = Path::from_slice(rt.alloc(), &[2, 1])?;
     path_equality_in(&rt, &on, &same, &other);
     Ok(())
-}
-
-fn path_equality_in(rt: &impl Abort, on: &Path, same: &Path, other: &Path) {
-    assert_eq!(rt; on.as_slice(), [2, 3, 1].as_slice());
-    assert!(rt; on == same);
-    assert!(rt; on != other);
 }

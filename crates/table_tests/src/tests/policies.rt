@@ -7,37 +7,63 @@ use ranked_policy::laws::{
 use ranked_policy::{Chosen, Only, Policy, Ranked, Shortest};
 use std::process::Abort;
 
-/// Prefixes by a number: 10.1.0.0/16, 10.1.2.0/24, 11.0.0.0/8 and one that no router originates.
-fn known_prefix(number: u32) -> Result<Prefix, &'static str> {
-    match number {
-        0 => prefix(0x0a01_0000, 16),
-        1 => prefix(0x0a01_0200, 24),
-        2 => prefix(0x0b00_0000, 8),
-        _ => prefix(0x0c00_0000, 8),
-    }
-}
+// Prefixes by address and length: the last is one that no router originates.
+type At = (u32, u8);
+
+const SIXTEEN: At = (0x0a01_0000, 16);
+
+const TWENTY_FOUR: At = (0x0a01_0200, 24);
+
+const EIGHT: At = (0x0b00_0000, 8);
+
+const STRAY: At = (0x0c00_0000, 8);
 
 /// The origin has its own path alone, whatever its rules say; the longest covering rule names the
 /// paths of the others, as far as they end at the origin; without one every route is permitted.
-const PERMITTED: [(Asn, u32, [Asn; 4], bool); 17] = [
-    (1, 0, [1, 0, 0, 0], true),
-    (1, 0, [1, 2, 0, 0], false),
-    (2, 0, [2, 3, 1, 0], true),
-    (2, 0, [2, 1, 0, 0], true),
-    (2, 0, [2, 0, 0, 0], false),
-    (4, 0, [4, 3, 1, 0], true),
-    (4, 0, [4, 2, 1, 0], true),
-    (4, 0, [4, 2, 3, 1], false),
-    (4, 1, [4, 2, 1, 0], false),
-    (4, 2, [4, 3, 1, 0], true),
-    (4, 2, [4, 3, 2, 1], true),
-    (4, 2, [4, 3, 4, 1], false),
-    (4, 2, [4, 3, 0, 0], false),
-    (4, 2, [3, 1, 0, 0], false),
-    (4, 2, [0, 0, 0, 0], false),
-    (4, 3, [4, 1, 0, 0], false),
-    (1, 3, [1, 0, 0, 0], false),
+const PERMITTED: [(Asn, At, &[Asn], bool); 17] = [
+    (1, SIXTEEN, &[1], true),
+    (1, SIXTEEN, &[1, 2], false),
+    (2, SIXTEEN, &[2, 3, 1], true),
+    (2, SIXTEEN, &[2, 1], true),
+    (2, SIXTEEN, &[2], false),
+    (4, SIXTEEN, &[4, 3, 1], true),
+    (4, SIXTEEN, &[4, 2, 1], true),
+    (4, SIXTEEN, &[4, 2, 3, 1], false),
+    (4, TWENTY_FOUR, &[4, 2, 1], false),
+    (4, EIGHT, &[4, 3, 1], true),
+    (4, EIGHT, &[4, 3, 2, 1], true),
+    (4, EIGHT, &[4, 3, 4, 1], false),
+    (4, EIGHT, &[4, 3], false),
+    (4, EIGHT, &[3, 1], false),
+    (4, EIGHT, &[], false),
+    (4, STRAY, &[4, 1], false),
+    (1, STRAY, &[1], false),
 ];
+
+// The policy of a router for a prefix, where there is such a router.
+fn policy_of<'a>(net: &'a Network, router: Asn, (addr, len): At) -> Option<Chosen<'a>> {
+    let prefix = Prefix::new(addr, len)?;
+    let table = net.policies(router)?;
+    Some(table.for_prefix(&prefix))
+}
+
+fn permits(policy: &Chosen, path: &Path) -> bool {
+    policy.permits(path)
+}
+
+fn is_permitted(alloc: Global, policy: &Chosen, numbers: &[Asn]) -> Result<bool, AllocError> {
+    let path = Path::from_slice(alloc, numbers)?;
+    Ok(permits(policy, &path))
+}
+
+fn permitted_in(rt: &impl Abort, alloc: Global, net: &Network) -> Result<(), Fail> {
+    for (router, at, numbers, want) in PERMITTED {
+        let policy = policy_of(net, router, at).ok_or("no such router")?;
+        let permits = is_permitted(alloc, &policy, numbers)?;
+        assert!(rt; permits == want, "{router}: {numbers:?}");
+    }
+    Ok(())
+}
 
 #[test]
 fn permitted(rt: HostRuntime) -> Result<(), Fail> {
@@ -46,32 +72,37 @@ fn permitted(rt: HostRuntime) -> Result<(), Fail> {
     permitted_in(&rt, alloc, &net)
 }
 
-fn permits(net: &Network, router: Asn, number: u32, path: &Path) -> Result<bool, Fail> {
-    let table = net.policies(router).ok_or("no such router")?;
-    Ok(table.for_prefix(&known_prefix(number)?).permits(path))
+/// By rank, then by length, then by the numbers.
+const PREFERRED: [(Asn, At, &[Asn], &[Asn], bool); 9] = [
+    (1, SIXTEEN, &[1], &[1], false),
+    (2, SIXTEEN, &[2, 3, 1], &[2, 1], true),
+    (2, SIXTEEN, &[2, 1], &[2, 3, 1], false),
+    (2, SIXTEEN, &[2, 1], &[2, 1], false),
+    (4, SIXTEEN, &[4, 3, 1], &[4, 2, 1], true),
+    (4, EIGHT, &[4, 3, 1], &[4, 2, 3, 1], true),
+    (4, EIGHT, &[4, 2, 1], &[4, 3, 1], true),
+    (4, EIGHT, &[4, 3, 1], &[4, 2, 1], false),
+    (4, EIGHT, &[4, 2, 1], &[4, 2, 1], false),
+];
+
+fn prefers(policy: &Chosen, one: &Path, other: &Path) -> bool {
+    policy.prefers(one, other)
 }
 
-fn permitted_in(rt: &impl Abort, alloc: Global, net: &Network) -> Result<(), Fail> {
-    for (router, number, numbers, want) in PERMITTED {
-        let path = short_path(alloc, numbers)?;
-        let permits = permits(net, router, number, &path)?;
-        assert_eq!(rt; permits, want, "{router}: {numbers:?}");
+fn is_preferred(alloc: Global, policy: &Chosen, a: &[Asn], b: &[Asn]) -> Result<bool, AllocError> {
+    let one = Path::from_slice(alloc, a)?;
+    let other = Path::from_slice(alloc, b)?;
+    Ok(prefers(policy, &one, &other))
+}
+
+fn preferred_in(rt: &impl Abort, alloc: Global, net: &Network) -> Result<(), Fail> {
+    for (router, at, a, b, want) in PREFERRED {
+        let policy = policy_of(net, router, at).ok_or("no such router")?;
+        let prefers = is_preferred(alloc, &policy, a, b)?;
+        assert!(rt; prefers == want, "{router}: {a:?} {b:?}");
     }
     Ok(())
 }
-
-/// By rank, then by length, then by the numbers.
-const PREFERRED: [(Asn, u32, [Asn; 4], [Asn; 4], bool); 9] = [
-    (1, 0, [1, 0, 0, 0], [1, 0, 0, 0], false),
-    (2, 0, [2, 3, 1, 0], [2, 1, 0, 0], true),
-    (2, 0, [2, 1, 0, 0], [2, 3, 1, 0], false),
-    (2, 0, [2, 1, 0, 0], [2, 1, 0, 0], false),
-    (4, 0, [4, 3, 1, 0], [4, 2, 1, 0], true),
-    (4, 2, [4, 3, 1, 0], [4, 2, 3, 1], true),
-    (4, 2, [4, 2, 1, 0], [4, 3, 1, 0], true),
-    (4, 2, [4, 3, 1, 0], [4, 2, 1, 0], false),
-    (4, 2, [4, 2, 1, 0], [4, 2, 1, 0], false),
-];
 
 #[test]
 fn preferred(rt: HostRuntime) -> Result<(), Fail> {
@@ -80,29 +111,24 @@ fn preferred(rt: HostRuntime) -> Result<(), Fail> {
     preferred_in(&rt, alloc, &net)
 }
 
-fn prefers(
-    net: &Network,
-    router: Asn,
-    number: u32,
-    one: &Path,
-    other: &Path,
-) -> Result<bool, Fail> {
-    let table = net.policies(router).ok_or("no such router")?;
-    Ok(table.for_prefix(&known_prefix(number)?).prefers(one, other))
-}
-
-fn preferred_in(rt: &impl Abort, alloc: Global, net: &Network) -> Result<(), Fail> {
-    for (router, number, a, b, want) in PREFERRED {
-        let one = short_path(alloc, a)?;
-        let other = short_path(alloc, b)?;
-        let prefers = prefers(net, router, number, &one, &other)?;
-        assert_eq!(rt; prefers, want, "{router}: {a:?} {b:?}");
-    }
-    Ok(())
-}
-
 fn first_of<P: Policy>(policy: &P, a: &Path, b: &Path) -> bool {
     policy.permits(a) && policy.permits(b) && policy.prefers(a, b)
+}
+
+fn each_kind_in(rt: &impl Abort, listed: &[Path], a: &Path, b: &Path) {
+    let ranked = Ranked {
+        paths: listed,
+        origin: Some(1),
+    };
+    let shortest = Shortest {
+        router: 2,
+        origin: Some(1),
+    };
+    assert!(rt; first_of(&ranked, a, b));
+    assert!(rt; first_of(&Chosen::Ranked(ranked), a, b));
+    assert!(rt; first_of(&shortest, b, a));
+    assert!(rt; !first_of(&shortest, a, b));
+    assert!(rt; !first_of(&Only { router: 2 }, a, b));
 }
 
 #[test]
@@ -111,19 +137,7 @@ fn each_kind_of_policy(rt: HostRuntime) -> Result<(), Fail> {
     let listed = paths_of(alloc, &[&[2, 3, 1], &[2, 1]])?;
     let a = Path::from_slice(alloc, &[2, 3, 1])?;
     let b = Path::from_slice(alloc, &[2, 1])?;
-    let ranked = Ranked {
-        paths: listed.as_slice(),
-        origin: Some(1),
-    };
-    let shortest = Shortest {
-        router: 2,
-        origin: Some(1),
-    };
-    assert!(rt; first_of(&ranked, &a, &b));
-    assert!(rt; first_of(&Chosen::Ranked(ranked), &a, &b));
-    assert!(rt; first_of(&shortest, &b, &a));
-    assert!(rt; !first_of(&shortest, &a, &b));
-    assert!(rt; !first_of(&Only { router: 2 }, &a, &b));
+    each_kind_in(&rt, listed.as_slice(), &a, &b);
     Ok(())
 }
 

@@ -2,8 +2,6 @@
 
 use super::lists::Lists;
 use super::*;
-use ranked_policy::Path;
-use std::process::Abort;
 
 const STEPS: u32 = 1500;
 
@@ -28,58 +26,60 @@ impl Dice {
             .unwrap_or(0)
     }
 
-    fn one_of<T: Copy>(&mut self, items: &[T], other: T) -> T {
-        let place = self.roll(u32::try_from(items.len()).unwrap_or(0));
-        match items.get(place as usize) {
-            Some(item) => *item,
-            None => other,
+    fn peer(&mut self) -> Asn {
+        match self.roll(3) {
+            0 => 2,
+            1 => 3,
+            _ => 5,
+        }
+    }
+
+    fn prefix(&mut self, named: &Prefixes) -> Prefix {
+        match self.roll(3) {
+            0 => named.short,
+            1 => named.long,
+            _ => named.far,
+        }
+    }
+
+    // A path that is kept in place of the best.
+    fn path(&mut self) -> [Asn; 3] {
+        match self.roll(3) {
+            0 => [4, 2, 1],
+            1 => [4, 3, 1],
+            _ => [4, 5, 1],
         }
     }
 }
 
-fn ranked(alloc: Global) -> Result<Vec<Path>, AllocError> {
-    let mut ranked = Vec::new(alloc);
-    ranked.push(Path::from_slice(alloc, &[4, 3, 1])?)?;
-    ranked.push(Path::from_slice(alloc, &[4, 2, 1])?)?;
-    Ok(ranked)
-}
-
 // A ring with a chord, prefixes of three origins, and a rule that ranks two paths for one of them.
-fn meshed(alloc: Global) -> Result<Network, Fail> {
-    let named = named_prefixes()?;
-    let mut net = NetBuilder::new(alloc, SETTINGS)?;
-    push_links(
-        &mut net,
-        5,
-        &[(1, 2), (2, 4), (4, 3), (3, 1), (4, 5), (5, 1)],
-    )?;
-    push_origins(&mut net, &named)?;
-    net.push_origin(5, prefix(0x0a00_0000, 8)?)?;
-    net.push_rule(ROUTER, named.long, ranked(alloc)?)?;
-    match net.finish() {
-        Ok(net) => Ok(net),
-        Err((_, error)) => Err(error.into()),
-    }
+fn push_mesh(alloc: Global, net: &mut NetBuilder, named: &Prefixes) -> Result<(), Fail> {
+    push_links(net, 5, &[(1, 2), (2, 4), (4, 3), (3, 1), (4, 5), (5, 1)])?;
+    push_origins(net, named)?;
+    adds_origin(net, 5, prefix(0x0a00_0000, 8)?)?;
+    push_rule(alloc, net, ROUTER, named.long, &[&[4, 3, 1], &[4, 2, 1]])
 }
 
-// An AS_PATH of a peer: mostly one AS_SEQUENCE, some of them long or through the router itself.
-fn random_path(
-    alloc: Global,
-    dice: &mut Dice,
-    peer: Asn,
-) -> Result<Option<Items<Segment>>, AllocError> {
+fn meshed(alloc: Global, named: &Prefixes) -> Result<Network, Fail> {
+    let mut net = NetBuilder::new(alloc, SETTINGS)?;
+    push_mesh(alloc, &mut net, named)?;
+    Ok(finished(net)?)
+}
+
+// An AS_PATH of a peer, by a number below 10: mostly one AS_SEQUENCE, some of them long or through
+// the router itself.
+fn path_by(alloc: Global, number: u32, peer: Asn) -> AsPath {
     let kind = SegmentKind::AsSequence;
-    let path = match dice.roll(10) {
-        0 => None,
-        1 => Some(one_segment(alloc, SegmentKind::AsSet, &[peer, 1])?),
-        2 => Some(two_segments(alloc, &[peer], &[1])?),
-        3 => Some(one_segment(alloc, kind, &[peer, 4, 1])?),
-        4 => Some(one_segment(alloc, kind, &[peer, 9, 8, 7, 6, 10, 11, 12, 1])?),
-        5 => Some(one_segment(alloc, kind, &[peer, 9, 1])?),
-        6 => Some(one_segment(alloc, kind, &[5])?),
-        _ => Some(one_segment(alloc, kind, &[peer, 1])?),
-    };
-    Ok(path)
+    match number {
+        0 => Ok(None),
+        1 => one_segment(alloc, SegmentKind::AsSet, &[peer, 1]),
+        2 => two_segments(alloc, &[peer], &[1]),
+        3 => one_segment(alloc, kind, &[peer, 4, 1]),
+        4 => one_segment(alloc, kind, &[peer, 9, 8, 7, 6, 10, 11, 12, 1]),
+        5 => one_segment(alloc, kind, &[peer, 9, 1]),
+        6 => one_segment(alloc, kind, &[5]),
+        _ => one_segment(alloc, kind, &[peer, 1]),
+    }
 }
 
 // Some of these prefixes.
@@ -93,6 +93,24 @@ fn some_of(alloc: Global, dice: &mut Dice, prefixes: &[Prefix]) -> Result<Vec<Pr
     Ok(some)
 }
 
+// An UPDATE that withdraws these prefixes.
+fn withdrawing(
+    alloc: Global,
+    dice: &mut Dice,
+    peer: Asn,
+    withdrawn: &[Prefix],
+    prefixes: &[Prefix],
+) -> Result<Update, AllocError> {
+    let number = dice.roll(10);
+    let nlri = some_of(alloc, dice, prefixes)?;
+    update(
+        alloc,
+        withdrawn,
+        path_by(alloc, number, peer),
+        nlri.as_slice(),
+    )
+}
+
 fn random_update(
     alloc: Global,
     dice: &mut Dice,
@@ -100,42 +118,49 @@ fn random_update(
     prefixes: &[Prefix],
 ) -> Result<Update, AllocError> {
     let withdrawn = some_of(alloc, dice, prefixes)?;
-    let path = random_path(alloc, dice, peer)?;
-    let nlri = some_of(alloc, dice, prefixes)?;
-    update(alloc, withdrawn.as_slice(), path, nlri.as_slice())
+    withdrawing(alloc, dice, peer, withdrawn.as_slice(), prefixes)
 }
 
-// Calls on both; each ensures nothing, so that one is not carried along to the next.
-fn both_hear(rib: &mut Rib, lists: &mut Lists, peer: Asn, update: &Update) -> Result<(), Fail> {
-    hear(rib, peer, update)?;
-    Ok(lists.hear(peer, update)?)
+// Calls on both, and whether both were made; each ensures nothing, so that one is not carried along to
+// the next.
+fn both_hear(rib: &mut Rib, lists: &mut Lists, peer: Asn, update: &Update) -> bool {
+    hear(rib, peer, update) && lists.hear(peer, update).is_ok()
 }
 
-fn both_tell(rib: &mut Rib, lists: &mut Lists, peer: Asn, prefix: &Prefix) -> Result<(), Fail> {
-    tells(rib, peer, prefix)?;
-    Ok(lists.tell(peer, prefix)?)
+fn both_hear_some(
+    alloc: Global,
+    dice: &mut Dice,
+    rib: &mut Rib,
+    lists: &mut Lists,
+    peer: Asn,
+    prefixes: &[Prefix],
+) -> bool {
+    match random_update(alloc, dice, peer, prefixes) {
+        Ok(update) => both_hear(rib, lists, peer, &update),
+        Err(_) => false,
+    }
 }
 
-fn both_come_up(rib: &mut Rib, lists: &mut Lists, peer: Asn) -> Result<(), Fail> {
-    comes_up(rib, peer)?;
-    Ok(lists.come_up(peer)?)
+fn both_tell(rib: &mut Rib, lists: &mut Lists, peer: Asn, prefix: &Prefix) -> bool {
+    tells(rib, peer, prefix) && lists.tell(peer, prefix).is_ok()
 }
 
-fn both_forget(rib: &mut Rib, lists: &mut Lists, peer: Asn) -> Result<(), Fail> {
-    forgets(rib, peer)?;
+fn both_come_up(rib: &mut Rib, lists: &mut Lists, peer: Asn) -> bool {
+    comes_up(rib, peer) && lists.come_up(peer).is_ok()
+}
+
+fn both_forget(rib: &mut Rib, lists: &mut Lists, peer: Asn) -> bool {
     lists.forget(peer);
-    Ok(())
+    forgets(rib, peer)
 }
 
-fn both_originate(rib: &mut Rib, lists: &mut Lists, prefix: &Prefix) -> Result<(), Fail> {
-    originates(rib, prefix)?;
-    Ok(lists.originate(prefix)?)
+fn both_originate(rib: &mut Rib, lists: &mut Lists, prefix: &Prefix) -> bool {
+    originates(rib, prefix) && lists.originate(prefix).is_ok()
 }
 
-fn both_withdraw(rib: &mut Rib, lists: &mut Lists, prefix: &Prefix) -> Result<(), Fail> {
-    withdraws(rib, prefix)?;
+fn both_withdraw(rib: &mut Rib, lists: &mut Lists, prefix: &Prefix) -> bool {
     lists.withdraw(prefix);
-    Ok(())
+    withdraws(rib, prefix)
 }
 
 fn both_keep(
@@ -144,22 +169,26 @@ fn both_keep(
     lists: &mut Lists,
     prefix: &Prefix,
     path: &[Asn],
-) -> Result<(), Fail> {
-    keeps(alloc, rib, prefix, path)?;
-    Ok(lists.set(prefix, Path::from_slice(alloc, path)?)?)
+) -> bool {
+    keeps(alloc, rib, prefix, path) && lists.keep(prefix, path).is_ok()
 }
 
-fn both_clear(rib: &mut Rib, lists: &mut Lists) {
-    rib.clear();
+fn both_clear(rib: &mut Rib, lists: &mut Lists) -> bool {
+    clears(rib);
     lists.clear();
+    true
 }
 
-fn both_decide(alloc: Global, rib: &mut Rib, lists: &mut Lists) -> Result<(), Fail> {
-    if let Some(prefix) = decides(alloc, rib)? {
-        let best = lists.best(&prefix)?;
-        lists.set(&prefix, best)?;
+fn decided(alloc: Global, rib: &mut Rib) -> Result<Option<Prefix>, RibError> {
+    rib.decide(alloc)
+}
+
+fn both_decide(alloc: Global, rib: &mut Rib, lists: &mut Lists) -> bool {
+    match decided(alloc, rib) {
+        Ok(Some(prefix)) => lists.keep_best(&prefix).is_ok(),
+        Ok(None) => true,
+        Err(_) => false,
     }
-    Ok(())
 }
 
 // One random call on both.
@@ -168,90 +197,146 @@ fn step(
     dice: &mut Dice,
     rib: &mut Rib,
     lists: &mut Lists,
+    named: &Prefixes,
     prefixes: &[Prefix],
-) -> Result<(), Fail> {
-    let named = named_prefixes()?;
-    let peer = dice.one_of(&[2u32, 3, 5], 2);
-    let prefix = dice.one_of(&[named.short, named.long, named.far], named.far);
+) -> bool {
+    let peer = dice.peer();
+    let prefix = dice.prefix(named);
     match dice.roll(40) {
-        0..=13 => {
-            let update = random_update(alloc, dice, peer, prefixes)?;
-            both_hear(rib, lists, peer, &update)
-        }
+        0..=13 => both_hear_some(alloc, dice, rib, lists, peer, prefixes),
         14..=21 => both_tell(rib, lists, peer, &prefix),
         22..=24 => both_come_up(rib, lists, peer),
         25 | 26 => both_forget(rib, lists, peer),
         27 | 28 => both_originate(rib, lists, &named.far),
         29 => both_withdraw(rib, lists, &named.far),
-        30 | 31 => {
-            let path = dice.one_of(&[[4u32, 2, 1], [4, 3, 1], [4, 5, 1]], [4, 9, 1]);
-            both_keep(alloc, rib, lists, &prefix, &path)
-        }
-        32 => {
-            both_clear(rib, lists);
-            Ok(())
-        }
+        30 | 31 => both_keep(alloc, rib, lists, &prefix, &dice.path()),
+        32 => both_clear(rib, lists),
         _ => both_decide(alloc, rib, lists),
     }
 }
 
 // Both say the same of a peer.
-fn same_of_peer(
-    rt: &impl Abort,
-    rib: &Rib,
-    lists: &Lists,
-    peer: Asn,
-    prefixes: &[Prefix],
-) -> Result<(), Fail> {
-    assert_eq!(rt; rib.is_established(peer), lists.is_established(peer));
-    assert_eq!(rt; waiting(rib, peer)?, lists.waiting(peer));
-    for prefix in prefixes {
-        if rib.network().names(prefix) {
-            assert_eq!(rt; heard(rib, peer, prefix), lists.heard(peer, prefix));
-            let is_other = is_heard_as_other(rib, peer, prefix);
-            assert_eq!(rt; is_other, lists.heard_other(peer, prefix));
-            assert_eq!(rt; sent(rib, peer, prefix), lists.sent(peer, prefix));
-        } else {
-            assert!(rt; !is_heard(rib, peer, prefix));
-        }
+fn same_session(rib: &Rib, lists: &Lists, peer: Asn) -> bool {
+    is_established(rib, peer) == lists.is_established(peer)
+}
+
+fn same_waiting(rib: &Rib, lists: &Lists, peer: Asn) -> bool {
+    waits(rib, peer, lists.waiting(peer))
+}
+
+// Both say the same of a peer and a prefix that is named.
+fn same_heard(rib: &Rib, lists: &Lists, peer: Asn, prefix: &Prefix) -> bool {
+    heard(rib, peer, prefix) == lists.heard(peer, prefix)
+}
+
+fn same_other(rib: &Rib, lists: &Lists, peer: Asn, prefix: &Prefix) -> bool {
+    is_heard_as_other(rib, peer, prefix) == lists.heard_other(peer, prefix)
+}
+
+fn same_sent(rib: &Rib, lists: &Lists, peer: Asn, prefix: &Prefix) -> bool {
+    sent(rib, peer, prefix) == lists.sent(peer, prefix)
+}
+
+fn is_named(rib: &Rib, prefix: &Prefix) -> bool {
+    rib.network().names(prefix)
+}
+
+fn same_words(rt: &impl Abort, rib: &Rib, lists: &Lists, peer: Asn, prefix: &Prefix) {
+    if is_named(rib, prefix) {
+        assert!(rt; same_heard(rib, lists, peer, prefix));
+        assert!(rt; same_other(rib, lists, peer, prefix));
+        assert!(rt; same_sent(rib, lists, peer, prefix));
+    } else {
+        assert!(rt; !is_heard(rib, peer, prefix));
     }
-    Ok(())
+}
+
+fn same_of_peer(rt: &impl Abort, rib: &Rib, lists: &Lists, peer: Asn, prefixes: &[Prefix]) {
+    assert!(rt; same_session(rib, lists, peer));
+    assert!(rt; same_waiting(rib, lists, peer));
+    for prefix in prefixes {
+        same_words(rt, rib, lists, peer, prefix);
+    }
+}
+
+// Both say the same of a prefix.
+fn same_kept(rib: &Rib, lists: &Lists, prefix: &Prefix) -> bool {
+    keeps_path(rib, prefix, lists.path(prefix))
+}
+
+fn same_originated(rib: &Rib, lists: &Lists, prefix: &Prefix) -> bool {
+    is_originated(rib, prefix) == lists.is_originated(prefix)
+}
+
+fn same_best(alloc: Global, rib: &Rib, lists: &Lists, prefix: &Prefix) -> bool {
+    match lists.best(prefix) {
+        Ok(path) => best_is(alloc, rib, prefix, path.as_slice()),
+        Err(_) => false,
+    }
+}
+
+fn same_of_prefix(rt: &impl Abort, alloc: Global, rib: &Rib, lists: &Lists, prefix: &Prefix) {
+    assert!(rt; same_kept(rib, lists, prefix));
+    assert!(rt; same_originated(rib, lists, prefix));
+    if is_named(rib, prefix) {
+        assert!(rt; same_best(alloc, rib, lists, prefix));
+    }
+}
+
+// Both say the same of what is to be done.
+fn same_awaited(rib: &Rib, awaited: bool) -> bool {
+    is_awaited(rib) == awaited
+}
+
+fn same_pending(rib: &mut Rib, pending: bool) -> bool {
+    is_pending(rib) == pending
+}
+
+fn same_dirty(rib: &mut Rib, lists: &Lists, awaited: bool) -> bool {
+    match lists.dirty() {
+        Ok(dirty) => same_pending(rib, awaited || dirty.is_some()) && is_dirty(rib, dirty),
+        Err(_) => false,
+    }
 }
 
 // Both say the same.
-fn same(
-    alloc: Global,
-    rt: &impl Abort,
-    rib: &mut Rib,
-    lists: &Lists,
-    prefixes: &[Prefix],
-) -> Result<(), Fail> {
+fn same(rt: &impl Abort, alloc: Global, rib: &mut Rib, lists: &Lists, prefixes: &[Prefix]) {
     for peer in [2u32, 3, 5] {
-        same_of_peer(rt, rib, lists, peer, prefixes)?;
+        same_of_peer(rt, rib, lists, peer, prefixes);
     }
     for prefix in prefixes {
-        assert_eq!(rt; kept(rib, prefix), lists.path(prefix));
-        assert_eq!(rt; rib.is_originated(prefix), lists.is_originated(prefix));
-        if rib.network().names(prefix) {
-            let found = best(alloc, rib, prefix)?;
-            assert_eq!(rt; found.as_slice(), lists.best(prefix)?.as_slice());
+        same_of_prefix(rt, alloc, rib, lists, prefix);
+    }
+    let awaited = lists.is_awaited();
+    assert!(rt; same_awaited(rib, awaited));
+    assert!(rt; same_dirty(rib, lists, awaited));
+}
+
+// How often a path was kept for one of the prefixes, of so many random calls.
+fn play(
+    rt: &impl Abort,
+    alloc: Global,
+    rib: &mut Rib,
+    lists: &mut Lists,
+    named: &Prefixes,
+    prefixes: &[Prefix],
+) -> u32 {
+    let mut dice = Dice { state: 7 };
+    let mut decided = 0u32;
+    for _ in 0..STEPS {
+        assert!(rt; step(alloc, &mut dice, rib, lists, named, prefixes));
+        same(rt, alloc, rib, lists, prefixes);
+        if !keeps_path(rib, &named.long, &[]) {
+            decided = decided.saturating_add(1);
         }
     }
-    let dirty = lists.dirty()?;
-    let awaited = lists.waiting(2).is_some()
-        || lists.waiting(3).is_some()
-        || lists.waiting(5).is_some();
-    assert_eq!(rt; rib.is_awaited(), awaited);
-    assert_eq!(rt; rib.is_pending(), awaited || dirty.is_some());
-    assert_eq!(rt; rib.dirty(), dirty);
-    Ok(())
+    decided
 }
 
 #[test]
 fn random_calls(rt: HostRuntime) -> Result<(), Fail> {
     let alloc = rt.alloc();
     let named = named_prefixes()?;
-    let net = meshed(alloc)?;
     let prefixes = [
         prefix(0x0a00_0000, 8)?,
         named.short,
@@ -259,17 +344,10 @@ fn random_calls(rt: HostRuntime) -> Result<(), Fail> {
         named.far,
         named.stray,
     ];
-    let mut dice = Dice { state: 7 };
-    let mut rib = tables(alloc, &net, ROUTER)?;
+    let net = meshed(alloc, &named)?;
+    let mut rib = tables(alloc, &net, ROUTER).ok_or("no tables")?;
     let mut lists = Lists::new(alloc, &net, ROUTER);
-    let mut decided = 0u32;
-    for _ in 0..STEPS {
-        step(alloc, &mut dice, &mut rib, &mut lists, &prefixes)?;
-        same(alloc, &rt, &mut rib, &lists, &prefixes)?;
-        if !rib.path(&named.long).is_empty() {
-            decided = decided.saturating_add(1);
-        }
-    }
+    let decided = play(&rt, alloc, &mut rib, &mut lists, &named, &prefixes);
     assert!(rt; decided > 100);
     Ok(())
 }

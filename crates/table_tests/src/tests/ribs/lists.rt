@@ -2,10 +2,9 @@
 
 use bgp_codec::{Attrs, SegmentKind, Update};
 use prefix_lanes::Prefix;
-use ranked_policy::{Asn, Network, Path, Policy};
+use ranked_policy::{Asn, Chosen, Network, Path, Policy};
 use rib_tables::Word;
 use std::alloc::{AllocError, Global};
-use std::test::Fail;
 
 // What a peer says of a prefix, or is told of it.
 #[derive(Drop)]
@@ -71,6 +70,14 @@ fn is_other(said: &[Said], peer: Asn, prefix: &Prefix) -> bool {
     false
 }
 
+fn permits(policy: &Chosen, path: &Path) -> bool {
+    policy.permits(path)
+}
+
+fn prefers(policy: &Chosen, one: &Path, other: &Path) -> bool {
+    policy.prefers(one, other)
+}
+
 impl<'a> Lists<'a> {
     pub(super) fn new(alloc: Global, network: &'a Network, router: Asn) -> Lists<'a> {
         Lists {
@@ -85,22 +92,23 @@ impl<'a> Lists<'a> {
         }
     }
 
-    pub(super) fn hear(&mut self, peer: Asn, update: &Update) -> Result<(), Fail> {
+    fn hear_word(&mut self, peer: Asn, prefix: &Prefix, word: Word) -> Result<(), AllocError> {
+        self.heard.push(Said {
+            peer,
+            prefix: *prefix,
+            word,
+        })?;
+        Ok(())
+    }
+
+    pub(super) fn hear(&mut self, peer: Asn, update: &Update) -> Result<(), AllocError> {
         for prefix in update.withdrawn.as_slice() {
             let word = Word::Sequence(Path::new(self.alloc));
-            self.heard.push(Said {
-                peer,
-                prefix: *prefix,
-                word,
-            })?;
+            self.hear_word(peer, prefix, word)?;
         }
         for prefix in update.nlri.as_slice() {
             let word = announced(self.alloc, &update.attrs)?;
-            self.heard.push(Said {
-                peer,
-                prefix: *prefix,
-                word,
-            })?;
+            self.hear_word(peer, prefix, word)?;
         }
         Ok(())
     }
@@ -117,7 +125,7 @@ impl<'a> Lists<'a> {
         last_of(self.sent.as_slice(), peer, prefix)
     }
 
-    pub(super) fn tell(&mut self, peer: Asn, prefix: &Prefix) -> Result<(), Fail> {
+    pub(super) fn tell(&mut self, peer: Asn, prefix: &Prefix) -> Result<(), AllocError> {
         let path = Path::from_slice(self.alloc, self.path(prefix))?;
         self.sent.push(Said {
             peer,
@@ -127,8 +135,8 @@ impl<'a> Lists<'a> {
         Ok(())
     }
 
-    pub(super) fn come_up(&mut self, peer: Asn) -> Result<(), Fail> {
-        if !self.established.contains(&peer) {
+    pub(super) fn come_up(&mut self, peer: Asn) -> Result<(), AllocError> {
+        if !self.is_established(peer) {
             self.established.push(peer)?;
         }
         Ok(())
@@ -144,7 +152,7 @@ impl<'a> Lists<'a> {
         self.established.retain(|one| *one != peer);
     }
 
-    pub(super) fn originate(&mut self, prefix: &Prefix) -> Result<(), Fail> {
+    pub(super) fn originate(&mut self, prefix: &Prefix) -> Result<(), AllocError> {
         self.originated.push(*prefix)?;
         Ok(())
     }
@@ -157,12 +165,22 @@ impl<'a> Lists<'a> {
         self.originated.contains(prefix)
     }
 
-    pub(super) fn set(&mut self, prefix: &Prefix, path: Path) -> Result<(), Fail> {
+    fn set(&mut self, prefix: &Prefix, path: Path) -> Result<(), AllocError> {
         self.kept.push(Kept {
             prefix: *prefix,
             path,
         })?;
         Ok(())
+    }
+
+    pub(super) fn keep(&mut self, prefix: &Prefix, path: &[Asn]) -> Result<(), AllocError> {
+        let path = Path::from_slice(self.alloc, path)?;
+        self.set(prefix, path)
+    }
+
+    pub(super) fn keep_best(&mut self, prefix: &Prefix) -> Result<(), AllocError> {
+        let best = self.best(prefix)?;
+        self.set(prefix, best)
     }
 
     pub(super) fn path(&self, prefix: &Prefix) -> &[Asn] {
@@ -179,44 +197,83 @@ impl<'a> Lists<'a> {
         self.originated.clear();
     }
 
-    // The best, by paths that are made.
-    pub(super) fn best(&self, prefix: &Prefix) -> Result<Path, Fail> {
-        if self.network.is_origin(self.router, prefix) {
-            return self.own(prefix);
-        }
-        let Some(table) = self.network.policies(self.router) else {
-            return Err("it is a router".into());
-        };
-        let policy = table.for_prefix(prefix);
-        let mut best = Path::new(self.alloc);
-        for peer in self.established.as_slice() {
-            let rest = self.heard(*peer, prefix);
-            let choice = Path::from_router(self.alloc, self.router, rest)?;
-            if !rest.is_empty()
-                && policy.permits(&choice)
-                && (best.is_empty() || policy.prefers(&choice, &best))
-            {
-                best = choice;
-            }
-        }
-        Ok(best)
+    fn is_origin(&self, prefix: &Prefix) -> bool {
+        self.network.is_origin(self.router, prefix)
     }
 
-    fn own(&self, prefix: &Prefix) -> Result<Path, Fail> {
+    fn policy(&self, prefix: &Prefix) -> Option<Chosen<'a>> {
+        let table = self.network.policies(self.router)?;
+        Some(table.for_prefix(prefix))
+    }
+
+    // The best, by paths that are made. There is none where there is no such router.
+    pub(super) fn best(&self, prefix: &Prefix) -> Result<Path, AllocError> {
+        if self.is_origin(prefix) {
+            return self.own(prefix);
+        }
+        match self.policy(prefix) {
+            Some(policy) => self.chosen(&policy, prefix),
+            None => Ok(Path::new(self.alloc)),
+        }
+    }
+
+    fn own(&self, prefix: &Prefix) -> Result<Path, AllocError> {
         if self.is_originated(prefix) {
-            Ok(Path::from_slice(self.alloc, &[self.router])?)
+            Path::from_slice(self.alloc, &[self.router])
         } else {
             Ok(Path::new(self.alloc))
         }
     }
 
-    pub(super) fn dirty(&self) -> Result<Option<Prefix>, Fail> {
+    fn chosen(&self, policy: &Chosen, prefix: &Prefix) -> Result<Path, AllocError> {
+        let mut best: &[Asn] = &[];
+        for peer in self.established.as_slice() {
+            let rest = self.heard(*peer, prefix);
+            if !rest.is_empty() && self.is_better(policy, rest, best)? {
+                best = rest;
+            }
+        }
+        if best.is_empty() {
+            return Ok(Path::new(self.alloc));
+        }
+        Path::from_router(self.alloc, self.router, best)
+    }
+
+    // Whether the path along this one is permitted, and better than that along the best so far.
+    fn is_better(&self, policy: &Chosen, rest: &[Asn], best: &[Asn]) -> Result<bool, AllocError> {
+        let choice = Path::from_router(self.alloc, self.router, rest)?;
+        if best.is_empty() {
+            return Ok(permits(policy, &choice));
+        }
+        self.comes_before(policy, &choice, best)
+    }
+
+    fn comes_before(
+        &self,
+        policy: &Chosen,
+        choice: &Path,
+        best: &[Asn],
+    ) -> Result<bool, AllocError> {
+        let best = Path::from_router(self.alloc, self.router, best)?;
+        Ok(permits(policy, choice) && prefers(policy, choice, &best))
+    }
+
+    fn is_settled(&self, prefix: &Prefix) -> Result<bool, AllocError> {
+        let best = self.best(prefix)?;
+        Ok(best.as_slice() == self.path(prefix))
+    }
+
+    pub(super) fn dirty(&self) -> Result<Option<Prefix>, AllocError> {
         for origin in self.network.origins() {
-            if self.best(&origin.prefix)?.as_slice() != self.path(&origin.prefix) {
+            if !self.is_settled(&origin.prefix)? {
                 return Ok(Some(origin.prefix));
             }
         }
         Ok(None)
+    }
+
+    fn is_served(&self, peer: Asn, prefix: &Prefix) -> bool {
+        self.sent(peer, prefix) == self.path(prefix)
     }
 
     pub(super) fn waiting(&self, peer: Asn) -> Option<Prefix> {
@@ -224,10 +281,14 @@ impl<'a> Lists<'a> {
             return None;
         }
         for origin in self.network.origins() {
-            if self.sent(peer, &origin.prefix) != self.path(&origin.prefix) {
+            if !self.is_served(peer, &origin.prefix) {
                 return Some(origin.prefix);
             }
         }
         None
+    }
+
+    pub(super) fn is_awaited(&self) -> bool {
+        self.waiting(2).is_some() || self.waiting(3).is_some() || self.waiting(5).is_some()
     }
 }
