@@ -123,26 +123,34 @@ const LINKS: [(Asn, Asn, Answer); 6] = [
     (99, 1, UNKNOWN),
 ];
 
-fn link_refusals_in(rt: &impl Abort, net: &mut NetBuilder) {
+fn refused_links(rt: &impl Abort, net: &mut NetBuilder) {
     for (a, b, want) in LINKS {
         assert!(rt; is(adds_link(net, a, b), want), "{a} {b}");
     }
 }
 
-fn link_limit_in(rt: &impl Abort, net: &mut NetBuilder) {
+fn sixteen_links(rt: &impl Abort, net: &mut NetBuilder) {
     for i in 3..18u32 {
         assert!(rt; is(adds_link(net, 1, i), Ok(())), "at {i}");
     }
+}
+
+fn links_of_a_full_router(rt: &impl Abort, net: &mut NetBuilder) {
     for (a, b) in [(1, 18), (18, 1)] {
         assert!(rt; is(adds_link(net, a, b), LIMIT), "{a} {b}");
     }
+}
+
+fn link_refusals_in(rt: &impl Abort, net: &mut NetBuilder) {
+    refused_links(rt, net);
+    sixteen_links(rt, net);
+    links_of_a_full_router(rt, net);
 }
 
 #[test]
 fn link_refusals(rt: HostRuntime) -> Result<(), Fail> {
     let mut net = line(rt.alloc(), 18)?;
     link_refusals_in(&rt, &mut net);
-    link_limit_in(&rt, &mut net);
     Ok(())
 }
 
@@ -154,26 +162,31 @@ const ORIGINS: [(Asn, Answer); 5] = [
     (9, REPEATED),
 ];
 
-fn origin_refusals_in(rt: &impl Abort, net: &mut NetBuilder) -> Result<(), Fail> {
-    let eight = prefix(TEN, 8)?;
+// Whether a builder answers to an origin of a prefix what is wanted.
+fn origin_is(net: &mut NetBuilder, router: Asn, addr: u32, len: u8, want: Answer) -> bool {
+    match Prefix::new(addr, len) {
+        Some(prefix) => is(adds_origin(net, router, prefix), want),
+        None => false,
+    }
+}
+
+fn refused_origins(rt: &impl Abort, net: &mut NetBuilder) {
     for (asn, want) in ORIGINS {
-        assert!(rt; is(adds_origin(net, asn, eight), want), "{asn}");
+        assert!(rt; origin_is(net, asn, TEN, 8, want), "{asn}");
     }
-    Ok(())
 }
 
-fn origin_limit_in(rt: &impl Abort, net: &mut NetBuilder) -> Result<(), Fail> {
+fn many_origins(rt: &impl Abort, net: &mut NetBuilder) {
     for i in 0..255u32 {
-        let next = prefix(254u32.wrapping_sub(i) << 8, 24)?;
-        assert!(rt; is(adds_origin(net, 1, next), Ok(())), "at {i}");
+        assert!(rt;
+            origin_is(net, 1, 254u32.wrapping_sub(i) << 8, 24, Ok(())),
+            "at {i}"
+        );
     }
-    assert!(rt; is(adds_origin(net, 1, prefix(TEN, 9)?), LIMIT));
-    assert!(rt; is(adds_origin(net, 2, prefix(0, 24)?), REPEATED));
-    Ok(())
 }
 
-// Whether the prefixes rise.
-fn are_in_order(origins: &[Origin]) -> bool {
+// Whether these are so many, and the prefixes rise.
+fn are_in_order(origins: &[Origin], count: usize) -> bool {
     let mut last = None;
     for origin in origins {
         if last >= Some(origin.prefix) {
@@ -181,16 +194,21 @@ fn are_in_order(origins: &[Origin]) -> bool {
         }
         last = Some(origin.prefix);
     }
-    true
+    origins.len() == count
+}
+
+fn origin_refusals_in(rt: &impl Abort, net: &mut NetBuilder) {
+    refused_origins(rt, net);
+    many_origins(rt, net);
+    assert!(rt; origin_is(net, 1, TEN, 9, LIMIT));
+    assert!(rt; origin_is(net, 2, 0, 24, REPEATED));
+    assert!(rt; are_in_order(net.origins(), 256));
 }
 
 #[test]
 fn origin_refusals(rt: HostRuntime) -> Result<(), Fail> {
     let mut net = line(rt.alloc(), 2)?;
-    origin_refusals_in(&rt, &mut net)?;
-    origin_limit_in(&rt, &mut net)?;
-    assert!(rt; are_in_order(net.origins()));
-    assert_eq!(rt; net.origins().len(), 256);
+    origin_refusals_in(&rt, &mut net);
     Ok(())
 }
 
@@ -206,23 +224,39 @@ const RULES: [(Asn, &[&[Asn]], Answer); 9] = [
     (2, &[], REPEATED),
 ];
 
-// Gives a router the rule of these paths.
-fn adds_rule_of(
+// Whether a builder answers to a rule of these paths what is wanted.
+fn rule_of_is(
+    net: &mut NetBuilder,
+    router: Asn,
+    addr: u32,
+    len: u8,
+    paths: Vec<Path>,
+    want: Answer,
+) -> bool {
+    match Prefix::new(addr, len) {
+        Some(prefix) => is(adds_rule(net, router, prefix, paths), want),
+        None => false,
+    }
+}
+
+fn rule_is(
     alloc: Global,
     net: &mut NetBuilder,
     router: Asn,
-    prefix: Prefix,
+    len: u8,
     lists: &[&[Asn]],
-) -> Result<Answer, AllocError> {
+    want: Answer,
+) -> Result<bool, AllocError> {
     let paths = paths_of(alloc, lists)?;
-    Ok(adds_rule(net, router, prefix, paths))
+    Ok(rule_of_is(net, router, TEN, len, paths, want))
 }
 
 fn rule_refusals_in(rt: &impl Abort, alloc: Global, net: &mut NetBuilder) -> Result<(), Fail> {
-    let nine = prefix(TEN, 9)?;
     for (router, lists, want) in RULES {
-        let answer = adds_rule_of(alloc, net, router, nine, lists)?;
-        assert!(rt; is(answer, want), "{router} {lists:?}");
+        assert!(rt;
+            rule_is(alloc, net, router, 9, lists, want)?,
+            "{router} {lists:?}"
+        );
     }
     Ok(())
 }
@@ -234,14 +268,23 @@ fn rule_refusals(rt: HostRuntime) -> Result<(), Fail> {
     rule_refusals_in(&rt, alloc, &mut net)
 }
 
-const LONG: [Asn; 17] = [1, 2, 3, 4, 5, 6, 7, 8, 9, 10, 11, 12, 13, 14, 15, 16, 17];
+const LENGTHS: [(u8, &[&[Asn]], Answer); 2] = [
+    (
+        1,
+        &[&[1, 2, 3, 4, 5, 6, 7, 8, 9, 10, 11, 12, 13, 14, 15, 16]],
+        Ok(()),
+    ),
+    (
+        2,
+        &[&[1, 2, 3, 4, 5, 6, 7, 8, 9, 10, 11, 12, 13, 14, 15, 16, 17]],
+        Err(NetError::TooLong),
+    ),
+];
 
-fn path_limit_in(rt: &impl Abort, alloc: Global, net: &mut NetBuilder) -> Result<(), Fail> {
-    let (sixteen, _) = LONG.split_at(16);
-    let answer = adds_rule_of(alloc, net, 1, prefix(0, 1)?, &[sixteen])?;
-    assert!(rt; is(answer, Ok(())));
-    let answer = adds_rule_of(alloc, net, 1, prefix(0, 2)?, &[&LONG])?;
-    assert!(rt; is(answer, Err(NetError::TooLong)));
+fn lengths_of_paths(rt: &impl Abort, alloc: Global, net: &mut NetBuilder) -> Result<(), Fail> {
+    for (len, lists, want) in LENGTHS {
+        assert!(rt; rule_is(alloc, net, 1, len, lists, want)?, "{len}");
+    }
     Ok(())
 }
 
@@ -254,21 +297,37 @@ fn ways_of_two(alloc: Global, last: Asn) -> Result<Vec<Path>, AllocError> {
     Ok(list)
 }
 
-fn count_of_paths_in(rt: &impl Abort, alloc: Global, net: &mut NetBuilder) -> Result<(), Fail> {
-    let all = prefix(0, 0)?;
+fn ways_are(
+    alloc: Global,
+    net: &mut NetBuilder,
+    last: Asn,
+    want: Answer,
+) -> Result<bool, AllocError> {
+    let paths = ways_of_two(alloc, last)?;
+    Ok(rule_of_is(net, 1, 0, 0, paths, want))
+}
+
+fn counts_of_paths(rt: &impl Abort, alloc: Global, net: &mut NetBuilder) -> Result<(), Fail> {
     for (last, want) in [(35, LIMIT), (34, Ok(()))] {
-        let answer = adds_rule(net, 1, all, ways_of_two(alloc, last)?);
-        assert!(rt; is(answer, want), "{last}");
+        assert!(rt; ways_are(alloc, net, last, want)?, "{last}");
     }
     Ok(())
 }
 
-fn count_of_rules_in(rt: &impl Abort, alloc: Global, net: &mut NetBuilder) -> Result<(), Fail> {
-    for i in 2..65u32 {
-        let want = if i < 64 { Ok(()) } else { LIMIT };
-        let answer = adds_rule(net, 1, prefix(i << 8, 24)?, Vec::new(alloc));
-        assert!(rt; is(answer, want), "at {i}");
+fn counts_of_rules(rt: &impl Abort, alloc: Global, net: &mut NetBuilder) {
+    for i in 2..64u32 {
+        assert!(rt;
+            rule_of_is(net, 1, i << 8, 24, Vec::new(alloc), Ok(())),
+            "at {i}"
+        );
     }
+    assert!(rt; rule_of_is(net, 1, 64 << 8, 24, Vec::new(alloc), LIMIT));
+}
+
+fn rule_limits_in(rt: &impl Abort, alloc: Global, net: &mut NetBuilder) -> Result<(), Fail> {
+    lengths_of_paths(rt, alloc, net)?;
+    counts_of_paths(rt, alloc, net)?;
+    counts_of_rules(rt, alloc, net);
     Ok(())
 }
 
@@ -277,9 +336,7 @@ fn count_of_rules_in(rt: &impl Abort, alloc: Global, net: &mut NetBuilder) -> Re
 fn rule_limits(rt: HostRuntime) -> Result<(), Fail> {
     let alloc = rt.alloc();
     let mut net = line(alloc, 40)?;
-    path_limit_in(&rt, alloc, &mut net)?;
-    count_of_paths_in(&rt, alloc, &mut net)?;
-    count_of_rules_in(&rt, alloc, &mut net)
+    rule_limits_in(&rt, alloc, &mut net)
 }
 
 /// The refusal of a builder that cannot finish, which gives it back.
@@ -297,19 +354,43 @@ fn push_two_parts(net: &mut NetBuilder) -> Result<(), NetError> {
     adds_link(net, 1, 2)
 }
 
-// A builder that refused to finish as a network without routers, and has two parts since.
+// A builder that refused to finish without routers.
+fn refused_empty(alloc: Global) -> Result<NetBuilder, Fail> {
+    let net = NetBuilder::new(alloc, SETTINGS)?;
+    match refused(net, NetError::Limit) {
+        Some(net) => Ok(net),
+        None => Err("not refused for its limit".into()),
+    }
+}
+
 fn two_parts(alloc: Global) -> Result<NetBuilder, Fail> {
-    let empty = NetBuilder::new(alloc, SETTINGS)?;
-    let mut net = refused(empty, NetError::Limit).ok_or("not refused for its limit")?;
+    let mut net = refused_empty(alloc)?;
     push_two_parts(&mut net)?;
+    Ok(net)
+}
+
+// A builder that refused to finish as well where it has two parts.
+fn refused_parts(alloc: Global) -> Result<NetBuilder, Fail> {
+    let net = two_parts(alloc)?;
+    match refused(net, NetError::NotConnected) {
+        Some(net) => Ok(net),
+        None => Err("not refused as not connected".into()),
+    }
+}
+
+fn is_finished(net: NetBuilder) -> bool {
+    net.finish().is_ok()
+}
+
+fn joined_parts(alloc: Global) -> Result<NetBuilder, Fail> {
+    let mut net = refused_parts(alloc)?;
+    adds_link(&mut net, 3, 2)?;
     Ok(net)
 }
 
 #[test]
 fn finishing(rt: HostRuntime) -> Result<(), Fail> {
-    let parts = two_parts(rt.alloc())?;
-    let mut net = refused(parts, NetError::NotConnected).ok_or("not refused as not connected")?;
-    adds_link(&mut net, 3, 2)?;
-    assert!(rt; net.finish().is_ok());
+    let net = joined_parts(rt.alloc())?;
+    assert!(rt; is_finished(net));
     Ok(())
 }

@@ -9,8 +9,15 @@ fn stands_at(net: &Network, asn: Asn, place: Option<usize>) -> bool {
     net.place(asn) == place
 }
 
-fn prefix_stands_at(net: &Network, prefix: &Prefix, place: Option<usize>) -> bool {
-    net.prefix_place(prefix) == place
+fn prefix_place(net: &Network, prefix: &Prefix) -> Option<usize> {
+    net.prefix_place(prefix)
+}
+
+fn prefix_stands_at(net: &Network, addr: u32, len: u8, place: Option<usize>) -> bool {
+    match Prefix::new(addr, len) {
+        Some(prefix) => prefix_place(net, &prefix) == place,
+        None => false,
+    }
 }
 
 fn is_origin(net: &Network, asn: Asn, prefix: &Prefix) -> bool {
@@ -29,7 +36,7 @@ fn router_places(rt: &impl Abort, net: &Network) {
     }
 }
 
-fn prefix_places(rt: &impl Abort, net: &Network) -> Result<(), Fail> {
+fn prefix_places(rt: &impl Abort, net: &Network) {
     for (addr, len, place) in [
         (TEN, 8, Some(0)),
         (0x0a01_0000, 16, Some(1)),
@@ -37,19 +44,15 @@ fn prefix_places(rt: &impl Abort, net: &Network) -> Result<(), Fail> {
         (TEN, 9, None),
         (0x0c00_0000, 8, None),
     ] {
-        let prefix = prefix(addr, len)?;
-        assert!(rt; prefix_stands_at(net, &prefix, place), "{addr:x}/{len}");
+        assert!(rt; prefix_stands_at(net, addr, len, place), "{addr:x}/{len}");
     }
-    Ok(())
 }
 
-fn places_in(rt: &impl Abort, net: &Network) -> Result<(), Fail> {
-    let eight = prefix(TEN, 8)?;
+fn places_in(rt: &impl Abort, net: &Network, eight: &Prefix) {
     router_places(rt, net);
-    prefix_places(rt, net)?;
-    assert!(rt; is_origin(net, 4, &eight));
-    assert!(rt; !is_origin(net, 1, &eight));
-    Ok(())
+    prefix_places(rt, net);
+    assert!(rt; is_origin(net, 4, eight));
+    assert!(rt; !is_origin(net, 1, eight));
 }
 
 // A network of which router 4 originates 10.0.0.0/8 as well.
@@ -62,8 +65,10 @@ fn with_eight(alloc: Global) -> Result<NetBuilder, Fail> {
 /// Routers stand by rising number, prefixes by address and then by length.
 #[test]
 fn places(rt: HostRuntime) -> Result<(), Fail> {
+    let eight = prefix(TEN, 8)?;
     let net = finished(with_eight(rt.alloc())?)?;
-    places_in(&rt, &net)
+    places_in(&rt, &net, &eight);
+    Ok(())
 }
 
 fn has_settings(net: &Network, settings: Settings) -> bool {
@@ -76,43 +81,45 @@ fn has_counts(net: &Network, links: usize, origins: usize, routers: usize) -> bo
         && net.built().routers().len() == routers
 }
 
-fn has_peers(alloc: Global, net: &Network, router: Asn, peers: &[Asn]) -> Result<bool, AllocError> {
-    let found = net.peers(alloc, router)?;
-    Ok(found.as_slice() == peers)
+fn has_peers(alloc: Global, net: &Network, router: Asn, peers: &[Asn]) -> bool {
+    match net.peers(alloc, router) {
+        Ok(found) => found.as_slice() == peers,
+        Err(_) => false,
+    }
 }
 
-fn readers_in(rt: &impl Abort, alloc: Global, net: &Network) -> Result<(), Fail> {
+fn readers_in(rt: &impl Abort, alloc: Global, net: &Network) {
     assert!(rt; has_settings(net, SETTINGS));
     assert!(rt; has_counts(net, 5, 2, 4));
-    assert!(rt; has_peers(alloc, net, 2, &[1, 3, 4])?);
-    Ok(())
+    assert!(rt; has_peers(alloc, net, 2, &[1, 3, 4]));
 }
 
 #[test]
 fn readers(rt: HostRuntime) -> Result<(), Fail> {
     let alloc = rt.alloc();
     let net = finished(disagree(alloc)?)?;
-    readers_in(&rt, alloc, &net)
+    readers_in(&rt, alloc, &net);
+    Ok(())
 }
 
 fn has_links(net: &Network, router: Asn, links: &[Link]) -> bool {
     net.links_of(router) == links
 }
 
+const LINKS: [Link; 3] = [
+    Link { one: 2, other: 1 },
+    Link { one: 2, other: 3 },
+    Link { one: 2, other: 4 },
+];
+
 #[test]
 fn links_of_a_router(rt: HostRuntime) -> Result<(), Fail> {
     let net = finished(disagree(rt.alloc())?)?;
-    let links = [
-        Link { one: 2, other: 1 },
-        Link { one: 2, other: 3 },
-        Link { one: 2, other: 4 },
-    ];
-    assert!(rt; has_links(&net, 2, &links));
+    assert!(rt; has_links(&net, 2, &LINKS));
     assert!(rt; has_links(&net, 5, &[]));
     Ok(())
 }
 
-// Whether the network says of a number whether it is a router, linked with 3, and an origin.
 fn is_known(net: &Network, asn: Asn) -> bool {
     net.has_router(asn)
 }
@@ -135,28 +142,34 @@ const QUESTIONS: [(Asn, bool, bool, bool); 3] = [
     (5, false, false, false),
 ];
 
-fn questions_of_routers(rt: &impl Abort, net: &Network, prefix: &Prefix) {
-    for (asn, known, linked, origin) in QUESTIONS {
+fn routers_are_known(rt: &impl Abort, net: &Network) {
+    for (asn, known, linked, _) in QUESTIONS {
         assert!(rt; is_known(net, asn) == known, "{asn}");
         assert!(rt; is_found(net, asn) == known, "{asn}");
         assert!(rt; is_linked(net, 3, asn) == linked, "{asn}");
+    }
+}
+
+fn origins_are_known(rt: &impl Abort, net: &Network, prefix: &Prefix) {
+    for (asn, _, _, origin) in QUESTIONS {
         assert!(rt; is_origin(net, asn, prefix) == origin, "{asn}");
     }
 }
 
-fn questions_in(rt: &impl Abort, net: &Network) -> Result<(), Fail> {
-    let sixteen = prefix(0x0a01_0000, 16)?;
-    let eight = prefix(TEN, 8)?;
-    questions_of_routers(rt, net, &sixteen);
-    assert!(rt; is_named(net, &sixteen));
-    assert!(rt; !is_named(net, &eight));
-    Ok(())
+fn questions_in(rt: &impl Abort, net: &Network, sixteen: &Prefix, eight: &Prefix) {
+    routers_are_known(rt, net);
+    origins_are_known(rt, net, sixteen);
+    assert!(rt; is_named(net, sixteen));
+    assert!(rt; !is_named(net, eight));
 }
 
 #[test]
 fn questions(rt: HostRuntime) -> Result<(), Fail> {
+    let sixteen = prefix(0x0a01_0000, 16)?;
+    let eight = prefix(TEN, 8)?;
     let net = finished(disagree(rt.alloc())?)?;
-    questions_in(&rt, &net)
+    questions_in(&rt, &net, &sixteen, &eight);
+    Ok(())
 }
 
 fn is_empty_list(alloc: Global) -> bool {

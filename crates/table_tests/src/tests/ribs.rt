@@ -17,26 +17,81 @@ use std::test::Fail;
 mod against_lists;
 mod lists;
 
-// The prefixes of the tests: the network names all but the last.
+/// A prefix by its address and length: the network names all but the last.
+type At = (u32, u8);
+
+/// 10.1.0.0/16, the least; its origin is 1.
+const SHORT: At = (0x0a01_0000, 16);
+
+/// 10.1.0.0/24: the same address, and longer; its origin is 1.
+const LONG: At = (0x0a01_0000, 24);
+
+/// 10.2.0.0/16, the greatest; its origin is 4.
+const FAR: At = (0x0a02_0000, 16);
+
+/// 10.3.0.0/16, which nobody originates.
+const STRAY: At = (0x0a03_0000, 16);
+
+/// An AS_PATH.
 #[derive(Clone, Copy)]
-struct Prefixes {
-    // 10.1.0.0/16, the least; its origin is 1.
-    short: Prefix,
-    // 10.1.0.0/24: the same address, and longer; its origin is 1.
-    long: Prefix,
-    // 10.2.0.0/16, the greatest; its origin is 4.
-    far: Prefix,
-    // 10.3.0.0/16, which nobody originates.
-    stray: Prefix,
+enum Along {
+    /// None.
+    Nothing,
+    /// One AS_SEQUENCE.
+    Path(&'static [Asn]),
+    /// One AS_SET.
+    Set(&'static [Asn]),
+    /// Two AS_SEQUENCEs.
+    Two(&'static [Asn], &'static [Asn]),
 }
 
-fn named_prefixes() -> Result<Prefixes, &'static str> {
-    Ok(Prefixes {
-        short: prefix(0x0a01_0000, 16)?,
-        long: prefix(0x0a01_0000, 24)?,
-        far: prefix(0x0a02_0000, 16)?,
-        stray: prefix(0x0a03_0000, 16)?,
-    })
+/// A row of a test: what is done to the tables of a router, or asked of them.
+#[derive(Clone, Copy)]
+enum Row {
+    /// A peer announces prefixes along a path, and withdraws others.
+    Hears(Asn, Along, &'static [At], &'static [At]),
+    /// The session with a peer is Established.
+    ComesUp(Asn),
+    /// It is left.
+    Forgets(Asn),
+    /// The router originates a prefix.
+    Originates(At),
+    /// It does so no longer.
+    Withdraws(At),
+    /// It keeps a path.
+    Keeps(At, &'static [Asn]),
+    /// It tells a peer what is kept.
+    Tells(Asn, At),
+    /// It decides once: this prefix, or none.
+    Decides(Option<At>),
+    /// It starts again.
+    Clears,
+    /// The path heard last from a peer: the empty path where it gives none.
+    Heard(Asn, At, &'static [Asn]),
+    /// Nothing is heard of a prefix.
+    Unheard(Asn, At),
+    /// A word is heard that gives no path.
+    HeardOther(Asn, At),
+    /// The path told last to a peer.
+    Sent(Asn, At, &'static [Asn]),
+    /// Nothing is told of a prefix.
+    Unsent(Asn, At),
+    /// The path that is kept.
+    Kept(At, &'static [Asn]),
+    /// The best of the choices.
+    Best(At, &'static [Asn]),
+    /// The prefix that is to be decided.
+    Dirty(Option<At>),
+    /// The prefix that a peer waits for.
+    Waits(Asn, Option<At>),
+    /// Whether a session is Established.
+    Up(Asn, bool),
+    /// Whether a prefix is originated.
+    Originated(At, bool),
+    /// Whether some peer waits.
+    Awaited(bool),
+    /// Whether anything is still to be done.
+    Pending(bool),
 }
 
 // Routers 1 to `count`, with these links.
@@ -48,22 +103,22 @@ fn push_links(net: &mut NetBuilder, count: u32, links: &[(Asn, Asn)]) -> Result<
     Ok(())
 }
 
-fn push_origins(net: &mut NetBuilder, named: &Prefixes) -> Result<(), NetError> {
-    adds_origin(net, 4, named.far)?;
-    adds_origin(net, 1, named.long)?;
-    adds_origin(net, 1, named.short)
+fn push_origins(net: &mut NetBuilder) -> Result<(), Fail> {
+    for (router, (addr, len)) in [(4, FAR), (1, LONG), (1, SHORT)] {
+        adds_origin(net, router, prefix(addr, len)?)?;
+    }
+    Ok(())
 }
 
-fn push_ring(net: &mut NetBuilder, named: &Prefixes) -> Result<(), NetError> {
+fn push_ring(net: &mut NetBuilder) -> Result<(), Fail> {
     push_links(net, 4, &[(1, 2), (2, 4), (4, 3), (3, 1)])?;
-    push_origins(net, named)
+    push_origins(net)
 }
 
 // A ring of four routers, 1 - 2 - 4 - 3 - 1.
 fn network(alloc: Global) -> Result<Network, Fail> {
-    let named = named_prefixes()?;
     let mut net = NetBuilder::new(alloc, SETTINGS)?;
-    push_ring(&mut net, &named)?;
+    push_ring(&mut net)?;
     Ok(finished(net)?)
 }
 
@@ -125,15 +180,44 @@ fn update(
     })
 }
 
-// An UPDATE that announces these prefixes along one AS_SEQUENCE, and withdraws those.
+fn path_along(alloc: Global, along: Along) -> AsPath {
+    match along {
+        Along::Nothing => Ok(None),
+        Along::Path(path) => one_segment(alloc, SegmentKind::AsSequence, path),
+        Along::Set(numbers) => one_segment(alloc, SegmentKind::AsSet, numbers),
+        Along::Two(first, second) => two_segments(alloc, first, second),
+    }
+}
+
+fn prefixes(alloc: Global, list: &[At]) -> Result<Vec<Prefix>, AllocError> {
+    let mut prefixes = Vec::new(alloc);
+    for (addr, len) in list {
+        if let Some(prefix) = Prefix::new(*addr, *len) {
+            prefixes.push(prefix)?;
+        }
+    }
+    Ok(prefixes)
+}
+
+// An UPDATE that announces these prefixes along this path, and withdraws those.
 fn announces(
     alloc: Global,
-    path: &[Asn],
-    nlri: &[Prefix],
+    along: Along,
+    nlri: &[At],
     withdrawn: &[Prefix],
 ) -> Result<Update, AllocError> {
-    let path = one_segment(alloc, SegmentKind::AsSequence, path);
-    update(alloc, withdrawn, path, nlri)
+    let nlri = prefixes(alloc, nlri)?;
+    update(alloc, withdrawn, path_along(alloc, along), nlri.as_slice())
+}
+
+fn updates(
+    alloc: Global,
+    along: Along,
+    nlri: &[At],
+    withdrawn: &[At],
+) -> Result<Update, AllocError> {
+    let withdrawn = prefixes(alloc, withdrawn)?;
+    announces(alloc, along, nlri, withdrawn.as_slice())
 }
 
 // The tables of a router, as it starts.
@@ -144,28 +228,9 @@ fn tables(alloc: Global, net: &Network, router: Asn) -> Option<Rib<'_>> {
     Rib::new(alloc, net, router).ok()
 }
 
-// The tables of a router whose sessions with these peers are Established.
-fn joined<'a>(alloc: Global, net: &'a Network, router: Asn, peers: &[Asn]) -> Option<Rib<'a>> {
-    let mut rib = tables(alloc, net, router)?;
-    if all_come_up(&mut rib, peers) {
-        Some(rib)
-    } else {
-        None
-    }
-}
-
-fn all_come_up(rib: &mut Rib, peers: &[Asn]) -> bool {
-    for peer in peers {
-        if !comes_up(rib, *peer) {
-            return false;
-        }
-    }
-    true
-}
-
 // What is done to the tables. Each helper makes one call and answers whether it was made and not
 // refused. It ensures nothing, so that the call is not carried along from one step to the next, and
-// a test that asserts it has no way out on which the tables are dropped.
+// what asserts it has no way out on which the tables are dropped.
 fn hear(rib: &mut Rib, peer: Asn, update: &Update) -> bool {
     if !rib.network().linked(rib.router(), peer) {
         return false;
@@ -178,11 +243,6 @@ fn says(rib: &mut Rib, peer: Asn, update: Result<Update, AllocError>) -> bool {
         Ok(update) => hear(rib, peer, &update),
         Err(_) => false,
     }
-}
-
-// A peer announces these prefixes along this path.
-fn hears(alloc: Global, rib: &mut Rib, peer: Asn, path: &[Asn], nlri: &[Prefix]) -> bool {
-    says(rib, peer, announces(alloc, path, nlri, &[]))
 }
 
 fn comes_up(rib: &mut Rib, peer: Asn) -> bool {
@@ -239,29 +299,26 @@ fn tells(rib: &mut Rib, peer: Asn, prefix: &Prefix) -> bool {
     rib.tell(peer, prefix).is_ok()
 }
 
-fn clears(rib: &mut Rib) {
+fn clears(rib: &mut Rib) -> bool {
     rib.clear();
+    true
 }
 
-// Whether it is this prefix that is decided, or none.
-fn decides(alloc: Global, rib: &mut Rib, wanted: Option<Prefix>) -> bool {
-    match rib.decide(alloc) {
-        Ok(found) => found == wanted,
-        Err(_) => false,
-    }
+fn decided(alloc: Global, rib: &mut Rib) -> Result<Option<Prefix>, RibError> {
+    rib.decide(alloc)
 }
 
 // What is asked of the tables, in the same way.
-fn is_dirty(rib: &mut Rib, wanted: Option<Prefix>) -> bool {
-    rib.dirty() == wanted
+fn dirty(rib: &mut Rib) -> Option<Prefix> {
+    rib.dirty()
 }
 
-// Whether it is this prefix that a peer waits for, or none.
-fn waits(rib: &Rib, peer: Asn, wanted: Option<Prefix>) -> bool {
+// The prefix that a peer waits for, or none; no answer where no link leads to it.
+fn waiting(rib: &Rib, peer: Asn) -> Option<Option<Prefix>> {
     if !rib.network().linked(rib.router(), peer) {
-        return false;
+        return None;
     }
-    rib.waiting(peer) == wanted
+    Some(rib.waiting(peer))
 }
 
 // The best of a prefix that is named.
@@ -349,313 +406,357 @@ fn is_pending(rib: &mut Rib) -> bool {
     rib.is_pending()
 }
 
-// The words of a peer follow its UPDATEs: the last of three mentions stays.
-fn the_last_of_three_in(rt: &impl Abort, alloc: Global, rib: &mut Rib, named: &Prefixes) {
-    assert!(rt; hears(alloc, rib, 2, &[2, 1], &[named.short, named.long]));
-    assert!(rt; says(rib, 2, update(alloc, &[named.short], Ok(None), &[])));
-    assert!(rt; !is_heard(rib, 2, &named.short));
-    assert!(rt; hears_path(rib, 2, &named.long, &[2, 1]));
-    assert!(rt; hears(alloc, rib, 2, &[2, 4, 3, 1], &[named.short]));
-    assert!(rt; hears_path(rib, 2, &named.short, &[2, 4, 3, 1]));
-    assert!(rt; hears_path(rib, 2, &named.long, &[2, 1]));
-    assert!(rt; !is_heard(rib, 3, &named.short));
-    assert!(rt; !is_sent(rib, 2, &named.short));
-}
-
-#[test]
-fn the_last_of_three(rt: HostRuntime) -> Result<(), Fail> {
-    let alloc = rt.alloc();
-    let named = named_prefixes()?;
-    let net = network(alloc)?;
-    let mut rib = tables(alloc, &net, 4).ok_or("no tables")?;
-    the_last_of_three_in(&rt, alloc, &mut rib, &named);
-    Ok(())
-}
-
-// A path of more than eight numbers takes memory of its own.
-fn a_long_path_in(rt: &impl Abort, alloc: Global, rib: &mut Rib, named: &Prefixes) {
-    let path = [2u32, 4, 3, 5, 6, 7, 8, 9, 10, 1];
-    assert!(rt; hears(alloc, rib, 2, &path, &[named.far, named.short]));
-    assert!(rt; hears_path(rib, 2, &named.far, &path));
-    assert!(rt; hears_path(rib, 2, &named.short, &path));
-    assert!(rt; !is_heard(rib, 2, &named.long));
-    assert!(rt; keeps(alloc, rib, &named.far, &path));
-    assert!(rt; tells(rib, 3, &named.far));
-    assert!(rt; sends_path(rib, 3, &named.far, &path));
-}
-
-#[test]
-fn a_long_path(rt: HostRuntime) -> Result<(), Fail> {
-    let alloc = rt.alloc();
-    let named = named_prefixes()?;
-    let net = network(alloc)?;
-    let mut rib = tables(alloc, &net, 4).ok_or("no tables")?;
-    a_long_path_in(&rt, alloc, &mut rib, &named);
-    Ok(())
-}
-
-// Within one UPDATE the announcement wins.
-fn announced_and_withdrawn_in(rt: &impl Abort, alloc: Global, rib: &mut Rib, named: &Prefixes) {
-    assert!(rt; hears(alloc, rib, 3, &[3, 4, 2, 1], &[named.short, named.long]));
-    let both = announces(alloc, &[3, 1], &[named.short], &[named.short, named.long]);
-    assert!(rt; says(rib, 3, both));
-    assert!(rt; hears_path(rib, 3, &named.short, &[3, 1]));
-    assert!(rt; !is_heard(rib, 3, &named.long));
-}
-
-#[test]
-fn announced_and_withdrawn(rt: HostRuntime) -> Result<(), Fail> {
-    let alloc = rt.alloc();
-    let named = named_prefixes()?;
-    let net = network(alloc)?;
-    let mut rib = tables(alloc, &net, 4).ok_or("no tables")?;
-    announced_and_withdrawn_in(&rt, alloc, &mut rib, &named);
-    Ok(())
-}
-
-// A set is a word that gives no path, and no choice.
-fn a_set_in(rt: &impl Abort, alloc: Global, rib: &mut Rib, named: &Prefixes) {
-    let set = one_segment(alloc, SegmentKind::AsSet, &[2, 1]);
-    assert!(rt; says(rib, 2, update(alloc, &[], set, &[named.short])));
-    assert!(rt; is_heard_as_other(rib, 2, &named.short));
-    assert!(rt; best_is(alloc, rib, &named.short, &[]));
-    assert!(rt; is_dirty(rib, None));
-}
-
-#[test]
-fn a_set(rt: HostRuntime) -> Result<(), Fail> {
-    let alloc = rt.alloc();
-    let named = named_prefixes()?;
-    let net = network(alloc)?;
-    let mut rib = joined(alloc, &net, 4, &[2, 3]).ok_or("no tables")?;
-    a_set_in(&rt, alloc, &mut rib, &named);
-    Ok(())
-}
-
-// So are several segments, and no AS_PATH.
-fn several_segments_and_none_in(rt: &impl Abort, alloc: Global, rib: &mut Rib, named: &Prefixes) {
-    let two = two_segments(alloc, &[2], &[1]);
-    assert!(rt; says(rib, 2, update(alloc, &[], two, &[named.long])));
-    assert!(rt; says(rib, 3, update(alloc, &[], Ok(None), &[named.long])));
-    assert!(rt; is_heard_as_other(rib, 2, &named.long));
-    assert!(rt; is_heard_as_other(rib, 3, &named.long));
-}
-
-#[test]
-fn several_segments_and_none(rt: HostRuntime) -> Result<(), Fail> {
-    let alloc = rt.alloc();
-    let named = named_prefixes()?;
-    let net = network(alloc)?;
-    let mut rib = tables(alloc, &net, 4).ok_or("no tables")?;
-    several_segments_and_none_in(&rt, alloc, &mut rib, &named);
-    Ok(())
-}
-
-// A prefix that nobody originates changes nothing.
-fn a_prefix_of_nobody_in(rt: &impl Abort, alloc: Global, rib: &mut Rib, named: &Prefixes) {
-    assert!(rt; hears(alloc, rib, 2, &[2, 1], &[named.stray, named.short]));
-    assert!(rt; !is_heard(rib, 2, &named.stray));
-    assert!(rt; keeps_path(rib, &named.stray, &[]));
-    assert!(rt; !is_originated(rib, &named.stray));
-    assert!(rt; hears_path(rib, 2, &named.short, &[2, 1]));
-}
-
-#[test]
-fn a_prefix_of_nobody(rt: HostRuntime) -> Result<(), Fail> {
-    let alloc = rt.alloc();
-    let named = named_prefixes()?;
-    let net = network(alloc)?;
-    let mut rib = tables(alloc, &net, 4).ok_or("no tables")?;
-    a_prefix_of_nobody_in(&rt, alloc, &mut rib, &named);
-    Ok(())
-}
-
-// One of two peers is forgotten: what it said, what it was told, and that it was Established.
-fn forgets_one_of_two_in(rt: &impl Abort, alloc: Global, rib: &mut Rib, named: &Prefixes) {
-    assert!(rt; hears(alloc, rib, 2, &[2, 1], &[named.short, named.long]));
-    assert!(rt; hears(alloc, rib, 3, &[3, 1], &[named.short, named.long]));
-    assert!(rt; keeps(alloc, rib, &named.short, &[4, 2, 1]));
-    assert!(rt; tells(rib, 2, &named.short));
-    assert!(rt; tells(rib, 3, &named.short));
-    assert!(rt; forgets(rib, 2));
-    assert!(rt; !is_heard(rib, 2, &named.short));
-    assert!(rt; !is_heard(rib, 2, &named.long));
-    assert!(rt; !is_sent(rib, 2, &named.short));
-    assert!(rt; hears_path(rib, 3, &named.long, &[3, 1]));
-    assert!(rt; sends_path(rib, 3, &named.short, &[4, 2, 1]));
-    assert!(rt; !is_established(rib, 2) && is_established(rib, 3));
-    assert!(rt; decides(alloc, rib, Some(named.short)));
-    assert!(rt; keeps_path(rib, &named.short, &[4, 3, 1]));
-}
-
-#[test]
-fn forgets_one_of_two(rt: HostRuntime) -> Result<(), Fail> {
-    let alloc = rt.alloc();
-    let named = named_prefixes()?;
-    let net = network(alloc)?;
-    let mut rib = joined(alloc, &net, 4, &[2, 3]).ok_or("no tables")?;
-    forgets_one_of_two_in(&rt, alloc, &mut rib, &named);
-    Ok(())
-}
-
-// The tables of router 4, to which both peers have told of two prefixes, none of them Established.
-fn heard_of_two<'a>(alloc: Global, net: &'a Network, named: &Prefixes) -> Option<Rib<'a>> {
-    let mut rib = tables(alloc, net, 4)?;
-    if hears_of_two(alloc, &mut rib, named) {
-        Some(rib)
-    } else {
-        None
+// Whether it is this prefix, or none.
+fn is_at(found: Option<Prefix>, wanted: Option<At>) -> bool {
+    match (found, wanted) {
+        (Some(found), Some((addr, len))) => Prefix::new(addr, len) == Some(found),
+        (None, None) => true,
+        _ => false,
     }
 }
 
-fn hears_of_two(alloc: Global, rib: &mut Rib, named: &Prefixes) -> bool {
-    hears(alloc, rib, 2, &[2, 1], &[named.short])
-        && hears(alloc, rib, 3, &[3, 1], &[named.short])
-        && hears(alloc, rib, 2, &[2, 4, 3, 1], &[named.long])
+fn waits_at(rib: &Rib, peer: Asn, wanted: Option<At>) -> bool {
+    match waiting(rib, peer) {
+        Some(found) => is_at(found, wanted),
+        None => false,
+    }
+}
+
+fn decides_at(alloc: Global, rib: &mut Rib, wanted: Option<At>) -> bool {
+    match decided(alloc, rib) {
+        Ok(found) => is_at(found, wanted),
+        Err(_) => false,
+    }
+}
+
+// What is done or asked of one prefix.
+fn at_one(alloc: Global, rib: &mut Rib, row: Row, prefix: &Prefix) -> bool {
+    match row {
+        Row::Originates(_) => originates(rib, prefix),
+        Row::Withdraws(_) => withdraws(rib, prefix),
+        Row::Keeps(_, path) => keeps(alloc, rib, prefix, path),
+        Row::Tells(peer, _) => tells(rib, peer, prefix),
+        Row::Heard(peer, _, path) => hears_path(rib, peer, prefix, path),
+        Row::Unheard(peer, _) => !is_heard(rib, peer, prefix),
+        Row::HeardOther(peer, _) => is_heard_as_other(rib, peer, prefix),
+        Row::Sent(peer, _, path) => sends_path(rib, peer, prefix, path),
+        Row::Unsent(peer, _) => !is_sent(rib, peer, prefix),
+        Row::Kept(_, path) => keeps_path(rib, prefix, path),
+        Row::Best(_, path) => best_is(alloc, rib, prefix, path),
+        Row::Originated(_, wanted) => is_originated(rib, prefix) == wanted,
+        _ => false,
+    }
+}
+
+// What is done or asked of the tables as a whole.
+fn at_all(alloc: Global, rib: &mut Rib, row: Row) -> bool {
+    match row {
+        Row::Hears(peer, along, nlri, withdrawn) => {
+            says(rib, peer, updates(alloc, along, nlri, withdrawn))
+        }
+        Row::ComesUp(peer) => comes_up(rib, peer),
+        Row::Forgets(peer) => forgets(rib, peer),
+        Row::Decides(wanted) => decides_at(alloc, rib, wanted),
+        Row::Clears => clears(rib),
+        Row::Dirty(wanted) => is_at(dirty(rib), wanted),
+        Row::Waits(peer, wanted) => waits_at(rib, peer, wanted),
+        Row::Up(peer, wanted) => is_established(rib, peer) == wanted,
+        Row::Awaited(wanted) => is_awaited(rib) == wanted,
+        Row::Pending(wanted) => is_pending(rib) == wanted,
+        _ => false,
+    }
+}
+
+// The prefix that a row names, where it names one.
+fn named_in(row: Row) -> Option<At> {
+    match row {
+        Row::Originates(at)
+        | Row::Withdraws(at)
+        | Row::Keeps(at, _)
+        | Row::Tells(_, at)
+        | Row::Heard(_, at, _)
+        | Row::Unheard(_, at)
+        | Row::HeardOther(_, at)
+        | Row::Sent(_, at, _)
+        | Row::Unsent(_, at)
+        | Row::Kept(at, _)
+        | Row::Best(at, _)
+        | Row::Originated(at, _) => Some(at),
+        _ => None,
+    }
+}
+
+// Whether a row was done, or is so.
+fn is_so(alloc: Global, rib: &mut Rib, row: Row) -> bool {
+    let Some((addr, len)) = named_in(row) else {
+        return at_all(alloc, rib, row);
+    };
+    match Prefix::new(addr, len) {
+        Some(prefix) => at_one(alloc, rib, row, &prefix),
+        None => false,
+    }
+}
+
+fn all_are_so(rt: &impl Abort, alloc: Global, rib: &mut Rib, rows: &[Row]) {
+    for (i, row) in rows.iter().enumerate() {
+        assert!(rt; is_so(alloc, rib, *row), "row {i}");
+    }
+}
+
+fn tries_in(
+    rt: &impl Abort,
+    alloc: Global,
+    net: &Network,
+    router: Asn,
+    rows: &[Row],
+) -> Result<(), Fail> {
+    match tables(alloc, net, router) {
+        Some(mut rib) => all_are_so(rt, alloc, &mut rib, rows),
+        None => return Err("no tables".into()),
+    }
+    Ok(())
+}
+
+// Takes the tables of a router, as it starts, through these rows.
+fn tries(rt: &impl Abort, alloc: Global, router: Asn, rows: &[Row]) -> Result<(), Fail> {
+    let net = network(alloc)?;
+    tries_in(rt, alloc, &net, router, rows)
+}
+
+// The words of a peer follow its UPDATEs: the last of three mentions stays.
+const THE_LAST_OF_THREE: [Row; 9] = [
+    Row::Hears(2, Along::Path(&[2, 1]), &[SHORT, LONG], &[]),
+    Row::Hears(2, Along::Nothing, &[], &[SHORT]),
+    Row::Unheard(2, SHORT),
+    Row::Heard(2, LONG, &[2, 1]),
+    Row::Hears(2, Along::Path(&[2, 4, 3, 1]), &[SHORT], &[]),
+    Row::Heard(2, SHORT, &[2, 4, 3, 1]),
+    Row::Heard(2, LONG, &[2, 1]),
+    Row::Unheard(3, SHORT),
+    Row::Unsent(2, SHORT),
+];
+
+#[test]
+fn the_last_of_three(rt: HostRuntime) -> Result<(), Fail> {
+    tries(&rt, rt.alloc(), 4, &THE_LAST_OF_THREE)
+}
+
+const TEN_LONG: [Asn; 10] = [2, 4, 3, 5, 6, 7, 8, 9, 10, 1];
+
+// A path of more than eight numbers takes memory of its own.
+const A_LONG_PATH: [Row; 7] = [
+    Row::Hears(2, Along::Path(&TEN_LONG), &[FAR, SHORT], &[]),
+    Row::Heard(2, FAR, &TEN_LONG),
+    Row::Heard(2, SHORT, &TEN_LONG),
+    Row::Unheard(2, LONG),
+    Row::Keeps(FAR, &TEN_LONG),
+    Row::Tells(3, FAR),
+    Row::Sent(3, FAR, &TEN_LONG),
+];
+
+#[test]
+fn a_long_path(rt: HostRuntime) -> Result<(), Fail> {
+    tries(&rt, rt.alloc(), 4, &A_LONG_PATH)
+}
+
+// Within one UPDATE the announcement wins.
+const ANNOUNCED_AND_WITHDRAWN: [Row; 4] = [
+    Row::Hears(3, Along::Path(&[3, 4, 2, 1]), &[SHORT, LONG], &[]),
+    Row::Hears(3, Along::Path(&[3, 1]), &[SHORT], &[SHORT, LONG]),
+    Row::Heard(3, SHORT, &[3, 1]),
+    Row::Unheard(3, LONG),
+];
+
+#[test]
+fn announced_and_withdrawn(rt: HostRuntime) -> Result<(), Fail> {
+    tries(&rt, rt.alloc(), 4, &ANNOUNCED_AND_WITHDRAWN)
+}
+
+// A set is a word that gives no path, and no choice.
+const A_SET: [Row; 6] = [
+    Row::ComesUp(2),
+    Row::ComesUp(3),
+    Row::Hears(2, Along::Set(&[2, 1]), &[SHORT], &[]),
+    Row::HeardOther(2, SHORT),
+    Row::Best(SHORT, &[]),
+    Row::Dirty(None),
+];
+
+#[test]
+fn a_set(rt: HostRuntime) -> Result<(), Fail> {
+    tries(&rt, rt.alloc(), 4, &A_SET)
+}
+
+// So are several segments, and no AS_PATH.
+const SEVERAL_SEGMENTS_AND_NONE: [Row; 4] = [
+    Row::Hears(2, Along::Two(&[2], &[1]), &[LONG], &[]),
+    Row::Hears(3, Along::Nothing, &[LONG], &[]),
+    Row::HeardOther(2, LONG),
+    Row::HeardOther(3, LONG),
+];
+
+#[test]
+fn several_segments_and_none(rt: HostRuntime) -> Result<(), Fail> {
+    tries(&rt, rt.alloc(), 4, &SEVERAL_SEGMENTS_AND_NONE)
+}
+
+// A prefix that nobody originates changes nothing.
+const A_PREFIX_OF_NOBODY: [Row; 5] = [
+    Row::Hears(2, Along::Path(&[2, 1]), &[STRAY, SHORT], &[]),
+    Row::Unheard(2, STRAY),
+    Row::Kept(STRAY, &[]),
+    Row::Originated(STRAY, false),
+    Row::Heard(2, SHORT, &[2, 1]),
+];
+
+#[test]
+fn a_prefix_of_nobody(rt: HostRuntime) -> Result<(), Fail> {
+    tries(&rt, rt.alloc(), 4, &A_PREFIX_OF_NOBODY)
+}
+
+// One of two peers is forgotten: what it said, what it was told, and that it was Established.
+const FORGETS_ONE_OF_TWO: [Row; 17] = [
+    Row::ComesUp(2),
+    Row::ComesUp(3),
+    Row::Hears(2, Along::Path(&[2, 1]), &[SHORT, LONG], &[]),
+    Row::Hears(3, Along::Path(&[3, 1]), &[SHORT, LONG], &[]),
+    Row::Keeps(SHORT, &[4, 2, 1]),
+    Row::Tells(2, SHORT),
+    Row::Tells(3, SHORT),
+    Row::Forgets(2),
+    Row::Unheard(2, SHORT),
+    Row::Unheard(2, LONG),
+    Row::Unsent(2, SHORT),
+    Row::Heard(3, LONG, &[3, 1]),
+    Row::Sent(3, SHORT, &[4, 2, 1]),
+    Row::Up(2, false),
+    Row::Up(3, true),
+    Row::Decides(Some(SHORT)),
+    Row::Kept(SHORT, &[4, 3, 1]),
+];
+
+#[test]
+fn forgets_one_of_two(rt: HostRuntime) -> Result<(), Fail> {
+    tries(&rt, rt.alloc(), 4, &FORGETS_ONE_OF_TWO)
 }
 
 // The best is over Established peers alone: the shorter path first, then the lesser number.
-fn the_best_of_two_peers_in(rt: &impl Abort, alloc: Global, rib: &mut Rib, named: &Prefixes) {
-    assert!(rt; best_is(alloc, rib, &named.short, &[]));
-    assert!(rt; comes_up(rib, 3));
-    assert!(rt; best_is(alloc, rib, &named.short, &[4, 3, 1]));
-    assert!(rt; comes_up(rib, 2));
-    assert!(rt; best_is(alloc, rib, &named.short, &[4, 2, 1]));
-    assert!(rt; best_is(alloc, rib, &named.long, &[]));
-}
+const THE_BEST_OF_TWO_PEERS: [Row; 9] = [
+    Row::Hears(2, Along::Path(&[2, 1]), &[SHORT], &[]),
+    Row::Hears(3, Along::Path(&[3, 1]), &[SHORT], &[]),
+    Row::Hears(2, Along::Path(&[2, 4, 3, 1]), &[LONG], &[]),
+    Row::Best(SHORT, &[]),
+    Row::ComesUp(3),
+    Row::Best(SHORT, &[4, 3, 1]),
+    Row::ComesUp(2),
+    Row::Best(SHORT, &[4, 2, 1]),
+    Row::Best(LONG, &[]),
+];
 
 #[test]
 fn the_best_of_two_peers(rt: HostRuntime) -> Result<(), Fail> {
-    let alloc = rt.alloc();
-    let named = named_prefixes()?;
-    let net = network(alloc)?;
-    let mut rib = heard_of_two(alloc, &net, &named).ok_or("no tables")?;
-    the_best_of_two_peers_in(&rt, alloc, &mut rib, &named);
-    Ok(())
+    tries(&rt, rt.alloc(), 4, &THE_BEST_OF_TWO_PEERS)
 }
 
 // An origin has itself alone while it originates the prefix, whatever is heard.
-fn an_origin_in(rt: &impl Abort, alloc: Global, rib: &mut Rib, named: &Prefixes) {
-    assert!(rt; hears(alloc, rib, 2, &[2, 1], &[named.short, named.long]));
-    assert!(rt; originates(rib, &named.long));
-    assert!(rt; best_is(alloc, rib, &named.long, &[1]));
-    assert!(rt; best_is(alloc, rib, &named.short, &[]));
-    assert!(rt; is_originated(rib, &named.long) && !is_originated(rib, &named.short));
-    assert!(rt; withdraws(rib, &named.long));
-    assert!(rt; best_is(alloc, rib, &named.long, &[]));
-}
+const AN_ORIGIN: [Row; 10] = [
+    Row::ComesUp(2),
+    Row::ComesUp(3),
+    Row::Hears(2, Along::Path(&[2, 1]), &[SHORT, LONG], &[]),
+    Row::Originates(LONG),
+    Row::Best(LONG, &[1]),
+    Row::Best(SHORT, &[]),
+    Row::Originated(LONG, true),
+    Row::Originated(SHORT, false),
+    Row::Withdraws(LONG),
+    Row::Best(LONG, &[]),
+];
 
 #[test]
 fn an_origin(rt: HostRuntime) -> Result<(), Fail> {
-    let alloc = rt.alloc();
-    let named = named_prefixes()?;
-    let net = network(alloc)?;
-    let mut rib = joined(alloc, &net, 1, &[2, 3]).ok_or("no tables")?;
-    an_origin_in(&rt, alloc, &mut rib, &named);
-    Ok(())
+    tries(&rt, rt.alloc(), 1, &AN_ORIGIN)
 }
 
 // The least prefix is decided first, by address and then by length.
-fn decided_in_order_in(rt: &impl Abort, alloc: Global, rib: &mut Rib, named: &Prefixes) {
-    assert!(rt; decides(alloc, rib, None));
-    assert!(rt;
-        hears(
-            alloc,
-            rib,
-            2,
-            &[2, 1],
-            &[named.far, named.long, named.short],
-        )
-    );
-    assert!(rt; originates(rib, &named.far));
-    assert!(rt; is_dirty(rib, Some(named.short)));
-    assert!(rt; keeps_path(rib, &named.short, &[]));
-    assert!(rt; decides(alloc, rib, Some(named.short)));
-    assert!(rt; decides(alloc, rib, Some(named.long)));
-    assert!(rt; decides(alloc, rib, Some(named.far)));
-    assert!(rt; decides(alloc, rib, None));
-    assert!(rt; keeps_path(rib, &named.short, &[4, 2, 1]));
-    assert!(rt; keeps_path(rib, &named.far, &[4]));
-    clears(rib);
-    assert!(rt; keeps_path(rib, &named.far, &[]) && !is_originated(rib, &named.far));
-    assert!(rt; is_dirty(rib, Some(named.short)));
-}
+const DECIDED_IN_ORDER: [Row; 16] = [
+    Row::ComesUp(2),
+    Row::Decides(None),
+    Row::Hears(2, Along::Path(&[2, 1]), &[FAR, LONG, SHORT], &[]),
+    Row::Originates(FAR),
+    Row::Dirty(Some(SHORT)),
+    Row::Kept(SHORT, &[]),
+    Row::Decides(Some(SHORT)),
+    Row::Decides(Some(LONG)),
+    Row::Decides(Some(FAR)),
+    Row::Decides(None),
+    Row::Kept(SHORT, &[4, 2, 1]),
+    Row::Kept(FAR, &[4]),
+    Row::Clears,
+    Row::Kept(FAR, &[]),
+    Row::Originated(FAR, false),
+    Row::Dirty(Some(SHORT)),
+];
 
 #[test]
 fn decided_in_order(rt: HostRuntime) -> Result<(), Fail> {
-    let alloc = rt.alloc();
-    let named = named_prefixes()?;
-    let net = network(alloc)?;
-    let mut rib = joined(alloc, &net, 4, &[2]).ok_or("no tables")?;
-    decided_in_order_in(&rt, alloc, &mut rib, &named);
-    Ok(())
+    tries(&rt, rt.alloc(), 4, &DECIDED_IN_ORDER)
 }
 
 // A path that is kept in place of the best.
-fn another_path_is_kept_in(rt: &impl Abort, alloc: Global, rib: &mut Rib, named: &Prefixes) {
-    assert!(rt; hears(alloc, rib, 2, &[2, 1], &[named.short]));
-    assert!(rt; keeps(alloc, rib, &named.short, &[4, 3, 1]));
-    assert!(rt; decides(alloc, rib, Some(named.short)));
-    assert!(rt; keeps_path(rib, &named.short, &[4, 2, 1]));
-}
+const ANOTHER_PATH_IS_KEPT: [Row; 5] = [
+    Row::ComesUp(2),
+    Row::Hears(2, Along::Path(&[2, 1]), &[SHORT], &[]),
+    Row::Keeps(SHORT, &[4, 3, 1]),
+    Row::Decides(Some(SHORT)),
+    Row::Kept(SHORT, &[4, 2, 1]),
+];
 
 #[test]
 fn another_path_is_kept(rt: HostRuntime) -> Result<(), Fail> {
-    let alloc = rt.alloc();
-    let named = named_prefixes()?;
-    let net = network(alloc)?;
-    let mut rib = joined(alloc, &net, 4, &[2]).ok_or("no tables")?;
-    another_path_is_kept_in(&rt, alloc, &mut rib, &named);
-    Ok(())
+    tries(&rt, rt.alloc(), 4, &ANOTHER_PATH_IS_KEPT)
 }
 
 // A peer waits for the least prefix whose last word is not the kept path, while it is Established.
-fn waiting_in_order_in(rt: &impl Abort, alloc: Global, rib: &mut Rib, named: &Prefixes) {
-    assert!(rt; waits(rib, 2, None));
-    assert!(rt; !is_awaited(rib) && !is_pending(rib));
-    assert!(rt; keeps(alloc, rib, &named.long, &[4, 3, 1]));
-    assert!(rt; keeps(alloc, rib, &named.short, &[4, 3, 1]));
-    assert!(rt; waits(rib, 2, Some(named.short)));
-    assert!(rt; is_awaited(rib) && is_pending(rib));
-    assert!(rt; tells(rib, 2, &named.short));
-    assert!(rt; waits(rib, 2, Some(named.long)));
-    assert!(rt; waits(rib, 3, None));
-    assert!(rt; comes_up(rib, 3));
-    assert!(rt; waits(rib, 3, Some(named.short)));
-}
+const WAITING_IN_ORDER: [Row; 14] = [
+    Row::ComesUp(2),
+    Row::Waits(2, None),
+    Row::Awaited(false),
+    Row::Pending(false),
+    Row::Keeps(LONG, &[4, 3, 1]),
+    Row::Keeps(SHORT, &[4, 3, 1]),
+    Row::Waits(2, Some(SHORT)),
+    Row::Awaited(true),
+    Row::Pending(true),
+    Row::Tells(2, SHORT),
+    Row::Waits(2, Some(LONG)),
+    Row::Waits(3, None),
+    Row::ComesUp(3),
+    Row::Waits(3, Some(SHORT)),
+];
 
 #[test]
 fn waiting_in_order(rt: HostRuntime) -> Result<(), Fail> {
-    let alloc = rt.alloc();
-    let named = named_prefixes()?;
-    let net = network(alloc)?;
-    let mut rib = joined(alloc, &net, 4, &[2]).ok_or("no tables")?;
-    waiting_in_order_in(&rt, alloc, &mut rib, &named);
-    Ok(())
+    tries(&rt, rt.alloc(), 4, &WAITING_IN_ORDER)
 }
 
 // A peer waits where it was told another path, or a path where none is kept now.
-fn waiting_for_a_withdrawal_in(rt: &impl Abort, alloc: Global, rib: &mut Rib, named: &Prefixes) {
-    assert!(rt; keeps(alloc, rib, &named.far, &[4, 2, 1]));
-    assert!(rt; tells(rib, 2, &named.far));
-    assert!(rt; waits(rib, 2, None));
-    assert!(rt; keeps(alloc, rib, &named.far, &[4]));
-    assert!(rt; waits(rib, 2, Some(named.far)));
-    assert!(rt; keeps(alloc, rib, &named.far, &[]));
-    assert!(rt; waits(rib, 2, Some(named.far)));
-    assert!(rt; tells(rib, 2, &named.far));
-    assert!(rt; waits(rib, 2, None));
-    assert!(rt; !is_pending(rib));
-}
+const WAITING_FOR_A_WITHDRAWAL: [Row; 11] = [
+    Row::ComesUp(2),
+    Row::Keeps(FAR, &[4, 2, 1]),
+    Row::Tells(2, FAR),
+    Row::Waits(2, None),
+    Row::Keeps(FAR, &[4]),
+    Row::Waits(2, Some(FAR)),
+    Row::Keeps(FAR, &[]),
+    Row::Waits(2, Some(FAR)),
+    Row::Tells(2, FAR),
+    Row::Waits(2, None),
+    Row::Pending(false),
+];
 
 #[test]
 fn waiting_for_a_withdrawal(rt: HostRuntime) -> Result<(), Fail> {
-    let alloc = rt.alloc();
-    let named = named_prefixes()?;
-    let net = network(alloc)?;
-    let mut rib = joined(alloc, &net, 4, &[2]).ok_or("no tables")?;
-    waiting_for_a_withdrawal_in(&rt, alloc, &mut rib, &named);
-    Ok(())
+    tries(&rt, rt.alloc(), 4, &WAITING_FOR_A_WITHDRAWAL)
 }
 
 // Calls each law once.

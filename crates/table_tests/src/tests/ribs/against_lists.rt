@@ -7,6 +7,28 @@ const STEPS: u32 = 1500;
 
 const ROUTER: Asn = 4;
 
+// The prefixes of the tests.
+#[derive(Clone, Copy)]
+struct Prefixes {
+    short: Prefix,
+    long: Prefix,
+    far: Prefix,
+    stray: Prefix,
+}
+
+fn prefix_at((addr, len): At) -> Result<Prefix, &'static str> {
+    prefix(addr, len)
+}
+
+fn named_prefixes() -> Result<Prefixes, &'static str> {
+    Ok(Prefixes {
+        short: prefix_at(SHORT)?,
+        long: prefix_at(LONG)?,
+        far: prefix_at(FAR)?,
+        stray: prefix_at(STRAY)?,
+    })
+}
+
 // Numbers that look random, from a seed (Knuth's MMIX generator).
 #[derive(Drop)]
 struct Dice {
@@ -55,7 +77,7 @@ impl Dice {
 // A ring with a chord, prefixes of three origins, and a rule that ranks two paths for one of them.
 fn push_mesh(alloc: Global, net: &mut NetBuilder, named: &Prefixes) -> Result<(), Fail> {
     push_links(net, 5, &[(1, 2), (2, 4), (4, 3), (3, 1), (4, 5), (5, 1)])?;
-    push_origins(net, named)?;
+    push_origins(net)?;
     adds_origin(net, 5, prefix(0x0a00_0000, 8)?)?;
     push_rule(alloc, net, ROUTER, named.long, &[&[4, 3, 1], &[4, 2, 1]])
 }
@@ -174,13 +196,8 @@ fn both_keep(
 }
 
 fn both_clear(rib: &mut Rib, lists: &mut Lists) -> bool {
-    clears(rib);
     lists.clear();
-    true
-}
-
-fn decided(alloc: Global, rib: &mut Rib) -> Result<Option<Prefix>, RibError> {
-    rib.decide(alloc)
+    clears(rib)
 }
 
 fn both_decide(alloc: Global, rib: &mut Rib, lists: &mut Lists) -> bool {
@@ -221,7 +238,7 @@ fn same_session(rib: &Rib, lists: &Lists, peer: Asn) -> bool {
 }
 
 fn same_waiting(rib: &Rib, lists: &Lists, peer: Asn) -> bool {
-    waits(rib, peer, lists.waiting(peer))
+    waiting(rib, peer) == Some(lists.waiting(peer))
 }
 
 // Both say the same of a peer and a prefix that is named.
@@ -294,7 +311,7 @@ fn same_pending(rib: &mut Rib, pending: bool) -> bool {
 
 fn same_dirty(rib: &mut Rib, lists: &Lists, awaited: bool) -> bool {
     match lists.dirty() {
-        Ok(dirty) => same_pending(rib, awaited || dirty.is_some()) && is_dirty(rib, dirty),
+        Ok(last) => same_pending(rib, awaited || last.is_some()) && dirty(rib) == last,
         Err(_) => false,
     }
 }
