@@ -3,7 +3,6 @@
 use prefix_lanes::Prefix;
 use ranked_policy::{Asn, NetBuilder, NetError, Network, Path, Settings};
 use std::alloc::{AllocError, Global};
-use std::test::Fail;
 
 mod building;
 mod networks;
@@ -88,12 +87,40 @@ fn line(alloc: Global, count: u32) -> Result<NetBuilder, NetError> {
     Ok(net)
 }
 
-/// Routers 1 to 4, of which 1 originates 10.1.0.0/16 and 11.0.0.0/8; 2 and 3 prefer the way through
-/// each other, 4 has rules for 10.0.0.0/8 and 10.1.0.0/16.
-fn disagree(alloc: Global) -> Result<NetBuilder, Fail> {
-    let mut net = line(alloc, 4)?;
-    push_disagree(alloc, &mut net)?;
-    Ok(net)
+/// Names the origin of the prefix of this address and length.
+fn adds_origin_at(net: &mut NetBuilder, router: Asn, addr: u32, len: u8) -> Result<(), NetError> {
+    match Prefix::new(addr, len) {
+        Some(prefix) => adds_origin(net, router, prefix),
+        None => Err(NetError::BadNumber),
+    }
+}
+
+fn adds_rule_at(
+    net: &mut NetBuilder,
+    router: Asn,
+    addr: u32,
+    len: u8,
+    paths: Vec<Path>,
+) -> Result<(), NetError> {
+    match Prefix::new(addr, len) {
+        Some(prefix) => adds_rule(net, router, prefix, paths),
+        None => Err(NetError::BadNumber),
+    }
+}
+
+/// Gives a router the rule of these paths.
+fn push_rule(
+    alloc: Global,
+    net: &mut NetBuilder,
+    router: Asn,
+    addr: u32,
+    len: u8,
+    lists: &[&[Asn]],
+) -> Result<(), NetError> {
+    match paths_of(alloc, lists) {
+        Ok(paths) => adds_rule_at(net, router, addr, len, paths),
+        Err(_) => Err(NetError::Memory),
+    }
 }
 
 const DISAGREEING: [(Asn, u32, u8, &[&[Asn]]); 5] = [
@@ -104,28 +131,28 @@ const DISAGREEING: [(Asn, u32, u8, &[&[Asn]]); 5] = [
     (4, 0x0a01_0000, 16, &[&[4, 3, 1], &[4, 2, 1]]),
 ];
 
-fn push_disagree(alloc: Global, net: &mut NetBuilder) -> Result<(), Fail> {
-    for (a, b) in [(1, 3), (2, 4)] {
-        adds_link(net, a, b)?;
-    }
-    for (addr, len) in [(0x0a01_0000, 16), (0x0b00_0000, 8)] {
-        adds_origin(net, 1, prefix(addr, len)?)?;
-    }
+fn push_rules(alloc: Global, net: &mut NetBuilder) -> Result<(), NetError> {
     for (router, addr, len, lists) in DISAGREEING {
-        push_rule(alloc, net, router, prefix(addr, len)?, lists)?;
+        push_rule(alloc, net, router, addr, len, lists)?;
     }
     Ok(())
 }
 
-fn push_rule(
-    alloc: Global,
-    net: &mut NetBuilder,
-    router: Asn,
-    prefix: Prefix,
-    lists: &[&[Asn]],
-) -> Result<(), Fail> {
-    let paths = paths_of(alloc, lists)?;
-    Ok(adds_rule(net, router, prefix, paths)?)
+fn push_disagree(alloc: Global, net: &mut NetBuilder) -> Result<(), NetError> {
+    push_line(net, 4)?;
+    adds_link(net, 1, 3)?;
+    adds_link(net, 2, 4)?;
+    adds_origin_at(net, 1, 0x0a01_0000, 16)?;
+    adds_origin_at(net, 1, 0x0b00_0000, 8)?;
+    push_rules(alloc, net)
+}
+
+/// Routers 1 to 4, of which 1 originates 10.1.0.0/16 and 11.0.0.0/8; 2 and 3 prefer the way through
+/// each other, 4 has rules for 10.0.0.0/8 and 10.1.0.0/16.
+fn disagree(alloc: Global) -> Result<NetBuilder, NetError> {
+    let mut net = NetBuilder::new(alloc, SETTINGS)?;
+    push_disagree(alloc, &mut net)?;
+    Ok(net)
 }
 
 fn finished(net: NetBuilder) -> Result<Network, NetError> {

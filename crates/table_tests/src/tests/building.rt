@@ -3,6 +3,7 @@
 use super::*;
 use ranked_policy::{Origin, Router};
 use std::process::Abort;
+use std::test::Fail;
 
 type Answer = Result<(), NetError>;
 
@@ -164,10 +165,7 @@ const ORIGINS: [(Asn, Answer); 5] = [
 
 // Whether a builder answers to an origin of a prefix what is wanted.
 fn origin_is(net: &mut NetBuilder, router: Asn, addr: u32, len: u8, want: Answer) -> bool {
-    match Prefix::new(addr, len) {
-        Some(prefix) => is(adds_origin(net, router, prefix), want),
-        None => false,
-    }
+    adds_origin_at(net, router, addr, len) == want
 }
 
 fn refused_origins(rt: &impl Abort, net: &mut NetBuilder) {
@@ -225,20 +223,6 @@ const RULES: [(Asn, &[&[Asn]], Answer); 9] = [
 ];
 
 // Whether a builder answers to a rule of these paths what is wanted.
-fn rule_of_is(
-    net: &mut NetBuilder,
-    router: Asn,
-    addr: u32,
-    len: u8,
-    paths: Vec<Path>,
-    want: Answer,
-) -> bool {
-    match Prefix::new(addr, len) {
-        Some(prefix) => is(adds_rule(net, router, prefix, paths), want),
-        None => false,
-    }
-}
-
 fn rule_is(
     alloc: Global,
     net: &mut NetBuilder,
@@ -246,26 +230,25 @@ fn rule_is(
     len: u8,
     lists: &[&[Asn]],
     want: Answer,
-) -> Result<bool, AllocError> {
-    let paths = paths_of(alloc, lists)?;
-    Ok(rule_of_is(net, router, TEN, len, paths, want))
+) -> bool {
+    push_rule(alloc, net, router, TEN, len, lists) == want
 }
 
-fn rule_refusals_in(rt: &impl Abort, alloc: Global, net: &mut NetBuilder) -> Result<(), Fail> {
+fn rule_refusals_in(rt: &impl Abort, alloc: Global, net: &mut NetBuilder) {
     for (router, lists, want) in RULES {
         assert!(rt;
-            rule_is(alloc, net, router, 9, lists, want)?,
+            rule_is(alloc, net, router, 9, lists, want),
             "{router} {lists:?}"
         );
     }
-    Ok(())
 }
 
 #[test]
 fn rule_refusals(rt: HostRuntime) -> Result<(), Fail> {
     let alloc = rt.alloc();
     let mut net = disagree(alloc)?;
-    rule_refusals_in(&rt, alloc, &mut net)
+    rule_refusals_in(&rt, alloc, &mut net);
+    Ok(())
 }
 
 const LENGTHS: [(u8, &[&[Asn]], Answer); 2] = [
@@ -281,11 +264,10 @@ const LENGTHS: [(u8, &[&[Asn]], Answer); 2] = [
     ),
 ];
 
-fn lengths_of_paths(rt: &impl Abort, alloc: Global, net: &mut NetBuilder) -> Result<(), Fail> {
+fn lengths_of_paths(rt: &impl Abort, alloc: Global, net: &mut NetBuilder) {
     for (len, lists, want) in LENGTHS {
-        assert!(rt; rule_is(alloc, net, 1, len, lists, want)?, "{len}");
+        assert!(rt; rule_is(alloc, net, 1, len, lists, want), "{len}");
     }
-    Ok(())
 }
 
 /// The paths of router 1 to each from 2 to below `last`.
@@ -297,38 +279,35 @@ fn ways_of_two(alloc: Global, last: Asn) -> Result<Vec<Path>, AllocError> {
     Ok(list)
 }
 
-fn ways_are(
-    alloc: Global,
-    net: &mut NetBuilder,
-    last: Asn,
-    want: Answer,
-) -> Result<bool, AllocError> {
-    let paths = ways_of_two(alloc, last)?;
-    Ok(rule_of_is(net, 1, 0, 0, paths, want))
+// Whether a builder answers to a rule of these paths what is wanted.
+fn ways_are(alloc: Global, net: &mut NetBuilder, last: Asn, want: Answer) -> bool {
+    match ways_of_two(alloc, last) {
+        Ok(paths) => adds_rule_at(net, 1, 0, 0, paths) == want,
+        Err(_) => false,
+    }
 }
 
-fn counts_of_paths(rt: &impl Abort, alloc: Global, net: &mut NetBuilder) -> Result<(), Fail> {
+fn counts_of_paths(rt: &impl Abort, alloc: Global, net: &mut NetBuilder) {
     for (last, want) in [(35, LIMIT), (34, Ok(()))] {
-        assert!(rt; ways_are(alloc, net, last, want)?, "{last}");
+        assert!(rt; ways_are(alloc, net, last, want), "{last}");
     }
-    Ok(())
+}
+
+fn no_paths_are(alloc: Global, net: &mut NetBuilder, number: u32, want: Answer) -> bool {
+    adds_rule_at(net, 1, number << 8, 24, Vec::new(alloc)) == want
 }
 
 fn counts_of_rules(rt: &impl Abort, alloc: Global, net: &mut NetBuilder) {
     for i in 2..64u32 {
-        assert!(rt;
-            rule_of_is(net, 1, i << 8, 24, Vec::new(alloc), Ok(())),
-            "at {i}"
-        );
+        assert!(rt; no_paths_are(alloc, net, i, Ok(())), "at {i}");
     }
-    assert!(rt; rule_of_is(net, 1, 64 << 8, 24, Vec::new(alloc), LIMIT));
+    assert!(rt; no_paths_are(alloc, net, 64, LIMIT));
 }
 
-fn rule_limits_in(rt: &impl Abort, alloc: Global, net: &mut NetBuilder) -> Result<(), Fail> {
-    lengths_of_paths(rt, alloc, net)?;
-    counts_of_paths(rt, alloc, net)?;
+fn rule_limits_in(rt: &impl Abort, alloc: Global, net: &mut NetBuilder) {
+    lengths_of_paths(rt, alloc, net);
+    counts_of_paths(rt, alloc, net);
     counts_of_rules(rt, alloc, net);
-    Ok(())
 }
 
 /// A router has at most 64 rules, a rule at most 32 paths, a path at most 16 routers.
@@ -336,10 +315,11 @@ fn rule_limits_in(rt: &impl Abort, alloc: Global, net: &mut NetBuilder) -> Resul
 fn rule_limits(rt: HostRuntime) -> Result<(), Fail> {
     let alloc = rt.alloc();
     let mut net = line(alloc, 40)?;
-    rule_limits_in(&rt, alloc, &mut net)
+    rule_limits_in(&rt, alloc, &mut net);
+    Ok(())
 }
 
-/// The refusal of a builder that cannot finish, which gives it back.
+/// The builder that cannot finish for this, which is given back.
 fn refused(net: NetBuilder, want: NetError) -> Option<NetBuilder> {
     match net.finish() {
         Ok(_) => None,
@@ -347,50 +327,41 @@ fn refused(net: NetBuilder, want: NetError) -> Option<NetBuilder> {
     }
 }
 
-fn push_two_parts(net: &mut NetBuilder) -> Result<(), NetError> {
-    for i in 1..4u32 {
-        adds_router(net, i, TEN | i)?;
-    }
-    adds_link(net, 1, 2)
+fn push_two_parts(net: &mut NetBuilder) -> bool {
+    adds_router(net, 1, TEN | 1).is_ok()
+        && adds_router(net, 2, TEN | 2).is_ok()
+        && adds_router(net, 3, TEN | 3).is_ok()
+        && adds_link(net, 1, 2).is_ok()
 }
 
-// A builder that refused to finish without routers.
-fn refused_empty(alloc: Global) -> Result<NetBuilder, Fail> {
-    let net = NetBuilder::new(alloc, SETTINGS)?;
-    match refused(net, NetError::Limit) {
-        Some(net) => Ok(net),
-        None => Err("not refused for its limit".into()),
-    }
-}
-
-fn two_parts(alloc: Global) -> Result<NetBuilder, Fail> {
-    let mut net = refused_empty(alloc)?;
-    push_two_parts(&mut net)?;
-    Ok(net)
-}
-
-// A builder that refused to finish as well where it has two parts.
-fn refused_parts(alloc: Global) -> Result<NetBuilder, Fail> {
-    let net = two_parts(alloc)?;
-    match refused(net, NetError::NotConnected) {
-        Some(net) => Ok(net),
-        None => Err("not refused as not connected".into()),
+// A builder that refused to finish without routers, and has two parts since.
+fn two_parts(alloc: Global) -> Option<NetBuilder> {
+    let mut net = refused(NetBuilder::new(alloc, SETTINGS).ok()?, NetError::Limit)?;
+    if push_two_parts(&mut net) {
+        Some(net)
+    } else {
+        None
     }
 }
 
-fn is_finished(net: NetBuilder) -> bool {
-    net.finish().is_ok()
+// One that refused to finish as well where it has two parts, which are joined since.
+fn joined_parts(alloc: Global) -> Option<NetBuilder> {
+    let mut net = refused(two_parts(alloc)?, NetError::NotConnected)?;
+    if adds_link(&mut net, 3, 2).is_ok() {
+        Some(net)
+    } else {
+        None
+    }
 }
 
-fn joined_parts(alloc: Global) -> Result<NetBuilder, Fail> {
-    let mut net = refused_parts(alloc)?;
-    adds_link(&mut net, 3, 2)?;
-    Ok(net)
+fn finishes(net: Option<NetBuilder>) -> bool {
+    match net {
+        Some(net) => net.finish().is_ok(),
+        None => false,
+    }
 }
 
 #[test]
-fn finishing(rt: HostRuntime) -> Result<(), Fail> {
-    let net = joined_parts(rt.alloc())?;
-    assert!(rt; is_finished(net));
-    Ok(())
+fn finishing(rt: HostRuntime) {
+    assert!(rt; finishes(joined_parts(rt.alloc())));
 }

@@ -3,6 +3,7 @@
 use super::*;
 use ranked_policy::{Items, Link};
 use std::process::Abort;
+use std::test::Fail;
 
 // Each question ensures nothing, so that its answer is not carried along to the next.
 fn stands_at(net: &Network, asn: Asn, place: Option<usize>) -> bool {
@@ -56,9 +57,9 @@ fn places_in(rt: &impl Abort, net: &Network, eight: &Prefix) {
 }
 
 // A network of which router 4 originates 10.0.0.0/8 as well.
-fn with_eight(alloc: Global) -> Result<NetBuilder, Fail> {
+fn with_eight(alloc: Global) -> Result<NetBuilder, NetError> {
     let mut net = disagree(alloc)?;
-    adds_origin(&mut net, 4, prefix(TEN, 8)?)?;
+    adds_origin_at(&mut net, 4, TEN, 8)?;
     Ok(net)
 }
 
@@ -112,11 +113,15 @@ const LINKS: [Link; 3] = [
     Link { one: 2, other: 4 },
 ];
 
+fn links_in(rt: &impl Abort, net: &Network) {
+    assert!(rt; has_links(net, 2, &LINKS));
+    assert!(rt; has_links(net, 5, &[]));
+}
+
 #[test]
 fn links_of_a_router(rt: HostRuntime) -> Result<(), Fail> {
     let net = finished(disagree(rt.alloc())?)?;
-    assert!(rt; has_links(&net, 2, &LINKS));
-    assert!(rt; has_links(&net, 5, &[]));
+    links_in(&rt, &net);
     Ok(())
 }
 
@@ -142,23 +147,23 @@ const QUESTIONS: [(Asn, bool, bool, bool); 3] = [
     (5, false, false, false),
 ];
 
-fn routers_are_known(rt: &impl Abort, net: &Network) {
-    for (asn, known, linked, _) in QUESTIONS {
-        assert!(rt; is_known(net, asn) == known, "{asn}");
-        assert!(rt; is_found(net, asn) == known, "{asn}");
-        assert!(rt; is_linked(net, 3, asn) == linked, "{asn}");
-    }
+fn is_as_known(net: &Network, asn: Asn, known: bool, linked: bool) -> bool {
+    is_known(net, asn) == known && is_found(net, asn) == known && is_linked(net, 3, asn) == linked
 }
 
-fn origins_are_known(rt: &impl Abort, net: &Network, prefix: &Prefix) {
-    for (asn, _, _, origin) in QUESTIONS {
-        assert!(rt; is_origin(net, asn, prefix) == origin, "{asn}");
+fn is_origin_as(net: &Network, asn: Asn, prefix: &Prefix, origin: bool) -> bool {
+    is_origin(net, asn, prefix) == origin
+}
+
+fn routers_are_known(rt: &impl Abort, net: &Network, prefix: &Prefix) {
+    for (asn, known, linked, origin) in QUESTIONS {
+        assert!(rt; is_as_known(net, asn, known, linked), "{asn}");
+        assert!(rt; is_origin_as(net, asn, prefix, origin), "{asn}");
     }
 }
 
 fn questions_in(rt: &impl Abort, net: &Network, sixteen: &Prefix, eight: &Prefix) {
-    routers_are_known(rt, net);
-    origins_are_known(rt, net, sixteen);
+    routers_are_known(rt, net, sixteen);
     assert!(rt; is_named(net, sixteen));
     assert!(rt; !is_named(net, eight));
 }

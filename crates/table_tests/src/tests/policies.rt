@@ -6,6 +6,7 @@ use ranked_policy::laws::{
 };
 use ranked_policy::{Chosen, Only, Policy, Ranked, Shortest};
 use std::process::Abort;
+use std::test::Fail;
 
 // Prefixes by address and length: the last is one that no router originates.
 type At = (u32, u8);
@@ -51,25 +52,41 @@ fn permits(policy: &Chosen, path: &Path) -> bool {
     policy.permits(path)
 }
 
-fn is_permitted(alloc: Global, policy: &Chosen, numbers: &[Asn]) -> Result<bool, AllocError> {
-    let path = Path::from_slice(alloc, numbers)?;
-    Ok(permits(policy, &path))
+// Whether a policy says so of a path.
+fn permits_as(alloc: Global, policy: &Chosen, numbers: &[Asn], want: bool) -> bool {
+    match Path::from_slice(alloc, numbers) {
+        Ok(path) => permits(policy, &path) == want,
+        Err(_) => false,
+    }
 }
 
-fn permitted_in(rt: &impl Abort, alloc: Global, net: &Network) -> Result<(), Fail> {
-    for (router, at, numbers, want) in PERMITTED {
-        let policy = policy_of(net, router, at).ok_or("no such router")?;
-        let permits = is_permitted(alloc, &policy, numbers)?;
-        assert!(rt; permits == want, "{router}: {numbers:?}");
+fn is_permitted(
+    alloc: Global,
+    net: &Network,
+    router: Asn,
+    at: At,
+    numbers: &[Asn],
+    want: bool,
+) -> bool {
+    match policy_of(net, router, at) {
+        Some(policy) => permits_as(alloc, &policy, numbers, want),
+        None => false,
     }
-    Ok(())
+}
+
+fn permitted_in(rt: &impl Abort, alloc: Global, net: &Network) {
+    for (router, at, numbers, want) in PERMITTED {
+        let is_so = is_permitted(alloc, net, router, at, numbers, want);
+        assert!(rt; is_so, "{router}: {numbers:?}");
+    }
 }
 
 #[test]
 fn permitted(rt: HostRuntime) -> Result<(), Fail> {
     let alloc = rt.alloc();
     let net = finished(disagree(alloc)?)?;
-    permitted_in(&rt, alloc, &net)
+    permitted_in(&rt, alloc, &net);
+    Ok(())
 }
 
 /// By rank, then by length, then by the numbers.
@@ -89,26 +106,49 @@ fn prefers(policy: &Chosen, one: &Path, other: &Path) -> bool {
     policy.prefers(one, other)
 }
 
-fn is_preferred(alloc: Global, policy: &Chosen, a: &[Asn], b: &[Asn]) -> Result<bool, AllocError> {
-    let one = Path::from_slice(alloc, a)?;
-    let other = Path::from_slice(alloc, b)?;
-    Ok(prefers(policy, &one, &other))
+fn prefers_to(alloc: Global, policy: &Chosen, one: &Path, b: &[Asn], want: bool) -> bool {
+    match Path::from_slice(alloc, b) {
+        Ok(other) => prefers(policy, one, &other) == want,
+        Err(_) => false,
+    }
 }
 
-fn preferred_in(rt: &impl Abort, alloc: Global, net: &Network) -> Result<(), Fail> {
-    for (router, at, a, b, want) in PREFERRED {
-        let policy = policy_of(net, router, at).ok_or("no such router")?;
-        let prefers = is_preferred(alloc, &policy, a, b)?;
-        assert!(rt; prefers == want, "{router}: {a:?} {b:?}");
+// Whether a policy says so of two paths.
+fn prefers_as(alloc: Global, policy: &Chosen, a: &[Asn], b: &[Asn], want: bool) -> bool {
+    match Path::from_slice(alloc, a) {
+        Ok(one) => prefers_to(alloc, policy, &one, b, want),
+        Err(_) => false,
     }
-    Ok(())
+}
+
+fn is_preferred(
+    alloc: Global,
+    net: &Network,
+    router: Asn,
+    at: At,
+    a: &[Asn],
+    b: &[Asn],
+    want: bool,
+) -> bool {
+    match policy_of(net, router, at) {
+        Some(policy) => prefers_as(alloc, &policy, a, b, want),
+        None => false,
+    }
+}
+
+fn preferred_in(rt: &impl Abort, alloc: Global, net: &Network) {
+    for (router, at, a, b, want) in PREFERRED {
+        let is_so = is_preferred(alloc, net, router, at, a, b, want);
+        assert!(rt; is_so, "{router}: {a:?} {b:?}");
+    }
 }
 
 #[test]
 fn preferred(rt: HostRuntime) -> Result<(), Fail> {
     let alloc = rt.alloc();
     let net = finished(disagree(alloc)?)?;
-    preferred_in(&rt, alloc, &net)
+    preferred_in(&rt, alloc, &net);
+    Ok(())
 }
 
 fn first_of<P: Policy>(policy: &P, a: &Path, b: &Path) -> bool {

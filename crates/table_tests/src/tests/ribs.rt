@@ -1,6 +1,6 @@
 //! The tables of one router, call by call.
 
-use super::{SETTINGS, adds_link, adds_origin, finished, prefix, push_routers, push_rule};
+use super::{SETTINGS, adds_link, adds_origin_at, finished, push_routers, push_rule};
 use bgp_codec::{Attrs, Items, Numbers, Segment, SegmentKind, Update};
 use prefix_lanes::Prefix;
 use ranked_policy::{Asn, NetBuilder, NetError, Network, Path};
@@ -45,49 +45,56 @@ enum Along {
     Two(&'static [Asn], &'static [Asn]),
 }
 
+/// What is done with a prefix, or asked of it.
+#[derive(Clone, Copy)]
+enum Of {
+    /// The router originates it.
+    Originates,
+    /// It does so no longer.
+    Withdraws,
+    /// It keeps a path.
+    Keeps(&'static [Asn]),
+    /// It tells a peer what is kept.
+    Tells(Asn),
+    /// The path heard last from a peer: the empty path where it gives none.
+    Heard(Asn, &'static [Asn]),
+    /// Nothing is heard from a peer.
+    Unheard(Asn),
+    /// A word is heard that gives no path.
+    HeardOther(Asn),
+    /// The path told last to a peer.
+    Sent(Asn, &'static [Asn]),
+    /// Nothing is told to a peer.
+    Unsent(Asn),
+    /// The path that is kept.
+    Kept(&'static [Asn]),
+    /// The best of the choices.
+    Best(&'static [Asn]),
+    /// Whether it is originated.
+    Originated(bool),
+}
+
 /// A row of a test: what is done to the tables of a router, or asked of them.
 #[derive(Clone, Copy)]
 enum Row {
+    /// Of a prefix.
+    At(At, Of),
     /// A peer announces prefixes along a path, and withdraws others.
     Hears(Asn, Along, &'static [At], &'static [At]),
     /// The session with a peer is Established.
     ComesUp(Asn),
     /// It is left.
     Forgets(Asn),
-    /// The router originates a prefix.
-    Originates(At),
-    /// It does so no longer.
-    Withdraws(At),
-    /// It keeps a path.
-    Keeps(At, &'static [Asn]),
-    /// It tells a peer what is kept.
-    Tells(Asn, At),
-    /// It decides once: this prefix, or none.
+    /// The router decides once: this prefix, or none.
     Decides(Option<At>),
     /// It starts again.
     Clears,
-    /// The path heard last from a peer: the empty path where it gives none.
-    Heard(Asn, At, &'static [Asn]),
-    /// Nothing is heard of a prefix.
-    Unheard(Asn, At),
-    /// A word is heard that gives no path.
-    HeardOther(Asn, At),
-    /// The path told last to a peer.
-    Sent(Asn, At, &'static [Asn]),
-    /// Nothing is told of a prefix.
-    Unsent(Asn, At),
-    /// The path that is kept.
-    Kept(At, &'static [Asn]),
-    /// The best of the choices.
-    Best(At, &'static [Asn]),
     /// The prefix that is to be decided.
     Dirty(Option<At>),
     /// The prefix that a peer waits for.
     Waits(Asn, Option<At>),
     /// Whether a session is Established.
     Up(Asn, bool),
-    /// Whether a prefix is originated.
-    Originated(At, bool),
     /// Whether some peer waits.
     Awaited(bool),
     /// Whether anything is still to be done.
@@ -103,23 +110,23 @@ fn push_links(net: &mut NetBuilder, count: u32, links: &[(Asn, Asn)]) -> Result<
     Ok(())
 }
 
-fn push_origins(net: &mut NetBuilder) -> Result<(), Fail> {
+fn push_origins(net: &mut NetBuilder) -> Result<(), NetError> {
     for (router, (addr, len)) in [(4, FAR), (1, LONG), (1, SHORT)] {
-        adds_origin(net, router, prefix(addr, len)?)?;
+        adds_origin_at(net, router, addr, len)?;
     }
     Ok(())
 }
 
-fn push_ring(net: &mut NetBuilder) -> Result<(), Fail> {
+fn push_ring(net: &mut NetBuilder) -> Result<(), NetError> {
     push_links(net, 4, &[(1, 2), (2, 4), (4, 3), (3, 1)])?;
     push_origins(net)
 }
 
 // A ring of four routers, 1 - 2 - 4 - 3 - 1.
-fn network(alloc: Global) -> Result<Network, Fail> {
+fn network(alloc: Global) -> Result<Network, NetError> {
     let mut net = NetBuilder::new(alloc, SETTINGS)?;
     push_ring(&mut net)?;
-    Ok(finished(net)?)
+    finished(net)
 }
 
 // The AS_PATH of an UPDATE, where there was memory for it.
@@ -429,28 +436,35 @@ fn decides_at(alloc: Global, rib: &mut Rib, wanted: Option<At>) -> bool {
     }
 }
 
-// What is done or asked of one prefix.
-fn at_one(alloc: Global, rib: &mut Rib, row: Row, prefix: &Prefix) -> bool {
-    match row {
-        Row::Originates(_) => originates(rib, prefix),
-        Row::Withdraws(_) => withdraws(rib, prefix),
-        Row::Keeps(_, path) => keeps(alloc, rib, prefix, path),
-        Row::Tells(peer, _) => tells(rib, peer, prefix),
-        Row::Heard(peer, _, path) => hears_path(rib, peer, prefix, path),
-        Row::Unheard(peer, _) => !is_heard(rib, peer, prefix),
-        Row::HeardOther(peer, _) => is_heard_as_other(rib, peer, prefix),
-        Row::Sent(peer, _, path) => sends_path(rib, peer, prefix, path),
-        Row::Unsent(peer, _) => !is_sent(rib, peer, prefix),
-        Row::Kept(_, path) => keeps_path(rib, prefix, path),
-        Row::Best(_, path) => best_is(alloc, rib, prefix, path),
-        Row::Originated(_, wanted) => is_originated(rib, prefix) == wanted,
-        _ => false,
+// Whether it is done, or so, of one prefix.
+fn is_of(alloc: Global, rib: &mut Rib, prefix: &Prefix, of: Of) -> bool {
+    match of {
+        Of::Originates => originates(rib, prefix),
+        Of::Withdraws => withdraws(rib, prefix),
+        Of::Keeps(path) => keeps(alloc, rib, prefix, path),
+        Of::Tells(peer) => tells(rib, peer, prefix),
+        Of::Heard(peer, path) => hears_path(rib, peer, prefix, path),
+        Of::Unheard(peer) => !is_heard(rib, peer, prefix),
+        Of::HeardOther(peer) => is_heard_as_other(rib, peer, prefix),
+        Of::Sent(peer, path) => sends_path(rib, peer, prefix, path),
+        Of::Unsent(peer) => !is_sent(rib, peer, prefix),
+        Of::Kept(path) => keeps_path(rib, prefix, path),
+        Of::Best(path) => best_is(alloc, rib, prefix, path),
+        Of::Originated(wanted) => is_originated(rib, prefix) == wanted,
     }
 }
 
-// What is done or asked of the tables as a whole.
-fn at_all(alloc: Global, rib: &mut Rib, row: Row) -> bool {
+fn is_of_at(alloc: Global, rib: &mut Rib, (addr, len): At, of: Of) -> bool {
+    match Prefix::new(addr, len) {
+        Some(prefix) => is_of(alloc, rib, &prefix, of),
+        None => false,
+    }
+}
+
+// Whether a row is done, or so.
+fn is_so(alloc: Global, rib: &mut Rib, row: Row) -> bool {
     match row {
+        Row::At(at, of) => is_of_at(alloc, rib, at, of),
         Row::Hears(peer, along, nlri, withdrawn) => {
             says(rib, peer, updates(alloc, along, nlri, withdrawn))
         }
@@ -463,37 +477,6 @@ fn at_all(alloc: Global, rib: &mut Rib, row: Row) -> bool {
         Row::Up(peer, wanted) => is_established(rib, peer) == wanted,
         Row::Awaited(wanted) => is_awaited(rib) == wanted,
         Row::Pending(wanted) => is_pending(rib) == wanted,
-        _ => false,
-    }
-}
-
-// The prefix that a row names, where it names one.
-fn named_in(row: Row) -> Option<At> {
-    match row {
-        Row::Originates(at)
-        | Row::Withdraws(at)
-        | Row::Keeps(at, _)
-        | Row::Tells(_, at)
-        | Row::Heard(_, at, _)
-        | Row::Unheard(_, at)
-        | Row::HeardOther(_, at)
-        | Row::Sent(_, at, _)
-        | Row::Unsent(_, at)
-        | Row::Kept(at, _)
-        | Row::Best(at, _)
-        | Row::Originated(at, _) => Some(at),
-        _ => None,
-    }
-}
-
-// Whether a row was done, or is so.
-fn is_so(alloc: Global, rib: &mut Rib, row: Row) -> bool {
-    let Some((addr, len)) = named_in(row) else {
-        return at_all(alloc, rib, row);
-    };
-    match Prefix::new(addr, len) {
-        Some(prefix) => at_one(alloc, rib, row, &prefix),
-        None => false,
     }
 }
 
@@ -527,13 +510,13 @@ fn tries(rt: &impl Abort, alloc: Global, router: Asn, rows: &[Row]) -> Result<()
 const THE_LAST_OF_THREE: [Row; 9] = [
     Row::Hears(2, Along::Path(&[2, 1]), &[SHORT, LONG], &[]),
     Row::Hears(2, Along::Nothing, &[], &[SHORT]),
-    Row::Unheard(2, SHORT),
-    Row::Heard(2, LONG, &[2, 1]),
+    Row::At(SHORT, Of::Unheard(2)),
+    Row::At(LONG, Of::Heard(2, &[2, 1])),
     Row::Hears(2, Along::Path(&[2, 4, 3, 1]), &[SHORT], &[]),
-    Row::Heard(2, SHORT, &[2, 4, 3, 1]),
-    Row::Heard(2, LONG, &[2, 1]),
-    Row::Unheard(3, SHORT),
-    Row::Unsent(2, SHORT),
+    Row::At(SHORT, Of::Heard(2, &[2, 4, 3, 1])),
+    Row::At(LONG, Of::Heard(2, &[2, 1])),
+    Row::At(SHORT, Of::Unheard(3)),
+    Row::At(SHORT, Of::Unsent(2)),
 ];
 
 #[test]
@@ -546,12 +529,12 @@ const TEN_LONG: [Asn; 10] = [2, 4, 3, 5, 6, 7, 8, 9, 10, 1];
 // A path of more than eight numbers takes memory of its own.
 const A_LONG_PATH: [Row; 7] = [
     Row::Hears(2, Along::Path(&TEN_LONG), &[FAR, SHORT], &[]),
-    Row::Heard(2, FAR, &TEN_LONG),
-    Row::Heard(2, SHORT, &TEN_LONG),
-    Row::Unheard(2, LONG),
-    Row::Keeps(FAR, &TEN_LONG),
-    Row::Tells(3, FAR),
-    Row::Sent(3, FAR, &TEN_LONG),
+    Row::At(FAR, Of::Heard(2, &TEN_LONG)),
+    Row::At(SHORT, Of::Heard(2, &TEN_LONG)),
+    Row::At(LONG, Of::Unheard(2)),
+    Row::At(FAR, Of::Keeps(&TEN_LONG)),
+    Row::At(FAR, Of::Tells(3)),
+    Row::At(FAR, Of::Sent(3, &TEN_LONG)),
 ];
 
 #[test]
@@ -563,8 +546,8 @@ fn a_long_path(rt: HostRuntime) -> Result<(), Fail> {
 const ANNOUNCED_AND_WITHDRAWN: [Row; 4] = [
     Row::Hears(3, Along::Path(&[3, 4, 2, 1]), &[SHORT, LONG], &[]),
     Row::Hears(3, Along::Path(&[3, 1]), &[SHORT], &[SHORT, LONG]),
-    Row::Heard(3, SHORT, &[3, 1]),
-    Row::Unheard(3, LONG),
+    Row::At(SHORT, Of::Heard(3, &[3, 1])),
+    Row::At(LONG, Of::Unheard(3)),
 ];
 
 #[test]
@@ -577,8 +560,8 @@ const A_SET: [Row; 6] = [
     Row::ComesUp(2),
     Row::ComesUp(3),
     Row::Hears(2, Along::Set(&[2, 1]), &[SHORT], &[]),
-    Row::HeardOther(2, SHORT),
-    Row::Best(SHORT, &[]),
+    Row::At(SHORT, Of::HeardOther(2)),
+    Row::At(SHORT, Of::Best(&[])),
     Row::Dirty(None),
 ];
 
@@ -591,8 +574,8 @@ fn a_set(rt: HostRuntime) -> Result<(), Fail> {
 const SEVERAL_SEGMENTS_AND_NONE: [Row; 4] = [
     Row::Hears(2, Along::Two(&[2], &[1]), &[LONG], &[]),
     Row::Hears(3, Along::Nothing, &[LONG], &[]),
-    Row::HeardOther(2, LONG),
-    Row::HeardOther(3, LONG),
+    Row::At(LONG, Of::HeardOther(2)),
+    Row::At(LONG, Of::HeardOther(3)),
 ];
 
 #[test]
@@ -603,10 +586,10 @@ fn several_segments_and_none(rt: HostRuntime) -> Result<(), Fail> {
 // A prefix that nobody originates changes nothing.
 const A_PREFIX_OF_NOBODY: [Row; 5] = [
     Row::Hears(2, Along::Path(&[2, 1]), &[STRAY, SHORT], &[]),
-    Row::Unheard(2, STRAY),
-    Row::Kept(STRAY, &[]),
-    Row::Originated(STRAY, false),
-    Row::Heard(2, SHORT, &[2, 1]),
+    Row::At(STRAY, Of::Unheard(2)),
+    Row::At(STRAY, Of::Kept(&[])),
+    Row::At(STRAY, Of::Originated(false)),
+    Row::At(SHORT, Of::Heard(2, &[2, 1])),
 ];
 
 #[test]
@@ -620,19 +603,19 @@ const FORGETS_ONE_OF_TWO: [Row; 17] = [
     Row::ComesUp(3),
     Row::Hears(2, Along::Path(&[2, 1]), &[SHORT, LONG], &[]),
     Row::Hears(3, Along::Path(&[3, 1]), &[SHORT, LONG], &[]),
-    Row::Keeps(SHORT, &[4, 2, 1]),
-    Row::Tells(2, SHORT),
-    Row::Tells(3, SHORT),
+    Row::At(SHORT, Of::Keeps(&[4, 2, 1])),
+    Row::At(SHORT, Of::Tells(2)),
+    Row::At(SHORT, Of::Tells(3)),
     Row::Forgets(2),
-    Row::Unheard(2, SHORT),
-    Row::Unheard(2, LONG),
-    Row::Unsent(2, SHORT),
-    Row::Heard(3, LONG, &[3, 1]),
-    Row::Sent(3, SHORT, &[4, 2, 1]),
+    Row::At(SHORT, Of::Unheard(2)),
+    Row::At(LONG, Of::Unheard(2)),
+    Row::At(SHORT, Of::Unsent(2)),
+    Row::At(LONG, Of::Heard(3, &[3, 1])),
+    Row::At(SHORT, Of::Sent(3, &[4, 2, 1])),
     Row::Up(2, false),
     Row::Up(3, true),
     Row::Decides(Some(SHORT)),
-    Row::Kept(SHORT, &[4, 3, 1]),
+    Row::At(SHORT, Of::Kept(&[4, 3, 1])),
 ];
 
 #[test]
@@ -645,12 +628,12 @@ const THE_BEST_OF_TWO_PEERS: [Row; 9] = [
     Row::Hears(2, Along::Path(&[2, 1]), &[SHORT], &[]),
     Row::Hears(3, Along::Path(&[3, 1]), &[SHORT], &[]),
     Row::Hears(2, Along::Path(&[2, 4, 3, 1]), &[LONG], &[]),
-    Row::Best(SHORT, &[]),
+    Row::At(SHORT, Of::Best(&[])),
     Row::ComesUp(3),
-    Row::Best(SHORT, &[4, 3, 1]),
+    Row::At(SHORT, Of::Best(&[4, 3, 1])),
     Row::ComesUp(2),
-    Row::Best(SHORT, &[4, 2, 1]),
-    Row::Best(LONG, &[]),
+    Row::At(SHORT, Of::Best(&[4, 2, 1])),
+    Row::At(LONG, Of::Best(&[])),
 ];
 
 #[test]
@@ -663,13 +646,13 @@ const AN_ORIGIN: [Row; 10] = [
     Row::ComesUp(2),
     Row::ComesUp(3),
     Row::Hears(2, Along::Path(&[2, 1]), &[SHORT, LONG], &[]),
-    Row::Originates(LONG),
-    Row::Best(LONG, &[1]),
-    Row::Best(SHORT, &[]),
-    Row::Originated(LONG, true),
-    Row::Originated(SHORT, false),
-    Row::Withdraws(LONG),
-    Row::Best(LONG, &[]),
+    Row::At(LONG, Of::Originates),
+    Row::At(LONG, Of::Best(&[1])),
+    Row::At(SHORT, Of::Best(&[])),
+    Row::At(LONG, Of::Originated(true)),
+    Row::At(SHORT, Of::Originated(false)),
+    Row::At(LONG, Of::Withdraws),
+    Row::At(LONG, Of::Best(&[])),
 ];
 
 #[test]
@@ -682,18 +665,18 @@ const DECIDED_IN_ORDER: [Row; 16] = [
     Row::ComesUp(2),
     Row::Decides(None),
     Row::Hears(2, Along::Path(&[2, 1]), &[FAR, LONG, SHORT], &[]),
-    Row::Originates(FAR),
+    Row::At(FAR, Of::Originates),
     Row::Dirty(Some(SHORT)),
-    Row::Kept(SHORT, &[]),
+    Row::At(SHORT, Of::Kept(&[])),
     Row::Decides(Some(SHORT)),
     Row::Decides(Some(LONG)),
     Row::Decides(Some(FAR)),
     Row::Decides(None),
-    Row::Kept(SHORT, &[4, 2, 1]),
-    Row::Kept(FAR, &[4]),
+    Row::At(SHORT, Of::Kept(&[4, 2, 1])),
+    Row::At(FAR, Of::Kept(&[4])),
     Row::Clears,
-    Row::Kept(FAR, &[]),
-    Row::Originated(FAR, false),
+    Row::At(FAR, Of::Kept(&[])),
+    Row::At(FAR, Of::Originated(false)),
     Row::Dirty(Some(SHORT)),
 ];
 
@@ -706,9 +689,9 @@ fn decided_in_order(rt: HostRuntime) -> Result<(), Fail> {
 const ANOTHER_PATH_IS_KEPT: [Row; 5] = [
     Row::ComesUp(2),
     Row::Hears(2, Along::Path(&[2, 1]), &[SHORT], &[]),
-    Row::Keeps(SHORT, &[4, 3, 1]),
+    Row::At(SHORT, Of::Keeps(&[4, 3, 1])),
     Row::Decides(Some(SHORT)),
-    Row::Kept(SHORT, &[4, 2, 1]),
+    Row::At(SHORT, Of::Kept(&[4, 2, 1])),
 ];
 
 #[test]
@@ -722,12 +705,12 @@ const WAITING_IN_ORDER: [Row; 14] = [
     Row::Waits(2, None),
     Row::Awaited(false),
     Row::Pending(false),
-    Row::Keeps(LONG, &[4, 3, 1]),
-    Row::Keeps(SHORT, &[4, 3, 1]),
+    Row::At(LONG, Of::Keeps(&[4, 3, 1])),
+    Row::At(SHORT, Of::Keeps(&[4, 3, 1])),
     Row::Waits(2, Some(SHORT)),
     Row::Awaited(true),
     Row::Pending(true),
-    Row::Tells(2, SHORT),
+    Row::At(SHORT, Of::Tells(2)),
     Row::Waits(2, Some(LONG)),
     Row::Waits(3, None),
     Row::ComesUp(3),
@@ -742,14 +725,14 @@ fn waiting_in_order(rt: HostRuntime) -> Result<(), Fail> {
 // A peer waits where it was told another path, or a path where none is kept now.
 const WAITING_FOR_A_WITHDRAWAL: [Row; 11] = [
     Row::ComesUp(2),
-    Row::Keeps(FAR, &[4, 2, 1]),
-    Row::Tells(2, FAR),
+    Row::At(FAR, Of::Keeps(&[4, 2, 1])),
+    Row::At(FAR, Of::Tells(2)),
     Row::Waits(2, None),
-    Row::Keeps(FAR, &[4]),
+    Row::At(FAR, Of::Keeps(&[4])),
     Row::Waits(2, Some(FAR)),
-    Row::Keeps(FAR, &[]),
+    Row::At(FAR, Of::Keeps(&[])),
     Row::Waits(2, Some(FAR)),
-    Row::Tells(2, FAR),
+    Row::At(FAR, Of::Tells(2)),
     Row::Waits(2, None),
     Row::Pending(false),
 ];

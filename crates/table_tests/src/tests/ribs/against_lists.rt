@@ -10,22 +10,29 @@ const ROUTER: Asn = 4;
 // The prefixes of the tests.
 #[derive(Clone, Copy)]
 struct Prefixes {
+    // 10.0.0.0/8; its origin is 5.
+    eight: Prefix,
     short: Prefix,
     long: Prefix,
     far: Prefix,
     stray: Prefix,
 }
 
-fn prefix_at((addr, len): At) -> Result<Prefix, &'static str> {
-    prefix(addr, len)
-}
-
-fn named_prefixes() -> Result<Prefixes, &'static str> {
-    Ok(Prefixes {
-        short: prefix_at(SHORT)?,
-        long: prefix_at(LONG)?,
-        far: prefix_at(FAR)?,
-        stray: prefix_at(STRAY)?,
+fn named_prefixes() -> Option<Prefixes> {
+    let (addr, len) = SHORT;
+    let short = Prefix::new(addr, len)?;
+    let (addr, len) = LONG;
+    let long = Prefix::new(addr, len)?;
+    let (addr, len) = FAR;
+    let far = Prefix::new(addr, len)?;
+    let (addr, len) = STRAY;
+    let stray = Prefix::new(addr, len)?;
+    Some(Prefixes {
+        eight: Prefix::new(0x0a00_0000, 8)?,
+        short,
+        long,
+        far,
+        stray,
     })
 }
 
@@ -74,18 +81,21 @@ impl Dice {
     }
 }
 
+const CHORDED: [(Asn, Asn); 6] = [(1, 2), (2, 4), (4, 3), (3, 1), (4, 5), (5, 1)];
+
 // A ring with a chord, prefixes of three origins, and a rule that ranks two paths for one of them.
-fn push_mesh(alloc: Global, net: &mut NetBuilder, named: &Prefixes) -> Result<(), Fail> {
-    push_links(net, 5, &[(1, 2), (2, 4), (4, 3), (3, 1), (4, 5), (5, 1)])?;
+fn push_mesh(alloc: Global, net: &mut NetBuilder) -> Result<(), NetError> {
+    let (addr, len) = LONG;
+    push_links(net, 5, &CHORDED)?;
     push_origins(net)?;
-    adds_origin(net, 5, prefix(0x0a00_0000, 8)?)?;
-    push_rule(alloc, net, ROUTER, named.long, &[&[4, 3, 1], &[4, 2, 1]])
+    adds_origin_at(net, 5, 0x0a00_0000, 8)?;
+    push_rule(alloc, net, ROUTER, addr, len, &[&[4, 3, 1], &[4, 2, 1]])
 }
 
-fn meshed(alloc: Global, named: &Prefixes) -> Result<Network, Fail> {
+fn meshed(alloc: Global) -> Result<Network, NetError> {
     let mut net = NetBuilder::new(alloc, SETTINGS)?;
-    push_mesh(alloc, &mut net, named)?;
-    Ok(finished(net)?)
+    push_mesh(alloc, &mut net)?;
+    finished(net)
 }
 
 // An AS_PATH of a peer, by a number below 10: mostly one AS_SEQUENCE, some of them long or through
@@ -350,21 +360,23 @@ fn play(
     decided
 }
 
+fn play_on(rt: &impl Abort, alloc: Global, net: &Network, rib: &mut Rib, named: &Prefixes) -> u32 {
+    let prefixes = [named.eight, named.short, named.long, named.far, named.stray];
+    let mut lists = Lists::new(alloc, net, ROUTER);
+    play(rt, alloc, rib, &mut lists, named, &prefixes)
+}
+
+// None where there are no tables.
+fn play_in(rt: &impl Abort, alloc: Global, net: &Network, named: &Prefixes) -> Option<u32> {
+    let mut rib = tables(alloc, net, ROUTER)?;
+    Some(play_on(rt, alloc, net, &mut rib, named))
+}
+
 #[test]
 fn random_calls(rt: HostRuntime) -> Result<(), Fail> {
-    let alloc = rt.alloc();
-    let named = named_prefixes()?;
-    let prefixes = [
-        prefix(0x0a00_0000, 8)?,
-        named.short,
-        named.long,
-        named.far,
-        named.stray,
-    ];
-    let net = meshed(alloc, &named)?;
-    let mut rib = tables(alloc, &net, ROUTER).ok_or("no tables")?;
-    let mut lists = Lists::new(alloc, &net, ROUTER);
-    let decided = play(&rt, alloc, &mut rib, &mut lists, &named, &prefixes);
-    assert!(rt; decided > 100);
+    let named = named_prefixes().ok_or("no prefix is that long")?;
+    let net = meshed(rt.alloc())?;
+    let decided = play_in(&rt, rt.alloc(), &net, &named);
+    assert!(rt; decided > Some(100));
     Ok(())
 }
