@@ -1,10 +1,12 @@
-use prefix_lanes::Prefix;
-use ranked_policy::{Asn, NetBuilder, NetError, Network, Settings};
+use ranked_policy::{Asn, NetBuilder, Network, Settings};
 use router_core::Router;
 use std::alloc::Global;
+use std::mem::forget;
+use std::process::Abort;
 use std::test::Fail;
 
 mod answers;
+mod beginnings;
 mod carried;
 mod choosing;
 mod items;
@@ -18,18 +20,14 @@ mod strays;
 mod walking;
 mod whole;
 
-use steps::{ESTABLISHED, JOINED, READY, Step, plays};
+use beginnings::Beginning;
+use steps::{Named, Step, plays, prefix};
 
-fn least() -> Result<Prefix, Fail> {
-    Ok(Prefix::new(0x0a00_0000, 8).ok_or("a prefix")?)
-}
-
-fn greatest() -> Result<Prefix, Fail> {
-    Ok(Prefix::new(0x0a01_0000, 16).ok_or("a prefix")?)
-}
+// Routers and networks are left, not dropped: each way out of a function that drops them is proved with the drop
+// of all that they hold.
 
 // Router 1 has identifier 10.0.0.1, router 2 has 10.0.0.2, and so on; a link joins 1 and each other.
-fn push_star(net: &mut NetBuilder, routers: u32) -> Result<(), NetError> {
+fn push_star(net: &mut NetBuilder, routers: u32) -> Result<(), Fail> {
     for number in 1..=routers {
         net.push_router(number, 0x0a00_0000 | number)?;
     }
@@ -39,15 +37,39 @@ fn push_star(net: &mut NetBuilder, routers: u32) -> Result<(), NetError> {
     Ok(())
 }
 
+fn push_origin(net: &mut NetBuilder, named: Named) -> Result<(), Fail> {
+    Ok(net.push_origin(1, prefix(named).ok_or("a prefix")?)?)
+}
+
 // Router 1 is the origin of 10.1.0.0/16, where it is not alone, and beside 3 of 10.0.0.0/8 too.
 fn push_origins(net: &mut NetBuilder, routers: u32) -> Result<(), Fail> {
     if routers == 3 {
-        net.push_origin(1, least()?)?;
+        push_origin(net, Named::Least)?;
     }
     if routers > 1 {
-        net.push_origin(1, greatest()?)?;
+        push_origin(net, Named::Greatest)?;
     }
     Ok(())
+}
+
+fn push_all(net: &mut NetBuilder, routers: u32) -> Result<(), Fail> {
+    push_star(net, routers)?;
+    push_origins(net, routers)
+}
+
+// What was built is the network, where all was pushed.
+fn finished(net: NetBuilder, pushed: Result<(), Fail>) -> Result<Network, Fail> {
+    if let Err(error) = pushed {
+        forget(net);
+        return Err(error);
+    }
+    match net.finish() {
+        Ok(net) => Ok(net),
+        Err((net, error)) => {
+            forget(net);
+            Err(error.into())
+        }
+    }
 }
 
 fn star(alloc: Global, cut: usize, routers: u32) -> Result<Network, Fail> {
@@ -58,12 +80,8 @@ fn star(alloc: Global, cut: usize, routers: u32) -> Result<Network, Fail> {
         pipe: 64,
     };
     let mut net = NetBuilder::new(alloc, settings)?;
-    push_star(&mut net, routers)?;
-    push_origins(&mut net, routers)?;
-    match net.finish() {
-        Ok(net) => Ok(net),
-        Err((_, error)) => Err(error.into()),
-    }
+    let pushed = push_all(&mut net, routers);
+    finished(net, pushed)
 }
 
 fn router(alloc: Global, net: &Network, number: Asn) -> Result<Router<'_>, Fail> {
@@ -73,50 +91,40 @@ fn router(alloc: Global, net: &Network, number: Asn) -> Result<Router<'_>, Fail>
     Ok(Router::new(alloc, net, number)?)
 }
 
-// The place of the first step of a script that does not go as it says, by this router; other steps came first,
-// and went.
-fn asks_of(
+// The place of the first step of a script that does not go as it says; the steps that come first have to go.
+fn plays_behind(
     alloc: Global,
-    net: &Network,
-    number: Asn,
+    router: &mut Router<'_>,
     first: &[Step<'_>],
     script: &[Step<'_>],
 ) -> Result<Option<usize>, Fail> {
-    let mut router = router(alloc, net, number)?;
-    if plays(alloc, &mut router, first).is_some() {
+    if plays(alloc, router, first).is_some() {
         return Err("what comes before the script goes".into());
     }
-    Ok(plays(alloc, &mut router, script))
+    Ok(plays(alloc, router, script))
 }
 
-// The same by a router of so many.
-fn asks_among(
+fn plays_in(
     alloc: Global,
-    routers: u32,
-    number: Asn,
-    first: &[Step<'_>],
+    net: &Network,
+    from: &Beginning,
     script: &[Step<'_>],
 ) -> Result<Option<usize>, Fail> {
-    let net = star(alloc, 4096, routers)?;
-    asks_of(alloc, &net, number, first, script)
+    let mut router = router(alloc, net, from.number)?;
+    let outcome = plays_behind(alloc, &mut router, from.first, script);
+    forget(router);
+    outcome
 }
 
-// The same by router 1 of two.
-fn asks(alloc: Global, script: &[Step<'_>]) -> Result<Option<usize>, Fail> {
-    asks_among(alloc, 2, 1, &[], script)
+fn plays_from(alloc: Global, from: &Beginning, script: &[Step<'_>]) -> Result<Option<usize>, Fail> {
+    let net = star(alloc, from.cut, from.routers)?;
+    let outcome = plays_in(alloc, &net, from, script);
+    forget(net);
+    outcome
 }
 
-// Its session with 2 was started, and its Dial of 1 was answered.
-fn asks_joined(alloc: Global, script: &[Step<'_>]) -> Result<Option<usize>, Fail> {
-    asks_among(alloc, 2, 1, &JOINED, script)
-}
-
-// The OPEN and the KEEPALIVE of 2 came, and the KEEPALIVE that answers was put behind the OPEN.
-fn asks_established(alloc: Global, script: &[Step<'_>]) -> Result<Option<usize>, Fail> {
-    asks_among(alloc, 2, 1, &ESTABLISHED, script)
-}
-
-// By router 1 of three, whose sessions are Established, and which was put all that it said.
-fn asks_ready(alloc: Global, script: &[Step<'_>]) -> Result<Option<usize>, Fail> {
-    asks_among(alloc, 3, 1, &READY, script)
+// Each step of a script goes as it says; a failure names the first that does not.
+fn asks(rt: &impl Abort, alloc: Global, from: &Beginning, script: &[Step<'_>]) -> Result<(), Fail> {
+    assert_eq!(rt; plays_from(alloc, from, script)?, None);
+    Ok(())
 }

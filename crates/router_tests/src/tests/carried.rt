@@ -3,6 +3,7 @@
 use super::answers::{DID, advertises, decides, handles, is_told, keeps, takes_item};
 use super::offers::offers_quiet_part;
 use super::*;
+use prefix_lanes::Prefix;
 use router_core::Command;
 
 // Carries one item from router u to v, where one waits and is taken. Whether it was not refused to be shown.
@@ -73,34 +74,42 @@ fn meet_beside(
     n: u32,
     records: bool,
 ) -> Result<bool, Fail> {
-    let prefix = greatest()?;
+    let prefix = prefix(Named::Greatest).ok_or("a prefix")?;
     let mut two = router(alloc, net, 2)?;
-    Ok(meet(one, &mut two, prefix, n, records))
+    let outcome = meet(one, &mut two, prefix, n, records);
+    forget(two);
+    Ok(outcome)
 }
 
 fn meet_in(alloc: Global, net: &Network, n: u32, records: bool) -> Result<bool, Fail> {
     let mut one = router(alloc, net, 1)?;
-    meet_beside(alloc, net, &mut one, n, records)
+    let outcome = meet_beside(alloc, net, &mut one, n, records);
+    forget(one);
+    outcome
 }
 
 // Routers 1 and 2 meet at this cut.
 fn meet_at(alloc: Global, cut: usize, n: u32, records: bool) -> Result<bool, Fail> {
     let net = star(alloc, cut, 2)?;
-    meet_in(alloc, &net, n, records)
+    let outcome = meet_in(alloc, &net, n, records);
+    forget(net);
+    outcome
+}
+
+// At each of these cuts, in so many turns.
+fn meets(rt: &impl Abort, alloc: Global, records: bool) -> Result<(), Fail> {
+    for (cut, n) in [(4096, 40), (18, 100), (1, 400)] {
+        assert!(rt; meet_at(alloc, cut, n, records)?, "at a cut of {cut}");
+    }
+    Ok(())
 }
 
 #[test]
 fn two_routers_have_their_routes(rt: HostRuntime) -> Result<(), Fail> {
-    for (cut, n) in [(4096, 40), (18, 100), (1, 400)] {
-        assert!(rt; meet_at(rt.alloc(), cut, n, false)?, "at a cut of {cut}");
-    }
-    Ok(())
+    meets(&rt, rt.alloc(), false)
 }
 
 #[test]
 fn two_routers_record(rt: HostRuntime) -> Result<(), Fail> {
-    for (cut, n) in [(4096, 40), (18, 100), (1, 400)] {
-        assert!(rt; meet_at(rt.alloc(), cut, n, true)?, "at a cut of {cut}");
-    }
-    Ok(())
+    meets(&rt, rt.alloc(), true)
 }

@@ -1,40 +1,41 @@
 //! How a recording comes to its end: the part of it, or its loss.
 
 use super::answers::DID;
+use super::beginnings::{ALONE, READY, UP_TO_THREE};
 use super::items::Sent::{Mark, Says};
 use super::offers::Offered;
+use super::steps::Asked::{Snapshot, Stop};
 use super::steps::Step::{Does, Hears, IsDrained, Offers, Puts, Takes};
-use super::steps::{UP_TO_THREE, UPDATE_OF_THREE, UPDATE_OF_TWO};
+use super::steps::{UPDATE_OF_THREE, UPDATE_OF_TWO};
 use super::*;
-use router_core::{Call, Command};
 use snap_marker::{Cause, Lost};
 
-const RECORDS_1: Step<'static> = Does(Call::Obey(Command::Snapshot(1)), DID);
+const RECORDS_1: Step<'static> = Does(Snapshot(1), DID);
+
+const DOWN: Lost = Lost {
+    router: 1,
+    number: 1,
+    peer: 2,
+    epoch: 0,
+    cause: Cause::NotUp,
+};
 
 // The session with 2 is down. The markers go out all the same.
 #[test]
 fn a_session_that_is_down_loses_the_recording(rt: HostRuntime) -> Result<(), Fail> {
-    let loss = Lost {
-        router: 1,
-        number: 1,
-        peer: 2,
-        epoch: 0,
-        cause: Cause::NotUp,
-    };
-    let script = [
+    static SCRIPT: &[Step<'static>] = &[
         RECORDS_1,
-        Offers(Offered::Loss(loss)),
+        Offers(Offered::Loss(DOWN)),
         Puts(3, Mark(1, 1)),
         IsDrained(2),
     ];
-    assert_eq!(rt; asks_among(rt.alloc(), 3, 1, &UP_TO_THREE, &script)?, None);
-    Ok(())
+    asks(&rt, rt.alloc(), &UP_TO_THREE, SCRIPT)
 }
 
 // What 2 says behind its marker is not recorded.
 #[test]
 fn a_channel_has_what_came_before_its_marker(rt: HostRuntime) -> Result<(), Fail> {
-    let script = [
+    static SCRIPT: &[Step<'static>] = &[
         Hears(2, Says(1, &[UPDATE_OF_TWO])),
         RECORDS_1,
         Hears(2, Says(1, &[UPDATE_OF_TWO])),
@@ -43,87 +44,83 @@ fn a_channel_has_what_came_before_its_marker(rt: HostRuntime) -> Result<(), Fail
         Takes(3, 0, Mark(1, 1), DID),
         Offers(Offered::Updates(1, 0)),
     ];
-    assert_eq!(rt; asks_ready(rt.alloc(), &script)?, None);
-    Ok(())
+    asks(&rt, rt.alloc(), &READY, SCRIPT)
 }
 
 #[test]
 fn the_channel_of_the_first_marker_is_empty(rt: HostRuntime) -> Result<(), Fail> {
-    let script = [
+    static SCRIPT: &[Step<'static>] = &[
         Takes(2, 0, Mark(1, 1), DID),
         Hears(2, Says(1, &[UPDATE_OF_TWO])),
         Hears(3, Says(1, &[UPDATE_OF_THREE])),
         Takes(3, 0, Mark(1, 1), DID),
         Offers(Offered::Updates(0, 1)),
     ];
-    assert_eq!(rt; asks_ready(rt.alloc(), &script)?, None);
-    Ok(())
+    asks(&rt, rt.alloc(), &READY, SCRIPT)
 }
 
 #[test]
 fn the_last_marker_offers_the_part(rt: HostRuntime) -> Result<(), Fail> {
-    let script = [
-        Does(Call::Obey(Command::Snapshot(7)), DID),
+    static SCRIPT: &[Step<'static>] = &[
+        Does(Snapshot(7), DID),
         Takes(3, 0, Mark(1, 7), DID),
         Offers(Offered::Nothing),
         Takes(2, 0, Mark(1, 7), DID),
         Offers(Offered::Part(7)),
     ];
-    assert_eq!(rt; asks_ready(rt.alloc(), &script)?, None);
-    Ok(())
+    asks(&rt, rt.alloc(), &READY, SCRIPT)
 }
 
 #[test]
 fn a_router_without_links_offers_as_it_records(rt: HostRuntime) -> Result<(), Fail> {
-    let script = [RECORDS_1, Offers(Offered::Part(1))];
-    assert_eq!(rt; asks_among(rt.alloc(), 1, 1, &[], &script)?, None);
-    Ok(())
+    static SCRIPT: &[Step<'static>] = &[RECORDS_1, Offers(Offered::Part(1))];
+    asks(&rt, rt.alloc(), &ALONE, SCRIPT)
 }
+
+const CLOSED: Lost = Lost {
+    router: 1,
+    number: 1,
+    peer: 3,
+    epoch: 1,
+    cause: Cause::Closed,
+};
 
 #[test]
 fn a_close_loses_the_recording(rt: HostRuntime) -> Result<(), Fail> {
-    let loss = Lost {
-        router: 1,
-        number: 1,
-        peer: 3,
-        epoch: 1,
-        cause: Cause::Closed,
-    };
-    let script = [
+    static SCRIPT: &[Step<'static>] = &[
         RECORDS_1,
         Takes(2, 0, Mark(1, 1), DID),
-        Does(Call::Obey(Command::Stop(3)), DID),
-        Offers(Offered::Loss(loss)),
+        Does(Stop(3), DID),
+        Offers(Offered::Loss(CLOSED)),
     ];
-    assert_eq!(rt; asks_ready(rt.alloc(), &script)?, None);
-    Ok(())
+    asks(&rt, rt.alloc(), &READY, SCRIPT)
 }
+
+const SUPERSEDED: Lost = Lost {
+    router: 1,
+    number: 1,
+    peer: 3,
+    epoch: 1,
+    cause: Cause::Superseded,
+};
 
 // The marker of 2 came: that of 3 is the least that is missing.
 #[test]
 fn a_greater_number_supersedes(rt: HostRuntime) -> Result<(), Fail> {
-    let loss = Lost {
-        router: 1,
-        number: 1,
-        peer: 3,
-        epoch: 1,
-        cause: Cause::Superseded,
-    };
-    let script = [
+    static SCRIPT: &[Step<'static>] = &[
         RECORDS_1,
         Takes(2, 0, Mark(1, 1), DID),
-        Does(Call::Obey(Command::Snapshot(2)), DID),
-        Offers(Offered::Loss(loss)),
+        Does(Snapshot(2), DID),
+        Offers(Offered::Loss(SUPERSEDED)),
     ];
-    assert_eq!(rt; asks_ready(rt.alloc(), &script)?, None);
-    Ok(())
+    asks(&rt, rt.alloc(), &READY, SCRIPT)
 }
 
 // Nothing goes out, and the recording of 3 goes on.
 #[test]
 fn a_marker_of_an_old_number_is_ignored(rt: HostRuntime) -> Result<(), Fail> {
-    let script = [
-        Does(Call::Obey(Command::Snapshot(3)), DID),
+    static SCRIPT: &[Step<'static>] = &[
+        Does(Snapshot(3), DID),
         Puts(2, Mark(1, 3)),
         Puts(3, Mark(1, 3)),
         IsDrained(2),
@@ -135,6 +132,5 @@ fn a_marker_of_an_old_number_is_ignored(rt: HostRuntime) -> Result<(), Fail> {
         Takes(2, 0, Mark(1, 3), DID),
         Offers(Offered::Part(3)),
     ];
-    assert_eq!(rt; asks_ready(rt.alloc(), &script)?, None);
-    Ok(())
+    asks(&rt, rt.alloc(), &READY, SCRIPT)
 }

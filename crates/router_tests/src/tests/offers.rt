@@ -1,9 +1,11 @@
 //! What a router offers of a snapshot.
 
+use super::steps::{Named, prefix};
 use prefix_lanes::Prefix;
 use ranked_policy::Asn;
 use router_core::{Offer, Router};
 use snap_marker::{Channel, Lost, Part};
+use std::mem::forget;
 
 // What a router is to offer.
 #[derive(Clone, Copy)]
@@ -16,7 +18,7 @@ pub(super) enum Offered {
     // A part that is pending, or is not.
     Pending(bool),
     // A part that keeps and originates this prefix alone, and names incarnation 1 of both links.
-    State(Prefix),
+    State(Named),
     Loss(Lost),
 }
 
@@ -88,10 +90,10 @@ fn is_state(part: &Part, prefix: Prefix) -> bool {
     own && keeps_first(part, prefix) && part.epoch(2) == 1 && part.epoch(3) == 1
 }
 
-fn offers_state(router: &Router<'_>, prefix: Prefix) -> bool {
-    match part(router) {
-        Some(part) => is_state(part, prefix),
-        None => false,
+fn offers_state(router: &Router<'_>, named: Named) -> bool {
+    match (part(router), prefix(named)) {
+        (Some(part), Some(prefix)) => is_state(part, prefix),
+        (None, _) | (_, None) => false,
     }
 }
 
@@ -108,7 +110,7 @@ pub(super) fn offers(router: &Router<'_>, offered: &Offered) -> bool {
         Offered::Part(number) => offers_part(router, *number),
         Offered::Updates(of_two, of_three) => offers_updates(router, *of_two, *of_three),
         Offered::Pending(pending) => offers_pending(router, *pending),
-        Offered::State(prefix) => offers_state(router, *prefix),
+        Offered::State(named) => offers_state(router, *named),
         Offered::Loss(loss) => offers_loss(router, loss),
     }
 }
@@ -116,7 +118,11 @@ pub(super) fn offers(router: &Router<'_>, offered: &Offered) -> bool {
 // Whether what would be recorded now is that state, and not pending.
 pub(super) fn records_now(router: &mut Router<'_>, prefix: Prefix) -> bool {
     match router.part_state() {
-        Ok(part) => is_state(&part, prefix) && !part.pending,
+        Ok(part) => {
+            let is_state = is_state(&part, prefix) && !part.pending;
+            forget(part);
+            is_state
+        }
         Err(_) => false,
     }
 }
@@ -124,7 +130,11 @@ pub(super) fn records_now(router: &mut Router<'_>, prefix: Prefix) -> bool {
 // The incarnation of the link to a peer, as the router has it.
 pub(super) fn epoch(router: &mut Router<'_>, peer: Asn) -> u32 {
     match router.part_state() {
-        Ok(part) => part.epoch(peer),
+        Ok(part) => {
+            let epoch = part.epoch(peer);
+            forget(part);
+            epoch
+        }
         Err(_) => 0,
     }
 }

@@ -1,26 +1,27 @@
 //! Sessions: how they open, and what closes them.
 
 use super::answers::{DID, NOTHING};
+use super::beginnings::{ESTABLISHED, FRESH, FRESH_AT_18, JOINED};
 use super::items::Sent::{Dial, Octets, Says, Shut};
+use super::steps::Asked::{Handle, Reset, Start, Stop};
 use super::steps::Step::{Does, Hears, IsDrained, Puts, PutsAt, Takes};
 use super::steps::{ALIVE, OPEN_OF_ONE, OPEN_OF_TWO};
 use super::*;
-use router_core::{Call, Command, RouterError};
+use router_core::RouterError;
 
 // Both start; 2 takes the Dial of 1, whose stamp is 2. After 1 took the Dial of 2, its next piece is its
 // OPEN.
 #[test]
 fn sessions_open(rt: HostRuntime) -> Result<(), Fail> {
-    let script = [
-        Does(Call::Obey(Command::Start(2)), DID),
-        Does(Call::Obey(Command::Start(3)), Err(RouterError::NoSuchPeer)),
+    static SCRIPT: &[Step<'static>] = &[
+        Does(Start(2), DID),
+        Does(Start(3), Err(RouterError::NoSuchPeer)),
         PutsAt(2, 2),
         Takes(2, 0, Dial(1), DID),
         Puts(2, Says(1, &[OPEN_OF_ONE])),
         IsDrained(2),
     ];
-    assert_eq!(rt; asks(rt.alloc(), &script)?, None);
-    Ok(())
+    asks(&rt, rt.alloc(), &FRESH, SCRIPT)
 }
 
 // Nineteen octets whose first is no marker.
@@ -33,18 +34,17 @@ const NO_HEADER: [u8; 19] = [
 // NOTIFICATION 1/1 in one piece, and Shut.
 #[test]
 fn a_fault_in_a_header_closes(rt: HostRuntime) -> Result<(), Fail> {
-    let script = [
+    static SCRIPT: &[Step<'static>] = &[
         Takes(2, 0, Octets(1, &NO_HEADER), DID),
         Takes(2, 0, Dial(2), Err(RouterError::Held { peer: 2 })),
-        Does(Call::Handle(2), DID),
+        Does(Handle(2), DID),
         Puts(2, Dial(1)),
         Puts(2, Says(1, &[OPEN_OF_ONE, &[0x00, 0x15, 0x03, 0x01, 0x01]])),
         Puts(2, Shut(1)),
         IsDrained(2),
-        Does(Call::Handle(2), NOTHING),
+        Does(Handle(2), NOTHING),
     ];
-    assert_eq!(rt; asks_joined(rt.alloc(), &script)?, None);
-    Ok(())
+    asks(&rt, rt.alloc(), &JOINED, SCRIPT)
 }
 
 // An OPEN that names another number than the peer's, 3, with the identifier of the peer.
@@ -55,21 +55,20 @@ const OPEN_OF_ANOTHER: &[u8] = &[
 // NOTIFICATION 2/2.
 #[test]
 fn an_open_of_another_router_closes(rt: HostRuntime) -> Result<(), Fail> {
-    let script = [
+    static SCRIPT: &[Step<'static>] = &[
         Hears(2, Says(1, &[OPEN_OF_ANOTHER])),
         Puts(2, Dial(1)),
         Puts(2, Says(1, &[OPEN_OF_ONE, &[0x00, 0x15, 0x03, 0x02, 0x02]])),
         Puts(2, Shut(1)),
     ];
-    assert_eq!(rt; asks_joined(rt.alloc(), &script)?, None);
-    Ok(())
+    asks(&rt, rt.alloc(), &JOINED, SCRIPT)
 }
 
 // Octets of incarnation 1 are gone in incarnation 2: the OPEN there is read as if nothing had come before
 // it, and answered by a KEEPALIVE.
 #[test]
 fn octets_of_an_old_incarnation_are_gone(rt: HostRuntime) -> Result<(), Fail> {
-    let script = [
+    static SCRIPT: &[Step<'static>] = &[
         Takes(2, 0, Octets(1, &[0xff]), DID),
         Takes(2, 0, Shut(1), DID),
         Takes(2, 0, Dial(2), DID),
@@ -81,8 +80,7 @@ fn octets_of_an_old_incarnation_are_gone(rt: HostRuntime) -> Result<(), Fail> {
         Puts(2, Says(2, &[OPEN_OF_ONE, ALIVE])),
         IsDrained(2),
     ];
-    assert_eq!(rt; asks_joined(rt.alloc(), &script)?, None);
-    Ok(())
+    asks(&rt, rt.alloc(), &JOINED, SCRIPT)
 }
 
 // An UPDATE whose path begins with another number than the peer's.
@@ -94,20 +92,19 @@ const UPDATE_OF_ANOTHER: &[u8] = &[
 // NOTIFICATION 3/11.
 #[test]
 fn an_update_of_another_router_closes(rt: HostRuntime) -> Result<(), Fail> {
-    let script = [
+    static SCRIPT: &[Step<'static>] = &[
         Hears(2, Says(1, &[UPDATE_OF_ANOTHER])),
         Puts(2, Says(1, &[&[0x00, 0x15, 0x03, 0x03, 0x0b]])),
         Puts(2, Shut(1)),
     ];
-    assert_eq!(rt; asks_established(rt.alloc(), &script)?, None);
-    Ok(())
+    asks(&rt, rt.alloc(), &ESTABLISHED, SCRIPT)
 }
 
 // No stamp passes 2^62.
 #[test]
 fn no_stamp_is_left(rt: HostRuntime) -> Result<(), Fail> {
-    let script = [
-        Does(Call::Obey(Command::Start(2)), DID),
+    static SCRIPT: &[Step<'static>] = &[
+        Does(Start(2), DID),
         Takes(
             2,
             0x4000_0000_0000_0000,
@@ -116,30 +113,23 @@ fn no_stamp_is_left(rt: HostRuntime) -> Result<(), Fail> {
         ),
         Takes(2, u64::MAX, Dial(1), Err(RouterError::StampEnd)),
         Takes(2, 0x3fff_ffff_ffff_ffff, Dial(1), DID),
-        Does(Call::Obey(Command::Stop(2)), Err(RouterError::StampEnd)),
+        Does(Stop(2), Err(RouterError::StampEnd)),
     ];
-    assert_eq!(rt; asks(rt.alloc(), &script)?, None);
-    Ok(())
-}
-
-fn asks_at_cut(alloc: Global, cut: usize, script: &[Step<'_>]) -> Result<Option<usize>, Fail> {
-    let net = star(alloc, cut, 2)?;
-    asks_of(alloc, &net, 1, &[], script)
+    asks(&rt, rt.alloc(), &FRESH, SCRIPT)
 }
 
 // A reset closes the incarnation, and dials the next; a stop closes that.
 #[test]
 fn a_reset_dials_anew(rt: HostRuntime) -> Result<(), Fail> {
-    let script = [
-        Does(Call::Obey(Command::Start(2)), DID),
-        Does(Call::Obey(Command::Reset(2)), DID),
-        Does(Call::Obey(Command::Stop(2)), DID),
+    static SCRIPT: &[Step<'static>] = &[
+        Does(Start(2), DID),
+        Does(Reset(2), DID),
+        Does(Stop(2), DID),
         Puts(2, Dial(1)),
         Puts(2, Shut(1)),
         Puts(2, Dial(2)),
         Puts(2, Shut(2)),
         IsDrained(2),
     ];
-    assert_eq!(rt; asks_at_cut(rt.alloc(), 18, &script)?, None);
-    Ok(())
+    asks(&rt, rt.alloc(), &FRESH_AT_18, SCRIPT)
 }

@@ -1,5 +1,5 @@
-//! Scripts: what a router is asked, step by step, and what is to come of it. A table and one loop are proved
-//! in a few seconds, whatever its length; a function with as many calls in minutes.
+//! Scripts: what a router is asked, step by step, and what is to come of it. One loop plays every table and is
+//! proved once; in a function of as many calls each goal has all that the calls before it ensure.
 
 use super::answers::*;
 use super::items::{Sent, drains, hears, judges_item, puts, puts_at, puts_some, takes};
@@ -9,16 +9,41 @@ use ranked_policy::Asn;
 use router_core::{Call, Command, Router};
 use std::alloc::Global;
 
+// A prefix that the network names.
+#[derive(Clone, Copy)]
+pub(super) enum Named {
+    // 10.0.0.0/8.
+    Least,
+    // 10.1.0.0/16.
+    Greatest,
+}
+
+// A call, as a script has it.
+#[derive(Clone, Copy)]
+pub(super) enum Asked {
+    Start(Asn),
+    Stop(Asn),
+    Reset(Asn),
+    Originate(Named),
+    Withdraw(Named),
+    Snapshot(u32),
+    Restart,
+    Tick,
+    Handle(Asn),
+    Decide,
+    Advertise,
+}
+
 #[derive(Clone, Copy)]
 pub(super) enum Step<'a> {
     // The call is answered so.
-    Does(Call, Answer),
+    Does(Asked, Answer),
     // The same, and the stamp stays.
-    Stays(Call, Answer),
+    Stays(Asked, Answer),
     // The call is judged so, and the stamp stays.
-    Judges(Call, Answer),
+    Judges(Asked, Answer),
     // The call is answered as it is judged.
-    DoesAsJudged(Call),
+    DoesAsJudged(Asked),
     // An item of a peer with this stamp is answered so.
     Takes(Asn, u64, Sent<'a>, Answer),
     // An item of a peer is taken, and the message that it brings is handled.
@@ -32,7 +57,7 @@ pub(super) enum Step<'a> {
     // An item of a peer with this stamp is judged so.
     JudgesTake(Asn, u64, Sent<'a>, Answer),
     // A prefix comes and goes until router 2 is told nothing more.
-    Fills(Prefix),
+    Fills(Named),
     // What waits towards a peer is put, if it is little.
     Drains(Asn),
     // Nothing waits towards a peer.
@@ -42,20 +67,90 @@ pub(super) enum Step<'a> {
     // This is the offer in front.
     Offers(Offered),
     // What would be recorded now is not pending, keeps and originates this prefix alone.
-    RecordsNow(Prefix),
+    RecordsNow(Named),
     // This path is kept for a prefix.
-    Keeps(Prefix, &'a [Asn]),
+    Keeps(Named, &'a [Asn]),
     // So many seconds pass.
     Seconds(u32),
+}
+
+pub(super) fn prefix(named: Named) -> Option<Prefix> {
+    match named {
+        Named::Least => Prefix::new(0x0a00_0000, 8),
+        Named::Greatest => Prefix::new(0x0a01_0000, 16),
+    }
+}
+
+fn call(asked: Asked) -> Option<Call> {
+    let call = match asked {
+        Asked::Start(peer) => Call::Obey(Command::Start(peer)),
+        Asked::Stop(peer) => Call::Obey(Command::Stop(peer)),
+        Asked::Reset(peer) => Call::Obey(Command::Reset(peer)),
+        Asked::Originate(named) => Call::Obey(Command::Originate(prefix(named)?)),
+        Asked::Withdraw(named) => Call::Obey(Command::Withdraw(prefix(named)?)),
+        Asked::Snapshot(number) => Call::Obey(Command::Snapshot(number)),
+        Asked::Restart => Call::Obey(Command::Restart),
+        Asked::Tick => Call::Tick,
+        Asked::Handle(peer) => Call::Handle(peer),
+        Asked::Decide => Call::Decide,
+        Asked::Advertise => Call::Advertise,
+    };
+    Some(call)
+}
+
+// How a call is to go.
+#[derive(Clone, Copy)]
+enum Way {
+    Does(Answer),
+    Stays(Answer),
+    Judges(Answer),
+    DoesAsJudged,
+}
+
+fn goes_so(one: &mut Router<'_>, call: &Call, way: Way) -> bool {
+    match way {
+        Way::Does(answer) => does(one, call) == answer,
+        Way::Stays(answer) => keeps_its_stamp(one, call, answer),
+        Way::Judges(answer) => judges_alone(one, call, answer),
+        Way::DoesAsJudged => does_as_judged(one, call),
+    }
+}
+
+fn asked_so(one: &mut Router<'_>, asked: Asked, way: Way) -> bool {
+    match call(asked) {
+        Some(call) => goes_so(one, &call, way),
+        None => false,
+    }
+}
+
+fn fills_with(one: &mut Router<'_>, named: Named) -> bool {
+    match prefix(named) {
+        Some(prefix) => fills(one, prefix),
+        None => false,
+    }
+}
+
+fn would_record(one: &mut Router<'_>, named: Named) -> bool {
+    match prefix(named) {
+        Some(prefix) => records_now(one, prefix),
+        None => false,
+    }
+}
+
+fn has_path(one: &Router<'_>, named: Named, path: &[Asn]) -> bool {
+    match prefix(named) {
+        Some(prefix) => keeps(one, &prefix, path),
+        None => false,
+    }
 }
 
 // Whether a step goes as it says.
 fn goes(alloc: Global, one: &mut Router<'_>, step: &Step<'_>) -> bool {
     match step {
-        Step::Does(call, answer) => does(one, call) == *answer,
-        Step::Stays(call, answer) => keeps_its_stamp(one, call, *answer),
-        Step::Judges(call, answer) => judges_alone(one, call, *answer),
-        Step::DoesAsJudged(call) => does_as_judged(one, call),
+        Step::Does(asked, answer) => asked_so(one, *asked, Way::Does(*answer)),
+        Step::Stays(asked, answer) => asked_so(one, *asked, Way::Stays(*answer)),
+        Step::Judges(asked, answer) => asked_so(one, *asked, Way::Judges(*answer)),
+        Step::DoesAsJudged(asked) => asked_so(one, *asked, Way::DoesAsJudged),
         Step::Takes(peer, stamp, sent, answer) => takes(alloc, one, *peer, *stamp, sent, *answer),
         Step::Hears(peer, sent) => hears(alloc, one, *peer, sent),
         Step::Puts(peer, sent) => puts(alloc, one, *peer, sent),
@@ -64,13 +159,13 @@ fn goes(alloc: Global, one: &mut Router<'_>, step: &Step<'_>) -> bool {
         Step::JudgesTake(peer, stamp, sent, answer) => {
             judges_item(alloc, one, *peer, *stamp, sent, *answer)
         }
-        Step::Fills(prefix) => fills(one, *prefix),
+        Step::Fills(named) => fills_with(one, *named),
         Step::Drains(peer) => drains(one, *peer),
         Step::IsDrained(peer) => is_drained(one, *peer),
         Step::Waits(peer) => waits(one, *peer),
         Step::Offers(offered) => offers(one, offered),
-        Step::RecordsNow(prefix) => records_now(one, *prefix),
-        Step::Keeps(prefix, path) => keeps(one, prefix, path),
+        Step::RecordsNow(named) => would_record(one, *named),
+        Step::Keeps(named, path) => has_path(one, *named, path),
         Step::Seconds(n) => seconds(one, *n),
     }
 }
@@ -115,45 +210,4 @@ pub(super) const UPDATE_OF_TWO: &[u8] = &[
 pub(super) const UPDATE_OF_THREE: &[u8] = &[
     0x00, 0x2c, 0x02, 0x00, 0x00, 0x00, 0x12, 0x40, 0x01, 0x01, 0x00, 0x40, 0x02, 0x04, 0x02, 0x01,
     0x00, 0x03, 0x40, 0x03, 0x04, 0x0a, 0x00, 0x00, 0x03, 0x10, 0x0a, 0x01,
-];
-
-// ---- steps that come first in many scripts
-
-// The session with 2 starts, and its Dial of 1 is answered.
-pub(super) const JOINED: [Step<'static>; 2] = [
-    Step::Does(Call::Obey(Command::Start(2)), DID),
-    Step::Takes(2, 0, Sent::Dial(1), DID),
-];
-
-// Then come the OPEN and the KEEPALIVE of 2, and the KEEPALIVE that answers is put behind the OPEN.
-pub(super) const ESTABLISHED: [Step<'static>; 6] = [
-    Step::Does(Call::Obey(Command::Start(2)), DID),
-    Step::Takes(2, 0, Sent::Dial(1), DID),
-    Step::Hears(2, Sent::Says(1, &[OPEN_OF_TWO])),
-    Step::Hears(2, Sent::Says(1, &[ALIVE])),
-    Step::Puts(2, Sent::Dial(1)),
-    Step::Puts(2, Sent::Says(1, &[OPEN_OF_ONE, ALIVE])),
-];
-
-// The session with 3 becomes Established, and what is said to it is put.
-pub(super) const UP_TO_THREE: [Step<'static>; 5] = [
-    Step::Does(Call::Obey(Command::Start(3)), DID),
-    Step::Takes(3, 0, Sent::Dial(1), DID),
-    Step::Hears(3, Sent::Says(1, &[OPEN_OF_THREE])),
-    Step::Hears(3, Sent::Says(1, &[ALIVE])),
-    Step::Drains(3),
-];
-
-// The sessions with 2 and 3 do, and what is said to them is put.
-pub(super) const READY: [Step<'static>; 10] = [
-    Step::Does(Call::Obey(Command::Start(2)), DID),
-    Step::Takes(2, 0, Sent::Dial(1), DID),
-    Step::Hears(2, Sent::Says(1, &[OPEN_OF_TWO])),
-    Step::Hears(2, Sent::Says(1, &[ALIVE])),
-    Step::Does(Call::Obey(Command::Start(3)), DID),
-    Step::Takes(3, 0, Sent::Dial(1), DID),
-    Step::Hears(3, Sent::Says(1, &[OPEN_OF_THREE])),
-    Step::Hears(3, Sent::Says(1, &[ALIVE])),
-    Step::Drains(2),
-    Step::Drains(3),
 ];

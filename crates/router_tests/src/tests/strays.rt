@@ -1,12 +1,14 @@
 //! Items that no honest peer puts.
 
 use super::answers::{DID, NOTHING};
+use super::beginnings::{FRESH, JOINED};
 use super::items::Sent::{Dial, Mark, Says, Shut};
 use super::offers::Offered;
+use super::steps::Asked::{Handle, Start, Tick};
 use super::steps::Step::{Does, Hears, IsDrained, Offers, Puts, Seconds, Stays, Takes};
 use super::steps::{ALIVE, OPEN_OF_ONE, OPEN_OF_TWO};
 use super::*;
-use router_core::{Call, Command, RouterError};
+use router_core::RouterError;
 
 // Octets of an incarnation that was not joined, a marker before the session is Established, and a Dial
 // of an incarnation that is over: each is taken. Nothing waits to be handled, and nothing was recorded. What
@@ -14,11 +16,11 @@ use router_core::{Call, Command, RouterError};
 // answers it by a KEEPALIVE.
 #[test]
 fn stray_items_do_nothing(rt: HostRuntime) -> Result<(), Fail> {
-    let script = [
+    static SCRIPT: &[Step<'static>] = &[
         Takes(2, 0, Says(2, &[ALIVE]), DID),
         Takes(2, 0, Mark(1, 5), DID),
         Takes(2, 0, Dial(0), DID),
-        Does(Call::Handle(2), NOTHING),
+        Does(Handle(2), NOTHING),
         Offers(Offered::Nothing),
         Puts(2, Dial(1)),
         Puts(2, Says(1, &[OPEN_OF_ONE])),
@@ -26,8 +28,7 @@ fn stray_items_do_nothing(rt: HostRuntime) -> Result<(), Fail> {
         Hears(2, Says(1, &[OPEN_OF_TWO])),
         Puts(2, Says(1, &[ALIVE])),
     ];
-    assert_eq!(rt; asks_joined(rt.alloc(), &script)?, None);
-    Ok(())
+    asks(&rt, rt.alloc(), &JOINED, SCRIPT)
 }
 
 // The peer joins, and leaves, the greatest incarnation. What the router said then: its own Dial, and the
@@ -35,8 +36,8 @@ fn stray_items_do_nothing(rt: HostRuntime) -> Result<(), Fail> {
 // refused, and nothing changes.
 #[test]
 fn the_last_incarnation_is_not_dialled_past(rt: HostRuntime) -> Result<(), Fail> {
-    let script = [
-        Does(Call::Obey(Command::Start(2)), DID),
+    static SCRIPT: &[Step<'static>] = &[
+        Does(Start(2), DID),
         Takes(2, 0, Dial(u32::MAX), DID),
         Takes(2, 0, Shut(u32::MAX), DID),
         Puts(2, Dial(1)),
@@ -45,10 +46,9 @@ fn the_last_incarnation_is_not_dialled_past(rt: HostRuntime) -> Result<(), Fail>
         Puts(2, Shut(u32::MAX)),
         IsDrained(2),
         Seconds(119),
-        Stays(Call::Tick, Err(RouterError::EpochEnd)),
-        Stays(Call::Tick, Err(RouterError::EpochEnd)),
+        Stays(Tick, Err(RouterError::EpochEnd)),
+        Stays(Tick, Err(RouterError::EpochEnd)),
         IsDrained(2),
     ];
-    assert_eq!(rt; asks(rt.alloc(), &script)?, None);
-    Ok(())
+    asks(&rt, rt.alloc(), &FRESH, SCRIPT)
 }

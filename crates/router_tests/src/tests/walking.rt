@@ -8,7 +8,9 @@ use super::items::{Sent, made};
 use super::offers::epoch;
 use super::steps::{ALIVE, OPEN_OF_ONE, UPDATE_OF_ONE};
 use super::*;
+use prefix_lanes::Prefix;
 use router_core::{Call, Command, What};
+use router_side::Told;
 use std::alloc::AllocError;
 
 // The generator of the walk of router 2, whose peer 1 is the origin of 10.1.0.0/16 (Knuth's multiplier); and
@@ -145,16 +147,11 @@ fn takes(alloc: Global, two: &mut Router<'_>, stamp: u64, sent: &Sent<'_>) -> bo
     }
 }
 
-fn acts(alloc: Global, two: &mut Router<'_>, act: &Act) -> bool {
-    match act {
-        Act::Does(call) => does_as_judged(two, call),
-        Act::Takes(stamp, sent) => takes(alloc, two, *stamp, sent),
-    }
-}
-
 fn steps(alloc: Global, two: &mut Router<'_>, walk: &mut Walk) -> bool {
-    let act = next_act(two, walk);
-    acts(alloc, two, &act)
+    match next_act(two, walk) {
+        Act::Does(call) => does_as_judged(two, &call),
+        Act::Takes(stamp, sent) => takes(alloc, two, stamp, &sent),
+    }
 }
 
 // The incarnation of the last marker of a number among what is put, where there is one.
@@ -185,15 +182,23 @@ fn established_in(two: &mut Router<'_>, number: u32) -> Option<u32> {
 }
 
 // Whether the last UPDATE of an incarnation that was acted on announces.
-fn announced(alloc: Global, two: &Router<'_>, epoch: u32) -> Result<bool, AllocError> {
+fn last_announces(told: &[Told], epoch: u32) -> bool {
     let mut last = false;
-    if let Some(history) = two.acted(1) {
-        for told in history.told(alloc)?.as_slice() {
-            if told.epoch == epoch {
-                last = !told.update.nlri.as_slice().is_empty();
-            }
+    for told in told {
+        if told.epoch == epoch {
+            last = !told.update.nlri.as_slice().is_empty();
         }
     }
+    last
+}
+
+fn announced(alloc: Global, two: &Router<'_>, epoch: u32) -> Result<bool, AllocError> {
+    let Some(history) = two.acted(1) else {
+        return Ok(false);
+    };
+    let told = history.told(alloc)?;
+    let last = last_announces(told.as_slice(), epoch);
+    forget(told);
     Ok(last)
 }
 
@@ -247,20 +252,28 @@ fn walks(alloc: Global, two: &mut Router<'_>, prefix: Prefix, seed: u64) -> bool
 }
 
 fn walks_anew(alloc: Global, net: &Network, seed: u64) -> Result<bool, Fail> {
-    let prefix = greatest()?;
+    let prefix = prefix(Named::Greatest).ok_or("a prefix")?;
     let mut two = router(alloc, net, 2)?;
-    Ok(walks(alloc, &mut two, prefix, seed))
+    let outcome = walks(alloc, &mut two, prefix, seed);
+    forget(two);
+    Ok(outcome)
 }
 
-// Whether so many walks, each from its seed, go as they are to: the first that does not.
-fn walk_all(alloc: Global, seeds: u64) -> Result<Option<u64>, Fail> {
-    let net = star(alloc, 4096, 2)?;
+// The first of so many walks, each from its seed, that does not go as it is to.
+fn walk_each(alloc: Global, net: &Network, seeds: u64) -> Result<Option<u64>, Fail> {
     for seed in 1..=seeds {
-        if !walks_anew(alloc, &net, seed)? {
+        if !walks_anew(alloc, net, seed)? {
             return Ok(Some(seed));
         }
     }
     Ok(None)
+}
+
+fn walk_all(alloc: Global, seeds: u64) -> Result<Option<u64>, Fail> {
+    let net = star(alloc, 4096, 2)?;
+    let outcome = walk_each(alloc, &net, seeds);
+    forget(net);
+    outcome
 }
 
 #[test]
