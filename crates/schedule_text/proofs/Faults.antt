@@ -140,3 +140,4 @@ module _ (net : Plan) where
   is_faulty text codes.OutOfLimit e = sym e
   is_faulty text codes.NotSimple e = sym e
   is_faulty text codes.BadPrefix e = sym e
+  is_faulty text codes.NotPermitted e = sym e

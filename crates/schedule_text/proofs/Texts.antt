@@ -85,6 +85,7 @@ module _ (net : Plan) (before : ℕ) where
   refuses_at lines left rest line orders next codes.OutOfLimit l h e = fault_at lines left rest line orders next codes.OutOfLimit l h e
   refuses_at lines left rest line orders next codes.NotSimple l h e = fault_at lines left rest line orders next codes.NotSimple l h e
   refuses_at lines left rest line orders next codes.BadPrefix l h e = fault_at lines left rest line orders next codes.BadPrefix l h e
+  refuses_at lines left rest line orders next codes.NotPermitted l h e = fault_at lines left rest line orders next codes.NotPermitted l h e
 
 -- ---- the end of a text
 
