@@ -1,7 +1,14 @@
-use Rattle.std.proofs.Common.{inr, refl, length}
-use Rattle.bgpnet.specs.Running.{Gated}
+use Rattle.std.proofs.Common.{inl, inr, refl, length}
+use Rattle.text_engines.specs.Decoding.{output}
+use Rattle.text_engines.proofs.CheckLemmas.{on_err}
 use Rattle.text_engines.proofs.WritingLemmas.{memory_written}
+use Rattle.bgpnet.specs.Running.{Gated}
 use Rattle.bgpnet.proofs.engines.run.run_gated.Goals as goal
+
+pub returns-in_err-write_out-in-Ok-clause-stopped : goal.returns-in_err-write_out-in-Ok-clause-stopped
+returns-in_err-write_out-in-Ok-clause-stopped g c =
+    on_err c.from_residual.result
+    (output c.in-Ok.text.items c.in-Ok.status, inl c.in-Ok.ensures, rw c.as_slice.ensures.value at c.in_err-write_out-in-Ok.ensures.stopped)
 
 pub returns-in-Err-clause-stopped : goal.returns-in-Err-clause-stopped
 returns-in-Err-clause-stopped g c =
