@@ -79,6 +79,11 @@ module _ {A : Type 0} where
   unfolding all_in
   each_fault read x xs f h = ap (λ (r : Result (A × List ℕ) Fault). r >>= λ v. in_front v.0 (all_in read (length xs) v.1)) h
 
+  -- nothing was read yet
+  pub no_front : (r : Result (List A) Fault) → r ≡ with_front [] r
+  no_front (Ok xs) = refl
+  no_front (Err e) = refl
+
   -- ---- as the loops know it: what is left is not empty
 
   -- one value more

@@ -12,6 +12,9 @@ use crate::items::Items;
 use prefix_lanes::Prefix;
 use std::alloc::Global;
 
+// How many octets most prefixes have: one for the length, and three for 17 to 24 bits.
+const USUAL_LEN: usize = 4;
+
 // The least number of octets that hold so many bits.
 fn octet_count(bits: u8) -> usize
     ensures { result ≡ octet_count bits }
@@ -51,31 +54,32 @@ pub(crate) fn read_prefix(alloc: Global, octets: &[u8]) -> Result<(Prefix, &[u8]
     }
 }
 
-// How many prefixes octets consist of, if they are good: what a list of them has to hold.
-fn count_prefixes(octets: &[u8]) -> usize
-    ensures { result ≤ length octets.now }
+// The prefixes that octets consist of, in a block of memory.
+fn read_several(alloc: Global, octets: &[u8]) -> Result<Vec<Prefix>, CodecError>
+    ensures { Gives (λ prefixes. prefixes.items) result (prefixes_reading octets.now) }
 {
-    let mut count = 0usize;
-    let mut at = 0usize;
-    'prefixes: while at < octets.len() {
-        at = at + 1 + octet_count(octets[at]);
-        count = count + 1;
-    }
-    count
-}
-
-// The prefixes that octets consist of.
-pub(crate) fn read_prefixes(alloc: Global, octets: &[u8]) -> Result<Items<Prefix>, CodecError>
-    ensures { Gives (λ prefixes. prefixes) result (prefixes_reading octets.now) }
-{
-    let mut prefixes = Items::with_room(alloc, count_prefixes(octets))?;
+    let mut prefixes = Vec::with_capacity(alloc, octets.len() / USUAL_LEN + 1)?;
     let mut left = octets;
     'prefixes: while !left.is_empty() {
         let (prefix, rest) = read_prefix(alloc, left)?;
-        prefixes.push(alloc, prefix)?;
+        prefixes.push(prefix)?;
         left = rest;
     }
     Ok(prefixes)
+}
+
+// The prefixes that octets consist of. One alone takes no memory.
+pub(crate) fn read_prefixes(alloc: Global, octets: &[u8]) -> Result<Items<Prefix>, CodecError>
+    ensures { Gives (λ prefixes. prefixes) result (prefixes_reading octets.now) }
+{
+    if octets.is_empty() {
+        return Ok(Items::new(alloc));
+    }
+    let (first, rest) = read_prefix(alloc, octets)?;
+    if rest.is_empty() {
+        return Ok(Items::one(first));
+    }
+    Ok(Items::from_vec(read_several(alloc, octets)?))
 }
 
 // Each prefix is in the one form that is written: its other bits are zero.

@@ -1,4 +1,5 @@
 use super::*;
+use std::alloc::Global;
 use std::test::Fail;
 
 const KEEPALIVE: [u8; 19] = [
@@ -74,6 +75,35 @@ fn a_fault_stays_until_it_is_cleared(rt: HostRuntime) -> Result<(), Fail> {
     assert!(rt; matches!(framer.next(), Next::More));
     assert_eq!(rt; framer.rest_len(), 0);
     Ok(())
+}
+
+// What stands in front of the first octets of two KEEPALIVEs, one of them changed.
+fn in_front(alloc: Global, count: usize, at: usize, octet: u8) -> Next {
+    let mut octets = [0xff; 38];
+    for (i, octet) in octets.iter_mut().enumerate() {
+        *octet = KEEPALIVE[i % 19];
+    }
+    if at < 38 {
+        octets[at] = octet;
+    }
+    next_message(alloc, octets.split_at(count.min(38)).0)
+}
+
+// Octets that no framer holds.
+#[test]
+fn octets_without_a_framer(rt: HostRuntime) {
+    let alloc = rt.alloc();
+    // Fewer than a header has, faulty or not.
+    assert!(rt; matches!(in_front(alloc, 0, 0, 0xff), Next::More));
+    assert!(rt; matches!(in_front(alloc, 18, 0, 0), Next::More));
+    // A message alone, with a part of another behind it, and with a faulty one.
+    assert!(rt; matches!(in_front(alloc, 19, 0, 0xff), Next::Whole(0, 19)));
+    assert!(rt; matches!(in_front(alloc, 30, 0, 0xff), Next::Whole(0, 19)));
+    assert!(rt; matches!(in_front(alloc, 38, 19, 0), Next::Whole(0, 19)));
+    // A marker, a length and a type that are faulty.
+    assert!(rt; matches!(in_front(alloc, 38, 0, 0), Next::Bad(_)));
+    assert!(rt; matches!(in_front(alloc, 19, 17, 18), Next::Bad(_)));
+    assert!(rt; matches!(in_front(alloc, 19, 18, 5), Next::Bad(_)));
 }
 
 // Calls each law once.

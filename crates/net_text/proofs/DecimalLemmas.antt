@@ -1,6 +1,6 @@
 -- Numbers below 256 in decimal digits.
 use Rattle.std.proofs.Common.{◌≡◌, ℕ, zero, suc, ◌+◌, ◌*◌, ◌/◌, ◌%◌, ◌^◌, ◌<◌, ◌≤◌, Bool, true, List, [], ◌∷◌, ◌++◌, length, take, drop, decimal, nat_lt, refl, sym, ap, ◌∙◌, append_assoc, arith}
-use Rattle.std.specs.Prelude.{◌&&◌, if◌then◌else◌}
+use Rattle.std.specs.Prelude.{◌&&◌, if◌then◌else◌, slice_index_or, slice_set}
 use Rattle.std.specs.Str.{bytes_eq}
 use Rattle.std.specs.Cmp.Lexicographic.{bytes_decides}
 use Rattle.std.proofs.lemmas.Bool.Decides.{Decides-below_and}
@@ -35,20 +35,48 @@ digits_of n = if nat_lt n 10 then (48 + n) ∷ [] else if nat_lt n 100 then (48 
 pub decimal_is : (n : ℕ) → n < 1000 → decimal n ≡ digits_of n
 decimal_is n high = grind (arith, decimal_digit n, two_digits n, three_digits n)
 
--- a row of a table has the digits of its number, of three places; and the first of them all have
-abbrev pub row : List ℕ → ℕ → List ℕ
-row table n = take (length (digits_of n)) (take 3 (drop (3 * n) table))
+-- two lists of octets for each number, the same below a number
+abbrev pub agree : (ℕ → List ℕ) → (ℕ → List ℕ) → ℕ → Bool
+agree f g zero = true
+agree f g (suc n) = bytes_eq (f n) (g n) && agree f g n
 
-abbrev pub has_row : List ℕ → ℕ → Bool
-has_row table n = bytes_eq (row table n) (digits_of n)
+agree_at : (f g : ℕ → List ℕ) (n : ℕ) → n < 256 → agree f g 256 ≡ true → f n ≡ g n
+agree_at f g n low all = (Decides-below_and (λ k. bytes_eq (f k) (g k)) (λ k. f k ≡ g k) (agree f g) (λ k. bytes_decides (f k) (g k)) refl (λ _. refl) 256).0 all n low
 
-abbrev pub has_rows : List ℕ → ℕ → Bool
-has_rows table zero = true
-has_rows table (suc n) = has_row table n && has_rows table n
+-- the row of a number in a table: its digits in front, and how many there are in the last of four places
+abbrev pub row_digits : List ℕ → ℕ → List ℕ
+row_digits table n = take (length (digits_of n)) (take 4 (drop (4 * n) table))
 
-pub digits_in_row : (table : List ℕ) (n : ℕ) → n < 256 → has_rows table 256 ≡ true → take (length (decimal n)) (take 3 (drop (3 * n) table)) ≡ decimal n
+abbrev pub row_count : List ℕ → ℕ → List ℕ
+row_count table n = slice_index_or (take 4 (drop (4 * n) table)) 3 0 ∷ []
+
+abbrev pub count_of : ℕ → List ℕ
+count_of n = length (digits_of n) ∷ []
+
+pub digits_in_row : (table : List ℕ) (n : ℕ) → n < 256 → agree (row_digits table) digits_of 256 ≡ true → take (length (decimal n)) (take 4 (drop (4 * n) table)) ≡ decimal n
 digits_in_row table n low all =
-    let each = λ (k : ℕ). bytes_decides (row table k) (digits_of k) in
-    let this : row table n ≡ digits_of n = (Decides-below_and (has_row table) (λ k. row table k ≡ digits_of k) (has_rows table) each refl (λ _. refl) 256).0 all n low in
+    let this : row_digits table n ≡ digits_of n = agree_at (row_digits table) digits_of n low all in
     let is : decimal n ≡ digits_of n = decimal_is n (omega arith) in
     rw is this
+
+pub count_in_row : (table : List ℕ) (n : ℕ) → n < 256 → agree (row_count table) count_of 256 ≡ true → slice_index_or (take 4 (drop (4 * n) table)) 3 0 ≡ length (decimal n)
+count_in_row table n low all =
+    let this : row_count table n ≡ count_of n = agree_at (row_count table) count_of n low all in
+    let is : decimal n ≡ digits_of n = decimal_is n (omega arith) in
+    ap (λ (ks : List ℕ). slice_index_or ks 0 0) this ∙ ap length (sym is)
+
+-- at most three digits
+pub few_digits : (n : ℕ) → n < 256 → length (decimal n) ≤ 3
+few_digits n low = grind (arith, decimal_is n)
+
+-- what a text has in front, where a row of four was written behind, and not all of the row counts
+pub row_written : (text row : List ℕ) (at n : ℕ) → at + 4 ≤ length text → length row ≡ 4 → n ≤ 3
+    → take (at + n) (slice_set (slice_set (slice_set (slice_set text at (slice_index_or row 0 0)) (at + 1) (slice_index_or row 1 0)) (at + 2) (slice_index_or row 2 0)) (at + 3) (slice_index_or row 3 0)) ≡ take at text ++ take n row
+row_written (x ∷ text) row (suc at) n room four few =
+    let behind : (k : ℕ) → suc at + k ≡ suc (at + k) = λ k. omega arith in
+    rw (behind n, behind 1, behind 2, behind 3) (ap (λ (octets : List ℕ). x ∷ octets) (row_written text row at n (omega arith) four few))
+row_written (x ∷ y ∷ z ∷ w ∷ text) (a ∷ b ∷ c ∷ d ∷ []) zero zero room four few = refl
+row_written (x ∷ y ∷ z ∷ w ∷ text) (a ∷ b ∷ c ∷ d ∷ []) zero (suc zero) room four few = refl
+row_written (x ∷ y ∷ z ∷ w ∷ text) (a ∷ b ∷ c ∷ d ∷ []) zero (suc (suc zero)) room four few = refl
+row_written (x ∷ y ∷ z ∷ w ∷ text) (a ∷ b ∷ c ∷ d ∷ []) zero (suc (suc (suc zero))) room four few = refl
+row_written text row at n room four few = absurd (omega arith)

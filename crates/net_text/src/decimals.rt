@@ -8,7 +8,7 @@ use bgp_codec::Asn;
 use std::alloc::AllocError;
 
 // The most octets that may change where a number is written.
-const NUMBER_ROOM: usize = 11;
+const NUMBER_ROOM: usize = 12;
 
 // Writes the last digit of a number.
 fn write_last(text: &mut [u8], at: usize, number: u32) -> usize
@@ -22,7 +22,7 @@ fn write_last(text: &mut [u8], at: usize, number: u32) -> usize
 // Writes a number below 2560: of two digits or three by one look at a table, and a last one.
 fn write_below_2560(text: &mut [u8], at: usize, number: u32) -> usize
     requires number { number < 2560 }
-    requires room { at + 4 ≤ length text.old }
+    requires room { at + 5 ≤ length text.old }
     ensures end { result ≤ at + 4 }
     ensures text { take result text.new ≡ take at text.old ++ decimal number }
 {
@@ -35,7 +35,7 @@ fn write_below_2560(text: &mut [u8], at: usize, number: u32) -> usize
 
 fn write_below_25600(text: &mut [u8], at: usize, number: u32) -> usize
     requires number { number < 25600 }
-    requires room { at + 5 ≤ length text.old }
+    requires room { at + 6 ≤ length text.old }
     ensures end { result ≤ at + 5 }
     ensures text { take result text.new ≡ take at text.old ++ decimal number }
 {
@@ -48,7 +48,7 @@ fn write_below_25600(text: &mut [u8], at: usize, number: u32) -> usize
 
 fn write_below_256000(text: &mut [u8], at: usize, number: u32) -> usize
     requires number { number < 256000 }
-    requires room { at + 6 ≤ length text.old }
+    requires room { at + 7 ≤ length text.old }
     ensures end { result ≤ at + 6 }
     ensures text { take result text.new ≡ take at text.old ++ decimal number }
 {
@@ -62,7 +62,7 @@ fn write_below_256000(text: &mut [u8], at: usize, number: u32) -> usize
 // Writes a number of six digits or more: what stands before the last five, and these.
 fn write_long(text: &mut [u8], at: usize, number: u32) -> usize
     requires number { 256000 ≤ number }
-    requires room { at + 11 ≤ length text.old }
+    requires room { at + 12 ≤ length text.old }
     ensures end { result ≤ at + 11 }
     ensures text { take result text.new ≡ take at text.old ++ decimal number }
 {
@@ -74,9 +74,9 @@ fn write_long(text: &mut [u8], at: usize, number: u32) -> usize
     write_last(text, at, number)
 }
 
-// Writes a number at a place, and answers the place behind it. Eleven octets may change.
+// Writes a number at a place, and answers the place behind it. Twelve octets may change.
 fn write_decimal(text: &mut [u8], at: usize, number: u32) -> usize
-    requires { at + 11 ≤ length text.old }
+    requires { at + 12 ≤ length text.old }
     ensures end { result ≤ at + 11 }
     ensures text { take result text.new ≡ take at text.old ++ decimal number }
 {
@@ -88,7 +88,7 @@ fn write_decimal(text: &mut [u8], at: usize, number: u32) -> usize
 
 // Writes numbers behind others, a mark before each, and answers the place behind them.
 fn write_marked(text: &mut [u8], start: usize, numbers: &[Asn], mark: u8) -> usize
-    requires { start + 12 * length numbers.now ≤ length text.old }
+    requires { start + 13 * length numbers.now ≤ length text.old }
     ensures { take result text.new ≡ take start text.old ++ flat_map (λ n. mark ∷ decimal n) numbers.now }
 {
     let mut at = start;
@@ -101,7 +101,7 @@ fn write_marked(text: &mut [u8], start: usize, numbers: &[Asn], mark: u8) -> usi
 
 // Writes numbers with a mark between them, and answers the place behind them.
 fn write_joined(text: &mut [u8], start: usize, numbers: &[Asn], mark: u8) -> usize
-    requires { start + 12 * length numbers.now ≤ length text.old }
+    requires { start + 13 * length numbers.now ≤ length text.old }
     ensures { take result text.new ≡ take start text.old ++ join_with_byte mark (map decimal numbers.now) }
 {
     match numbers {

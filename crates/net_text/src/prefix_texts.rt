@@ -7,14 +7,15 @@ use crate::texts::{write_address, write_mark, write_octet};
 use prefix_lanes::Prefix;
 use std::alloc::AllocError;
 
-// The most octets that may change where a prefix is written: five numbers and a mark before each.
-const PREFIX_ROOM: usize = 20;
+// The most octets that may change where a prefix is written: five numbers, a mark before each, and
+// the place behind the last.
+const PREFIX_ROOM: usize = 21;
 
-// Writes a prefix at a place, with a space before it, and answers the place behind it. Twenty
-// octets may change.
+// Writes a prefix at a place, with a space before it, and answers the place behind it. As many
+// octets may change as it has room.
 #[tactic(auto, unfolding(crate::specs::Printing::prefix_text))]
 fn write_prefix(text: &mut [u8], at: usize, prefix: &Prefix) -> usize
-    requires { at + 20 ≤ length text.old }
+    requires { at + 21 ≤ length text.old }
     ensures end { result ≤ at + 20 }
     ensures text { take result text.new ≡ take at text.old ++ prefix_text prefix.now }
 {
@@ -26,7 +27,7 @@ fn write_prefix(text: &mut [u8], at: usize, prefix: &Prefix) -> usize
 
 // Writes prefixes at a place, and answers the place behind them.
 fn write_prefixes(text: &mut [u8], start: usize, prefixes: &[Prefix]) -> usize
-    requires { start + 20 * length prefixes.now ≤ length text.old }
+    requires { start + 21 * length prefixes.now ≤ length text.old }
     ensures { take result text.new ≡ take start text.old ++ prefixes_text prefixes.now }
 {
     let mut at = start;

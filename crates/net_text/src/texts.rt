@@ -9,19 +9,35 @@ use std::alloc::AllocError;
 
 const DIGITS: &[u8; 16] = b"0123456789abcdef";
 
-// The decimal digits of each octet, in three octets each, with blanks behind them.
-const OCTET_DIGITS: &[u8; 768] = b"\
-    0  1  2  3  4  5  6  7  8  9  10 11 12 13 14 15 16 17 18 19 20 21 22 23 \
-    24 25 26 27 28 29 30 31 32 33 34 35 36 37 38 39 40 41 42 43 44 45 46 47 \
-    48 49 50 51 52 53 54 55 56 57 58 59 60 61 62 63 64 65 66 67 68 69 70 71 \
-    72 73 74 75 76 77 78 79 80 81 82 83 84 85 86 87 88 89 90 91 92 93 94 95 \
-    96 97 98 99 100101102103104105106107108109110111112113114115116117118119\
-    120121122123124125126127128129130131132133134135136137138139140141142143\
-    144145146147148149150151152153154155156157158159160161162163164165166167\
-    168169170171172173174175176177178179180181182183184185186187188189190191\
-    192193194195196197198199200201202203204205206207208209210211212213214215\
-    216217218219220221222223224225226227228229230231232233234235236237238239\
-    240241242243244245246247248249250251252253254255";
+// The most octets that may change where an address is written: four numbers, a dot between them, and
+// the place behind the last.
+const ADDRESS_ROOM: usize = 16;
+
+// The rows of the octets, of four places each: the decimal digits, blanks behind them, and in the
+// last place how many digits there are.
+const OCTET_ROWS: &[u8; 1024] = b"\
+    0  \x011  \x012  \x013  \x014  \x015  \x016  \x017  \x018  \x019  \x0110 \x0211 \x02\
+    12 \x0213 \x0214 \x0215 \x0216 \x0217 \x0218 \x0219 \x0220 \x0221 \x0222 \x0223 \x02\
+    24 \x0225 \x0226 \x0227 \x0228 \x0229 \x0230 \x0231 \x0232 \x0233 \x0234 \x0235 \x02\
+    36 \x0237 \x0238 \x0239 \x0240 \x0241 \x0242 \x0243 \x0244 \x0245 \x0246 \x0247 \x02\
+    48 \x0249 \x0250 \x0251 \x0252 \x0253 \x0254 \x0255 \x0256 \x0257 \x0258 \x0259 \x02\
+    60 \x0261 \x0262 \x0263 \x0264 \x0265 \x0266 \x0267 \x0268 \x0269 \x0270 \x0271 \x02\
+    72 \x0273 \x0274 \x0275 \x0276 \x0277 \x0278 \x0279 \x0280 \x0281 \x0282 \x0283 \x02\
+    84 \x0285 \x0286 \x0287 \x0288 \x0289 \x0290 \x0291 \x0292 \x0293 \x0294 \x0295 \x02\
+    96 \x0297 \x0298 \x0299 \x02100\x03101\x03102\x03103\x03104\x03105\x03106\x03107\x03\
+    108\x03109\x03110\x03111\x03112\x03113\x03114\x03115\x03116\x03117\x03118\x03119\x03\
+    120\x03121\x03122\x03123\x03124\x03125\x03126\x03127\x03128\x03129\x03130\x03131\x03\
+    132\x03133\x03134\x03135\x03136\x03137\x03138\x03139\x03140\x03141\x03142\x03143\x03\
+    144\x03145\x03146\x03147\x03148\x03149\x03150\x03151\x03152\x03153\x03154\x03155\x03\
+    156\x03157\x03158\x03159\x03160\x03161\x03162\x03163\x03164\x03165\x03166\x03167\x03\
+    168\x03169\x03170\x03171\x03172\x03173\x03174\x03175\x03176\x03177\x03178\x03179\x03\
+    180\x03181\x03182\x03183\x03184\x03185\x03186\x03187\x03188\x03189\x03190\x03191\x03\
+    192\x03193\x03194\x03195\x03196\x03197\x03198\x03199\x03200\x03201\x03202\x03203\x03\
+    204\x03205\x03206\x03207\x03208\x03209\x03210\x03211\x03212\x03213\x03214\x03215\x03\
+    216\x03217\x03218\x03219\x03220\x03221\x03222\x03223\x03224\x03225\x03226\x03227\x03\
+    228\x03229\x03230\x03231\x03232\x03233\x03234\x03235\x03236\x03237\x03238\x03239\x03\
+    240\x03241\x03242\x03243\x03244\x03245\x03246\x03247\x03248\x03249\x03250\x03251\x03\
+    252\x03253\x03254\x03255\x03";
 
 /// Writes an octet at a place, and answers the place behind it.
 pub fn write_mark(text: &mut [u8], at: usize, mark: u8) -> usize
@@ -33,51 +49,43 @@ pub fn write_mark(text: &mut [u8], at: usize, mark: u8) -> usize
     at + 1
 }
 
-// How many decimal digits an octet has.
-#[tactic(auto, using(crate::proofs::DecimalLemmas::decimal_is))]
-fn digit_count(octet: u8) -> usize
-    ensures { result ≡ length (decimal octet) }
+// The four octets at a place.
+fn four_at(octets: &[u8], at: usize) -> [u8; 4]
+    requires { at + 4 ≤ length octets.now }
+    ensures { result ≡ take 4 (drop at octets.now) }
 {
-    match octet {
-        0..=9 => 1,
-        10..=99 => 2,
-        _ => 3,
-    }
+    [octets[at], octets[at + 1], octets[at + 2], octets[at + 3]]
 }
 
-// The three octets at a place.
-fn three_at(octets: &[u8], at: usize) -> [u8; 3]
-    requires { at + 3 ≤ length octets.now }
-    ensures { result ≡ take 3 (drop at octets.now) }
+// The row of an octet.
+fn octet_row(octet: u8) -> [u8; 4]
+    ensures digits { take (length (decimal octet)) result ≡ decimal octet }
+    ensures count { slice_index result 3 ≡ length (decimal octet) }
+    ensures few { length (decimal octet) ≤ 3 }
 {
-    [octets[at], octets[at + 1], octets[at + 2]]
+    four_at(OCTET_ROWS, 4 * octet as usize)
 }
 
-// The decimal digits of an octet, with blanks behind them.
-fn octet_digits(octet: u8) -> [u8; 3]
-    ensures { take (length (decimal octet)) result ≡ decimal octet }
-{
-    three_at(OCTET_DIGITS, 3 * octet as usize)
-}
-
-/// Writes an octet as a number at a place, and answers the place behind it. Three octets may change.
+/// Writes an octet as a number at a place, and answers the place behind it. Four octets may change:
+/// a row is written whole.
 pub fn write_octet(text: &mut [u8], at: usize, octet: u8) -> usize
-    requires { at + 3 ≤ length text.old }
+    requires { at + 4 ≤ length text.old }
     ensures end { result ≤ at + 3 }
     ensures text { take result text.new ≡ take at text.old ++ decimal octet }
 {
-    let [first, second, third] = octet_digits(octet);
+    let [first, second, third, count] = octet_row(octet);
     text[at] = first;
     text[at + 1] = second;
     text[at + 2] = third;
-    at + digit_count(octet)
+    text[at + 3] = count;
+    at + count as usize
 }
 
 /// Writes an address at a place, as its four octets with dots between them, and answers the place
-/// behind it. Fifteen octets may change.
+/// behind it. Sixteen octets may change.
 #[tactic(auto, unfolding(crate::specs::Printing::address_text))]
 pub fn write_address(text: &mut [u8], at: usize, address: u32) -> usize
-    requires { at + 15 ≤ length text.old }
+    requires { at + 16 ≤ length text.old }
     ensures end { result ≤ at + 15 }
     ensures text { take result text.new ≡ take at text.old ++ address_text address }
 {
@@ -96,7 +104,7 @@ pub fn put_address(out: &mut Vec<u8>, address: u32) -> Result<(), AllocError>
     ensures err { OnErr result (out.new.items ≡ out.old.items) }
 {
     let at = out.len();
-    out.resize(at + 15, 0)?;
+    out.resize(at + ADDRESS_ROOM, 0)?;
     let end = write_address(out.as_mut_slice(), at, address);
     out.truncate(end);
     Ok(())

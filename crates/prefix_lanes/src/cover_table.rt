@@ -4,7 +4,7 @@ ghost use Rattle.std.specs.Prelude.{◌≡◌, ◌<◌, ◌≤◌, ◌↔◌, �
 ghost use Rattle.prefix_lanes.specs.Covering.{IsLongest};
 
 use crate::prefix::Prefix;
-use std::alloc::{AllocError, Global};
+use std::alloc::Global;
 use std::marker::Model;
 use thiserror::Error;
 
@@ -17,35 +17,35 @@ pub enum CoverError {
     /// It holds as many as it can.
     #[error("the table is full")]
     TableFull,
-    /// A growth was refused.
-    #[error("out of memory")]
-    Memory,
 }
 
-/// Prefixes in the order in which they were pushed.
+/// Prefixes in the order in which they were pushed. It has a place for each of them in itself.
 #[derive(Drop)]
 pub struct CoverTable {
-    entries: Vec<Prefix>,
+    // The places past the count have a prefix that no call shows.
+    places: [Prefix; CAPACITY],
+    count: usize,
 }
 
 impl Model for CoverTable {
-    ghost use Rattle.std.specs.Prelude.{List, length, ◌≤◌};
+    ghost use Rattle.std.specs.Prelude.{List, take, ◌≤◌};
     ghost use Rattle.prefix_lanes.specs.Bits.{PrefixView};
 
     ghost Value = { List PrefixView };
 
-    ghost view = { λ a. a.entries.items };
+    ghost view = { λ a. take a.count a.places };
 
-    ghost invariant = { λ a. length a.entries.items ≤ 64 };
+    ghost invariant = { λ a. a.count ≤ 64 };
 }
 
 impl CoverTable {
     /// A table with no prefix. Takes no memory.
-    pub fn new(alloc: Global) -> CoverTable
+    pub fn new(_alloc: Global) -> CoverTable
         ensures { result ≡ [] }
     {
         CoverTable {
-            entries: Vec::new(alloc),
+            places: [Prefix::new(0, 0).unwrap(); CAPACITY],
+            count: 0,
         }
     }
 
@@ -54,23 +54,22 @@ impl CoverTable {
         ensures value { result.now ≡ self.now }
         ensures few { length self.now ≤ 64 }
     {
-        self.entries.as_slice()
+        &self.places[..self.count]
     }
 
-    /// Adds a prefix at the end. Refused `TableFull` exactly where 64 are there, else `Memory` where
-    /// the growth was refused; neither changes the table.
+    /// Adds a prefix at the end. Takes no memory. Refused `TableFull` exactly where 64 are there,
+    /// which leaves the table as it was.
     pub fn push(&mut self, prefix: Prefix) -> Result<(), CoverError>
         ensures ok { OnOk result (self.new ≡ self.old ++ prefix ∷ []) }
         ensures full { (result ≡ Err CoverError.TableFull) ↔ (64 ≤ length self.old) }
         ensures err { OnErr result (self.new ≡ self.old) }
     {
-        if self.entries.len() >= CAPACITY {
+        if self.count >= CAPACITY {
             return Err(CoverError::TableFull);
         }
-        match self.entries.push(prefix) {
-            Ok(()) => Ok(()),
-            Err(_) => Err(CoverError::Memory),
-        }
+        self.places[self.count] = prefix;
+        self.count += 1;
+        Ok(())
     }
 
     /// The place of the longest entry that covers the prefix, counted from 0; the first of those of
@@ -78,7 +77,7 @@ impl CoverTable {
     pub fn longest(&self, prefix: &Prefix) -> Option<usize>
         ensures { IsLongest self.now prefix.now result }
     {
-        longest_in(self.entries.as_slice(), prefix)
+        longest_in(self.as_slice(), prefix)
     }
 }
 

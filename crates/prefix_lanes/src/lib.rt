@@ -7,8 +7,8 @@
 //! begins the other, and `CoverTable::longest` finds the longest entry that covers a prefix, the
 //! first among equals.
 //!
-//! Nothing here takes memory but `CoverTable::push`. Left out: other address families, and the text
-//! and wire forms of a prefix.
+//! Nothing here takes memory. Left out: other address families, and the text and wire forms of a
+//! prefix.
 #![tactic(auto)]
 
 mod cover_table;

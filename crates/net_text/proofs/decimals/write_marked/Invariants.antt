@@ -7,5 +7,5 @@ abbrev pub invariant-loop-number : goal.invariant-loop-number
 invariant-loop-number l =
     record {
       text : take l.at l.text ++ flat_map (λ n. l.mark ∷ decimal n) (drop l.number-index l.numbers) ≡ take l.start l.fn.text ++ flat_map (λ n. l.mark ∷ decimal n) l.numbers;
-      room : l.at + 12 * (length l.numbers - l.number-index) ≤ length l.text;
+      room : l.at + 13 * (length l.numbers - l.number-index) ≤ length l.text;
     }

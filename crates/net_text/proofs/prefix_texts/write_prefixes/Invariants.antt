@@ -8,5 +8,5 @@ abbrev pub invariant-loop-prefix : goal.invariant-loop-prefix
 invariant-loop-prefix l =
     record {
       text : take l.at l.text ++ flat_map prefix_text (drop l.prefix-index l.prefixes) ≡ take l.start l.fn.text ++ flat_map prefix_text l.prefixes;
-      room : l.at + 20 * (length l.prefixes - l.prefix-index) ≤ length l.text;
+      room : l.at + 21 * (length l.prefixes - l.prefix-index) ≤ length l.text;
     }

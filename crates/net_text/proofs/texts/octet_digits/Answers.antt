@@ -1,6 +1,0 @@
-use Rattle.std.proofs.Common.{refl, arith}
-use Rattle.net_text.proofs.DecimalLemmas.{digits_in_row}
-use Rattle.net_text.proofs.texts.octet_digits.Goals as goal
-
-pub returns : goal.returns
-returns c = rw c.three_at.ensures (digits_in_row _ c.args.octet (omega arith) refl)
