@@ -53,6 +53,7 @@ fn decode_update(alloc: Global, body: &[u8], peer: Option<Asn>) -> Result<Messag
 }
 
 // The message that a frame spells, or its first fault, by its type.
+#[inline(always)]
 #[tactic(auto, unfolding(crate::specs::Faults::reading))]
 fn decode_by_type(alloc: Global, frame: &[u8], rule: &Rule) -> Result<Message, CodecError>
     requires { IsFrame frame.now }
@@ -76,6 +77,7 @@ fn decode_by_type(alloc: Global, frame: &[u8], rule: &Rule) -> Result<Message, C
 /// only for want of memory. In place of a fault [`CodecError::Memory`] stands only where the fault's
 /// own data have more than sixteen octets and found no memory. A KEEPALIVE, and a NOTIFICATION of at
 /// most sixteen octets of data, is never refused.
+#[inline(always)]
 pub fn decode(alloc: Global, frame: &[u8], rule: &Rule) -> Result<Message, CodecError>
     requires { IsFrame frame.now }
     // What is answered is spelt so.

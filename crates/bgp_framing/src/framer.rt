@@ -56,6 +56,7 @@ impl Model for Framer {
 }
 
 /// What stands in front of these octets: what a framer answers that holds them. It takes no memory.
+#[inline(always)]
 pub fn next_message(alloc: Global, octets: &[u8]) -> Next
     ensures { IsNext octets.now result }
 {

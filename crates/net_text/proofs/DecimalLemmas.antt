@@ -70,13 +70,13 @@ pub few_digits : (n : ℕ) → n < 256 → length (decimal n) ≤ 3
 few_digits n low = grind (arith, decimal_is n)
 
 -- what a text has in front, where a row of four was written behind, and not all of the row counts
-pub row_written : (text row : List ℕ) (at n : ℕ) → at + 4 ≤ length text → length row ≡ 4 → n ≤ 3
-    → take (at + n) (slice_set (slice_set (slice_set (slice_set text at (slice_index_or row 0 0)) (at + 1) (slice_index_or row 1 0)) (at + 2) (slice_index_or row 2 0)) (at + 3) (slice_index_or row 3 0)) ≡ take at text ++ take n row
-row_written (x ∷ text) row (suc at) n room four few =
+pub row_written : (text octets : List ℕ) (at n : ℕ) → at + 4 ≤ length text → length octets ≡ 4 → n ≤ 3
+    → take (at + n) (slice_set (slice_set (slice_set (slice_set text at (slice_index_or octets 0 0)) (at + 1) (slice_index_or octets 1 0)) (at + 2) (slice_index_or octets 2 0)) (at + 3) (slice_index_or octets 3 0)) ≡ take at text ++ take n octets
+row_written (x ∷ text) octets (suc at) n room four few =
     let behind : (k : ℕ) → suc at + k ≡ suc (at + k) = λ k. omega arith in
-    rw (behind n, behind 1, behind 2, behind 3) (ap (λ (octets : List ℕ). x ∷ octets) (row_written text row at n (omega arith) four few))
+    rw (behind n, behind 1, behind 2, behind 3) (ap (λ (rest : List ℕ). x ∷ rest) (row_written text octets at n (omega arith) four few))
 row_written (x ∷ y ∷ z ∷ w ∷ text) (a ∷ b ∷ c ∷ d ∷ []) zero zero room four few = refl
 row_written (x ∷ y ∷ z ∷ w ∷ text) (a ∷ b ∷ c ∷ d ∷ []) zero (suc zero) room four few = refl
 row_written (x ∷ y ∷ z ∷ w ∷ text) (a ∷ b ∷ c ∷ d ∷ []) zero (suc (suc zero)) room four few = refl
 row_written (x ∷ y ∷ z ∷ w ∷ text) (a ∷ b ∷ c ∷ d ∷ []) zero (suc (suc (suc zero))) room four few = refl
-row_written text row at n room four few = absurd (omega arith)
+row_written text octets at n room four few = absurd (omega arith)

@@ -1,34 +1,10 @@
 -- Octets as text, one after the other.
-use Rattle.std.proofs.Common.{◌≡◌, ℕ, ◌+◌, ◌-◌, drop, ◌/◌, ◌%◌, ◌≤◌, List, [], ◌∷◌, ◌++◌, length, get_or, take, refl, sym, ap, ◌∙◌, append_assoc, arith}
+use Rattle.std.proofs.Common.{◌≡◌, ℕ, ◌-◌, drop, ◌≤◌, List, [], ◌∷◌, ◌++◌, length, get_or, take, sym, ap, ◌∙◌, append_assoc, arith}
 use Rattle.std.proofs.lemmas.List.{append-nil, take_all}
-use Rattle.std.specs.Prelude.{slice_index, cond, is_ok, OnOk, Result, Ok, Err}
+use Rattle.std.specs.Prelude.{cond, is_ok, OnOk, Result, Ok, Err}
 use Rattle.std.specs.declared.alloc.AllocError.{AllocError}
 use Rattle.std.specs.List.{flat_map, join_with_byte}
 use Rattle.std.specs.Prelude.{map}
-use Rattle.hex.specs.Hex.{encode_with, encode_lower, lower_digits}
-
-pub encode_with-append : (table xs ys : List ℕ) → encode_with table (xs ++ ys) ≡ encode_with table xs ++ encode_with table ys
-unfolding encode_with
-encode_with-append table [] ys = refl
-encode_with-append table (x ∷ xs) ys = ap (λ (zs : List ℕ). slice_index table (x / 16) ∷ slice_index table (x % 16) ∷ zs) (encode_with-append table xs ys)
-
--- two digits more for one octet more
-pub one_more_octet : (old front one out octets : List ℕ) (at octet : ℕ) → front ≡ old ++ encode_lower (take at octets) → one ≡ front ++ slice_index lower_digits (octet / 16) ∷ []
-    → out ≡ one ++ slice_index lower_digits (octet % 16) ∷ [] → take (at + 1) octets ≡ take at octets ++ octet ∷ [] → out ≡ old ++ encode_lower (take (at + 1) octets)
-unfolding encode_with
-one_more_octet old front one out octets at octet ef eo eu et =
-    let digits : encode_lower (take (at + 1) octets) ≡ encode_lower (take at octets) ++ slice_index lower_digits (octet / 16) ∷ slice_index lower_digits (octet % 16) ∷ [] =
-    ap encode_lower et ∙ encode_with-append lower_digits (take at octets) (octet ∷ []) in
-    rw (eu, eo, ef, digits) (simp append_assoc)
-
--- no digits for no octets
-pub no_octet : (old octets : List ℕ) → old ≡ old ++ encode_lower (take 0 octets)
-unfolding encode_with
-no_octet old octets = sym (append-nil old)
-
--- all digits for all octets
-pub all_octets : (out old octets : List ℕ) (at : ℕ) → out ≡ old ++ encode_lower (take at octets) → length octets ≤ at → out ≡ old ++ encode_lower octets
-all_octets out old octets at e h = e ∙ ap (λ (xs : List ℕ). old ++ encode_lower xs) (take_all at octets h)
 
 -- seven texts one after the other, the last of which may be refused
 pub seven_texts : (r : Result (Unit {0}) AllocError) (old a b c d e f g p q s t u v w : List ℕ) → a ≡ old ++ p → b ≡ a ++ q → c ≡ b ++ s → d ≡ c ++ t → e ≡ d ++ u → f ≡ e ++ v

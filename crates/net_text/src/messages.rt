@@ -18,7 +18,7 @@ fn put_cap(out: &mut Tail, cap: &Cap) -> Result<(), AllocError>
     ensures front { out.new.front ≡ out.old.front }
 {
     out.put_text(b" cap ")?;
-    out.put_decimal(u32::from(cap.code))?;
+    out.put_octet(cap.code)?;
     out.put_text(b" ")?;
     out.put_hex_or_dash(cap.value.as_slice())
 }
@@ -69,9 +69,9 @@ pub fn put_notice(out: &mut Tail, notice: &Notice) -> Result<(), AllocError>
     ensures front { out.new.front ≡ out.old.front }
 {
     out.put_text(b"notification ")?;
-    out.put_decimal(u32::from(notice.code))?;
+    out.put_octet(notice.code)?;
     out.put_text(b" ")?;
-    out.put_decimal(u32::from(notice.sub))?;
+    out.put_octet(notice.sub)?;
     out.put_text(b" ")?;
     out.put_hex_or_dash(notice.extra.as_slice())?;
     out.put_text(b"\n")
@@ -100,9 +100,9 @@ pub fn put_fault(alloc: Global, out: &mut Tail, fault: &Fault) -> Result<(), All
 {
     let octets = notice_octets(alloc, fault)?;
     out.put_text(b"fault ")?;
-    out.put_decimal(u32::from(fault.code))?;
+    out.put_octet(fault.code)?;
     out.put_text(b" ")?;
-    out.put_decimal(u32::from(fault.sub))?;
+    out.put_octet(fault.sub)?;
     out.put_text(b"\n")?;
     out.put_hex(octets.as_slice())?;
     out.put_text(b"\n")

@@ -7,7 +7,7 @@ ghost use Rattle.net_text.specs.Printing.{hex_or_dash, address_text, prefixes_te
 
 use crate::decimals::{put_decimal, put_joined};
 use crate::prefix_texts::put_prefixes;
-use crate::texts::{put_address, put_hex, put_hex_or_dash, put_len};
+use crate::texts::{put_address, put_hex, put_hex_or_dash, put_len, put_octet};
 use bgp_codec::Asn;
 use prefix_lanes::Prefix;
 use std::alloc::AllocError;
@@ -70,6 +70,14 @@ impl Tail {
         ensures front { self.new.front ≡ self.old.front }
     {
         put_decimal(&mut self.octets, number)
+    }
+
+    /// Writes an octet as a number in decimal digits.
+    pub(crate) fn put_octet(&mut self, octet: u8) -> Result<(), AllocError>
+        ensures text { OnOk result (self.new.text ≡ self.old.text ++ decimal octet) }
+        ensures front { self.new.front ≡ self.old.front }
+    {
+        put_octet(&mut self.octets, octet)
     }
 
     /// Writes numbers with a mark between them.

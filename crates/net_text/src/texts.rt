@@ -1,13 +1,15 @@
 //! Numbers and octets as text, written behind what a buffer has.
 
-ghost use Rattle.std.specs.Prelude.{◌≡◌, ◌+◌, ◌*◌, ◌<◌, ◌≤◌, ◌∷◌, [], ◌++◌, length, take, drop, codes, decimal, slice_index, vec_len, vec_capacity, OnOk, OnErr};
-ghost use Rattle.hex.specs.Hex.{encode_lower, lower_digits};
+ghost use Rattle.std.specs.Prelude.{◌≡◌, ◌+◌, ◌*◌, ◌<◌, ◌≤◌, ◌∷◌, [], ◌++◌, length, take, drop, decimal, slice_index, OnOk, OnErr};
+ghost use Rattle.hex.specs.Hex.{encode_lower};
 ghost use Rattle.net_text.specs.Printing.{hex_or_dash, address_text};
 
+use hex::encode_to_slice;
 use itoa::Buffer;
 use std::alloc::AllocError;
 
-const DIGITS: &[u8; 16] = b"0123456789abcdef";
+// The most octets that may change where an octet is written as a number: those of a row.
+const OCTET_ROOM: usize = 4;
 
 // The most octets that may change where an address is written: four numbers, a dot between them, and
 // the place behind the last.
@@ -98,6 +100,18 @@ pub fn write_address(text: &mut [u8], at: usize, address: u32) -> usize
     write_octet(text, at, (address % 256) as u8)
 }
 
+/// Appends an octet as a number in decimal digits.
+pub fn put_octet(out: &mut Vec<u8>, octet: u8) -> Result<(), AllocError>
+    ensures ok { OnOk result (out.new.items ≡ out.old.items ++ decimal octet) }
+    ensures err { OnErr result (out.new.items ≡ out.old.items) }
+{
+    let at = out.len();
+    out.resize(at + OCTET_ROOM, 0)?;
+    let end = write_octet(out.as_mut_slice(), at, octet);
+    out.truncate(end);
+    Ok(())
+}
+
 /// Appends an address.
 pub fn put_address(out: &mut Vec<u8>, address: u32) -> Result<(), AllocError>
     ensures ok { OnOk result (out.new.items ≡ out.old.items ++ address_text address) }
@@ -119,32 +133,18 @@ pub fn put_len(out: &mut Vec<u8>, len: usize) -> Result<(), AllocError>
     out.extend_from_slice(buffer.format(len).as_bytes())
 }
 
-// The hex digit of a number below sixteen, in lower case.
-fn digit(value: u8) -> u8
-    requires { value < 16 }
-    ensures { result ≡ slice_index lower_digits value }
-{
-    DIGITS[value as usize]
-}
-
-// Appends octets in hex, for which there is room.
-fn put_digits(out: &mut Vec<u8>, octets: &[u8])
-    requires { vec_len out.old + 2 * length octets.now ≤ vec_capacity out.old }
-    ensures { out.new.items ≡ out.old.items ++ encode_lower octets.now }
-{
-    for octet in octets {
-        out.push_reserved(digit(*octet / 16));
-        out.push_reserved(digit(*octet % 16));
-    }
-}
-
 /// Appends octets as two lower-case hex digits each.
 pub fn put_hex(out: &mut Vec<u8>, octets: &[u8]) -> Result<(), AllocError>
     ensures ok { OnOk result (out.new.items ≡ out.old.items ++ encode_lower octets.now) }
     ensures err { OnErr result (out.new.items ≡ out.old.items) }
 {
-    out.reserve(2 * octets.len())?;
-    put_digits(out, octets);
+    let start = out.len();
+    let room = 2 * octets.len();
+    out.resize(start.saturating_add(room), 0)?;
+    let (_, fresh) = out.as_mut_slice().split_at_mut(start);
+    if encode_to_slice(octets, fresh).is_err() {
+        unreachable!();
+    }
     Ok(())
 }
 
