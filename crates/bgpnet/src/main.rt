@@ -14,6 +14,8 @@
 //! `net_text`'s and `schedule_text`'s.
 #![tactic(auto)]
 
+ghost use Rattle.std.specs.Prelude.{◌≡◌, IfOk, IsErr};
+
 mod chores;
 mod command_line;
 mod engines;
@@ -78,13 +80,22 @@ where
     }
 }
 
+// The status that the program ends with: that of the run, or 4 where a read or a write failed.
+fn status_of(ended: Result<u8, IoStopped>) -> u8
+    ensures done { IfOk ended (λ status. result ≡ status) }
+    ensures stopped { IsErr ended → result ≡ 4 }
+{
+    match ended {
+        Ok(status) => status,
+        Err(IoStopped) => status::STOPPED,
+    }
+}
+
 fn main(rt: HostRuntime) -> ExitCode {
     let mut reader = Watched::new(rt.stdin());
     let mut writer = Watched::new(io::writer(&rt));
-    match run(&rt, rt.alloc(), words_of(&rt), &mut reader, &mut writer) {
-        Ok(status) => ExitCode::from(status),
-        Err(_) => ExitCode::from(status::STOPPED),
-    }
+    let ended = run(&rt, rt.alloc(), words_of(&rt), &mut reader, &mut writer);
+    ExitCode::from(status_of(ended))
 }
 
 #[cfg(test)]

@@ -15,12 +15,7 @@ pub struct Example {
 
 /// The example `disagree-neither`.
 pub const DISAGREE_NEITHER: Example = Example {
-    network: "# DISAGREE, where both go straight to the origin. Each would move; the least router is named. If both\n\
-# move at once, neither path is there any more, and both move back: so the network can swing.\n\
-#\n\
-# answer: unstable 2 has 2-1 best 2-3-1\n\
-\n\
-router 1 10.0.0.1\n\
+    network: "router 1 10.0.0.1\n\
 router 2 10.0.0.2\n\
 router 3 10.0.0.3\n\
 link 1 2\n\
@@ -41,11 +36,7 @@ path 3 10.1.0.0/16 3-1\n\
 
 /// The example `disagree-other`.
 pub const DISAGREE_OTHER: Example = Example {
-    network: "# DISAGREE, the other stable assignment: 3 has its way.\n\
-#\n\
-# answer: stable\n\
-\n\
-router 1 10.0.0.1\n\
+    network: "router 1 10.0.0.1\n\
 router 2 10.0.0.2\n\
 router 3 10.0.0.3\n\
 link 1 2\n\
@@ -66,13 +57,7 @@ path 3 10.1.0.0/16 3-2-1\n\
 
 /// The example `disagree`.
 pub const DISAGREE: Example = Example {
-    network: "# DISAGREE (Griffin, Shepherd and Wilfong 2002): 2 and 3 would each rather go through the other.\n\
-# Two assignments are stable, and the order of messages decides which of them a network ends in.\n\
-# This is the one in which 2 has its way.\n\
-#\n\
-# answer: stable\n\
-\n\
-router 1 10.0.0.1\n\
+    network: "router 1 10.0.0.1\n\
 router 2 10.0.0.2\n\
 router 3 10.0.0.3\n\
 link 1 2\n\
@@ -93,11 +78,7 @@ path 3 10.1.0.0/16 3-1\n\
 
 /// The example `good-gadget-direct`.
 pub const GOOD_GADGET_DIRECT: Example = Example {
-    network: "# The good gadget, where router 2 goes straight to the origin: it would move, and 3 would follow.\n\
-#\n\
-# answer: unstable 2 has 2-1 best 2-4-1\n\
-\n\
-router 1 10.0.0.1\n\
+    network: "router 1 10.0.0.1\n\
 router 2 10.0.0.2\n\
 router 3 10.0.0.3\n\
 router 4 10.0.0.4\n\
@@ -128,13 +109,7 @@ path 5 10.1.0.0/16 5-4-1\n\
 
 /// The example `good-gadget`.
 pub const GOOD_GADGET: Example = Example {
-    network: "# The good gadget, after Griffin, Shepherd and Wilfong 2002 (their origin 0 is router 1 here, and\n\
-# so on). Routers 2 and 3 would rather go through another router than straight to the origin. Still\n\
-# exactly one assignment is stable: 4 has its only path, so 2 goes through 4, so 3 can't have 3-2-1.\n\
-#\n\
-# answer: stable\n\
-\n\
-router 1 10.0.0.1\n\
+    network: "router 1 10.0.0.1\n\
 router 2 10.0.0.2\n\
 router 3 10.0.0.3\n\
 router 4 10.0.0.4\n\
@@ -165,11 +140,7 @@ path 5 10.1.0.0/16 5-4-1\n\
 
 /// The example `ring-next`.
 pub const RING_NEXT: Example = Example {
-    network: "# The ring after router 3 has moved: now 2 has a path that is no longer there.\n\
-#\n\
-# answer: unstable 2 has 2-3-1 best 2-1\n\
-\n\
-router 1 10.0.0.1\n\
+    network: "router 1 10.0.0.1\n\
 router 2 10.0.0.2\n\
 router 3 10.0.0.3\n\
 router 4 10.0.0.4\n\
@@ -196,11 +167,7 @@ path 4 10.1.0.0/16 4-1\n\
 
 /// The example `ring-straight`.
 pub const RING_STRAIGHT: Example = Example {
-    network: "# The ring, where all go straight to the origin: each would move.\n\
-#\n\
-# answer: unstable 2 has 2-1 best 2-3-1\n\
-\n\
-router 1 10.0.0.1\n\
+    network: "router 1 10.0.0.1\n\
 router 2 10.0.0.2\n\
 router 3 10.0.0.3\n\
 router 4 10.0.0.4\n\
@@ -227,13 +194,7 @@ path 4 10.1.0.0/16 4-1\n\
 
 /// The example `ring`.
 pub const RING: Example = Example {
-    network: "# The ring: each of 2, 3 and 4 would rather go through the next than straight to the origin. No\n\
-# assignment is stable, so this network never settles. Where 2 goes through 3, router 3 goes straight,\n\
-# so 4 can't rest: if it goes straight too, then 3 would move to it.\n\
-#\n\
-# answer: unstable 3 has 3-1 best 3-4-1\n\
-\n\
-router 1 10.0.0.1\n\
+    network: "router 1 10.0.0.1\n\
 router 2 10.0.0.2\n\
 router 3 10.0.0.3\n\
 router 4 10.0.0.4\n\
@@ -260,11 +221,7 @@ path 4 10.1.0.0/16 4-1\n\
 
 /// The example `shortest-tie`.
 pub const SHORTEST_TIE: Example = Example {
-    network: "# Shortest paths, where router 4 has the other one of its two shortest paths: it would move.\n\
-#\n\
-# answer: unstable 4 has 4-3-1 best 4-2-1\n\
-\n\
-router 1 10.0.0.1\n\
+    network: "router 1 10.0.0.1\n\
 router 2 10.0.0.2\n\
 router 3 10.0.0.3\n\
 router 4 10.0.0.4\n\
@@ -286,13 +243,7 @@ path 4 10.1.0.0/16 4-3-1\n\
 
 /// The example `shortest`.
 pub const SHORTEST: Example = Example {
-    network: "# Shortest paths. No router has a rule, so each permits every simple path to the origin and\n\
-# prefers the shorter one, then the one with the smaller numbers. Router 4 has two ways of the same\n\
-# length and takes the one through 2. With these policies exactly one assignment is stable.\n\
-#\n\
-# answer: stable\n\
-\n\
-router 1 10.0.0.1\n\
+    network: "router 1 10.0.0.1\n\
 router 2 10.0.0.2\n\
 router 3 10.0.0.3\n\
 router 4 10.0.0.4\n\
@@ -314,11 +265,7 @@ path 4 10.1.0.0/16 4-2-1\n\
 
 /// The example `wedgie-failed`.
 pub const WEDGIE_FAILED: Example = Example {
-    network: "# The backup link, while the primary link has failed: all goes over the backup link, as was meant.\n\
-#\n\
-# answer: stable\n\
-\n\
-router 1 10.0.0.1\n\
+    network: "router 1 10.0.0.1\n\
 router 2 10.0.0.2\n\
 router 3 10.0.0.3\n\
 router 4 10.0.0.4\n\
@@ -342,13 +289,7 @@ path 4 10.1.0.0/16 4-3-2-1\n\
 
 /// The example `wedgie-stuck`.
 pub const WEDGIE_STUCK: Example = Example {
-    network: "# The backup link after the primary link has come back: 2 and 3 stay with the backup link, and this\n\
-# assignment is stable as well. So the network doesn't return by itself to what was meant; to free\n\
-# it, the session over the backup link must be closed for a while.\n\
-#\n\
-# answer: stable\n\
-\n\
-router 1 10.0.0.1\n\
+    network: "router 1 10.0.0.1\n\
 router 2 10.0.0.2\n\
 router 3 10.0.0.3\n\
 router 4 10.0.0.4\n\
@@ -373,14 +314,7 @@ path 4 10.1.0.0/16 4-1\n\
 
 /// The example `wedgie`.
 pub const WEDGIE: Example = Example {
-    network: "# A backup link, after RFC 4264 (BGP Wedgies): customer 1 has its primary provider 4 and its backup\n\
-# provider 2, which takes the backup link 1 to 2 only where it has no other way. Provider 3 prefers\n\
-# what it hears from its customer 2 over what it hears from its peer 4. This is what was meant: all\n\
-# traffic comes over the primary link, and the assignment is stable.\n\
-#\n\
-# answer: stable\n\
-\n\
-router 1 10.0.0.1\n\
+    network: "router 1 10.0.0.1\n\
 router 2 10.0.0.2\n\
 router 3 10.0.0.3\n\
 router 4 10.0.0.4\n\
@@ -431,20 +365,7 @@ pub struct Played {
 
 /// The example `play/disagree-other`.
 pub const PLAY_DISAGREE_OTHER: Played = Played {
-    input: "# DISAGREE by another schedule (see disagree): router 2 has its session with 1 first, so 3 hears 2-1\n\
-# before anything better, and has its way. The order of messages decides which of the two stable\n\
-# assignments comes.\n\
-#\n\
-# answer: snapshot 1 settled\n\
-# answer: route 1 10.1.0.0/16 1\n\
-# answer: route 2 10.1.0.0/16 2-1\n\
-# answer: route 3 10.1.0.0/16 3-2-1\n\
-# answer: now\n\
-# answer: route 1 10.1.0.0/16 1\n\
-# answer: route 2 10.1.0.0/16 2-1\n\
-# answer: route 3 10.1.0.0/16 3-2-1\n\
-\n\
-router 1 10.0.0.1\n\
+    input: "router 1 10.0.0.1\n\
 router 2 10.0.0.2\n\
 router 3 10.0.0.3\n\
 link 1 2\n\
@@ -481,19 +402,7 @@ route 3 10.1.0.0/16 3-2-1\n\
 
 /// The example `play/disagree`.
 pub const PLAY_DISAGREE: Played = Played {
-    input: "# DISAGREE: router 3 has its session with 1 first, so 2 hears 3-1 before anything better, and has its\n\
-# way.\n\
-#\n\
-# answer: snapshot 1 settled\n\
-# answer: route 1 10.1.0.0/16 1\n\
-# answer: route 2 10.1.0.0/16 2-3-1\n\
-# answer: route 3 10.1.0.0/16 3-1\n\
-# answer: now\n\
-# answer: route 1 10.1.0.0/16 1\n\
-# answer: route 2 10.1.0.0/16 2-3-1\n\
-# answer: route 3 10.1.0.0/16 3-1\n\
-\n\
-router 1 10.0.0.1\n\
+    input: "router 1 10.0.0.1\n\
 router 2 10.0.0.2\n\
 router 3 10.0.0.3\n\
 link 1 2\n\
@@ -530,23 +439,7 @@ route 3 10.1.0.0/16 3-1\n\
 
 /// The example `play/good-gadget`.
 pub const PLAY_GOOD_GADGET: Played = Played {
-    input: "# The good gadget, played to rest: routers prefer ways around, and still come to rest in its one\n\
-# stable assignment.\n\
-#\n\
-# answer: snapshot 1 settled\n\
-# answer: route 1 10.1.0.0/16 1\n\
-# answer: route 2 10.1.0.0/16 2-4-1\n\
-# answer: route 3 10.1.0.0/16 3-1\n\
-# answer: route 4 10.1.0.0/16 4-1\n\
-# answer: route 5 10.1.0.0/16 5-4-1\n\
-# answer: now\n\
-# answer: route 1 10.1.0.0/16 1\n\
-# answer: route 2 10.1.0.0/16 2-4-1\n\
-# answer: route 3 10.1.0.0/16 3-1\n\
-# answer: route 4 10.1.0.0/16 4-1\n\
-# answer: route 5 10.1.0.0/16 5-4-1\n\
-\n\
-router 1 10.0.0.1\n\
+    input: "router 1 10.0.0.1\n\
 router 2 10.0.0.2\n\
 router 3 10.0.0.3\n\
 router 4 10.0.0.4\n\
@@ -601,14 +494,7 @@ route 5 10.1.0.0/16 5-4-1\n\
 
 /// The example `play/hold-time-short`.
 pub const PLAY_HOLD_TIME_SHORT: Played = Played {
-    input: "# Eighty-nine seconds pass in which nothing crosses the link, one less than the hold time (see\n\
-# hold-time): then what waited crosses in time, and the session lives.\n\
-#\n\
-# answer: now\n\
-# answer: route 1 10.1.0.0/16 1\n\
-# answer: route 2 10.1.0.0/16 2-1\n\
-\n\
-router 1 10.0.0.1\n\
+    input: "router 1 10.0.0.1\n\
 router 2 10.0.0.2\n\
 link 1 2\n\
 origin 1 10.1.0.0/16\n\
@@ -629,14 +515,7 @@ route 2 10.1.0.0/16 2-1\n\
 
 /// The example `play/hold-time`.
 pub const PLAY_HOLD_TIME: Played = Played {
-    input: "# Ninety seconds pass in which nothing crosses the link, so the hold times run out on both sides:\n\
-# each sends the NOTIFICATION and closes the session (RFC 4271 section 6.5).\n\
-#\n\
-# answer: now\n\
-# answer: route 1 10.1.0.0/16 1\n\
-# answer: route 2 10.1.0.0/16 none\n\
-\n\
-router 1 10.0.0.1\n\
+    input: "router 1 10.0.0.1\n\
 router 2 10.0.0.2\n\
 link 1 2\n\
 origin 1 10.1.0.0/16\n\
@@ -657,14 +536,7 @@ route 2 10.1.0.0/16 none\n\
 
 /// The example `play/octets`.
 pub const PLAY_OCTETS: Played = Played {
-    input: "# A session comes up over a link that carries one octet at a time (`cut 1`): it takes more rounds, and\n\
-# ends as with whole messages (see session).\n\
-#\n\
-# answer: now\n\
-# answer: route 1 10.1.0.0/16 1\n\
-# answer: route 2 10.1.0.0/16 2-1\n\
-\n\
-cut 1\n\
+    input: "cut 1\n\
 router 1 10.0.0.1\n\
 router 2 10.0.0.2\n\
 link 1 2\n\
@@ -684,14 +556,7 @@ route 2 10.1.0.0/16 2-1\n\
 
 /// The example `play/one-router`.
 pub const PLAY_ONE_ROUTER: Played = Played {
-    input: "# One router is a network too: its snapshot has no channel, so it settles as it is offered.\n\
-#\n\
-# answer: snapshot 1 settled\n\
-# answer: route 1 10.1.0.0/16 1\n\
-# answer: now\n\
-# answer: route 1 10.1.0.0/16 1\n\
-\n\
-router 1 10.0.0.1\n\
+    input: "router 1 10.0.0.1\n\
 origin 1 10.1.0.0/16\n\
 \n\
 schedule\n\
@@ -709,14 +574,7 @@ route 1 10.1.0.0/16 1\n\
 
 /// The example `play/reset-again`.
 pub const PLAY_RESET_AGAIN: Played = Played {
-    input: "# A session that was reset (see reset), and router 1 starts again: it comes up in its second\n\
-# incarnation, and the route is told anew.\n\
-#\n\
-# answer: now\n\
-# answer: route 1 10.1.0.0/16 1\n\
-# answer: route 2 10.1.0.0/16 2-1\n\
-\n\
-router 1 10.0.0.1\n\
+    input: "router 1 10.0.0.1\n\
 router 2 10.0.0.2\n\
 link 1 2\n\
 origin 1 10.1.0.0/16\n\
@@ -739,14 +597,7 @@ route 2 10.1.0.0/16 2-1\n\
 
 /// The example `play/reset`.
 pub const PLAY_RESET: Played = Played {
-    input: "# Router 2 resets its session: it is closed, and all that was heard in it is forgotten. Router 1\n\
-# does not start again by itself, so router 2 is without a route until it does.\n\
-#\n\
-# answer: now\n\
-# answer: route 1 10.1.0.0/16 1\n\
-# answer: route 2 10.1.0.0/16 none\n\
-\n\
-router 1 10.0.0.1\n\
+    input: "router 1 10.0.0.1\n\
 router 2 10.0.0.2\n\
 link 1 2\n\
 origin 1 10.1.0.0/16\n\
@@ -767,17 +618,7 @@ route 2 10.1.0.0/16 none\n\
 
 /// The example `play/ring-later`.
 pub const PLAY_RING_LATER: Played = Played {
-    input: "# The ring (see ring) one round later: router 4 goes through router 2, and a snapshot that begins then\n\
-# finds this news on its way.\n\
-#\n\
-# answer: snapshot 1 moving 1 inflight 4\n\
-# answer: now\n\
-# answer: route 1 10.1.0.0/16 1\n\
-# answer: route 2 10.1.0.0/16 2-1\n\
-# answer: route 3 10.1.0.0/16 3-4-1\n\
-# answer: route 4 10.1.0.0/16 4-2-1\n\
-\n\
-router 1 10.0.0.1\n\
+    input: "router 1 10.0.0.1\n\
 router 2 10.0.0.2\n\
 router 3 10.0.0.3\n\
 router 4 10.0.0.4\n\
@@ -821,16 +662,7 @@ route 4 10.1.0.0/16 4-2-1\n\
 
 /// The example `play/ring`.
 pub const PLAY_RING: Played = Played {
-    input: "# The ring, which has no stable assignment and never rests. After 102 rounds router 4 goes straight to\n\
-# the origin.\n\
-#\n\
-# answer: now\n\
-# answer: route 1 10.1.0.0/16 1\n\
-# answer: route 2 10.1.0.0/16 2-1\n\
-# answer: route 3 10.1.0.0/16 3-4-1\n\
-# answer: route 4 10.1.0.0/16 4-1\n\
-\n\
-router 1 10.0.0.1\n\
+    input: "router 1 10.0.0.1\n\
 router 2 10.0.0.2\n\
 router 3 10.0.0.3\n\
 router 4 10.0.0.4\n\
@@ -871,14 +703,7 @@ route 4 10.1.0.0/16 4-1\n\
 
 /// The example `play/session`.
 pub const PLAY_SESSION: Played = Played {
-    input: "# A session comes up. Both routers start it, the connection is dialled, the OPENs and KEEPALIVEs\n\
-# pass, and in Established router 1 tells what it originates.\n\
-#\n\
-# answer: now\n\
-# answer: route 1 10.1.0.0/16 1\n\
-# answer: route 2 10.1.0.0/16 2-1\n\
-\n\
-router 1 10.0.0.1\n\
+    input: "router 1 10.0.0.1\n\
 router 2 10.0.0.2\n\
 link 1 2\n\
 origin 1 10.1.0.0/16\n\
@@ -897,21 +722,7 @@ route 2 10.1.0.0/16 2-1\n\
 
 /// The example `play/shortest`.
 pub const PLAY_SHORTEST: Played = Played {
-    input: "# Shortest paths, played to rest: each router has the path that all others agree with, and a snapshot\n\
-# says that nothing moves.\n\
-#\n\
-# answer: snapshot 1 settled\n\
-# answer: route 1 10.1.0.0/16 1\n\
-# answer: route 2 10.1.0.0/16 2-1\n\
-# answer: route 3 10.1.0.0/16 3-1\n\
-# answer: route 4 10.1.0.0/16 4-2-1\n\
-# answer: now\n\
-# answer: route 1 10.1.0.0/16 1\n\
-# answer: route 2 10.1.0.0/16 2-1\n\
-# answer: route 3 10.1.0.0/16 3-1\n\
-# answer: route 4 10.1.0.0/16 4-2-1\n\
-\n\
-router 1 10.0.0.1\n\
+    input: "router 1 10.0.0.1\n\
 router 2 10.0.0.2\n\
 router 3 10.0.0.3\n\
 router 4 10.0.0.4\n\
@@ -950,15 +761,7 @@ route 4 10.1.0.0/16 4-2-1\n\
 
 /// The example `play/snapshot-closed`.
 pub const PLAY_SNAPSHOT_CLOSED: Played = Played {
-    input: "# Router 2 resets its session while 1 records: 1 loses its recording, and the snapshot is abandoned. A\n\
-# start at 1 brings the session up again, in its second incarnation.\n\
-#\n\
-# answer: snapshot 1 abandoned 1 2 closed\n\
-# answer: now\n\
-# answer: route 1 10.1.0.0/16 1\n\
-# answer: route 2 10.1.0.0/16 2-1\n\
-\n\
-router 1 10.0.0.1\n\
+    input: "router 1 10.0.0.1\n\
 router 2 10.0.0.2\n\
 link 1 2\n\
 origin 1 10.1.0.0/16\n\
@@ -983,15 +786,7 @@ route 2 10.1.0.0/16 2-1\n\
 
 /// The example `play/snapshot-in-flight`.
 pub const PLAY_SNAPSHOT_IN_FLIGHT: Played = Played {
-    input: "# Both routers record while a withdrawal is on its way from 1 to 2: the snapshot finds it in the\n\
-# channel.\n\
-#\n\
-# answer: snapshot 1 moving 2 inflight 1\n\
-# answer: now\n\
-# answer: route 1 10.1.0.0/16 none\n\
-# answer: route 2 10.1.0.0/16 none\n\
-\n\
-router 1 10.0.0.1\n\
+    input: "router 1 10.0.0.1\n\
 router 2 10.0.0.2\n\
 link 1 2\n\
 origin 1 10.1.0.0/16\n\
@@ -1017,15 +812,7 @@ route 2 10.1.0.0/16 none\n\
 
 /// The example `play/snapshot-not-up`.
 pub const PLAY_SNAPSHOT_NOT_UP: Played = Played {
-    input: "# A snapshot before the session is Established has no channel to wait for: the recording is lost as\n\
-# it begins.\n\
-#\n\
-# answer: snapshot 1 abandoned 1 2 notup\n\
-# answer: now\n\
-# answer: route 1 10.1.0.0/16 none\n\
-# answer: route 2 10.1.0.0/16 none\n\
-\n\
-router 1 10.0.0.1\n\
+    input: "router 1 10.0.0.1\n\
 router 2 10.0.0.2\n\
 link 1 2\n\
 origin 1 10.1.0.0/16\n\
@@ -1043,15 +830,7 @@ route 2 10.1.0.0/16 none\n\
 
 /// The example `play/snapshot-pending`.
 pub const PLAY_SNAPSHOT_PENDING: Played = Played {
-    input: "# Router 1 records before it has decided on the withdrawal: something is pending there, so the network\n\
-# moves.\n\
-#\n\
-# answer: snapshot 1 moving 1 pending\n\
-# answer: now\n\
-# answer: route 1 10.1.0.0/16 none\n\
-# answer: route 2 10.1.0.0/16 none\n\
-\n\
-router 1 10.0.0.1\n\
+    input: "router 1 10.0.0.1\n\
 router 2 10.0.0.2\n\
 link 1 2\n\
 origin 1 10.1.0.0/16\n\
@@ -1074,18 +853,7 @@ route 2 10.1.0.0/16 none\n\
 
 /// The example `play/snapshot-superseded`.
 pub const PLAY_SNAPSHOT_SUPERSEDED: Played = Played {
-    input: "# Router 1 records number 2 before the marker of number 1 has come back: the first snapshot is\n\
-# abandoned, the second settles.\n\
-#\n\
-# answer: snapshot 1 abandoned 1 2 superseded\n\
-# answer: snapshot 2 settled\n\
-# answer: route 1 10.1.0.0/16 1\n\
-# answer: route 2 10.1.0.0/16 2-1\n\
-# answer: now\n\
-# answer: route 1 10.1.0.0/16 1\n\
-# answer: route 2 10.1.0.0/16 2-1\n\
-\n\
-router 1 10.0.0.1\n\
+    input: "router 1 10.0.0.1\n\
 router 2 10.0.0.2\n\
 link 1 2\n\
 origin 1 10.1.0.0/16\n\
@@ -1111,17 +879,7 @@ route 2 10.1.0.0/16 2-1\n\
 
 /// The example `play/snapshot`.
 pub const PLAY_SNAPSHOT: Played = Played {
-    input: "# A snapshot (Chandy and Lamport 1985) of a network at rest is settled. The withdrawal behind it\n\
-# does not change what was recorded.\n\
-#\n\
-# answer: snapshot 1 settled\n\
-# answer: route 1 10.1.0.0/16 1\n\
-# answer: route 2 10.1.0.0/16 2-1\n\
-# answer: now\n\
-# answer: route 1 10.1.0.0/16 none\n\
-# answer: route 2 10.1.0.0/16 none\n\
-\n\
-router 1 10.0.0.1\n\
+    input: "router 1 10.0.0.1\n\
 router 2 10.0.0.2\n\
 link 1 2\n\
 origin 1 10.1.0.0/16\n\
@@ -1146,21 +904,7 @@ route 2 10.1.0.0/16 none\n\
 
 /// The example `play/wedgie-stuck`.
 pub const PLAY_WEDGIE_STUCK: Played = Played {
-    input: "# The backup link (see wedgie) after the primary was down for a while: it is up again, and yet the\n\
-# network stays on the backup.\n\
-#\n\
-# answer: snapshot 1 settled\n\
-# answer: route 1 10.1.0.0/16 1\n\
-# answer: route 2 10.1.0.0/16 2-1\n\
-# answer: route 3 10.1.0.0/16 3-2-1\n\
-# answer: route 4 10.1.0.0/16 4-1\n\
-# answer: now\n\
-# answer: route 1 10.1.0.0/16 1\n\
-# answer: route 2 10.1.0.0/16 2-1\n\
-# answer: route 3 10.1.0.0/16 3-2-1\n\
-# answer: route 4 10.1.0.0/16 4-1\n\
-\n\
-router 1 10.0.0.1\n\
+    input: "router 1 10.0.0.1\n\
 router 2 10.0.0.2\n\
 router 3 10.0.0.3\n\
 router 4 10.0.0.4\n\
@@ -1208,21 +952,7 @@ route 4 10.1.0.0/16 4-1\n\
 
 /// The example `play/wedgie`.
 pub const PLAY_WEDGIE: Played = Played {
-    input: "# A backup link (BGP wedgies, RFC 4264): the primary link, 1 4, comes up first, so all end with the\n\
-# paths that were meant, and nothing goes over the backup, 1 2.\n\
-#\n\
-# answer: snapshot 1 settled\n\
-# answer: route 1 10.1.0.0/16 1\n\
-# answer: route 2 10.1.0.0/16 2-3-4-1\n\
-# answer: route 3 10.1.0.0/16 3-4-1\n\
-# answer: route 4 10.1.0.0/16 4-1\n\
-# answer: now\n\
-# answer: route 1 10.1.0.0/16 1\n\
-# answer: route 2 10.1.0.0/16 2-3-4-1\n\
-# answer: route 3 10.1.0.0/16 3-4-1\n\
-# answer: route 4 10.1.0.0/16 4-1\n\
-\n\
-router 1 10.0.0.1\n\
+    input: "router 1 10.0.0.1\n\
 router 2 10.0.0.2\n\
 router 3 10.0.0.3\n\
 router 4 10.0.0.4\n\
@@ -1265,14 +995,7 @@ route 4 10.1.0.0/16 4-1\n\
 
 /// The example `play/withdrawal`.
 pub const PLAY_WITHDRAWAL: Played = Played {
-    input: "# A route is withdrawn: router 1 originates the prefix no longer and tells router 2, which has no\n\
-# other way.\n\
-#\n\
-# answer: now\n\
-# answer: route 1 10.1.0.0/16 none\n\
-# answer: route 2 10.1.0.0/16 none\n\
-\n\
-router 1 10.0.0.1\n\
+    input: "router 1 10.0.0.1\n\
 router 2 10.0.0.2\n\
 link 1 2\n\
 origin 1 10.1.0.0/16\n\
@@ -1315,4 +1038,461 @@ pub const PLAYED: [Played; 22] = [
     PLAY_WEDGIE_STUCK,
     PLAY_WEDGIE,
     PLAY_WITHDRAWAL,
+];
+
+/// An input of `decode` and what is printed for it.
+#[derive(Clone, Copy)]
+pub struct Decoded {
+    /// The number that `--peer` names, as it is written, where it is given.
+    pub peer: Option<&'static str>,
+    /// The octets in hex.
+    pub input: &'static str,
+    /// What is printed.
+    pub answer: &'static str,
+    /// The status.
+    pub status: u8,
+}
+
+/// The example `decode/1-1-not-synchronized`.
+pub const DECODE_1_1_NOT_SYNCHRONIZED: Decoded = Decoded {
+    peer: None,
+    input: "ffffffffffffffff fffffffffffffffe\n\
+0013\n\
+04\n\
+",
+    answer: "fault 1 1\n\
+ffffffffffffffffffffffffffffffff0015030101\n\
+",
+    status: 1,
+};
+
+/// The example `decode/1-2-bad-length`.
+pub const DECODE_1_2_BAD_LENGTH: Decoded = Decoded {
+    peer: None,
+    input: "ffffffffffffffff ffffffffffffffff\n\
+0014\n\
+04\n\
+00\n\
+",
+    answer: "fault 1 2\n\
+ffffffffffffffffffffffffffffffff00170301020014\n\
+",
+    status: 1,
+};
+
+/// The example `decode/1-3-bad-type`.
+pub const DECODE_1_3_BAD_TYPE: Decoded = Decoded {
+    peer: None,
+    input: "ffffffffffffffff ffffffffffffffff\n\
+0017\n\
+05\n\
+0001 00 01\n\
+",
+    answer: "fault 1 3\n\
+ffffffffffffffffffffffffffffffff001603010305\n\
+",
+    status: 1,
+};
+
+/// The example `decode/2-0-malformed-open`.
+pub const DECODE_2_0_MALFORMED_OPEN: Decoded = Decoded {
+    peer: None,
+    input: "ffffffffffffffff ffffffffffffffff\n\
+001f\n\
+01\n\
+04\n\
+fde9\n\
+005a\n\
+0a000001\n\
+04\n\
+02 00\n\
+",
+    answer: "fault 2 0\n\
+ffffffffffffffffffffffffffffffff0015030200\n\
+",
+    status: 1,
+};
+
+/// The example `decode/2-1-unsupported-version`.
+pub const DECODE_2_1_UNSUPPORTED_VERSION: Decoded = Decoded {
+    peer: None,
+    input: "ffffffffffffffff ffffffffffffffff\n\
+001d\n\
+01\n\
+03\n\
+fde9\n\
+005a\n\
+0a000001\n\
+00\n\
+",
+    answer: "fault 2 1\n\
+ffffffffffffffffffffffffffffffff00170302010004\n\
+",
+    status: 1,
+};
+
+/// The example `decode/2-2-bad-peer`.
+pub const DECODE_2_2_BAD_PEER: Decoded = Decoded {
+    peer: Some("65002"),
+    input: "ffffffffffffffff ffffffffffffffff\n\
+001d\n\
+01\n\
+04\n\
+fde9\n\
+005a\n\
+0a000001\n\
+00\n\
+",
+    answer: "fault 2 2\n\
+ffffffffffffffffffffffffffffffff0015030202\n\
+",
+    status: 1,
+};
+
+/// The example `decode/2-3-bad-identifier`.
+pub const DECODE_2_3_BAD_IDENTIFIER: Decoded = Decoded {
+    peer: None,
+    input: "ffffffffffffffff ffffffffffffffff\n\
+001d\n\
+01\n\
+04\n\
+fde9\n\
+005a\n\
+e0000001\n\
+00\n\
+",
+    answer: "fault 2 3\n\
+ffffffffffffffffffffffffffffffff0015030203\n\
+",
+    status: 1,
+};
+
+/// The example `decode/2-4-unsupported-parameter`.
+pub const DECODE_2_4_UNSUPPORTED_PARAMETER: Decoded = Decoded {
+    peer: None,
+    input: "ffffffffffffffff ffffffffffffffff\n\
+001f\n\
+01\n\
+04\n\
+fde9\n\
+005a\n\
+0a000001\n\
+02\n\
+01 00\n\
+",
+    answer: "fault 2 4\n\
+ffffffffffffffffffffffffffffffff0015030204\n\
+",
+    status: 1,
+};
+
+/// The example `decode/2-6-hold-time`.
+pub const DECODE_2_6_HOLD_TIME: Decoded = Decoded {
+    peer: None,
+    input: "ffffffffffffffff ffffffffffffffff\n\
+001d\n\
+01\n\
+04\n\
+fde9\n\
+0002\n\
+0a000001\n\
+00\n\
+",
+    answer: "fault 2 6\n\
+ffffffffffffffffffffffffffffffff0015030206\n\
+",
+    status: 1,
+};
+
+/// The example `decode/3-1-malformed-attributes`.
+pub const DECODE_3_1_MALFORMED_ATTRIBUTES: Decoded = Decoded {
+    peer: None,
+    input: "ffffffffffffffff ffffffffffffffff\n\
+0032\n\
+02\n\
+0000\n\
+0018\n\
+40 01 01 00\n\
+40 01 01 00\n\
+40 02 06 02 02 fde9 fdea\n\
+40 03 04 0a000001\n\
+10 0a01\n\
+",
+    answer: "fault 3 1\n\
+ffffffffffffffffffffffffffffffff0015030301\n\
+",
+    status: 1,
+};
+
+/// The example `decode/3-10-network-field`.
+pub const DECODE_3_10_NETWORK_FIELD: Decoded = Decoded {
+    peer: None,
+    input: "ffffffffffffffff ffffffffffffffff\n\
+0031\n\
+02\n\
+0000\n\
+0014\n\
+40 01 01 00\n\
+40 02 06 02 02 fde9 fdea\n\
+40 03 04 0a000001\n\
+21 0a010000 00\n\
+",
+    answer: "fault 3 10\n\
+ffffffffffffffffffffffffffffffff001503030a\n\
+",
+    status: 1,
+};
+
+/// The example `decode/3-11-as-path`.
+pub const DECODE_3_11_AS_PATH: Decoded = Decoded {
+    peer: None,
+    input: "ffffffffffffffff ffffffffffffffff\n\
+002e\n\
+02\n\
+0000\n\
+0014\n\
+40 01 01 00\n\
+40 02 06 02 03 fde9 fdea\n\
+40 03 04 0a000001\n\
+10 0a01\n\
+",
+    answer: "fault 3 11\n\
+ffffffffffffffffffffffffffffffff001503030b\n\
+",
+    status: 1,
+};
+
+/// The example `decode/3-2-unrecognized`.
+pub const DECODE_3_2_UNRECOGNIZED: Decoded = Decoded {
+    peer: None,
+    input: "ffffffffffffffff ffffffffffffffff\n\
+0032\n\
+02\n\
+0000\n\
+0018\n\
+40 01 01 00\n\
+40 02 06 02 02 fde9 fdea\n\
+40 03 04 0a000001\n\
+40 63 01 00\n\
+10 0a01\n\
+",
+    answer: "fault 3 2\n\
+ffffffffffffffffffffffffffffffff001903030240630100\n\
+",
+    status: 1,
+};
+
+/// The example `decode/3-3-missing`.
+pub const DECODE_3_3_MISSING: Decoded = Decoded {
+    peer: None,
+    input: "ffffffffffffffff ffffffffffffffff\n\
+0027\n\
+02\n\
+0000\n\
+000d\n\
+40 01 01 00\n\
+40 02 06 02 02 fde9 fdea\n\
+10 0a01\n\
+",
+    answer: "fault 3 3\n\
+ffffffffffffffffffffffffffffffff001603030303\n\
+",
+    status: 1,
+};
+
+/// The example `decode/3-4-flags`.
+pub const DECODE_3_4_FLAGS: Decoded = Decoded {
+    peer: None,
+    input: "ffffffffffffffff ffffffffffffffff\n\
+002e\n\
+02\n\
+0000\n\
+0014\n\
+c0 01 01 00\n\
+40 02 06 02 02 fde9 fdea\n\
+40 03 04 0a000001\n\
+10 0a01\n\
+",
+    answer: "fault 3 4\n\
+ffffffffffffffffffffffffffffffff0019030304c0010100\n\
+",
+    status: 1,
+};
+
+/// The example `decode/3-5-length`.
+pub const DECODE_3_5_LENGTH: Decoded = Decoded {
+    peer: None,
+    input: "ffffffffffffffff ffffffffffffffff\n\
+002d\n\
+02\n\
+0000\n\
+0013\n\
+40 01 01 00\n\
+40 02 06 02 02 fde9 fdea\n\
+40 03 03 0a0000\n\
+10 0a01\n\
+",
+    answer: "fault 3 5\n\
+ffffffffffffffffffffffffffffffff001b0303054003030a0000\n\
+",
+    status: 1,
+};
+
+/// The example `decode/3-6-origin`.
+pub const DECODE_3_6_ORIGIN: Decoded = Decoded {
+    peer: None,
+    input: "ffffffffffffffff ffffffffffffffff\n\
+002e\n\
+02\n\
+0000\n\
+0014\n\
+40 01 01 03\n\
+40 02 06 02 02 fde9 fdea\n\
+40 03 04 0a000001\n\
+10 0a01\n\
+",
+    answer: "fault 3 6\n\
+ffffffffffffffffffffffffffffffff001903030640010103\n\
+",
+    status: 1,
+};
+
+/// The example `decode/3-8-next-hop`.
+pub const DECODE_3_8_NEXT_HOP: Decoded = Decoded {
+    peer: None,
+    input: "ffffffffffffffff ffffffffffffffff\n\
+002e\n\
+02\n\
+0000\n\
+0014\n\
+40 01 01 00\n\
+40 02 06 02 02 fde9 fdea\n\
+40 03 04 00000000\n\
+10 0a01\n\
+",
+    answer: "fault 3 8\n\
+ffffffffffffffffffffffffffffffff001c03030840030400000000\n\
+",
+    status: 1,
+};
+
+/// The example `decode/keepalive`.
+pub const DECODE_KEEPALIVE: Decoded = Decoded {
+    peer: None,
+    input: "ffffffffffffffff ffffffffffffffff\n\
+0013\n\
+04\n\
+",
+    answer: "keepalive\n\
+",
+    status: 0,
+};
+
+/// The example `decode/notification`.
+pub const DECODE_NOTIFICATION: Decoded = Decoded {
+    peer: None,
+    input: "ffffffffffffffff ffffffffffffffff\n\
+0015\n\
+03\n\
+06 02\n\
+",
+    answer: "notification 6 2 -\n\
+",
+    status: 0,
+};
+
+/// The example `decode/open`.
+pub const DECODE_OPEN: Decoded = Decoded {
+    peer: None,
+    input: "ffffffffffffffff ffffffffffffffff\n\
+0025\n\
+01\n\
+04\n\
+fde9\n\
+005a\n\
+0a000001\n\
+08\n\
+02 06\n\
+41 04 0000fde9\n\
+",
+    answer: "open as 65001 hold 90 id 10.0.0.1 cap 65 0000fde9\n\
+",
+    status: 0,
+};
+
+/// The example `decode/truncated`.
+pub const DECODE_TRUNCATED: Decoded = Decoded {
+    peer: None,
+    input: "ffffffffffffffff ffffffffffffffff\n\
+0015\n\
+03\n\
+06\n\
+",
+    answer: "truncated 20\n\
+",
+    status: 1,
+};
+
+/// The example `decode/update-withdraws`.
+pub const DECODE_UPDATE_WITHDRAWS: Decoded = Decoded {
+    peer: None,
+    input: "ffffffffffffffff ffffffffffffffff\n\
+001b\n\
+02\n\
+0004\n\
+18 c63364\n\
+0000\n\
+",
+    answer: "update withdraw 198.51.100.0/24\n\
+",
+    status: 0,
+};
+
+/// The example `decode/update`.
+pub const DECODE_UPDATE: Decoded = Decoded {
+    peer: None,
+    input: "ffffffffffffffff ffffffffffffffff\n\
+003d\n\
+02\n\
+0004\n\
+18 c63364\n\
+001b\n\
+40 01 01 00\n\
+40 02 06 02 02 fde9 fdea\n\
+40 03 04 0a000001\n\
+80 04 04 00000064\n\
+10 0a01\n\
+18 c00002\n\
+",
+    answer: "update withdraw 198.51.100.0/24 announce 10.1.0.0/16 192.0.2.0/24 path 65001-65002 next 10.0.0.1\n\
+",
+    status: 0,
+};
+
+/// Each example of `decode`.
+pub const DECODED: [Decoded; 24] = [
+    DECODE_1_1_NOT_SYNCHRONIZED,
+    DECODE_1_2_BAD_LENGTH,
+    DECODE_1_3_BAD_TYPE,
+    DECODE_2_0_MALFORMED_OPEN,
+    DECODE_2_1_UNSUPPORTED_VERSION,
+    DECODE_2_2_BAD_PEER,
+    DECODE_2_3_BAD_IDENTIFIER,
+    DECODE_2_4_UNSUPPORTED_PARAMETER,
+    DECODE_2_6_HOLD_TIME,
+    DECODE_3_1_MALFORMED_ATTRIBUTES,
+    DECODE_3_10_NETWORK_FIELD,
+    DECODE_3_11_AS_PATH,
+    DECODE_3_2_UNRECOGNIZED,
+    DECODE_3_3_MISSING,
+    DECODE_3_4_FLAGS,
+    DECODE_3_5_LENGTH,
+    DECODE_3_6_ORIGIN,
+    DECODE_3_8_NEXT_HOP,
+    DECODE_KEEPALIVE,
+    DECODE_NOTIFICATION,
+    DECODE_OPEN,
+    DECODE_TRUNCATED,
+    DECODE_UPDATE_WITHDRAWS,
+    DECODE_UPDATE,
 ];

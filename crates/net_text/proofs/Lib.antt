@@ -13,3 +13,4 @@ pub mod EntryLemmas
 pub mod RepeatLemmas
 pub mod PrintLemmas
 pub mod DecimalLemmas
+pub mod SpeltLemmas

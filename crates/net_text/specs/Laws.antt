@@ -1,8 +1,9 @@
 -- What the definitions say together.
-use Rattle.std.specs.Prelude.{ℕ, ◌≡◌, ◌+◌, ◌↔◌, List, ◌∷◌, ◌++◌, length, Result, Ok, Err}
+use Rattle.std.specs.Prelude.{ℕ, ◌≡◌, ◌≢◌, ◌+◌, ◌↔◌, List, ◌∷◌, ◌++◌, length, Result, Ok, Err}
 use Rattle.net_text.specs.declared.code.Code.{Code}
+use Rattle.net_text.specs.declared.code.Code.TheVariants as codes
 use Rattle.net_text.specs.Lexing.{Text}
-use Rattle.net_text.specs.Networks.{refused_at, reading}
+use Rattle.net_text.specs.Networks.{refused_at, reading, SpellsNetwork, RefusesNetwork}
 use Rattle.net_text.specs.Lines.{line_reading}
 use Rattle.net_text.specs.Assignments.{entry_reading}
 use Rattle.net_text.specs.declared.draft.Draft.{Draft}
@@ -32,3 +33,16 @@ FirstFaultDecidesNetworks = (d : Draft) (before : ℕ) → FirstFaultDecides (λ
 
 abbrev pub FirstFaultDecidesAssignments : Type 0
 FirstFaultDecidesAssignments = (net : Plan) (before : ℕ) (entries : List Entry) → FirstFaultDecides (entry_reading net) before entries
+
+-- a text spells one network at most
+abbrev pub OneNetwork : Type 0
+OneNetwork = (lines : List Text) (one other : Plan) → SpellsNetwork lines one → SpellsNetwork lines other → one ≡ other
+
+-- one that spells a network is refused only for want of memory
+abbrev pub SpeltIsNotRefused : Type 0
+SpeltIsNotRefused = (lines : List Text) (net : Plan) (line : ℕ) (code : Code) → SpellsNetwork lines net → RefusesNetwork lines line code → code ≡ codes.Memory
+
+-- and one is refused in one way, want of memory aside
+abbrev pub OneRefusal : Type 0
+OneRefusal = (lines : List Text) (line other : ℕ) (code reason : Code) → code ≢ codes.Memory → reason ≢ codes.Memory
+    → RefusesNetwork lines line code → RefusesNetwork lines other reason → (line ≡ other) × (code ≡ reason)

@@ -5,7 +5,7 @@ ghost use Rattle.net_text.specs.Lexing.{lines_of};
 ghost use Rattle.net_text.specs.declared.draft.Draft.{Draft};
 ghost use Rattle.net_text.specs.Declaring.{NetworksHaveWhatIsNamed};
 ghost use Rattle.net_text.specs.Layout.{WordsStandBetweenBlanks, LinesEndByLineFeeds};
-ghost use Rattle.net_text.specs.Laws.{FirstFaultDecidesNetworks, FirstFaultDecidesAssignments};
+ghost use Rattle.net_text.specs.Laws.{FirstFaultDecidesNetworks, FirstFaultDecidesAssignments, OneNetwork, SpeltIsNotRefused, OneRefusal};
 
 /// A network text is refused at a line exactly where that line has the fault and no line before it
 /// has one.
@@ -33,4 +33,19 @@ pub fn lines_end_by_line_feeds()
 /// no others.
 pub fn networks_have_what_is_named()
     ensures { NetworksHaveWhatIsNamed }
+{}
+
+/// A network text spells one network at most.
+pub fn texts_spell_one_network()
+    ensures { OneNetwork }
+{}
+
+/// A network text that spells a network is refused only for want of memory.
+pub fn what_is_spelt_is_not_refused()
+    ensures { SpeltIsNotRefused }
+{}
+
+/// A network text is refused at one line and with one code, want of memory aside.
+pub fn texts_are_refused_once()
+    ensures { OneRefusal }
 {}

@@ -12,3 +12,4 @@ pub mod Model
 pub mod Acts
 pub mod Mirrors
 pub mod SnapshotLaws
+pub mod Existence

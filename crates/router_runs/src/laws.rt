@@ -3,6 +3,7 @@
 ghost use Rattle.bgp_codec.specs.Header.{IsFrame};
 ghost use Rattle.router_runs.specs.LawsBelow.{LawsBelow};
 ghost use Rattle.router_runs.specs.Acts.{QuietStepsAreActs};
+ghost use Rattle.router_runs.specs.Existence.{EachNetworkHasASetting};
 ghost use Rattle.router_runs.specs.Promises.{NothingIsActedOnAfterTheClose, UpdatesPassInOrder};
 ghost use Rattle.router_runs.specs.Said.{RunsKeep, SaidIsGood};
 ghost use Rattle.router_runs.specs.Snapshots.{CloseLosesTheRecording};
@@ -18,7 +19,7 @@ use run_model::{
     no_octet_is_stale, octets_are_entries, octets_of_an_incarnation, session_events_lead_on,
     sessions_are_link_runs,
 };
-use stable_paths::laws::stable_is_the_models;
+use stable_paths::laws::{best_by_rank_is_best, stable_is_the_models};
 
 /// Frames of BGP-4 (RFC 4271 section 4.1): octets with a good header whose Length is their number.
 struct Frames;
@@ -101,4 +102,16 @@ pub fn quiet_steps_are_acts()
     ensures { QuietStepsAreActs }
 {
     laws_below();
+}
+
+/// Each network has a setting: there is one over it in which every router chooses by rank, by the
+/// function of [`best_by_rank_is_best`]. So the promises of runs, whose premise is such a setting,
+/// speak of every network.
+///
+/// Premises: it is one (`IsNetwork`), and for the setting of the promises (`IsSetting`) the hold time
+/// fits an OPEN, as that of every network in the code does: it is a `u16`.
+pub fn each_network_has_a_setting()
+    ensures { EachNetworkHasASetting }
+{
+    best_by_rank_is_best();
 }

@@ -1,7 +1,7 @@
 //! The lines that a run is reported by. Each call appends a whole line, with its end; a refused call
 //! changes nothing.
 
-ghost use Rattle.std.specs.Prelude.{◌≡◌, ◌++◌, OnOk, OnErr};
+ghost use Rattle.std.specs.Prelude.{◌≡◌, ◌+◌, ◌++◌, ◌<◌, length, vec_len, vec_capacity, IsOk, OnOk, OnErr};
 ghost use Rattle.snap_marker.specs.Parts.{cause_of};
 ghost use Rattle.snap_collector.specs.Collecting.{why_of, outcome_of};
 ghost use Rattle.schedule_text.specs.Reports.{why_text, cause_text, outcome_text, snapshot_text, snapshot_line, route_line, now_line, stop_line, router_code, fault_code};
@@ -100,11 +100,13 @@ fn put_route(out: &mut Tail, router: Asn, prefix: &Prefix, path: &[Asn]) -> Resu
     out.put_text(b"\n")
 }
 
-/// Appends how a snapshot came out; nothing where it is undecided. It is refused only where memory
-/// was, and then changes nothing.
+/// Appends how a snapshot came out; nothing where it is undecided, which is never refused. It is
+/// refused only where memory was, and then changes nothing.
 pub fn snapshot_line(number: u32, outcome: &Outcome, out: &mut Vec<u8>) -> Result<(), AllocError>
     ensures ok { OnOk result (out.new.items ≡ out.old.items ++ snapshot_line number (outcome_of outcome.now)) }
     ensures err { OnErr result (out.new.items ≡ out.old.items) }
+    // An undecided one takes no memory.
+    ensures undecided { outcome.now ≡ Outcome.Waiting → IsOk result }
 {
     if *outcome == Outcome::Waiting {
         return Ok(());
@@ -132,11 +134,13 @@ pub fn route_line(
     result
 }
 
-/// Appends the line that stands before the routes at the end of a run. It is refused only where
-/// memory was, and then changes nothing.
+/// Appends the line that stands before the routes at the end of a run. It is refused only where the
+/// buffer had no room for it and a growth was refused, and then changes nothing.
 pub fn now_line(out: &mut Vec<u8>) -> Result<(), AllocError>
     ensures ok { OnOk result (out.new.items ≡ out.old.items ++ now_line) }
     ensures err { OnErr result (out.new.items ≡ out.old.items) }
+    // Want of memory is answered only where room was missing.
+    ensures only { OnErr result (vec_capacity out.old < vec_len out.old + length now_line) }
 {
     out.extend_from_slice(b"now\n")
 }

@@ -135,6 +135,8 @@ pub fn read_schedule(
     requires { before + length text.now < 2 ^ 64 }
     ensures ok { IfOk result (λ orders. SpellsSchedule network.now before (lines_of text.now) orders.items) }
     ensures err { IfErr result (λ refused. RefusesSchedule network.now before (lines_of text.now) refused.line refused.code) }
+    // The line that is named was reached.
+    ensures reached { IfErr result (λ refused. before < refused.line) }
 {
     let mut orders = Vec::new(alloc);
     let mut line = before;

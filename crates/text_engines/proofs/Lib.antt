@@ -5,3 +5,4 @@ pub mod CheckLemmas
 pub mod PlaceLemmas
 pub mod BlankLemmas
 pub mod HexInputLemmas
+pub mod DecodeLemmas

@@ -3,3 +3,4 @@ pub mod Engine
 pub mod Inputs
 pub mod Checking
 pub mod Digits
+pub mod Laws

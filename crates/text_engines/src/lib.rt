@@ -17,6 +17,7 @@ mod check;
 mod decode;
 mod digits;
 mod hex_input;
+pub mod laws;
 mod refusals;
 pub mod status;
 mod stream;

@@ -16,9 +16,10 @@ pub struct ScriptGate {
 }
 
 impl ScriptGate {
-    /// A gate that has given nothing yet. It takes no memory.
+    /// A gate that has given nothing of the script yet. It takes no memory.
     pub fn new(script: Vec<(u32, Chore)>) -> ScriptGate
-        ensures { given_by result ≡ [] }
+        ensures nothing { given_by result ≡ [] }
+        ensures script { result.script.items ≡ script.items }
     {
         ScriptGate { script, count: 0 }
     }

@@ -100,8 +100,10 @@ abbrev pub Opens : Plan → WorldView → Type 0
 Opens net x = (x.net ≡ net) × ((g : Setting) → g.net ≡ net → plain_world x ≡ new_world g)
 
 -- the router of that number
-abbrev pub IsRouterOf : WorldView → ℕ → RouterView → Type 0
-IsRouterOf x u r = (r.number ≡ u) × (plain_of r ≡ routers_of x u)
+pub record IsRouterOf (x : WorldView) (u : ℕ) (r : RouterView) : Type 0 where
+  pub number : r.number ≡ u
+  pub network : r.net ≡ x.net
+  pub state : plain_of r ≡ routers_of x u
 
 abbrev pub IsNoRouter : WorldView → ℕ → Type 0
 IsNoRouter x u = IsRouter x.net.routers u → ⊥

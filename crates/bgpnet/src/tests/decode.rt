@@ -1,6 +1,8 @@
 //! `bgpnet decode`.
 
 use super::{MARKER, answer};
+use crate::command_line::DECODE_HELP;
+use gallery::DECODED;
 use std::test::Fail;
 
 // Messages behind a Marker, with the text and the status (RFC 4271 sections 4.1, 4.4, 4.5 and 6.1).
@@ -281,6 +283,43 @@ fn an_input_above_its_limit(rt: HostRuntime) -> Result<(), Fail> {
     let (out, got) = answer(&rt, alloc, &["decode"], input.as_slice())?;
     assert_eq!(rt; out.as_slice(), b"refused 0 N6\n".as_slice());
     assert_eq!(rt; got, Some(1));
+    Ok(())
+}
+
+#[test]
+fn the_example_of_the_help(rt: HostRuntime) -> Result<(), Fail> {
+    let alloc = rt.alloc();
+    let mut input = String::new(alloc);
+    let mut wanted = String::new(alloc);
+    for line in DECODE_HELP.lines() {
+        if let Some(line) = line.strip_prefix("    ") {
+            if line.starts_with("ffffffffffffffff ") {
+                input.push_str(line)?;
+                input.push_str("\n")?;
+            } else {
+                wanted.push_str(line)?;
+                wanted.push_str("\n")?;
+            }
+        }
+    }
+    let (text, status) = answer(&rt, alloc, &["decode"], input.as_bytes())?;
+    assert_eq!(rt; (text.as_slice(), status), (wanted.as_bytes(), Some(1)));
+    Ok(())
+}
+
+#[test]
+fn each_example(rt: HostRuntime) -> Result<(), Fail> {
+    for example in DECODED {
+        let input = example.input.as_bytes();
+        let (text, status) = match example.peer {
+            Some(peer) => answer(&rt, rt.alloc(), &["decode", "--peer", peer], input)?,
+            None => answer(&rt, rt.alloc(), &["decode"], input)?,
+        };
+        assert_eq!(rt;
+            (text.as_slice(), status),
+            (example.answer.as_bytes(), Some(example.status))
+        );
+    }
     Ok(())
 }
 

@@ -2,6 +2,7 @@
 
 use super::MARKER;
 use crate::command_line::run_with;
+use crate::status_of;
 use std::io;
 use std::io::{Error, ErrorKind, Read, Write};
 use std::test::Fail;
@@ -76,6 +77,31 @@ fn a_read_fails(rt: HostRuntime) -> Result<(), Fail> {
             assert_eq!(rt; out.as_slice(), TEXT);
         }
     }
+    Ok(())
+}
+
+// Where a read fails, no word writes anything.
+#[test]
+fn a_first_read_fails(rt: HostRuntime) -> Result<(), Fail> {
+    let alloc = rt.alloc();
+    for word in ["decode", "check", "play", "run"] {
+        let mut reader = Watched::new(Halting {
+            left: b"router 1 10.0.0.1\n",
+            reads: 1,
+        });
+        let mut writer = Watched::new(Vec::new(alloc));
+        let got = run_with(&rt, alloc, &[word], &mut reader, &mut writer);
+        let out: Vec<u8> = writer.into_inner();
+        assert!(rt; matches!(got, Err(IoStopped)), "{word}");
+        assert!(rt; out.is_empty());
+    }
+    Ok(())
+}
+
+#[test]
+fn the_status_of_a_failure(rt: HostRuntime) -> Result<(), Fail> {
+    assert_eq!(rt; status_of(Err(IoStopped)), 4);
+    assert_eq!(rt; status_of(Ok(1)), 1);
     Ok(())
 }
 

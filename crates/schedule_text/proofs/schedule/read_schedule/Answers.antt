@@ -9,5 +9,6 @@ returns-in-Err-clause-err c =
 pub lines-preserved : goal.lines-preserved
 lines-preserved c = record {
   passed = passed_on c.args.network.now c.args.before _ _ _ c.lines.line c.lines.orders.items c.read_line.new.orders.items c.next_line.result.0.now c.next_line.ensures.lines c.lines.invariant.passed c.in_default.ensures.good c.in_default.ensures.ok;
+  begun = omega (arith, c.lines.invariant.begun);
   inside = omega (arith, c.lines.invariant.inside, c.next_line.ensures.shorter);
 }

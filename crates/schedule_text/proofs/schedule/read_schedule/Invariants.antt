@@ -8,6 +8,7 @@ abbrev pub invariant-lines : goal.invariant-lines
 invariant-lines l =
     record {
       passed : Passed l.network l.fn.before (lines_of l.text) (lines_of l.left) l.line l.orders.items;
+      begun : l.fn.before ≤ l.line;
       inside : l.line + length l.left ≤ l.fn.before + length l.text;
     }
 
