@@ -13,27 +13,30 @@ use Rattle.run_model.specs.Offers.{HasOutcome, Outcome, Waiting, Abandoned, Movi
 use Rattle.bgp_codec.specs.declared.message.Message.{Message}
 use Rattle.snap_marker.specs.Recordings.{RouterPart, MadeOffer}
 use Rattle.snap_collector.specs.Collecting.{member_of}
-use Rattle.snap_collector.specs.Collector.{CollectorView, AreMembers, made_for, kept_of, with_offers}
+use Rattle.snap_collector.specs.Collector.{CollectorView, made_for, kept_of, with_offers}
 use Rattle.snap_collector.specs.Verdicts.{Member, verdict}
 use Rattle.router_model.specs.Settings.{Setting, IsSetting, is_router, names}
 use Rattle.router_runs.specs.Model.{network_of}
 use Rattle.router_runs.specs.Runs.{RunOrder, RunState, IsRunTo}
 use Rattle.router_runs.specs.Snapshots.{ComesOut, HaveMade}
 use Rattle.world_core.specs.Verdicts.{judged, members_of, MembersAreTheRouters}
-use Rattle.worker_loop.specs.declared.journal.Entry.{Entry}
-use Rattle.net_workers.specs.declared.record.Worked.{Worked}
+use Rattle.worker_loop.specs.declared.chore.Chore.{Chore}
 use Rattle.net_workers.specs.declared.record.RunFault.{RunFault}
 use Rattle.net_workers.specs.declared.record.RunFault.TheVariants as fault
-use Rattle.net_workers.specs.Ran.{Passed, AreLimits}
+use Rattle.net_workers.specs.declared.record.TheConstants.{MOST_TURNS}
+use Rattle.net_workers.specs.Ran.{AreLimits}
+use Rattle.net_workers.specs.Ways.{passed_in}
 use Rattle.net_workers.specs.Runs.{KeepsPromises, RunKeepsPromises}
 use Rattle.bgpnet.specs.declared.chores.RunOptions.{RunOptions}
+use Rattle.bgpnet.specs.declared.gates.RunGate.{RunGate}
 use Rattle.bgpnet.specs.declared.settled.Demand.{Demand}
 use Rattle.bgpnet.specs.declared.settled.Demand.TheVariants.{AsRecorded, EveryOrigin}
+use Rattle.text_engines.specs.declared.status.TheConstants.{DONE}
 use Rattle.text_engines.specs.Decoding.{Output, output}
 use Rattle.text_engines.specs.Checking.{at_prefix}
 use Rattle.bgpnet.specs.Reporting.{recorded, part_text, parts_text, router_text}
-use Rattle.bgpnet.specs.Running.{parts_routes, EveryOriginOriginates, Meets, IsPassedOver, SettlesOn, SettlesOnNone, PrintsRoutes, PrintsUnsettled, PrintsStableRoutes, SnapshotsGive, is_settled, decided_by, says, all_originate, meets, is_wanted, IsFirstWanted, CollectorGives, IsRefusedInside, ThreadsGive, RunGives, faulty}
-use Rattle.bgpnet.specs.Gates.{HasRoom}
+use Rattle.bgpnet.specs.Running.{HasSetting, ThreadsRecord, parts_routes, EveryOriginOriginates, Meets, IsPassedOver, SettlesOn, SettlesOnNone, PrintsRoutes, PrintsUnsettled, PrintsStableRoutes, SnapshotsGive, is_settled, decided_by, says, all_originate, meets, is_wanted, IsFirstWanted, CollectorGives, IsRefusedInside, ThreadsGive, RunGives, faulty}
+use Rattle.bgpnet.specs.Gates.{HasRoom, Told, given_by, told_of, told_each, spacing_of}
 use Rattle.bgpnet.proofs.SettledLemmas.{AreOffersOf, parts_in, the_part, printed_is, have_made}
 
 -- ---- the text of parts that were recorded
@@ -164,47 +167,46 @@ module _ (one : One) (g : Setting) (state : RunState) (c : CollectorView) (are :
 
 -- ---- what is printed
 
-module _ (one : One) (routers : MembersAreTheRouters) {G : Type 0} (demand : Demand) (net : Plan) (is : IsNetwork net) (p : Passed) (workers : List (Worked G)) (c : CollectorView)
-    (gathered : List Entry) (members : AreMembers net c.members) (promises : RunKeepsPromises net p workers c gathered) where
+module _ (one : One) (routers : MembersAreTheRouters) {G T : Type 0} {given : G → List Chore} {told : G → T} {turns : ℕ} {tellings : List T} (demand : Demand) (net : Plan) (is : IsNetwork net)
+    (r : ThreadsRecord given told net turns tellings) (promises : RunKeepsPromises net (passed_in r.ways) r.workers r.collector r.gathered) where
+  abbrev c : CollectorView
+  c = r.collector
+
+  members_are : map member_of c.members ≡ members_of net
+  members_are = routers net is c.members r.recorded.members
+
   module _ (g : Setting) (e : g.net ≡ net) (set : IsSetting g) where
-    abbrev kept : KeepsPromises g p workers c gathered
+    abbrev kept : KeepsPromises g (passed_in r.ways) r.workers c r.gathered
     kept = promises g e set
 
     are_members : map member_of c.members ≡ members_of g.net
-    are_members = routers net is c.members members ∙ ap members_of (sym e)
+    are_members = members_are ∙ ap members_of (sym e)
 
     are_offers : AreOffersOf (made_for c) kept.run.state.offered
     are_offers t = ap (λ (f : ℕ → List MadeOffer). f t) kept.offered
 
-    passed_in : (s : ℕ) → is_wanted demand net c s ≡ false → IsPassedOver g kept.run.state demand s
-    passed_in s h = passed one g kept.run.state c are_members are_offers kept.outcomes demand s (ap (λ (n : Plan). is_wanted demand n c s) e ∙ h)
+    passed_over : (s : ℕ) → is_wanted demand net c s ≡ false → IsPassedOver g kept.run.state demand s
+    passed_over s h = passed one g kept.run.state c are_members are_offers kept.outcomes demand s (ap (λ (n : Plan). is_wanted demand n c s) e ∙ h)
 
-    settles_on : (last s : ℕ) → IsFirstWanted demand net c last s → judged c s ≡ Settled → SettlesOn g demand s (parts_in (decided_by c s))
+    settles_on : (last s : ℕ) → IsFirstWanted demand net c last s → judged c s ≡ Settled → SettlesOn r g demand s (parts_in (decided_by c s))
     settles_on last s first is_so =
         let k = kept in
         let out : ComesOut g k.run.state s Settled = subst (λ (o : Outcome). HasOutcome (network_of g) s k.run.state.offered o) is_so (k.outcomes s) in
         let all = recorded_and_made g k.run.state s (made_for c) (map member_of c.members) are_members are_offers is_so in
         let parts = parts_in (decided_by c s) in
         record {
-          order = k.run.order;
-          state = k.run.state;
-          run = k.run.run;
+          run = k.run;
           settled = out;
           made = all.1;
           stable = (k.snapshots.settled s out parts all.1 k.run.order [] k.run.state (sym (append-nil k.run.order)) k.run.run refl).stable;
           believed = λ before later at eq reached goes. k.snapshots.settled s out parts all.1 before later at eq reached goes;
-          least = λ t some below. passed_in t (first.first t some below);
+          least = λ t some below. passed_over t (first.first t some below);
         }
 
-    settles_on_none : (last : ℕ) → ((s : ℕ) → 0 < s → s ≤ last → is_wanted demand net c s ≡ false) → SettlesOnNone g demand last
-    settles_on_none last none = record {
-      order = kept.run.order;
-      state = kept.run.state;
-      run = kept.run.run;
-      none = λ s some few. passed_in s (none s some few);
-    }
+    settles_on_none : (last : ℕ) → ((s : ℕ) → 0 < s → s ≤ last → is_wanted demand net c s ≡ false) → SettlesOnNone r g demand last
+    settles_on_none last none = record { run = kept.run; none = λ s some few. passed_over s (none s some few) }
 
-  prints_routes : (last s : ℕ) (out : Output) → IsFirstWanted demand net c last s → out ≡ output (parts_text net (decided_by c s)) 0 → PrintsRoutes demand net last out
+  prints_routes : (last s : ℕ) (out : Output) → IsFirstWanted demand net c last s → out ≡ output (parts_text net (decided_by c s)) DONE → PrintsRoutes r demand last out
   prints_routes last s out first printed =
       let both = and_parts (is_settled (judged c s)) (meets demand net.origins (decided_by c s)) first.wanted in
       let settled = is_so (judged c s) both.0 in
@@ -216,24 +218,28 @@ module _ (one : One) (routers : MembersAreTheRouters) {G : Type 0} (demand : Dem
         parts = parts_in offers;
         meets = met demand net offers both.1;
         settled = λ g e set. settles_on g e set last s first settled;
-        printed = printed ∙ ap (λ (t : List ℕ). output t 0) (routes_are net.origins offers net.routers (all_recorded net s (made_for c) (map member_of c.members) (routers net is c.members members) settled));
+        printed = printed ∙ ap (λ (t : List ℕ). output t DONE) (routes_are net.origins offers net.routers (all_recorded net s (made_for c) (map member_of c.members) members_are settled));
       }
 
-  pub snapshots_give : (last : ℕ) (out : Output) → CollectorGives demand net c last out → SnapshotsGive demand net last out
-  snapshots_give last out (inl found) = inl (prints_routes last found.0 out found.1 found.2)
-  snapshots_give last out (inr none) = inr (record { unsettled = λ g e set. settles_on_none g e set last none.0; printed = none.1 })
+  pub snapshots_give : (last : ℕ) (out : Output) → CollectorGives demand net c last out → SnapshotsGive given told demand net turns tellings last out
+  snapshots_give last out (inl found) = (r, inl (prints_routes last found.0 out found.1 found.2))
+  snapshots_give last out (inr none) = (r, inr (record { unsettled = λ g e set. settles_on_none g e set last none.0; printed = none.1 }))
 
 -- ---- the routes where every origin originates
 
-pub stable_routes : (net : Plan) (last : ℕ) (out : Output) → PrintsRoutes EveryOrigin net last out → PrintsStableRoutes net last out
-stable_routes net last out routes = record {
-  routes = routes;
-  stable = λ g e set q named.
-      let s = routes.settled g e set in
-      let named_here = ap (λ (n : Plan). names n.origins q) e ∙ named in
-      let originated = λ (u : ℕ) (o : IsOrigin g.net.origins u q). routes.meets u q (subst (λ (n : Plan). IsOrigin n.origins u q) e o) in
-      subst (λ (n : Plan). IsStable (at_prefix n q) (λ u. (routes.parts u).kept q)) e (s.stable q named_here true originated);
-}
+pub stable_routes : {G T : Type 0} {given : G → List Chore} {told : G → T} (net : Plan) (set : HasSetting net) (turns : ℕ) (tellings : List T)
+    (r : ThreadsRecord given told net turns tellings) (last : ℕ) (out : Output) → PrintsRoutes r EveryOrigin last out → PrintsStableRoutes r last out
+stable_routes net set turns tellings r last out routes =
+    let g = set.0 in
+    let e : g.net ≡ net = set.1 in
+    record {
+      routes = routes;
+      stable = λ q named.
+          let s = routes.settled g e set.2 in
+          let named_here = ap (λ (n : Plan). names n.origins q) e ∙ named in
+          let originated = λ (u : ℕ) (o : IsOrigin g.net.origins u q). routes.meets u q (subst (λ (n : Plan). IsOrigin n.origins u q) e o) in
+          subst (λ (n : Plan). IsStable (at_prefix n q) (λ u. (routes.parts u).kept q)) e (s.stable q named_here true originated);
+    }
 
 -- ---- a run that was refused
 
@@ -245,7 +251,7 @@ are_limits_or : (net : Plan) (turns gates : ℕ) → AreLimits net turns gates �
 are_limits_or net turns gates =
     elim (yes_or_no 1 turns) [
       | inl never ↦ inr (λ l. never (let s = l.some in omega (arith, s)))
-      | inr some ↦ elim (yes_or_no turns 1000000) [
+      | inr some ↦ elim (yes_or_no turns MOST_TURNS) [
         | inl never ↦ inr (λ l. never l.few)
         | inr few ↦ elim (yes_or_no gates (length net.routers)) [
           | inl never ↦ inr (λ l. never (let a = l.all in omega (arith, a)))
@@ -257,28 +263,39 @@ are_limits_or net turns gates =
       ]
     ]
 
-inside : (demand : Demand) (net : Plan) (turns gates last : ℕ) (out : Output) (why : RunFault) → (why ≡ fault.BadLimits → ⊥) → (why ≡ fault.BadLimits ↔ (AreLimits net turns gates → ⊥)) → IsRefusedInside out
-    → ThreadsGive demand net turns gates last out
-inside demand net turns gates last out why other exact is = elim (are_limits_or net turns gates) [ inl good ↦ inr (good, inl is) | inr bad ↦ absurd (other (exact.1 bad)) ]
+module _ {G T : Type 0} (given : G → List Chore) (told : G → T) (demand : Demand) (net : Plan) (turns : ℕ) (gates : List G) (last : ℕ) (out : Output) where
+  inside : (why : RunFault) → (why ≡ fault.BadLimits → ⊥) → (why ≡ fault.BadLimits ↔ (AreLimits net turns (length gates) → ⊥)) → IsRefusedInside out → ThreadsGive given told demand net turns gates last out
+  inside why other exact is = elim (are_limits_or net turns (length gates)) [ inl good ↦ inr (good, inl is) | inr bad ↦ absurd (other (exact.1 bad)) ]
 
-pub fault_gives : (demand : Demand) (net : Plan) (turns gates last : ℕ) (out : Output) (why : RunFault) → why ≢ fault.Memory → (why ≡ fault.BadLimits ↔ (AreLimits net turns gates → ⊥)) → out ≡ faulty why
-    → ThreadsGive demand net turns gates last out
-fault_gives demand net turns gates last out fault.Memory kind exact is = absurd (kind refl)
-fault_gives demand net turns gates last out (fault.WorkerRefused u) kind exact is = inside demand net turns gates last out (fault.WorkerRefused u) (λ e. absurd cc) exact (inl (u, is))
-fault_gives demand net turns gates last out fault.BadLimits kind exact is = inl (exact.0 refl, is)
-fault_gives demand net turns gates last out fault.BoardDiffers kind exact is = inside demand net turns gates last out fault.BoardDiffers (λ e. absurd cc) exact (inr is)
+  pub fault_gives : (why : RunFault) → why ≢ fault.Memory → (why ≡ fault.BadLimits ↔ (AreLimits net turns (length gates) → ⊥)) → out ≡ faulty why → ThreadsGive given told demand net turns gates last out
+  fault_gives fault.Memory kind exact is = absurd (kind refl)
+  fault_gives (fault.WorkerRefused u) kind exact is = inside (fault.WorkerRefused u) (λ e. absurd cc) exact (inl (u, is))
+  fault_gives fault.BadLimits kind exact is = inl (exact.0 refl, is)
+  fault_gives fault.BoardDiffers kind exact is = inside fault.BoardDiffers (λ e. absurd cc) exact (inr is)
 
 -- ---- a run of a network
 
-pub run_gives : (options : RunOptions) (net : Plan) (gates : ℕ) (out : Output) → HasRoom net options → gates ≡ length net.routers → ThreadsGive EveryOrigin net options.turns gates options.snapshots out → RunGives options net out
-run_gives options net gates out room many gives =
-    inr (
-      room,
-      elim gives [
-        | inl bad ↦ absurd (bad.0 (record { some = room.some; few = room.few; all = many }))
-        | inr good ↦ elim good.1 [
-          | inl refused_inside ↦ inl refused_inside
-          | inr snapshots ↦ elim snapshots [ inl routes ↦ inr (inl (stable_routes net options.snapshots out routes)) | inr unsettled ↦ inr (inr unsettled) ]
-        ]
-      ],
-    )
+module _ (options : RunOptions) (net : Plan) (set : HasSetting net) (out : Output) where
+  abbrev OfRecord : List Told → Type 0
+  OfRecord tellings =
+      (r : ThreadsRecord given_by told_of net options.turns tellings) × (PrintsStableRoutes r options.snapshots out ⊎ PrintsUnsettled r EveryOrigin options.snapshots out)
+
+  of_record : (tellings : List Told) → SnapshotsGive given_by told_of EveryOrigin net options.turns tellings options.snapshots out → OfRecord tellings
+  of_record tellings gives = (
+    gives.0,
+    elim gives.1 [ inl routes ↦ inl (stable_routes net set options.turns tellings gives.0 options.snapshots out routes) | inr unsettled ↦ inr unsettled ],
+  )
+
+  pub run_gives : (spacing : ℕ) (gates : List RunGate) → HasRoom net options → spacing ≡ spacing_of net options → length gates ≡ length net.routers
+      → map told_of gates ≡ told_each net spacing options.snapshots net.routers → ThreadsGive given_by told_of EveryOrigin net options.turns gates options.snapshots out → RunGives options net out
+  run_gives spacing gates room apart many are gives =
+      inr (
+        room,
+        elim gives [
+          | inl bad ↦ absurd (bad.0 (record { some = room.some; few = room.few; all = many }))
+          | inr good ↦ elim good.1 [
+            | inl refused_inside ↦ inl refused_inside
+            | inr snapshots ↦ inr (subst OfRecord (are ∙ ap (λ (n : ℕ). told_each net n options.snapshots net.routers) apart) (of_record (map told_of gates) snapshots))
+          ]
+        ],
+      )

@@ -8,6 +8,7 @@ use Rattle.router_model.specs.declared.command.Command.TheVariants.{Start, Origi
 use Rattle.router_model.specs.Settings.{peers}
 use Rattle.worker_loop.specs.declared.chore.Chore.{Chore}
 use Rattle.worker_loop.specs.declared.chore.Chore.TheVariants.{Turn, Command}
+use Rattle.net_workers.specs.declared.record.TheConstants.{MOST_TURNS}
 use Rattle.bgpnet.specs.declared.gates.RunGate.{RunGate}
 use Rattle.bgpnet.specs.declared.chores.RunOptions.{RunOptions}
 
@@ -77,6 +78,6 @@ spacing_of net options = (options.turns - length (opening net (first_router net.
 -- so many chores are enough for the opening of every router, and for each snapshot to stand behind the one before
 pub record HasRoom (net : Plan) (options : RunOptions) : Type 0 where
   pub some : 0 < options.turns
-  pub few : options.turns ≤ 1000000
+  pub few : options.turns ≤ MOST_TURNS
   pub openings : All (λ r. length (opening net r.asn) ≤ options.turns) net.routers
   pub apart : 0 < spacing_of net options

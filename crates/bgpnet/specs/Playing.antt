@@ -24,6 +24,7 @@ use Rattle.schedule_text.specs.declared.schedule.ScheduledOrder.{ScheduledOrder}
 use Rattle.schedule_text.specs.Schedules.{SpellsSchedule, RefusesSchedule}
 use Rattle.schedule_text.specs.Reports.{stop_line}
 use Rattle.bgpnet.specs.declared.schedules.Stop.{Stop}
+use Rattle.text_engines.specs.declared.status.TheConstants.{DONE, REFUSED}
 use Rattle.text_engines.specs.Decoding.{Output, output, refused}
 use Rattle.bgpnet.specs.Reporting.{AreDecided, deciding, outcome, recorded, snapshots_text, now_text}
 use Rattle.text_engines.specs.Inputs.{InputGives, Prints}
@@ -46,7 +47,7 @@ pub record IsReport (g : Setting) (w : World) (out : Output) : Type 0 where
   pub are_decided : AreDecided (members_of g.net) w.made decided
   pub outcomes : (state : RunState) → AgreesWith g w state → (s : ℕ) → HasOutcome (network_of g) s state.offered (outcome g.net w.made s)
   pub settled : IsSetting g → (s : ℕ) → outcome g.net w.made s ≡ Settled → CanBeBelieved g w s
-  pub printed : out ≡ output (snapshots_text g.net (members_of g.net) w.made decided ++ now_text g.net w) 0
+  pub printed : out ≡ output (snapshots_text g.net (members_of g.net) w.made decided ++ now_text g.net w) DONE
 
 -- what is printed of the world of the code, in every setting of its network
 abbrev pub Reports : WorldView → Output → Type 0
@@ -84,7 +85,7 @@ Obeyed r x orders y =
 -- ---- what is printed
 
 abbrev pub stopped : Stop → Output
-stopped stop = output (stop_line stop.line stop.why) 1
+stopped stop = output (stop_line stop.line stop.why) REFUSED
 
 -- for the orders of a schedule, in every setting of the network that chooses by rank: a report of the world that they lead to, in
 -- which UPDATEs passed in order; or the first that is refused

@@ -21,15 +21,22 @@ use Rattle.net_text.specs.Networks.{SpellsNetwork, RefusesNetwork}
 use Rattle.net_text.specs.Printing.{code_text}
 use Rattle.net_workers.specs.declared.record.RunFault.{RunFault}
 use Rattle.net_workers.specs.declared.record.RunFault.TheVariants as fault
-use Rattle.net_workers.specs.Ran.{AreLimits}
+use Rattle.worker_loop.specs.declared.chore.Chore.{Chore}
+use Rattle.worker_loop.specs.declared.journal.Entry.{Entry}
+use Rattle.net_workers.specs.declared.record.Worked.{Worked}
+use Rattle.net_workers.specs.declared.record.Way.{Way}
+use Rattle.net_workers.specs.Ran.{AreLimits, IsRecord}
+use Rattle.net_workers.specs.Runs.{IsRunOfThreads}
+use Rattle.net_workers.specs.Ways.{AreWays, passed_in}
 use Rattle.bgpnet.specs.declared.chores.RunOptions.{RunOptions}
 use Rattle.bgpnet.specs.declared.settled.Demand.{Demand}
 use Rattle.bgpnet.specs.declared.settled.Demand.TheVariants.{AsRecorded, EveryOrigin}
+use Rattle.text_engines.specs.declared.status.TheConstants.{DONE}
 use Rattle.text_engines.specs.Decoding.{Output, output, refused, memory_output}
 use Rattle.text_engines.specs.declared.transfer.TheConstants.{INPUT_LIMIT}
 use Rattle.text_engines.specs.Checking.{at_prefix}
 use Rattle.bgpnet.specs.Reporting.{router_text, recorded, parts_text}
-use Rattle.bgpnet.specs.Gates.{HasRoom}
+use Rattle.bgpnet.specs.Gates.{HasRoom, given_by, told_of, told_each, spacing_of}
 
 -- ---- the routes of a settled snapshot
 
@@ -45,51 +52,73 @@ abbrev pub Meets : Demand → Plan → (ℕ → RouterPart) → Type 0
 Meets AsRecorded net parts = Unit {0}
 Meets EveryOrigin net parts = EveryOriginOriginates net parts
 
+-- ---- what the threads did
+
+-- a record of threads that ran so many chores each, and of their pipes: what they did is one run of the network; and each router
+-- was told what stands for it here, routers rising
+pub record ThreadsRecord {G T : Type 0} (given : G → List Chore) (told : G → T) (net : Plan) (turns : ℕ) (tellings : List T) : Type 0 where
+  pub workers : List (Worked G)
+  pub ways : List Way
+  pub collector : CollectorView
+  pub gathered : List Entry
+  pub recorded : IsRecord given net turns (passed_in ways) workers collector gathered
+  pub pipes : AreWays net ways
+  pub gates : map (λ w. told w.gate) workers ≡ tellings
+
+-- ---- how its snapshots came out
+
 -- in a run the snapshot is not settled, or the parts that all routers made of it are not as they are demanded
 abbrev pub IsPassedOver : Setting → RunState → Demand → ℕ → Type 0
 IsPassedOver g state demand s =
     (ComesOut g state s Settled → ⊥)
     ⊎ ((parts : ℕ → RouterPart) × HaveMade g state s parts × (Meets demand g.net parts → ⊥))
 
--- there is a run in which the snapshot is settled, and all routers made these parts of it: they are a stable path assignment for
--- each prefix, and what a consistent cut leaves of the run, and stay while the run is quiet; each number before it is passed over
-pub record SettlesOn (g : Setting) (demand : Demand) (s : ℕ) (parts : ℕ → RouterPart) : Type 0 where
-  pub order : RunOrder
-  pub state : RunState
-  pub run : IsRunTo g order state
-  pub settled : ComesOut g state s Settled
-  pub made : HaveMade g state s parts
-  pub stable : AreStable g parts
-  pub believed : (before later : RunOrder) (at : RunState) → order ≡ before ++ later → IsRunTo g before at → Run (logged_steps g) at later state
-      → IsBelievable g before later at state s parts
-  pub least : (t : ℕ) → 0 < t → t < s → IsPassedOver g state demand t
+module _ {G T : Type 0} {given : G → List Chore} {told : G → T} {net : Plan} {turns : ℕ} {tellings : List T} (r : ThreadsRecord given told net turns tellings) where
+  -- what the threads did, as a run of the network
+  abbrev pub RunOfRecord : Setting → Type 0
+  RunOfRecord g = IsRunOfThreads g (passed_in r.ways) r.workers r.gathered
 
--- there is a run in which each number up to the last is passed over
-pub record SettlesOnNone (g : Setting) (demand : Demand) (last : ℕ) : Type 0 where
-  pub order : RunOrder
-  pub state : RunState
-  pub run : IsRunTo g order state
-  pub none : (s : ℕ) → 0 < s → s ≤ last → IsPassedOver g state demand s
+  -- the snapshot is settled in the run, and all routers made these parts of it: they are a stable path assignment for each prefix,
+  -- and what a consistent cut leaves of the run, and stay while the run is quiet; each number before it is passed over
+  pub record SettlesOn (g : Setting) (demand : Demand) (s : ℕ) (parts : ℕ → RouterPart) : Type 0 where
+    pub run : RunOfRecord g
+    pub settled : ComesOut g run.state s Settled
+    pub made : HaveMade g run.state s parts
+    pub stable : AreStable g parts
+    pub believed : (before later : RunOrder) (at : RunState) → run.order ≡ before ++ later → IsRunTo g before at → Run (logged_steps g) at later run.state
+        → IsBelievable g before later at run.state s parts
+    pub least : (t : ℕ) → 0 < t → t < s → IsPassedOver g run.state demand t
 
--- the routes of a snapshot with one of the numbers from 1 to the last, settled in a run of the network, in every setting of it that
--- chooses by rank
-pub record PrintsRoutes (demand : Demand) (net : Plan) (last : ℕ) (out : Output) : Type 0 where
-  pub number : ℕ
-  pub some : 0 < number
-  pub few : number ≤ last
-  pub parts : ℕ → RouterPart
-  pub meets : Meets demand net parts
-  pub settled : (g : Setting) → g.net ≡ net → IsSetting g → SettlesOn g demand number parts
-  pub printed : out ≡ output (parts_routes net parts) 0
+  -- each number up to the last is passed over
+  pub record SettlesOnNone (g : Setting) (demand : Demand) (last : ℕ) : Type 0 where
+    pub run : RunOfRecord g
+    pub none : (s : ℕ) → 0 < s → s ≤ last → IsPassedOver g run.state demand s
 
-pub record PrintsUnsettled (demand : Demand) (net : Plan) (last : ℕ) (out : Output) : Type 0 where
-  pub unsettled : (g : Setting) → g.net ≡ net → IsSetting g → SettlesOnNone g demand last
-  pub printed : out ≡ output (codes "unsettled\n") 0
+  -- the routes of a snapshot with one of the numbers from 1 to the last, settled in the run, in every setting of the network that
+  -- chooses by rank
+  pub record PrintsRoutes (demand : Demand) (last : ℕ) (out : Output) : Type 0 where
+    pub number : ℕ
+    pub some : 0 < number
+    pub few : number ≤ last
+    pub parts : ℕ → RouterPart
+    pub meets : Meets demand net parts
+    pub settled : (g : Setting) → g.net ≡ net → IsSetting g → SettlesOn g demand number parts
+    pub printed : out ≡ output (parts_routes net parts) DONE
+
+  pub record PrintsUnsettled (demand : Demand) (last : ℕ) (out : Output) : Type 0 where
+    pub unsettled : (g : Setting) → g.net ≡ net → IsSetting g → SettlesOnNone g demand last
+    pub printed : out ≡ output (codes "unsettled\n") DONE
+
+  -- where every origin originates the routes are stable, as `bgpnet check` says of them
+  pub record PrintsStableRoutes (last : ℕ) (out : Output) : Type 0 where
+    pub routes : PrintsRoutes EveryOrigin last out
+    pub stable : (q : PrefixView) → names net.origins q ≡ true → IsStable (at_prefix net q) (λ u. (routes.parts u).kept q)
 
 -- ---- what is printed of a run
 
-abbrev pub SnapshotsGive : Demand → Plan → ℕ → Output → Type 0
-SnapshotsGive demand net last out = PrintsRoutes demand net last out ⊎ PrintsUnsettled demand net last out
+abbrev pub SnapshotsGive : {G T : Type 0} → (G → List Chore) → (G → T) → Demand → Plan → (turns : ℕ) → List T → (last : ℕ) → Output → Type 0
+SnapshotsGive given told demand net turns tellings last out =
+    (r : ThreadsRecord given told net turns tellings) × (PrintsRoutes r demand last out ⊎ PrintsUnsettled r demand last out)
 
 -- for a fault of a run
 abbrev pub faulty : RunFault → Output
@@ -102,28 +131,32 @@ faulty fault.Memory = memory_output
 abbrev pub IsRefusedInside : Output → Type 0
 IsRefusedInside out = ((u : ℕ) × (out ≡ faulty (fault.WorkerRefused u))) ⊎ (out ≡ faulty fault.BoardDiffers)
 
--- for so many chores of each worker, and so many gates
-abbrev pub ThreadsGive : Demand → Plan → (turns gates last : ℕ) → Output → Type 0
-ThreadsGive demand net turns gates last out =
-    ((AreLimits net turns gates → ⊥) × (out ≡ faulty fault.BadLimits))
-    ⊎ (AreLimits net turns gates × (IsRefusedInside out ⊎ SnapshotsGive demand net last out))
+-- for so many chores of each worker, at the word of these gates
+abbrev pub ThreadsGive : {G T : Type 0} → (G → List Chore) → (G → T) → Demand → Plan → (turns : ℕ) → List G → (last : ℕ) → Output → Type 0
+ThreadsGive given told demand net turns gates last out =
+    ((AreLimits net turns (length gates) → ⊥) × (out ≡ faulty fault.BadLimits))
+    ⊎ (AreLimits net turns (length gates) × (IsRefusedInside out ⊎ SnapshotsGive given told demand net turns (map told gates) last out))
 
 -- what a run at the word of any gates prints: that, or that memory ran out
-abbrev pub Gated : Plan → (turns gates last : ℕ) → Output → Type 0
-Gated net turns gates last out = ThreadsGive AsRecorded net turns gates last out ⊎ (out ≡ memory_output)
+abbrev pub Gated : {G T : Type 0} → (G → List Chore) → (G → T) → Plan → (turns : ℕ) → List G → (last : ℕ) → Output → Type 0
+Gated given told net turns gates last out = ThreadsGive given told AsRecorded net turns gates last out ⊎ (out ≡ memory_output)
 
 -- ---- what is printed for a network
 
--- the routes where every origin originates: they are stable, as `bgpnet check` says of them
-pub record PrintsStableRoutes (net : Plan) (last : ℕ) (out : Output) : Type 0 where
-  pub routes : PrintsRoutes EveryOrigin net last out
-  pub stable : (g : Setting) → g.net ≡ net → IsSetting g → (q : PrefixView) → names net.origins q ≡ true
-      → IsStable (at_prefix net q) (λ u. (routes.parts u).kept q)
+-- there is a setting of the network that chooses by rank
+abbrev pub HasSetting : Plan → Type 0
+HasSetting net = (g : Setting) × (g.net ≡ net) × IsSetting g
+
+-- a record of threads in which each router started its sessions, originated its prefixes and went on in turns, and the least took
+-- the snapshots
+abbrev pub RunRecord : RunOptions → Plan → Type 0
+RunRecord options net = ThreadsRecord given_by told_of net options.turns (told_each net (spacing_of net options) options.snapshots net.routers)
 
 abbrev pub RunGives : RunOptions → Plan → Output → Type 0
 RunGives options net out =
     ((HasRoom net options → ⊥) × (out ≡ faulty fault.BadLimits))
-    ⊎ (HasRoom net options × (IsRefusedInside out ⊎ (PrintsStableRoutes net options.snapshots out ⊎ PrintsUnsettled EveryOrigin net options.snapshots out)))
+    ⊎ (HasRoom net options
+    × (IsRefusedInside out ⊎ ((r : RunRecord options net) × (PrintsStableRoutes r options.snapshots out ⊎ PrintsUnsettled r EveryOrigin options.snapshots out))))
 
 -- for its lines
 abbrev pub LinesRun : RunOptions → List Text → Output → Type 0
@@ -175,5 +208,5 @@ pub record IsFirstWanted (demand : Demand) (net : Plan) (c : CollectorView) (las
 -- the routes of the first that is wanted, or that there is none
 abbrev pub CollectorGives : Demand → Plan → CollectorView → ℕ → Output → Type 0
 CollectorGives demand net c last out =
-    ((s : ℕ) × IsFirstWanted demand net c last s × (out ≡ output (parts_text net (decided_by c s)) 0))
-    ⊎ (((s : ℕ) → 0 < s → s ≤ last → is_wanted demand net c s ≡ false) × (out ≡ output (codes "unsettled\n") 0))
+    ((s : ℕ) × IsFirstWanted demand net c last s × (out ≡ output (parts_text net (decided_by c s)) DONE))
+    ⊎ (((s : ℕ) → 0 < s → s ≤ last → is_wanted demand net c s ≡ false) × (out ≡ output (codes "unsettled\n") DONE))

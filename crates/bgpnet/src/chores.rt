@@ -14,9 +14,10 @@ use std::alloc::{AllocError, Global};
 /// How long the routers of a network run, and the snapshots that are taken.
 #[derive(Clone, Copy, Debug, PartialEq, Eq)]
 pub struct RunOptions {
-    /// The chores of each router.
+    /// The chores of each router, 1 to [`MOST_TURNS`].
     pub turns: u32,
-    /// How many snapshots the least router takes.
+    /// How many snapshots the least router takes. The words of the program name 1 to
+    /// [`MOST_SNAPSHOTS`](crate::command_line::MOST_SNAPSHOTS); for none, all is `unsettled`.
     pub snapshots: u32,
 }
 
@@ -24,9 +25,7 @@ pub struct RunOptions {
 fn is_peer(network: &Network, number: Asn, other: Asn) -> bool
     ensures { result ≡ linked network.now number other }
 {
-    network.links().iter().any(|link| {
-        link.one == number && link.other == other || link.one == other && link.other == number
-    })
+    network.linked(number, other)
 }
 
 // Starts the session with each peer, and originates each prefix of which the router is the origin.

@@ -149,6 +149,9 @@ and 'unsettled' where none did, which says nothing about the network. 'refused L
 first line that can't be read, with a code that 'check --help' explains; 'refused 0 G3' says that N
 leaves no room for the snapshots, or is not 1 to 1000000.";
 
+/// The most snapshots that `--snapshots` takes.
+pub const MOST_SNAPSHOTS: u32 = 1_000;
+
 // The chores of each router where `--turns` does not say them.
 const TURNS: u32 = 20_000;
 
@@ -226,7 +229,7 @@ fn run_command<'a>(alloc: Global) -> Result<Command<'a>, AllocError> {
     let snapshots = Arg::new(alloc, "snapshots")
         .long("snapshots")
         .value_name("K")
-        .value_parser(clap::value_parser!(u32).range(1..=1000))
+        .value_parser(clap::value_parser!(u32).range(1..=i64::from(MOST_SNAPSHOTS)))
         .help("The snapshots that are taken, 1 to 1000 [default: 20]");
     Command::new(alloc, "run")
         .about("Runs a network in threads")

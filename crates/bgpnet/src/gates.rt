@@ -63,6 +63,12 @@ fn chore_at(opening: &[Chore], spacing: u32, snapshots: u32, turn: u32) -> Chore
 }
 
 impl Gate for RunGate {
+    ghost use Rattle.bgpnet.specs.Gates.{Told};
+
+    ghost Told = { Told };
+
+    ghost told = { told_of };
+
     ghost given = { given_by };
 
     fn next<R: Wait>(&mut self, _rt: &R, _router: Asn, turn: u32) -> Chore {

@@ -15,6 +15,7 @@
 #![tactic(auto)]
 
 ghost use Rattle.std.specs.Prelude.{◌≡◌, IfOk, IsErr};
+ghost use Rattle.text_engines.specs.declared.status.TheConstants.{STOPPED};
 
 mod chores;
 mod command_line;
@@ -83,7 +84,7 @@ where
 // The status that the program ends with: that of the run, or 4 where a read or a write failed.
 fn status_of(ended: Result<u8, IoStopped>) -> u8
     ensures done { IfOk ended (λ status. result ≡ status) }
-    ensures stopped { IsErr ended → result ≡ 4 }
+    ensures stopped { IsErr ended → result ≡ STOPPED }
 {
     match ended {
         Ok(status) => status,

@@ -47,7 +47,7 @@ where
     R: Threads + Wait + Sync,
     G: Gate + Send + Drop,
     requires fresh { AllByRecursion (λ gate. G.given gate ≡ []) gates.items }
-    ensures { IfOk result (λ printed. ThreadsGive demand network.now limits.turns (length gates.items) last (output printed.0.items printed.1)) }
+    ensures { IfOk result (λ printed. ThreadsGive G.given G.told demand network.now limits.turns gates.items last (output printed.0.items printed.1)) }
 {
     let _ = network.built();
     members_are_the_routers();

@@ -12,6 +12,7 @@ use Rattle.ranked_policy.specs.Plans.{touches}
 use Rattle.ranked_policy.specs.Adding.{with_link}
 use Rattle.net_text.specs.declared.code.Code.{Code}
 use Rattle.net_text.specs.declared.code.Code.TheVariants.{BadForm, Repeated, OutOfLimit}
+use Rattle.net_text.specs.declared.settings.TheConstants.{MOST_SECONDS, USUAL_HOLD, USUAL_RESTART, USUAL_PIPE}
 use Rattle.net_text.specs.declared.settings.Setting.{Setting}
 use Rattle.net_text.specs.declared.settings.Setting.TheVariants.{Hold, Restart, Cut, Pipe}
 use Rattle.net_text.specs.declared.settings.Named.{Named}
@@ -30,8 +31,8 @@ setting_of word =
     else None
 
 abbrev pub in_range : Setting → ℕ → Bool
-in_range Hold n = ((n == 0) || nat_le LEAST_HOLD n) && nat_le n 65535
-in_range Restart n = nat_le n 65535
+in_range Hold n = ((n == 0) || nat_le LEAST_HOLD n) && nat_le n MOST_SECONDS
+in_range Restart n = nat_le n MOST_SECONDS
 in_range Cut n = nat_le 1 n && nat_le n GREATEST_CUT
 in_range Pipe n = nat_le 1 n && nat_le n GREATEST_PIPE
 
@@ -68,7 +69,7 @@ settings_behind s [] = s
 settings_behind s (line ∷ lines) = settings_behind (told (words_of line) s) lines
 
 abbrev pub usual : Settings
-usual = record { hold = 90; restart = 0; cut = GREATEST_CUT; pipe = 64 }
+usual = record { hold = USUAL_HOLD; restart = USUAL_RESTART; cut = GREATEST_CUT; pipe = USUAL_PIPE }
 
 abbrev pub settings_of : List Text → Settings
 settings_of lines = settings_behind usual lines

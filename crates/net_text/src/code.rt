@@ -9,13 +9,13 @@ use thiserror::Error;
 ///
 /// The first faulty line decides. On one line a wrong form comes first, then the words from left
 /// to right, then what came before, then limits on counts, then want of memory; but where a rule of
-/// more than 32 paths is asked whether two of them are one, want of memory may stand in place of its
+/// more than [`MOST_PATHS`](ranked_policy::MOST_PATHS) paths is asked whether two of them are one, want of memory may stand in place of its
 /// fault. Of one word: that it cannot be read, then a number outside its limit, then a router that is
 /// not known or a prefix without an origin, then a path that is not simple. That a network is not
 /// connected, or has no router, is judged once all its lines are good.
 #[derive(Clone, Copy, Debug, PartialEq, Eq, Error)]
 pub enum Code {
-    /// An unknown first word, a wrong number of words, or a byte past ASCII outside a comment.
+    /// An unknown first word, a wrong number of words, or an octet past ASCII outside a comment.
     #[error("bad form")]
     BadForm,
     /// A number, an address or a path that cannot be read, or an identifier whose first octet is

@@ -15,7 +15,7 @@ const PREFIX_ROOM: usize = 21;
 // octets may change as it has room.
 #[tactic(auto, unfolding(crate::specs::Printing::prefix_text))]
 fn write_prefix(text: &mut [u8], at: usize, prefix: &Prefix) -> usize
-    requires { at + 21 ≤ length text.old }
+    requires { at + PREFIX_ROOM ≤ length text.old }
     ensures end { result ≤ at + 20 }
     ensures text { take result text.new ≡ take at text.old ++ prefix_text prefix.now }
 {
@@ -27,7 +27,7 @@ fn write_prefix(text: &mut [u8], at: usize, prefix: &Prefix) -> usize
 
 // Writes prefixes at a place, and answers the place behind them.
 fn write_prefixes(text: &mut [u8], start: usize, prefixes: &[Prefix]) -> usize
-    requires { start + 21 * length prefixes.now ≤ length text.old }
+    requires { start + PREFIX_ROOM * length prefixes.now ≤ length text.old }
     ensures { take result text.new ≡ take start text.old ++ prefixes_text prefixes.now }
 {
     let mut at = start;

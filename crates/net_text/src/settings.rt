@@ -11,6 +11,19 @@ use crate::lexing::{next_line, next_word, same};
 use crate::words::{is_number, value_of};
 use ranked_policy::{GREATEST_CUT, GREATEST_PIPE, LEAST_HOLD, Settings};
 
+/// The greatest hold time, and the greatest wait before a session starts again, in seconds: an OPEN has two
+/// octets for the first (RFC 4271 section 4.2).
+pub(crate) const MOST_SECONDS: u16 = 65_535;
+
+/// The hold time where no line names one, in seconds (RFC 4271 section 10).
+pub(crate) const USUAL_HOLD: u16 = 90;
+
+/// The seconds before a session starts again where no line names them.
+pub(crate) const USUAL_RESTART: u16 = 0;
+
+/// The items of a pipe where no line names them.
+pub(crate) const USUAL_PIPE: usize = 64;
+
 /// What a line may set.
 #[derive(Clone, Copy, Debug, PartialEq, Eq)]
 pub(crate) enum Setting {
@@ -59,8 +72,10 @@ fn in_range(setting: Setting, number: u64) -> bool
     ensures { result ≡ in_range setting number }
 {
     match setting {
-        Setting::Hold => (number == 0 || u64::from(LEAST_HOLD) <= number) && number <= 65535,
-        Setting::Restart => number <= 65535,
+        Setting::Hold => {
+            (number == 0 || u64::from(LEAST_HOLD) <= number) && number <= u64::from(MOST_SECONDS)
+        }
+        Setting::Restart => number <= u64::from(MOST_SECONDS),
         Setting::Cut => 1 <= number && number <= GREATEST_CUT as u64,
         Setting::Pipe => 1 <= number && number <= GREATEST_PIPE as u64,
     }
@@ -165,10 +180,10 @@ pub(crate) fn settings_of(text: &[u8]) -> Settings
     ensures range { IsSettings result }
 {
     let mut settings = Settings {
-        hold: 90,
-        restart: 0,
+        hold: USUAL_HOLD,
+        restart: USUAL_RESTART,
         cut: GREATEST_CUT,
-        pipe: 64,
+        pipe: USUAL_PIPE,
     };
     let mut left = text;
     'lines: while !left.is_empty() {

@@ -230,11 +230,11 @@ some_one room ns all left there link links i j placed many is dealt none =
 
 -- ---- no two links join the same routers
 
-abbrev wire_reaches : List Wire → ℕ → Bool
+abbrev pub wire_reaches : List Wire → ℕ → Bool
 wire_reaches [] v = false
 wire_reaches (w ∷ ws) v = cond (w.peer == v) true (wire_reaches ws v)
 
-reaches_wires : (lanes : List Lane) (v : ℕ) → reaches lanes v ≡ wire_reaches (map wire_of lanes) v
+pub reaches_wires : (lanes : List Lane) (v : ℕ) → reaches lanes v ≡ wire_reaches (map wire_of lanes) v
 reaches_wires [] v = refl
 reaches_wires (l ∷ ls) v = ap (λ (b : Bool). cond (l.peer == v) true b) (reaches_wires ls v)
 

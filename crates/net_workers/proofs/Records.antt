@@ -11,7 +11,8 @@ use Rattle.snap_marker.specs.Recordings.{MadeOffer}
 use Rattle.snap_marker.specs.Parts.{router_of}
 use Rattle.snap_collector.specs.Collector.{CollectorView, AreMembers, made_for, with_offers, is_for}
 use Rattle.run_model.specs.Stamps.{Pairwise, offers_on, stamped_offers}
-use Rattle.router_model.specs.Settings.{Setting, IsSetting, peers}
+use Rattle.router_model.specs.Settings.{Setting, IsSetting, linked, peers}
+use Rattle.world_core.specs.Views.{new_stamped}
 use Rattle.worker_loop.specs.declared.chore.Chore.{Chore}
 use Rattle.worker_loop.specs.declared.worker.WorkerFault.{WorkerFault}
 use Rattle.worker_loop.specs.declared.worker.WorkerFault.TheVariants as worker
@@ -24,10 +25,10 @@ use Rattle.net_workers.specs.declared.ends.Lane.{Lane}
 use Rattle.net_workers.specs.declared.record.Worked.{Worked}
 use Rattle.net_workers.specs.declared.record.RunFault.{RunFault}
 use Rattle.net_workers.specs.declared.running.Ended.{Ended}
-use Rattle.net_workers.specs.Lanes.{put_of, taken_of, IsNew}
+use Rattle.net_workers.specs.Lanes.{put_of, taken_of, room_of, IsNew}
 use Rattle.worker_loop.specs.declared.journal.Entry.{Entry}
 use Rattle.net_workers.specs.Gathered.{all_events, IsSorted}
-use Rattle.net_workers.specs.Ran.{IsRecord, Passed, IsFresh, Ran, IsTold, HasWorked, OffersOf, worked_of, fault_of, or_else, first_fault, put_by, taken_by, passed_by, new_stamped, seen}
+use Rattle.net_workers.specs.Ran.{IsRecord, Passed, IsFresh, Ran, IsTold, HasWorked, OffersOf, worked_of, fault_of, or_else, first_fault, put_by, taken_by, passed_by, seen}
 
 -- ---- offers that are collected
 
@@ -89,15 +90,19 @@ all_of_map : {X Y : Type 0} → (f : X → Y) (P : Y → Type 0) (xs : List X) �
 all_of_map f P [] all = tt
 all_of_map f P (x ∷ xs) all = (all.0, all_of_map f P xs all.1)
 
-all_both : {X : Type 0} → (P Q S : X → Type 0) → ((x : X) → P x → Q x → S x) → (xs : List X) → AllByRecursion P xs → AllByRecursion Q xs → AllByRecursion S xs
+pub all_both : {X : Type 0} → (P Q S : X → Type 0) → ((x : X) → P x → Q x → S x) → (xs : List X) → AllByRecursion P xs → AllByRecursion Q xs → AllByRecursion S xs
 all_both P Q S f [] p q = tt
 all_both P Q S f (x ∷ xs) p q = (f x p.0 q.0, all_both P Q S f xs p.1 q.1)
 
 -- ---- what each router's lanes have
 
 module _ {G : Type 0} where
-  abbrev number : Ended G → ℕ
+  abbrev pub number : Ended G → ℕ
   number e = e.worker.router.number
+
+  -- the first has the least number
+  pub all_above : (e : Ended G) (es : List (Ended G)) → AllPairs (λ a b. a < b) (map number (e ∷ es)) → AllByRecursion (λ x. number e < number x) es
+  all_above e es rising = all_of_map number (λ n. number e < n) es (all_by (λ n. number e < n) (map number es) (λ i d below. rising 0 (suc i) d (omega arith) (omega (arith, below))))
 
   abbrev HasLanes : List (Ended G) → Ended G → Type 0
   HasLanes all e = (put_by all (number e) ≡ put_of e.worker.lines.lanes.items) × (taken_by all (number e) ≡ taken_of e.worker.lines.lanes.items)
@@ -110,13 +115,16 @@ module _ {G : Type 0} where
 
   pub lanes_are : (es : List (Ended G)) → AllPairs (λ a b. a < b) (map number es) → AllByRecursion (HasLanes es) es
   lanes_are [] rising = tt
-  lanes_are (e ∷ es) rising =
-      let above = all_of_map number (λ n. number e < n) es (all_by (λ n. number e < n) (map number es) (λ i d below. rising 0 (suc i) d (omega arith) (omega (arith, below)))) in (
-        (fun_ext (λ v. rw (eq-eqb (number e) (number e) refl) refl), fun_ext (λ v. rw (eq-eqb (number e) (number e) refl) refl)),
-        all_both (λ x. number e < number x) (HasLanes es) (HasLanes (e ∷ es))
-            (λ x less h. lanes_there e es x (λ same. absurd (omega (arith, less, same))) h)
-            es above (lanes_are es (λ i j d a b. rising (suc i) (suc j) d (omega (arith, a)) (omega (arith, b)))),
-      )
+  lanes_are (e ∷ es) rising = (
+    (fun_ext (λ v. rw (eq-eqb (number e) (number e) refl) refl), fun_ext (λ v. rw (eq-eqb (number e) (number e) refl) refl)),
+    all_both (λ x. number e < number x) (HasLanes es) (HasLanes (e ∷ es))
+        (λ x less h. lanes_there e es x (λ same. absurd (omega (arith, less, same))) h)
+        es (all_above e es rising) (lanes_are es (λ i j d a b. rising (suc i) (suc j) d (omega (arith, a)) (omega (arith, b)))),
+  )
+
+  -- the pipes of a router hold as many items as the network says
+  abbrev pub HasRooms : Plan → Ended G → Type 0
+  HasRooms plan e = (v : ℕ) → linked plan (number e) v ≡ true → room_of e.worker.lines.lanes.items v ≡ plan.settings.pipe
 
   -- nothing passed by who is no router
   nobody_by : (e : Ended G) (es : List (Ended G)) (u : ℕ) (b : Bool) → (number e == u) ≡ b → (Contains (map number (e ∷ es)) u → ⊥)
@@ -148,10 +156,10 @@ taken_none (l ∷ ls) v all = both_none (l.peer == v) l.into.items (taken_of ls 
 -- ---- one worker
 
 module _ {G : Type 0} (law : WhatFollowsIsDone) (given : G → List Chore) (plan : Plan) (turns : ℕ) (p : Passed) where
-  told : (b a : Ended G) → IsFresh given plan b.worker → Ran given turns b.worker a.worker
+  told : (b a : Ended G) → IsFresh given plan b.worker → HasRooms plan b → Ran given turns b.worker a.worker
       → put_of a.worker.lines.lanes.items ≡ p.put a.worker.router.number → taken_of a.worker.lines.lanes.items ≡ p.taken a.worker.router.number
       → (g : Setting) → g.net ≡ plan → IsSetting g → IsTold given g p (worked_of a)
-  told b a fresh ran put taken g is set =
+  told b a fresh rooms ran put taken g is set =
       let u = a.worker.router.number in
       let f = ran.follows g (is ∙ sym fresh.net) set in
       let follows : Follows g u (peers g.net u) (given a.worker.gate) (seen b.worker) f.0 (seen a.worker) =
@@ -166,6 +174,7 @@ module _ {G : Type 0} (law : WhatFollowsIsDone) (given : G → List Chore) (plan
         opening = fresh.router ∙ ap new_stamped (sym is);
         nothing_put = fun_ext (λ v. put_none b.worker.lines.lanes.items v fresh.lanes);
         nothing_taken = fun_ext (λ v. taken_none b.worker.lines.lanes.items v fresh.lanes);
+        room = λ v link. rooms v (ap (λ k. linked k b.worker.router.number v) (sym is) ∙ ap (λ n. linked g.net n v) (sym ran.same.number) ∙ link) ∙ ap (λ k. k.settings.pipe) (sym is);
         router = refl;
         put = put;
         taken = taken;
@@ -174,24 +183,24 @@ module _ {G : Type 0} (law : WhatFollowsIsDone) (given : G → List Chore) (plan
         offers = sym (done.made ∙ ap (λ l. collected_in l ++ stamped_offers f.0) fresh.made);
       }
 
-  has_worked : (b a : Ended G) → IsFresh given plan b.worker → Ran given turns b.worker a.worker
+  has_worked : (b a : Ended G) → IsFresh given plan b.worker → HasRooms plan b → Ran given turns b.worker a.worker
       → put_of a.worker.lines.lanes.items ≡ p.put a.worker.router.number → taken_of a.worker.lines.lanes.items ≡ p.taken a.worker.router.number
       → HasWorked given plan turns p (worked_of a)
-  has_worked b a fresh ran put taken = record {
+  has_worked b a fresh rooms ran put taken = record {
     net = ran.same.net ∙ fresh.net;
     chores = ran.chores;
     whole = ran.whole;
-    told = told b a fresh ran put taken;
+    told = told b a fresh rooms ran put taken;
   }
 
-  pub all_worked : (before after : List (Ended G)) → Zipped (λ b a. Ran given turns b.worker a.worker) before after → AllByRecursion (λ e. IsFresh given plan e.worker) before
+  pub all_worked : (before after : List (Ended G)) → Zipped (λ b a. Ran given turns b.worker a.worker) before after → AllByRecursion (λ e. IsFresh given plan e.worker) before → AllByRecursion (HasRooms plan) before
       → AllByRecursion (λ e. (p.put e.worker.router.number ≡ put_of e.worker.lines.lanes.items) × (p.taken e.worker.router.number ≡ taken_of e.worker.lines.lanes.items)) after
       → AllByRecursion (HasWorked given plan turns p) (map worked_of after)
-  all_worked [] [] z fresh lanes = tt
-  all_worked [] (a ∷ ends) z fresh lanes = absurd z
-  all_worked (b ∷ bs) [] z fresh lanes = absurd z
-  all_worked (b ∷ bs) (a ∷ ends) z fresh lanes =
-      (has_worked b a fresh.0 z.0 (sym lanes.0.0) (sym lanes.0.1), all_worked bs ends z.1 fresh.1 lanes.1)
+  all_worked [] [] z fresh rooms lanes = tt
+  all_worked [] (a ∷ ends) z fresh rooms lanes = absurd z
+  all_worked (b ∷ bs) [] z fresh rooms lanes = absurd z
+  all_worked (b ∷ bs) (a ∷ ends) z fresh rooms lanes =
+      (has_worked b a fresh.0 rooms.0 z.0 (sym lanes.0.0) (sym lanes.0.1), all_worked bs ends z.1 fresh.1 rooms.1 lanes.1)
 
 -- ---- the offers of a board
 
@@ -211,6 +220,27 @@ only plan [] u absent all = refl
 only plan (o ∷ os) u absent all =
     only_by o os u (router_of o.offer == u) refl (λ same. absent (subst (IsRouter plan.routers) (sym same) all.0)) (only plan os u absent all.1)
 
+-- ---- the gates
+
+module _ {G T : Type 0} (told : G → T) where
+  same_told : (before after : List (Ended G)) → length after ≡ length before
+      → ((i : ℕ) (d : Ended G) → i < length before → told (slice_index_or after i d).worker.gate ≡ told (slice_index_or before i d).worker.gate)
+      → map (λ (w : Worked G). told w.gate) (map worked_of after) ≡ map told (map (λ (e : Ended G). e.worker.gate) before)
+  same_told [] [] many kept = refl
+  same_told [] (a ∷ ends) many kept = absurd (omega (arith, many))
+  same_told (b ∷ bs) [] many kept = absurd (omega (arith, many))
+  same_told (b ∷ bs) (a ∷ ends) many kept =
+      let here : told a.worker.gate ≡ told b.worker.gate = kept 0 a (omega arith) in
+      let rest = same_told bs ends (omega (arith, many)) (λ i d below. kept (suc i) d (omega (arith, below))) in
+      λ i. here i ∷ rest i
+
+  -- router by router those that were given
+  pub gates_are : (before after : List (Ended G)) (done : List (Worked G)) (gates : List G) → length after ≡ length before
+      → ((i : ℕ) (d : Ended G) → i < length before → told (slice_index_or after i d).worker.gate ≡ told (slice_index_or before i d).worker.gate)
+      → done ≡ map worked_of after → map (λ (e : Ended G). e.worker.gate) before ≡ gates → map (λ (w : Worked G). told w.gate) done ≡ map told gates
+  gates_are before after done gates many kept is given =
+      ap (map (λ (w : Worked G). told w.gate)) is ∙ same_told before after many kept ∙ ap (map told) given
+
 -- ---- the record
 
 same_routers : {G : Type 0} → (after : List (Ended G)) → map (λ (w : Worked G). w.router.number) (map worked_of after) ≡ map number after
@@ -218,12 +248,13 @@ same_routers [] = refl
 same_routers (e ∷ es) = ap (λ (ns : List ℕ). number e ∷ ns) (same_routers es)
 
 pub record_is : {G : Type 0} → (law : WhatFollowsIsDone) (given : G → List Chore) (plan : Plan) (turns : ℕ) (before after : List (Ended G)) (done : List (Worked G)) (c : CollectorView) (gathered : List Entry)
-    (board : List Made) → IsNetwork plan → map number before ≡ numbers plan.routers → AllByRecursion (λ e. IsFresh given plan e.worker) before → length after ≡ length before → first_fault after ≡ None
+    (board : List Made) → IsNetwork plan → map number before ≡ numbers plan.routers → AllByRecursion (λ e. IsFresh given plan e.worker) before → AllByRecursion (HasRooms plan) before
+    → length after ≡ length before → first_fault after ≡ None
     → ((i : ℕ) (d : Ended G) → i < length before → IfNone (slice_index_or after i d).fault (Ran given turns (slice_index_or before i d).worker (slice_index_or after i d).worker))
     → done ≡ map worked_of after → IsSorted (all_events done) gathered → AllByRecursion (OffersOf board) after → AllByRecursion (λ o. IsRouter plan.routers (router_of o.offer)) board
     → Pairwise (λ a b. a.stamp < b.stamp) (collected_in board) → made_for c ≡ with_offers (λ s. []) (offers_in board) → AreMembers plan c.members
     → IsRecord given plan turns (passed_by after) done c gathered
-record_is law given plan turns before after done c gathered board network numbered fresh many quiet ran is sorted offers known rising made members =
+record_is law given plan turns before after done c gathered board network numbered fresh rooms many quiet ran is sorted offers known rising made members =
     let z = zipped (λ b a. Ran given turns b.worker a.worker) before after many quiet ran in
     let all : map number after ≡ numbers plan.routers = same_numbers (λ b a. Ran given turns b.worker a.worker) (λ b a r. r.same.number) before after z ∙ numbered in
     let lanes = lanes_are after (subst (AllPairs (λ a b. a < b)) (sym all) network.plan.rising) in
@@ -231,7 +262,7 @@ record_is law given plan turns before after done c gathered board network number
     (λ so. record {
       routers = same_routers after ∙ all;
       nobody = λ u v absent. nobody after u v (λ k. absent (subst (λ ns. Contains ns u) all k));
-      worked = all_worked law given plan turns (passed_by after) before after z fresh lanes;
+      worked = all_worked law given plan turns (passed_by after) before after z fresh rooms lanes;
       sorted = so;
       collects = record {
         offers = collected_in board;

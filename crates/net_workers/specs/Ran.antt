@@ -1,5 +1,5 @@
 -- What each worker did from its first chore to its last.
-use Rattle.std.specs.Prelude.{ℕ, ◌≡◌, ◌≤◌, ◌<◌, ◌==◌, cond, List, [], ◌∷◌, length, map, filter, Option, None, Some}
+use Rattle.std.specs.Prelude.{ℕ, ◌≡◌, ◌≤◌, ◌<◌, ◌==◌, true, cond, List, [], ◌∷◌, length, map, filter, Option, None, Some}
 use Rattle.std.specs.List.{AllByRecursion}
 use Rattle.ranked_policy.specs.Plans.{IsRouter, numbers}
 use Rattle.snap_marker.specs.Recordings.{MadeOffer}
@@ -9,14 +9,14 @@ use Rattle.worker_loop.specs.declared.worker.WorkerFault.TheVariants as worker
 use Rattle.worker_loop.specs.declared.journal.Entry.{Entry}
 use Rattle.net_workers.specs.declared.record.RunFault.{RunFault}
 use Rattle.net_workers.specs.declared.record.RunFault.TheVariants as fault
+use Rattle.net_workers.specs.declared.record.TheConstants.{MOST_TURNS}
 use Rattle.net_workers.specs.Gathered.{all_events, IsSorted}
 use Rattle.ranked_policy.specs.Plans.{Plan}
-use Rattle.router_model.specs.Settings.{Setting, IsSetting, peers}
-use Rattle.router_model.specs.State.{new_router}
-use Rattle.router_model.specs.Calls.{Stamped}
-use Rattle.router_core.specs.Views.{RouterView, plain_of}
+use Rattle.router_model.specs.Settings.{Setting, IsSetting, linked, peers}
+use Rattle.router_core.specs.Views.{plain_of}
 use Rattle.outbox.specs.declared.item.Item.{Item}
 use Rattle.run_model.specs.Stamps.{stamped_offers}
+use Rattle.world_core.specs.Views.{new_stamped}
 use Rattle.worker_loop.specs.declared.chore.Chore.{Chore}
 use Rattle.worker_loop.specs.declared.worker.Worker.{Worker}
 use Rattle.worker_loop.specs.declared.worker.WorkerFault.{WorkerFault}
@@ -33,16 +33,6 @@ use Rattle.net_workers.specs.Lanes.{put_of, taken_of, room_of, wires_of, AreNew}
 
 abbrev pub seen : {G : Type 0} → Worker Ends Place G → Seen
 seen w = seen_of (λ e. put_of e.lanes.items) (λ e. taken_of e.lanes.items) (λ e. room_of e.lanes.items) (λ d. collected_in d.made.items) w
-
--- a router that did nothing
-abbrev pub setting_of : Plan → Setting
-setting_of net = record { net = net; best = λ u q originated words. [] }
-
-abbrev pub new_stamped : Plan → Stamped
-new_stamped net = record { router = new_router (setting_of net); stamp = 0 }
-
-abbrev pub IsNewRouter : Plan → RouterView → Type 0
-IsNewRouter net r = (r.net ≡ net) × (plain_of r ≡ new_stamped net)
 
 -- a worker that did nothing yet
 pub record IsFresh {G : Type 0} (given : G → List Chore) (plan : Plan) (w : Worker Ends Place G) : Type 0 where
@@ -67,8 +57,8 @@ pub record Passed : Type 0 where
   pub put : ℕ → ℕ → List Item
   pub taken : ℕ → ℕ → List Item
 
--- the journal of a router from its opening on: its events are exactly those that follow from its chores, and lead it to where it
--- is; and its offers are theirs
+-- the journal of a router from its opening on, where nothing had passed its pipes, which hold as many items as the network says:
+-- its events are exactly those that follow from its chores, and lead it to where it is; and its offers are theirs
 pub record IsTold {G : Type 0} (given : G → List Chore) (g : Setting) (p : Passed) (w : Worked G) : Type 0 where
   pub first : Seen
   pub last : Seen
@@ -77,6 +67,7 @@ pub record IsTold {G : Type 0} (given : G → List Chore) (g : Setting) (p : Pas
   pub opening : first.router ≡ new_stamped g.net
   pub nothing_put : first.put ≡ (λ v. [])
   pub nothing_taken : first.taken ≡ (λ v. [])
+  pub room : (v : ℕ) → linked g.net w.router.number v ≡ true → first.room v ≡ g.net.settings.pipe
   pub router : last.router ≡ plain_of w.router
   pub put : last.put ≡ p.put w.router.number
   pub taken : last.taken ≡ p.taken w.router.number
@@ -93,10 +84,10 @@ pub record HasWorked {G : Type 0} (given : G → List Chore) (plan : Plan) (turn
 
 -- ---- how long a network runs
 
--- 1 to 1,000,000 chores, and a gate for each router
+-- from 1 to the most chores, and a gate for each router
 pub record AreLimits (plan : Plan) (turns gates : ℕ) : Type 0 where
   pub some : 0 < turns
-  pub few : turns ≤ 1000000
+  pub few : turns ≤ MOST_TURNS
   pub all : gates ≡ length plan.routers
 
 -- ---- the record of a run

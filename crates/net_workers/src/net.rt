@@ -130,6 +130,7 @@ where
     requires fresh { AllByRecursion (λ gate. G.given gate ≡ []) gates.items }
     requires limits { AreLimits network.now turns (length gates.items) }
     ensures other { IfErr result (λ why. why ≢ RunFault.BadLimits) }
+    ensures told { IfOk result (λ r. map (λ w. G.told w.gate) r.workers.items ≡ map G.told gates.items) }
     ensures ways { IfOk result (λ r. AreWays network.now r.ways.items) }
     ensures recorded { IfOk result (λ r. IsRecord G.given network.now turns (passed_in r.ways.items) r.workers.items r.collector r.gathered.items) }
     ensures promises { IfOk result (λ r. RunKeepsPromises network.now (passed_in r.ways.items) r.workers.items r.collector r.gathered.items) }
@@ -168,8 +169,8 @@ where
 /// of the board are not those of the journals, and [`RunFault::Memory`] where a growth was refused.
 /// After a fault the other workers go on to their own end, and nothing is handed back.
 ///
-/// What a record says is what the threads did: it is one run of the network, and its pipes hold what was
-/// put into them and not taken.
+/// What a record says is what the threads did, each router at the word of the gate that was given for it:
+/// it is one run of the network, and its pipes hold what was put into them and not taken.
 pub fn run_net<'a, R, G>(
     rt: &R,
     alloc: Global,
@@ -183,6 +184,8 @@ where
     requires fresh { AllByRecursion (λ gate. G.given gate ≡ []) gates.items }
     ensures limits { OnOk result (AreLimits network.now limits.turns (length gates.items)) }
     ensures refused { IfErr result (λ why. why ≡ RunFault.BadLimits ↔ (AreLimits network.now limits.turns (length gates.items) → ⊥)) }
+    // Router by router the gates are those given.
+    ensures told { IfOk result (λ r. map (λ w. G.told w.gate) r.workers.items ≡ map G.told gates.items) }
     ensures ways { IfOk result (λ r. AreWays network.now r.ways.items) }
     ensures recorded { IfOk result (λ r. IsRecord G.given network.now limits.turns (passed_in r.ways.items) r.workers.items r.collector r.gathered.items) }
     // Every record is one of a run of the network, in which UPDATEs passed in order and whose snapshots can be believed.

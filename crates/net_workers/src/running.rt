@@ -6,7 +6,8 @@ ghost use Rattle.ranked_policy.specs.Plans.{IsNetwork, IsRouter, numbers};
 ghost use Rattle.router_model.specs.Settings.{linked, peers};
 ghost use Rattle.net_workers.specs.Lanes.{AreNew};
 ghost use Rattle.net_workers.specs.Dealt.{AreDealt};
-ghost use Rattle.net_workers.specs.Ran.{IsFresh, IsNewRouter, Ran, lines_of};
+ghost use Rattle.world_core.specs.Views.{IsNewRouter};
+ghost use Rattle.net_workers.specs.Ran.{IsFresh, Ran, lines_of};
 
 use crate::dealing::deal;
 use crate::ends::Ends;
@@ -76,6 +77,7 @@ fn new_worker<'a, G: Gate + Drop>(
     ensures fresh { IfOk result (λ ended. IsFresh G.given network.now ended.worker) }
     ensures number { IfOk result (λ ended. ended.worker.router.number ≡ number) }
     ensures lines { IfOk result (λ ended. lines_of ended ≡ lines) }
+    ensures gate { IfOk result (λ ended. ended.worker.gate ≡ gate) }
 {
     let router = new_router(alloc, network, number)?;
     let peers = peers_of(alloc, network, number)?;
@@ -106,6 +108,7 @@ pub(crate) fn new_workers<'a, G: Gate + Drop>(
     ensures numbers { IfOk result (λ made. map (λ e. e.worker.router.number) made.items ≡ numbers network.now.routers) }
     ensures fresh { IfOk result (λ made. AllByRecursion (λ e. IsFresh G.given network.now e.worker) made.items) }
     ensures dealt { IfOk result (λ made. AreDealt network.now network.now.links (map lines_of made.items)) }
+    ensures gates { IfOk result (λ made. map (λ e. e.worker.gate) made.items ≡ gates.items) }
     ensures network { IfOk result (λ made. IsNetwork network.now) }
 {
     let mut ends = deal(alloc, network)?.into_iter();
@@ -124,7 +127,8 @@ pub(crate) fn new_workers<'a, G: Gate + Drop>(
 fn run_one<R: Wait, G: Gate>(rt: &R, board: &Board, turns: u32, ended: &mut Ended<'_, G>)
     requires gate { G.given ended.old.worker.gate ≡ [] }
     requires chores { ended.old.worker.journal.chores.items ≡ [] }
-    ensures { IfNone ended.new.fault (Ran G.given turns ended.old.worker ended.new.worker) }
+    ensures ran { IfNone ended.new.fault (Ran G.given turns ended.old.worker ended.new.worker) }
+    ensures told { G.told ended.new.worker.gate ≡ G.told ended.old.worker.gate }
 {
     ended.fault = ended.worker.work(rt, board, turns).err();
 }
@@ -139,6 +143,7 @@ where
     ensures many { length workers.new ≡ length workers.old }
     ensures ran { (i : ℕ) (d : _) → i < length workers.old → IfNone (slice_index_or workers.new i d).fault
         (Ran G.given turns (slice_index_or workers.old i d).worker (slice_index_or workers.new i d).worker) }
+    ensures told { (i : ℕ) (d : _) → i < length workers.old → G.told (slice_index_or workers.new i d).worker.gate ≡ G.told (slice_index_or workers.old i d).worker.gate }
 {
     let threads = workers.len();
     if threads == 0 {
@@ -163,6 +168,7 @@ where
     ensures many { length workers.new.items ≡ length workers.old.items }
     ensures ran { (i : ℕ) (d : _) → i < length workers.old.items → IfNone (slice_index_or workers.new.items i d).fault
         (Ran G.given turns (slice_index_or workers.old.items i d).worker (slice_index_or workers.new.items i d).worker) }
+    ensures told { (i : ℕ) (d : _) → i < length workers.old.items → G.told (slice_index_or workers.new.items i d).worker.gate ≡ G.told (slice_index_or workers.old.items i d).worker.gate }
 {
     run_each(rt, board, turns, workers.as_mut_slice());
 }

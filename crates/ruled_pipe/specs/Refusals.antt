@@ -1,8 +1,9 @@
 -- Why a pipe of some capacity is refused.
 use Rattle.std.specs.Prelude.{ℕ, ltb, ◌||◌, if◌then◌else◌}
+use Rattle.ruled_pipe.specs.declared.ends.TheConstants.{MOST_ITEMS}
 use Rattle.ruled_pipe.specs.declared.refusal.PipeError.{PipeError}
 use Rattle.ruled_pipe.specs.declared.refusal.PipeError.TheVariants.{Memory, BadCapacity}
 
--- a capacity outside 1 to 1024 items as such, and any other for want of memory alone
+-- a capacity outside 1 to the most items as such, and any other for want of memory alone
 abbrev pub refusal_of : ℕ → PipeError
-refusal_of capacity = if ltb capacity 1 || ltb 1024 capacity then BadCapacity else Memory
+refusal_of capacity = if ltb capacity 1 || ltb MOST_ITEMS capacity then BadCapacity else Memory

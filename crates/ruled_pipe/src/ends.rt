@@ -111,7 +111,7 @@ pub fn with_ends<T: Drop>(
     ensures one_pipe { IfOk result (λ ends. ends.1.pipe ≡ ends.0.pipe) }
     ensures put { IfOk result (λ ends. ends.0 ≡ end_at ends.0.pipe capacity []) }
     ensures take { IfOk result (λ ends. ends.1 ≡ end_at ends.1.pipe capacity []) }
-    ensures capacity { IfOk result (λ _. (0 < capacity) × (capacity ≤ 1024)) }
+    ensures capacity { IfOk result (λ _. (0 < capacity) × (capacity ≤ MOST_ITEMS)) }
     ensures refused { IfErr result (λ why. why ≡ refusal_of capacity) }
 {
     if capacity == 0 || capacity > MOST_ITEMS {

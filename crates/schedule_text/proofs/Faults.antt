@@ -8,6 +8,7 @@ use Rattle.net_text.specs.declared.code.Code.{Code}
 use Rattle.net_text.specs.declared.code.Code.TheVariants as codes
 use Rattle.net_text.specs.Lexing.{Text, is_skipped, is_ascii, words_of}
 use Rattle.net_text.specs.Words.{◌>>=◌, number_word, is_asn, is_router, asn_word, router_word, prefix_of, prefix_or_fault, is_named, origin_word}
+use Rattle.schedule_text.specs.declared.operands.TheConstants.{MOST_COUNT}
 use Rattle.schedule_text.specs.declared.keyword.Keyword.{Keyword}
 use Rattle.schedule_text.specs.declared.keyword.Keyword.TheVariants as keyword
 use Rattle.schedule_text.specs.Schedules.{is_within, router_operand, peer_operands, prefix_operands, number_operands, count_operand, ordered, keyword_of, keyword_order, words_order, line_order, IsFaulty}
@@ -95,7 +96,7 @@ module _ (net : Plan) where
 
   of_count : (words : List Text) → NoMemory (count_operand words)
   of_count [] = bad_form
-  of_count (a ∷ []) = number (is_within 1000000) a
+  of_count (a ∷ []) = number (is_within MOST_COUNT) a
   of_count (a ∷ b ∷ words) = bad_form
 
   -- ---- lines

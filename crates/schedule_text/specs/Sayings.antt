@@ -9,6 +9,7 @@ use Rattle.world_core.specs.declared.schedule.Order.TheVariants as order
 use Rattle.net_text.specs.Lexing.{Text, says_nothing, is_ascii}
 use Rattle.net_text.specs.Layout.{HasWords}
 use Rattle.net_text.specs.Words.{number_word, router_word, origin_word}
+use Rattle.schedule_text.specs.declared.operands.TheConstants.{MOST_COUNT}
 use Rattle.schedule_text.specs.Schedules.{is_within, line_order}
 
 -- a word, then a router
@@ -32,7 +33,7 @@ NamesNumber net name u s words =
 
 -- a count
 abbrev pub NamesCount : Text → ℕ → List Text → Type 0
-NamesCount name n words = (a : Text) × (words ≡ name ∷ a ∷ []) × (number_word (is_within 1000000) a ≡ Ok n)
+NamesCount name n words = (a : Text) × (words ≡ name ∷ a ∷ []) × (number_word (is_within MOST_COUNT) a ≡ Ok n)
 
 -- these words say this order
 abbrev pub Say : Plan → Order → List Text → Type 0

@@ -12,6 +12,7 @@ use Rattle.net_text.specs.declared.code.Code.{Code}
 use Rattle.net_text.specs.declared.code.Code.TheVariants as kinds
 use Rattle.net_text.specs.Lexing.{Text, same, words_of, is_skipped, is_ascii}
 use Rattle.net_text.specs.Words.{◌>>=◌, number_word, router_word, origin_word}
+use Rattle.schedule_text.specs.declared.operands.TheConstants.{MOST_COUNT}
 use Rattle.schedule_text.specs.declared.keyword.Keyword.{Keyword}
 use Rattle.schedule_text.specs.declared.keyword.Keyword.TheVariants as keyword
 use Rattle.schedule_text.specs.declared.schedule.ScheduledOrder.{ScheduledOrder}
@@ -66,7 +67,7 @@ number_operands net (a ∷ b ∷ []) = router_word net.routers a >>= λ u. numbe
 number_operands net words = Err kinds.BadForm
 
 abbrev pub count_operand : List Text → Result ℕ Code
-count_operand (a ∷ []) = number_word (is_within 1000000) a
+count_operand (a ∷ []) = number_word (is_within MOST_COUNT) a
 count_operand words = Err kinds.BadForm
 
 -- ---- a line

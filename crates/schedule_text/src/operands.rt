@@ -11,8 +11,8 @@ use net_text::words::{is_number, origin_word, router_word, value_of};
 use prefix_lanes::Prefix;
 use ranked_policy::{Asn, Network};
 
-// The greatest count of rounds or ticks.
-const MAX_COUNT: u32 = 1_000_000;
+/// The most rounds or ticks of a line.
+pub(crate) const MOST_COUNT: u32 = 1_000_000;
 
 // A number from 1 up to a limit.
 fn number_word(word: &[u8], greatest: u32) -> Result<u32, Code>
@@ -81,5 +81,5 @@ pub(crate) fn count_operand(words: &[u8]) -> Result<u32, Code>
     let Some(count) = one_word(words) else {
         return Err(Code::BadForm);
     };
-    number_word(count, MAX_COUNT)
+    number_word(count, MOST_COUNT)
 }

@@ -8,7 +8,10 @@ use thiserror::Error;
 pub enum StableError {
     /// The path of this router, the least such, is not empty and not permitted there.
     #[error("router {router} has a path that it does not permit")]
-    NotPermitted { router: u32 },
+    NotPermitted {
+        /// The router.
+        router: u32,
+    },
     /// A growth was refused.
     #[error("out of memory")]
     Memory,

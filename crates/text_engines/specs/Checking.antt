@@ -14,6 +14,7 @@ use Rattle.net_text.specs.Lexing.{Text}
 use Rattle.net_text.specs.Assignments.{assignment_reading, RefusesAssignment}
 use Rattle.net_text.specs.Words.{is_prefix}
 use Rattle.net_text.specs.Printing.{code_text, unstable_line, stable_line}
+use Rattle.text_engines.specs.declared.status.TheConstants.{DONE}
 use Rattle.text_engines.specs.Decoding.{Output, output, refused}
 use Rattle.text_engines.specs.Inputs.{InputGives, Prints}
 
@@ -81,11 +82,11 @@ pub record IsFirstMove (net : Plan) (entries : List Entry) (router : ℕ) (has b
 -- ---- what is printed
 
 pub data Moves (net : Plan) (entries : List Entry) (out : Output) : Type 0 where
-  it_moves : (router : ℕ) (has best : List ℕ) → IsFirstMove net entries router has best → out ≡ output (unstable_line router has best) 0 → Moves net entries out
+  it_moves : (router : ℕ) (has best : List ℕ) → IsFirstMove net entries router has best → out ≡ output (unstable_line router has best) DONE → Moves net entries out
 
 -- for entries that are all permitted
 abbrev pub VerdictGives : Plan → List Entry → Output → Type 0
-VerdictGives net entries out = (All (IsStableAt net entries) net.origins × (out ≡ output stable_line 0)) ⊎ Moves net entries out
+VerdictGives net entries out = (All (IsStableAt net entries) net.origins × (out ≡ output stable_line DONE)) ⊎ Moves net entries out
 
 -- for the entries of an assignment
 abbrev pub EntriesGive : Plan → List Entry → Output → Type 0

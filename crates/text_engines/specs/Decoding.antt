@@ -9,6 +9,7 @@ use Rattle.bgp_codec.specs.Faults.{reading}
 use Rattle.bgp_framing.specs.Frames.{Splits}
 use Rattle.net_text.specs.declared.code.Code.TheVariants as kinds
 use Rattle.net_text.specs.Printing.{line, message_line, fault_lines, truncated_line, code_text, refused_line}
+use Rattle.text_engines.specs.declared.status.TheConstants.{DONE, REFUSED, MEMORY}
 use Rattle.text_engines.specs.declared.transfer.TheConstants.{INPUT_LIMIT}
 
 -- a text, and the status that the program ends with
@@ -24,18 +25,18 @@ behind text more = output (text ++ more.text) more.status
 
 -- what is printed for a refused line
 abbrev pub refused : ℕ → List ℕ → Output
-refused at code = output (refused_line at code) 1
+refused at code = output (refused_line at code) REFUSED
 
 -- what is printed for want of memory
 abbrev pub memory_output : Output
-memory_output = output (codes "memory\n") 3
+memory_output = output (codes "memory\n") MEMORY
 
 -- for a rest of so many octets that may still become a message: nothing, or that it is cut short
 abbrev pub short_output : ℕ → Output
-short_output n = if n == 0 then output [] 0 else output (truncated_line n) 1
+short_output n = if n == 0 then output [] DONE else output (truncated_line n) REFUSED
 
 abbrev pub fault_or_short : Option Fault → ℕ → Output
-fault_or_short (Some fault) n = output (fault_lines fault) 1
+fault_or_short (Some fault) n = output (fault_lines fault) REFUSED
 fault_or_short None n = short_output n
 
 -- for a rest: the fault of its header where it has one
@@ -45,7 +46,7 @@ rest_output rest = if nat_lt (length rest) 19 then short_output (length rest) el
 -- for what a frame reads as, and what comes after it: nothing comes after a fault
 abbrev pub read_output : Result Message Fault → Output → Output
 read_output (Ok m) more = behind (line (message_line m)) more
-read_output (Err fault) more = output (fault_lines fault) 1
+read_output (Err fault) more = output (fault_lines fault) REFUSED
 
 -- for frames and a rest
 unfoldable pub frames_output : Rule → List (List ℕ) → List ℕ → Output
@@ -62,7 +63,7 @@ is_blank octet = (octet == 32) || ((octet == 9) || ((octet == 13) || (octet == 1
 -- for a text in hex, its blanks (space, tab, CR, LF) skipped
 abbrev pub HexGives : Rule → List ℕ → Output → Type 0
 HexGives rule input out =
-    MatchResult (decode_of (filter (λ octet. not (is_blank octet)) input)) (λ octets. StreamGives rule octets out) (λ _. out ≡ output (codes "bad hex\n") 1)
+    MatchResult (decode_of (filter (λ octet. not (is_blank octet)) input)) (λ octets. StreamGives rule octets out) (λ _. out ≡ output (codes "bad hex\n") REFUSED)
 
 -- for an input, which may be too long
 abbrev pub DecodeGives : Rule → List ℕ → Output → Type 0

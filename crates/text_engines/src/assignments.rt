@@ -8,6 +8,7 @@ ghost use Rattle.stable_paths.specs.Judging.{IsVerdict};
 ghost use Rattle.net_text.specs.Words.{is_prefix};
 ghost use Rattle.net_text.specs.Printing.{stable_line, unstable_line};
 ghost use Rattle.text_engines.specs.Decoding.{output};
+ghost use Rattle.text_engines.specs.declared.status.TheConstants.{DONE};
 ghost use Rattle.text_engines.specs.Checking.{is_before, IsPlace, HasNoPlace, AssignNothing, Assign, at_prefix, MayStand, IsFirstStray, VerdictGives, EntriesGive};
 
 use crate::refusals::refused_output;
@@ -25,7 +26,7 @@ fn unstable_output(
     has: &Path,
     best: &Path,
 ) -> Result<(Vec<u8>, u8), AllocError>
-    ensures { IfOk result (λ printed. output printed.0.items printed.1 ≡ output (unstable_line router has.now best.now) 0) }
+    ensures { IfOk result (λ printed. output printed.0.items printed.1 ≡ output (unstable_line router has.now best.now) DONE) }
 {
     let mut out = Vec::new(alloc);
     unstable_line(router, has.as_slice(), best.as_slice(), &mut out)?;
@@ -34,7 +35,7 @@ fn unstable_output(
 
 // What is printed where no router would move, and the status.
 fn stable_output(alloc: Global) -> Result<(Vec<u8>, u8), AllocError>
-    ensures { IfOk result (λ printed. output printed.0.items printed.1 ≡ output stable_line 0) }
+    ensures { IfOk result (λ printed. output printed.0.items printed.1 ≡ output stable_line DONE) }
 {
     let mut out = Vec::new(alloc);
     stable_line(&mut out)?;

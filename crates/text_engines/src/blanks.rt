@@ -15,7 +15,7 @@ fn is_blank(octet: u8) -> bool
 
 // Whether each octet is above a space, and so no blank. There is no way out of its loop, so that a
 // compiler can look at many octets in one instruction.
-fn are_above_a_space(octets: &[u8; 64]) -> bool
+fn are_above_a_space(octets: &[u8; PIECE]) -> bool
     ensures { result ≡ list_all (nat_lt 32) octets.now }
 {
     let mut are_above = true;
@@ -27,9 +27,9 @@ fn are_above_a_space(octets: &[u8; 64]) -> bool
 
 // Whether a piece stands in front whose octets are all above a space.
 fn has_clean_piece(octets: &[u8]) -> bool
-    ensures { result ≡ (nat_le 64 (length octets.now) && list_all (nat_lt 32) (take 64 octets.now)) }
+    ensures { result ≡ (nat_le PIECE (length octets.now) && list_all (nat_lt 32) (take PIECE octets.now)) }
 {
-    match octets.first_chunk::<64>() {
+    match octets.first_chunk::<PIECE>() {
         Some(piece) => are_above_a_space(piece),
         None => false,
     }

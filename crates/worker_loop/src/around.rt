@@ -18,13 +18,19 @@ use std::sync::Wait;
 
 /// Says what a worker is to do next. It may wait.
 pub trait Gate {
+    /// What no call changes: what the gate was told.
+    ghost Told: { Type 0 };
+
+    ghost told: { Self → Told };
+
     /// The chores given so far.
     ghost given: { Self → List Chore };
 
     /// The next chore of a router's worker, which was given `turn` chores so far.
     fn next<R: Wait>(&mut self, rt: &R, router: Asn, turn: u32) -> Chore
         requires { turn ≡ length (given self.old) }
-        ensures { given self.new ≡ given self.old ++ result ∷ [] };
+        ensures given { given self.new ≡ given self.old ++ result ∷ [] }
+        ensures told { told self.new ≡ told self.old };
 }
 
 /// The lines between a worker and those of its router's peers.

@@ -38,6 +38,13 @@ fn chore_at(script: &[(u32, Chore)], turn: u32) -> Chore
 }
 
 impl Gate for ScriptGate {
+    ghost use Rattle.std.specs.Prelude.{List, ℕ};
+    ghost use Rattle.worker_loop.specs.declared.chore.Chore.{Chore};
+
+    ghost Told = { List (ℕ × Chore) };
+
+    ghost told = { λ g. g.script.items };
+
     ghost given = { given_by };
 
     fn next<R: Wait>(&mut self, _rt: &R, _router: Asn, turn: u32) -> Chore {

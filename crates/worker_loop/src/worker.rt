@@ -109,6 +109,7 @@ impl<'a, L: Lines, D: Desk, G: Gate> Worker<'a, L, D, G> {
         ensures whole { IfOk result (λ _. IsWhole turns (G.given self.new.gate)) }
         ensures chores { IfOk result (λ _. self.new.journal.chores.items ≡ G.given self.new.gate) }
         ensures same { IsLaterWorker L.wiring self.old self.new }
+        ensures told { G.told self.new.gate ≡ G.told self.old.gate }
     {
         let backoff = Backoff::new();
         for turn in 0..turns {

@@ -5,7 +5,7 @@ ghost use Rattle.std.specs.List.{AllByRecursion};
 ghost use Rattle.net_text.specs.Lexing.{lines_of};
 ghost use Rattle.text_engines.specs.Decoding.{output};
 ghost use Rattle.text_engines.specs.Engine.{PrintedBy, PrintedFrontBy, WrittenBy, WrittenFrontBy};
-ghost use Rattle.bgpnet.specs.Running.{RunGives, LinesRun, InputRuns, Runs, Gated};
+ghost use Rattle.bgpnet.specs.Running.{HasSetting, RunGives, LinesRun, InputRuns, Runs, Gated};
 
 use crate::chores::{RunOptions, new_gates, spacing};
 use crate::settled::Demand;
@@ -13,6 +13,7 @@ use crate::threads::{fault_output, threads_output};
 use net_text::{Code, read_network};
 use net_workers::{Gate, Limits, RunFault};
 use ranked_policy::Network;
+use router_runs::each_network_has_a_setting;
 use std::alloc::{AllocError, Global};
 use std::sync::Wait;
 use std::thread::Threads;
@@ -41,12 +42,12 @@ where
     T: Sink,
     requires fresh { AllByRecursion (λ gate. G.given gate ≡ []) gates.items }
     // What is written is what is printed of a run of the network in threads, and nothing else.
-    ensures done { IfOk result (λ status. WrittenBy (Gated network.now limits.turns (length gates.items) last) (T.contents sink.old) (T.contents sink.new) status) }
+    ensures done { IfOk result (λ status. WrittenBy (Gated G.given G.told network.now limits.turns gates.items last) (T.contents sink.old) (T.contents sink.new) status) }
     // It answers a status only where no write failed, and stops only where one did.
     ensures unfailed { OnOk result (T.failed sink.new ≡ T.failed sink.old) }
     ensures failed { OnErr result (T.failed sink.new ≡ true) }
     // A failed write leaves a beginning of the text.
-    ensures stopped { OnErr result (WrittenFrontBy (Gated network.now limits.turns (length gates.items) last) (T.contents sink.old) (T.contents sink.new)) }
+    ensures stopped { OnErr result (WrittenFrontBy (Gated G.given G.told network.now limits.turns gates.items last) (T.contents sink.old) (T.contents sink.new)) }
 {
     match threads_output(rt, alloc, network, gates, limits, last, Demand::AsRecorded) {
         Ok((text, status)) => {
@@ -55,6 +56,14 @@ where
         }
         Err(_) => want_of_memory(sink),
     }
+}
+
+// A network has a setting that chooses by rank, since its hold time is one of two octets.
+fn has_setting(network: &Network)
+    ensures { HasSetting network.now }
+{
+    each_network_has_a_setting();
+    let _hold = network.settings().hold;
 }
 
 // What is printed for a network, and the status.
@@ -68,6 +77,7 @@ where
     R: Threads + Wait + Sync,
     ensures { IfOk result (λ printed. RunGives options.now network.now (output printed.0.items printed.1)) }
 {
+    has_setting(network);
     let Some(spacing) = spacing(network, options) else {
         return fault_output(alloc, RunFault::BadLimits);
     };

@@ -32,6 +32,7 @@ impl<'a, L: Lines, D: Desk, G: Gate> Worker<'a, L, D, G> {
         ensures given { IfOk result (λ chore. G.given self.new.gate ≡ G.given self.old.gate ++ chore ∷ []) }
         ensures chores { IfOk result (λ chore. self.new.journal.chores.items ≡ self.old.journal.chores.items ++ chore ∷ []) }
         ensures rest { IsSameBut self.old self.new }
+        ensures told { G.told self.new.gate ≡ G.told self.old.gate }
     {
         self.journal.chores.reserve(1)?;
         let chore = self.gate.next(rt, self.router.number(), turn);

@@ -11,13 +11,22 @@ returns-in-Ok g c =
     if_ok _ _ c.settled_output.result
     (λ printed gives. inr (
       c.in-Ok.ensures.limits,
-      inr (snapshots_give c.outcome_is_one.ensures c.members_are_the_routers.ensures c.args.demand c.args.network.now c.built.ensures.network _ r.workers.items r.collector r.gathered.items
-          c.in-Ok.ensures.recorded.members c.in-Ok.ensures.promises c.args.last (output printed.0.items printed.1) gives),
+      inr (snapshots_give c.outcome_is_one.ensures c.members_are_the_routers.ensures c.args.demand c.args.network.now c.built.ensures.network
+          (record {
+            workers = r.workers.items;
+            ways = r.ways.items;
+            collector = r.collector;
+            gathered = r.gathered.items;
+            recorded = c.in-Ok.ensures.recorded;
+            pipes = c.in-Ok.ensures.ways;
+            gates = c.in-Ok.ensures.told;
+          })
+          c.in-Ok.ensures.promises c.args.last (output printed.0.items printed.1) gives),
     ))
     c.settled_output.ensures
 
 pub returns-in-Err : goal.returns-in-Err
 returns-in-Err g c =
     both_ok _ _ _ c.fault_output.result
-    (λ printed kind is. fault_gives c.args.demand c.args.network.now c.args.limits.turns _ c.args.last (output printed.0.items printed.1) c.in-Err.fault kind c.in-Err.ensures.refused is)
+    (λ printed kind is. fault_gives g.G.Gate.given g.G.Gate.told c.args.demand c.args.network.now c.args.limits.turns c.args.gates.items c.args.last (output printed.0.items printed.1) c.in-Err.fault kind c.in-Err.ensures.refused is)
     c.fault_output.ensures.kind c.fault_output.ensures.output

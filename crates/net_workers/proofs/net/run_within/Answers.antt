@@ -7,7 +7,8 @@ use Rattle.snap_collector.specs.Collector.{with_offers}
 use Rattle.net_workers.specs.Ran.{Passed, first_fault, OffersOf, IsRecord}
 use Rattle.net_workers.specs.Gathered.{all_events, IsSorted}
 use Rattle.net_workers.specs.Ways.{passed_in}
-use Rattle.net_workers.proofs.Records.{record_is}
+use Rattle.net_workers.proofs.Records.{gates_are, record_is}
+use Rattle.net_workers.proofs.Rooms.{rooms_are}
 use Rattle.net_workers.proofs.Ways.{many_ends, dealt_still, passed_then, in_turn}
 use Rattle.net_workers.proofs.net.run_within.Given.{Over}
 use Rattle.net_workers.proofs.net.run_within.Goals as goal
@@ -34,7 +35,8 @@ recorded g c =
     (passed_then g.G.Gate.given c.args.network.now c.args.turns c.in_ok-workers.workers.items after c.run_all.ensures.many quiet c.run_all.ensures.ran
     c.in_ok-workers-2.ends.items c.in_ok-ways.ways.items c.in_ok-workers-2.ensures.ends c.in_ok-workers.ensures.numbers c.in_ok-ways.ensures.passed)
     (record_is c.what_follows_is_done.ensures g.G.Gate.given c.args.network.now c.args.turns c.in_ok-workers.workers.items after c.in_ok-workers-2.workers.items
-    c.in_ok-collector.collector c.in_ok-gathered.gathered.items board.offers c.in_ok-workers.ensures.network c.in_ok-workers.ensures.numbers c.in_ok-workers.ensures.fresh c.run_all.ensures.many
+    c.in_ok-collector.collector c.in_ok-gathered.gathered.items board.offers c.in_ok-workers.ensures.network c.in_ok-workers.ensures.numbers c.in_ok-workers.ensures.fresh
+    (rooms_are c.args.network.now c.in_ok-workers.workers.items c.in_ok-workers.ensures.network.plan.rising c.in_ok-workers.ensures.numbers c.in_ok-workers.ensures.dealt) c.run_all.ensures.many
     quiet c.run_all.ensures.ran
     c.in_ok-workers-2.ensures.worked
     (subst (λ ws. IsSorted (all_events ws) c.in_ok-gathered.gathered.items) c.as_slice-2.ensures.value c.in_ok-gathered.ensures)
@@ -43,6 +45,11 @@ recorded g c =
     c.into_offers.ensures.board.rising
     (c.in_ok-collector.ensures.made ∙ ap (λ os. with_offers (λ s. []) (offers_in os)) c.into_offers.ensures.value)
     c.in_ok-collector.ensures.members)
+
+pub returns-clause-told : goal.returns-clause-told
+returns-clause-told g c =
+    gates_are g.G.Gate.told c.in_ok-workers.workers.items c.run_all.new.workers.items c.in_ok-workers-2.workers.items c.args.gates.items
+    c.run_all.ensures.many c.run_all.ensures.told c.in_ok-workers-2.ensures.worked c.in_ok-workers.ensures.gates
 
 pub returns-clause-recorded : goal.returns-clause-recorded
 returns-clause-recorded g c = recorded g c

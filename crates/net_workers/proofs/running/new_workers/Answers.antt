@@ -1,4 +1,4 @@
-use Rattle.std.proofs.Common.{◌∙◌, ◌≡◌, arith, subst, []}
+use Rattle.std.proofs.Common.{◌∙◌, ◌≡◌, sym, arith, subst, []}
 use Rattle.std.specs.List.{AllByRecursion}
 use Rattle.ranked_policy.specs.Plans.{IsRouter}
 use Rattle.net_workers.specs.Lanes.{AreNew}
@@ -24,6 +24,9 @@ loop-router-preserved g c =
       numbers = rw items
           (one_more (λ e. e.worker.router.number) (λ r. r.asn) l.workers.items c.in_ok-new_worker.field-0 c.routers-router-items.result.now l.router-index c.router-item.result (omega (arith, c.loop-router-test.true)) c.router-item.is c.in_ok-new_worker.ensures.number
           ∙ l.invariant.numbers);
+      handed = rw items
+          (sym (lines_more (λ e. e.worker.gate) l.workers.items c.in_ok-new_worker.field-0 c.in-Some-Some.gate _ l.gates.rest.items c.in-Some-Some.ensures'.items c.in_ok-new_worker.ensures.gate)
+          ∙ l.invariant.handed);
       dealt = rw items
           (subst (AreDealt c.args.network.now c.args.network.now.links)
           (lines_more lines_of l.workers.items c.in_ok-new_worker.field-0 c.in-Some-Some.lines _ l.ends.rest.items c.in-Some-Some.ensures.items c.in_ok-new_worker.ensures.lines)

@@ -14,6 +14,7 @@ invariant-loop-router g l = record {
   new : AllByRecursion AreNew l.ends.rest.items;
   given : AllByRecursion (λ gate. g.G.Gate.given gate ≡ []) l.gates.rest.items;
   numbers : map (λ e. e.worker.router.number) l.workers.items ++ map (λ r. r.asn) (drop l.router-index l.router-items) ≡ numbers l.router-items;
+  handed : map (λ e. e.worker.gate) l.workers.items ++ l.gates.rest.items ≡ l.fn.gates.items;
   dealt : AreDealt l.fn.network l.fn.network.links (map lines_of l.workers.items ++ l.ends.rest.items);
   fresh : AllByRecursion (λ e. IsFresh g.G.Gate.given l.fn.network e.worker) l.workers.items;
 }

@@ -1,4 +1,3 @@
-use Rattle.std.proofs.Common.{length}
 use Rattle.text_engines.specs.Decoding.{output}
 use Rattle.text_engines.proofs.CheckLemmas.{if_ok}
 use Rattle.bgpnet.proofs.RunLemmas.{run_gives}
@@ -7,5 +6,6 @@ use Rattle.bgpnet.proofs.engines.run.network_output.Goals as goal
 pub returns : goal.returns
 returns g c =
     if_ok _ _ c.threads_output.result
-    (λ printed gives. run_gives c.args.options.now c.args.network.now (length c.in_ok-gates.gates.items) (output printed.0.items printed.1) c.in-Some.ensures.0 c.in_ok-gates.ensures.many gives)
+    (λ printed gives. run_gives c.args.options.now c.args.network.now c.has_setting.ensures (output printed.0.items printed.1) c.in-Some.spacing c.in_ok-gates.gates.items
+    c.in-Some.ensures.0 c.in-Some.ensures.1 c.in_ok-gates.ensures.many c.in_ok-gates.ensures.told gives)
     c.threads_output.ensures

@@ -1,4 +1,4 @@
-use Rattle.std.proofs.Common.{inl, inr, refl, length}
+use Rattle.std.proofs.Common.{inl, inr, refl}
 use Rattle.text_engines.specs.Decoding.{output}
 use Rattle.text_engines.proofs.CheckLemmas.{on_err}
 use Rattle.text_engines.proofs.WritingLemmas.{memory_written}
@@ -12,4 +12,8 @@ returns-in_err-write_out-in-Ok-clause-stopped g c =
 
 pub returns-in-Err-clause-stopped : goal.returns-in-Err-clause-stopped
 returns-in-Err-clause-stopped g c =
-    memory_written (Gated c.args.network.now c.args.limits.turns (length c.args.gates.items) c.args.last) (inr refl) _ _ c.want_of_memory.result c.want_of_memory.ensures.stopped
+    memory_written (Gated g.G.Gate.given g.G.Gate.told c.args.network.now c.args.limits.turns c.args.gates.items c.args.last) (inr refl) _ _ c.want_of_memory.result c.want_of_memory.ensures.stopped
+
+pub returns-in_ok-write_out-in-Ok-clause-done : goal.returns-in_ok-write_out-in-Ok-clause-done
+returns-in_ok-write_out-in-Ok-clause-done g c =
+    (c.in-Ok.text.items, inl c.in-Ok.ensures, rw c.as_slice.ensures.value at c.in_ok-write_out-in-Ok.ensures.ok)

@@ -4,8 +4,8 @@ use Rattle.bgpnet.specs.Gates.{Told, told_of, chore_at}
 use Rattle.bgpnet.proofs.GateLemmas.{next_is}
 use Rattle.bgpnet.proofs.gates.RunGateGate.next.Goals as goal
 
-pub returns : goal.returns
-returns g c =
+pub returns-clause-given : goal.returns-clause-given
+returns-clause-given g c =
     let x = c.args.self.now in
     next_is (chore_at (told_of x)) x.count c.args.turn _ _ c.requires c.from.ensures
     (c.chore_at.ensures ∙ ap (λ (cs : List Chore). chore_at (record { opening = cs; spacing = x.spacing; snapshots = x.snapshots }) c.args.turn) c.as_slice.ensures.value)

@@ -33,4 +33,5 @@ loop-turn-preserved g c =
       goes_on = all_more (λ x. x ≢ Stop) _ _ _ given i.goes_on c.in_default.not-Stop;
       chores = o.same.chores ∙ n.chores ∙ ap (λ l. l ++ c.in_ok-chore.chore ∷ []) i.chores ∙ sym given;
       same = same_on _ _ _ _ here o.same.later;
+      told = ap g.G.Gate.told o.same.gate ∙ n.told ∙ i.told;
     }

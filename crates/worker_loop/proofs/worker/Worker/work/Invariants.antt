@@ -14,4 +14,5 @@ invariant-loop-turn g l = record {
   goes_on : All (λ c. c ≢ Stop) (g.G.Gate.given l.self.gate);
   chores : l.self.journal.chores.items ≡ g.G.Gate.given l.self.gate;
   same : IsLaterWorker g.L.Lines.wiring l.fn.self l.self;
+  told : g.G.Gate.told l.self.gate ≡ g.G.Gate.told l.fn.self.gate;
 }
