@@ -9,6 +9,7 @@ proves and builds the program of bench/router there, and runs it.
 from beside import run
 
 NEEDED = [
+    "bgp_values",
     "marker_lanes",
     "prefix_lanes",
     "ranked_policy",

@@ -7,6 +7,6 @@ crates in a temporary folder, proves and builds the program of bench/tables ther
 """
 from beside import run
 
-NEEDED = ["marker_lanes", "prefix_lanes", "ranked_policy", "bgp_codec", "rib_tables"]
+NEEDED = ["bgp_values", "marker_lanes", "prefix_lanes", "ranked_policy", "bgp_codec", "rib_tables"]
 
 run("tables", "tables_bench", NEEDED, "bgp_codec prefix_lanes ranked_policy rib_tables anyhow")

@@ -12,7 +12,7 @@ use Rattle.bgp_codec.specs.declared.attributes.Aggregator.{Aggregator}
 use Rattle.bgp_codec.specs.declared.attributes.Attrs.{Attrs}
 use Rattle.bgp_codec.specs.declared.attributes.Raw.{Raw}
 use Rattle.bgp_codec.specs.Reading.{◌>>=◌}
-use Rattle.bgp_codec.specs.Opens.{is_unicast}
+use Rattle.bgp_values.specs.Ranges.{is_unicast}
 use Rattle.bgp_codec.specs.Spelling.{IsOctets}
 use Rattle.bgp_codec.specs.AttrTable.{high_flags, is_known, flags_of, partial_flag, flags_fit, size_fits}
 use Rattle.bgp_codec.specs.Updates.{raw_of, path_octets, aggregator_octets, SegmentFits, RawFits}

@@ -11,7 +11,7 @@ use Rattle.bgp_codec.specs.declared.path.Segment.{Segment}
 use Rattle.bgp_codec.specs.declared.attributes.Aggregator.{Aggregator}
 use Rattle.bgp_codec.specs.declared.attributes.Attrs.{Attrs}
 use Rattle.bgp_codec.specs.declared.attributes.Raw.{Raw}
-use Rattle.bgp_codec.specs.Opens.{is_unicast}
+use Rattle.bgp_values.specs.Ranges.{is_unicast}
 use Rattle.bgp_codec.specs.AttrTable.{is_known, partial_flag}
 use Rattle.bgp_codec.specs.Updates.{raw_of, given, aggregator_raw, aggregator_octets, stands, attributes, path_octets, SegmentFits, RawFits, IsRising, AttrsFit}
 use Rattle.bgp_codec.specs.UpdateReading.{path_reading, has_code, put_raw, with_other}

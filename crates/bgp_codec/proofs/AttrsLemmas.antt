@@ -9,7 +9,7 @@ use Rattle.bgp_codec.specs.declared.attributes.Attrs.{Attrs}
 use Rattle.bgp_codec.specs.declared.attributes.Raw.{Raw}
 use Rattle.bgp_codec.specs.Reading.{◌>>=◌, all_in}
 use Rattle.bgp_codec.specs.Spelling.{IsOctets}
-use Rattle.bgp_codec.specs.Opens.{is_unicast}
+use Rattle.bgp_values.specs.Ranges.{is_unicast}
 use Rattle.bgp_codec.specs.AttrTable.{is_known, flags_fit, size_fits}
 use Rattle.bgp_codec.specs.Updates.{attr_octets, raw_octets, attributes, attrs_octets, SpellsEach, SpellsAttr, SpellsAttrs, AttrsFit}
 use Rattle.bgp_codec.specs.UpdateReading.{segment_at, path_reading, address_at, head_size, value_size, attr_at, no_attrs, has_code, with_value, with_attr, attrs_in, attrs_from, attrs_reading}

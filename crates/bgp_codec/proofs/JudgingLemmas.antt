@@ -8,7 +8,7 @@ use Rattle.bgp_codec.specs.declared.open.Cap.{Cap}
 use Rattle.bgp_codec.specs.Opens.{value_at, cap_of, cap_at, caps_reading, param_at, open_fault}
 use Rattle.bgp_codec.specs.Reading.{◌>>=◌, Reader, all_of, Fails, Judged, IsNoWant}
 use Rattle.bgp_codec.specs.declared.attributes.Attrs.{Attrs}
-use Rattle.bgp_codec.specs.Opens.{is_unicast}
+use Rattle.bgp_values.specs.Ranges.{is_unicast}
 use Rattle.bgp_codec.specs.AttrTable.{high_flags, is_known}
 use Rattle.bgp_codec.specs.Updates.{raw_of}
 use Rattle.bgp_codec.specs.UpdateReading.{address_at, aggregator_of, attr_at, with_origin, with_aggregator, with_next_hop, with_other, has_code, put_raw, with_attr, attrs_from}

@@ -2,7 +2,8 @@
 use Rattle.std.proofs.Common.{ℕ, ◌+◌, List, [], ◌∷◌, length, drop, arith}
 use Rattle.std.specs.Prelude.{nat_lt, ◌==◌, not, slice_index}
 use Rattle.bgp_codec.specs.declared.rule.Rule.{Rule}
-use Rattle.bgp_codec.specs.Opens.{value_at, cap_at, caps_reading, param_at, params_reading, open_reading, is_peer, is_hold_time, is_unicast, asn_field, hold_field, id_field}
+use Rattle.bgp_codec.specs.Opens.{value_at, cap_at, caps_reading, param_at, params_reading, open_reading, is_peer, asn_field, hold_field, id_field}
+use Rattle.bgp_values.specs.Ranges.{is_hold_time, is_unicast}
 use Rattle.bgp_codec.proofs.FaultData.{FaultsWithin, then_within, either_within}
 use Rattle.bgp_codec.proofs.EachLemmas.{each_faults}
 

@@ -11,7 +11,8 @@ use Rattle.bgp_codec.specs.declared.open.Cap.{Cap}
 use Rattle.bgp_codec.specs.declared.open.Open.{Open}
 use Rattle.bgp_codec.specs.declared.rule.Rule.{Rule}
 use Rattle.bgp_codec.specs.Spelling.{IsOctets}
-use Rattle.bgp_codec.specs.Opens.{params_reading, open_reading, open_of, open_octets, is_peer, is_hold_time, is_unicast, asn_field, hold_field, id_field, OpenFits, SpellsOpen}
+use Rattle.bgp_codec.specs.Opens.{params_reading, open_reading, open_of, open_octets, is_peer, asn_field, hold_field, id_field, OpenFits, SpellsOpen}
+use Rattle.bgp_values.specs.Ranges.{is_hold_time, is_unicast}
 use Rattle.bgp_codec.proofs.OctetLemmas.{octets_behind, two_octets, four_octets}
 use Rattle.bgp_codec.proofs.OpenLemmas.{params_takes, params_again}
 

@@ -1,5 +1,6 @@
 -- What a frame reads as: its message, or the first fault in the order of checking (RFC 4271 section 6).
 use Rattle.std.specs.Prelude.{◌≡◌, ◌≢◌, ℕ, true, [], ◌≤◌, ◌==◌, List, length, slice_index, drop, Option, Some, None, Result, Ok, Err, if◌then◌else◌}
+use Rattle.bgp_values.specs.declared.messages.TheConstants.{MESSAGE_LIMIT, HEADER_LEN, OPEN, UPDATE, NOTIFICATION, MOST_DATA}
 use Rattle.bgp_codec.specs.declared.fault.Fault.{Fault}
 use Rattle.bgp_codec.specs.declared.fault.CodecError.{CodecError}
 use Rattle.bgp_codec.specs.declared.fault.CodecError.TheVariants as errors
@@ -23,14 +24,14 @@ read_as make (Err first) = Err first
 -- what the body of a frame of this type reads as
 abbrev pub body_reading : Rule → ℕ → List ℕ → Result Message Fault
 body_reading rule kind body =
-    if kind == 1 then read_as OpenMsg (open_reading rule body)
-    else if kind == 2 then read_as UpdateMsg (update_reading rule.peer body)
-    else if kind == 3 then Ok (notice_reading body)
+    if kind == OPEN then read_as OpenMsg (open_reading rule body)
+    else if kind == UPDATE then read_as UpdateMsg (update_reading rule.peer body)
+    else if kind == NOTIFICATION then Ok (notice_reading body)
     else Ok AliveMsg
 
 -- what a frame reads as: its message, or its first fault
 unfoldable pub reading : Rule → List ℕ → Result Message Fault
-reading rule octets = body_reading rule (kind_field octets) (drop 19 octets)
+reading rule octets = body_reading rule (kind_field octets) (drop HEADER_LEN octets)
 
 -- the fault, where there is one
 abbrev pub fault_in : Result Message Fault → Option Fault
@@ -41,7 +42,7 @@ abbrev pub or_else : Option Fault → Option Fault → Option Fault
 or_else None other = other
 or_else (Some first) other = Some first
 
--- the first failing check of nineteen octets or more: the header's, then the body's
+-- the first failing check of the octets of a header or more: the header's, then the body's
 abbrev pub fault : Rule → List ℕ → Option Fault
 fault rule octets = or_else (header_fault octets) (fault_in (reading rule octets))
 
@@ -60,15 +61,15 @@ OneMessageOrFault = (rule : Rule) (octets : List ℕ) → IsOctets octets → Is
 
 -- the data of a frame's fault fits the NOTIFICATION that tells of it
 abbrev pub FaultFitsAMessage : Type 0
-FaultFitsAMessage = (rule : Rule) (octets : List ℕ) (first : Fault) → IsFrame octets → fault rule octets ≡ Some first → length first.extra ≤ 4075
+FaultFitsAMessage = (rule : Rule) (octets : List ℕ) (first : Fault) → IsFrame octets → fault rule octets ≡ Some first → length first.extra ≤ MOST_DATA
 
 -- what is written is spelt so
 abbrev pub WrittenIsSpelt : Type 0
-WrittenIsSpelt = (rule : Rule) (message : Message) → rule.peer ≡ None → IsWritable rule message → length (written message) ≤ 4096 → Spells rule (written message) message
+WrittenIsSpelt = (rule : Rule) (message : Message) → rule.peer ≡ None → IsWritable rule message → length (written message) ≤ MESSAGE_LIMIT → Spells rule (written message) message
 
 -- and reads as the message
 abbrev pub WrittenIsRead : Type 0
-WrittenIsRead = (rule : Rule) (message : Message) → rule.peer ≡ None → IsWritable rule message → length (written message) ≤ 4096
+WrittenIsRead = (rule : Rule) (message : Message) → rule.peer ≡ None → IsWritable rule message → length (written message) ≤ MESSAGE_LIMIT
     → IsFrame (written message) × (reading rule (written message) ≡ Ok message)
 
 -- the message is one of the peer that the rule names, where it names one: its OPEN has that number, and its paths begin with it
@@ -80,7 +81,7 @@ IsFrom rule AliveMsg = Unit {0}
 
 -- so does what a peer writes, under a rule that names it
 abbrev pub PeersWritingIsRead : Type 0
-PeersWritingIsRead = (rule : Rule) (message : Message) → IsFrom rule message → IsWritable rule message → length (written message) ≤ 4096
+PeersWritingIsRead = (rule : Rule) (message : Message) → IsFrom rule message → IsWritable rule message → length (written message) ≤ MESSAGE_LIMIT
     → IsFrame (written message) × (reading rule (written message) ≡ Ok message)
 
 -- what is spelt is writable, and what is written is no longer

@@ -2,9 +2,10 @@
 use Rattle.std.specs.Prelude.{◌≡◌, ℕ, ◌≤◌, nat_le, nat_eq, ◌==◌, ◌&&◌, Bool, not, List, [], ◌∷◌, length, take, slice_index, Option, Some, None, if◌then◌else◌}
 use Rattle.std.specs.List.{starts_with}
 use Rattle.std.specs.Int.{w16, from_be_bytes}
+use Rattle.bgp_values.specs.declared.messages.TheConstants.{HEADER_LEN, MESSAGE_LIMIT, LEAST_OPEN, LEAST_UPDATE, LEAST_NOTIFICATION, OPEN, UPDATE, NOTIFICATION, KEEPALIVE}
 use Rattle.marker_lanes.specs.Marker.{marker}
 use Rattle.bgp_codec.specs.declared.fault.Fault.{Fault}
-use Rattle.bgp_codec.specs.declared.fault.TheConstants.{MESSAGE_HEADER_ERROR, CONNECTION_NOT_SYNCHRONIZED, BAD_MESSAGE_LENGTH, BAD_MESSAGE_TYPE}
+use Rattle.bgp_values.specs.declared.faults.TheConstants.{MESSAGE_HEADER_ERROR, CONNECTION_NOT_SYNCHRONIZED, BAD_MESSAGE_LENGTH, BAD_MESSAGE_TYPE}
 
 -- a fault with its code, subcode and data
 abbrev pub fault_of : ℕ → ℕ → List ℕ → Fault
@@ -26,18 +27,18 @@ abbrev pub kind_field : List ℕ → ℕ
 kind_field octets = slice_index octets 18
 
 abbrev pub is_message_len : ℕ → Bool
-is_message_len len = nat_le 19 len && nat_le len 4096
+is_message_len len = nat_le HEADER_LEN len && nat_le len MESSAGE_LIMIT
 
 abbrev pub is_kind : ℕ → Bool
-is_kind kind = nat_le 1 kind && nat_le kind 4
+is_kind kind = nat_le OPEN kind && nat_le kind KEEPALIVE
 
--- which lengths a type may have: OPEN 29 or more, UPDATE 23 or more, NOTIFICATION 21 or more, KEEPALIVE 19
+-- which lengths a type may have: the least of its messages or more, and of a KEEPALIVE a header alone
 abbrev pub length_fits : ℕ → ℕ → Bool
 length_fits kind len =
-    if kind == 1 then nat_le 29 len
-    else if kind == 2 then nat_le 23 len
-    else if kind == 3 then nat_le 21 len
-    else len == 19
+    if kind == OPEN then nat_le LEAST_OPEN len
+    else if kind == UPDATE then nat_le LEAST_UPDATE len
+    else if kind == NOTIFICATION then nat_le LEAST_NOTIFICATION len
+    else len == HEADER_LEN
 
 -- the first check that fails in a header of nineteen octets, whatever stands behind it
 unfoldable pub header_fault : List ℕ → Option Fault
@@ -50,18 +51,18 @@ header_fault octets =
 
 -- a frame: the octets of one message whose header is good, and whose Length is their number
 pub record IsFrame (octets : List ℕ) : Type 0 where
-  pub has_header : 19 ≤ length octets
+  pub has_header : HEADER_LEN ≤ length octets
   pub good : header_fault octets ≡ None
   pub whole : length octets ≡ length_field octets
 
--- the checks of a header and its Length look at the first nineteen octets alone, and a good Length is 19 to 4096
+-- the checks of a header and its Length look at the first nineteen octets alone, and a good Length is that of a header to that of the longest message
 pub record IsItsFront (n : ℕ) (octets : List ℕ) : Type 0 where
   pub same_fault : header_fault (take n octets) ≡ header_fault octets
   pub same_length : length_field (take n octets) ≡ length_field octets
-  pub bounds : header_fault octets ≡ None → (19 ≤ length_field octets) × (length_field octets ≤ 4096)
+  pub bounds : header_fault octets ≡ None → (HEADER_LEN ≤ length_field octets) × (length_field octets ≤ MESSAGE_LIMIT)
 
 abbrev pub HeaderIsItsFront : Type 0
-HeaderIsItsFront = (n : ℕ) (octets : List ℕ) → 19 ≤ n → IsItsFront n octets
+HeaderIsItsFront = (n : ℕ) (octets : List ℕ) → HEADER_LEN ≤ n → IsItsFront n octets
 
 -- the data of a header's fault has at most two octets
 abbrev pub HeaderFaultIsShort : Type 0

@@ -1,9 +1,11 @@
 -- OPEN: its parts, how they are spelt, and its first fault (RFC 4271 sections 4.2 and 6.2, RFC 5492 section 4).
-use Rattle.std.specs.Prelude.{◌≡◌, ℕ, ◌+◌, ◌^◌, ◌/◌, ◌<◌, nat_lt, nat_le, ◌==◌, ◌||◌, ◌&&◌, not, Bool, true, List, [], ◌∷◌, ◌++◌, length, take, drop, slice_index, Option, Some, None, Result, Ok, Err, if◌then◌else◌}
+use Rattle.std.specs.Prelude.{◌≡◌, ℕ, ◌+◌, ◌^◌, ◌<◌, nat_lt, ◌==◌, not, Bool, true, List, [], ◌∷◌, ◌++◌, length, take, drop, slice_index, Option, Some, None, Result, Ok, Err, if◌then◌else◌}
 use Rattle.std.specs.List.{flat_map, AllByRecursion}
 use Rattle.std.specs.Int.{w16, w32, to_be_bytes, from_be_bytes}
+use Rattle.bgp_values.specs.declared.messages.TheConstants.{VERSION, CAPABILITIES}
 use Rattle.bgp_codec.specs.declared.fault.Fault.{Fault}
-use Rattle.bgp_codec.specs.declared.fault.TheConstants.{OPEN_MESSAGE_ERROR, UNSUPPORTED_VERSION_NUMBER, OPEN_UNSPECIFIC, BAD_PEER_AS, BAD_BGP_IDENTIFIER, UNSUPPORTED_OPTIONAL_PARAMETER, UNACCEPTABLE_HOLD_TIME}
+use Rattle.bgp_values.specs.declared.faults.TheConstants.{OPEN_MESSAGE_ERROR, UNSUPPORTED_VERSION_NUMBER, UNSPECIFIC, BAD_PEER_AS, BAD_BGP_IDENTIFIER, UNSUPPORTED_OPTIONAL_PARAMETER, UNACCEPTABLE_HOLD_TIME}
+use Rattle.bgp_values.specs.Ranges.{is_hold_time, is_unicast}
 use Rattle.bgp_codec.specs.declared.open.Cap.{Cap}
 use Rattle.bgp_codec.specs.declared.open.Open.{Open}
 use Rattle.bgp_codec.specs.declared.rule.Rule.{Rule}
@@ -20,26 +22,19 @@ short_string octets = length octets ∷ octets
 abbrev pub cap_octets : Cap → List ℕ
 cap_octets cap = cap.code ∷ short_string cap.value
 
--- a parameter of kind 2: its capabilities
+-- a parameter of capabilities: these capabilities
 abbrev pub param_octets : List Cap → List ℕ
-param_octets caps = 2 ∷ short_string (flat_map cap_octets caps)
+param_octets caps = CAPABILITIES ∷ short_string (flat_map cap_octets caps)
 
--- version 4, AS, hold time, identifier, parameters
+-- the version, AS, hold time, identifier, parameters
 abbrev pub open_octets : Open → List ℕ
-open_octets o = 4 ∷ (to_be_bytes w16 o.asn ++ (to_be_bytes w16 o.hold ++ (to_be_bytes w32 o.id ++ short_string (flat_map param_octets o.params))))
+open_octets o = VERSION ∷ (to_be_bytes w16 o.asn ++ (to_be_bytes w16 o.hold ++ (to_be_bytes w32 o.id ++ short_string (flat_map param_octets o.params))))
 
 abbrev pub CapFits : Cap → Type 0
 CapFits cap = length cap.value < 256
 
 abbrev pub ParamFits : List Cap → Type 0
 ParamFits caps = AllByRecursion CapFits caps × (length (flat_map cap_octets caps) < 256)
-
-abbrev pub is_hold_time : ℕ → Bool
-is_hold_time hold = (hold == 0) || nat_le 3 hold
-
--- an address whose first octet is 1 to 223
-abbrev pub is_unicast : ℕ → Bool
-is_unicast address = nat_le 1 (address / 2 ^ 24) && nat_le (address / 2 ^ 24) 223
 
 -- the fields are those that may be read
 pub record OpenFits (o : Open) : Type 0 where
@@ -70,9 +65,9 @@ open_fault sub = fault_of OPEN_MESSAGE_ERROR sub []
 
 -- a value in front, its length at 1 and its octets from 2, and what follows it
 abbrev pub value_at : List ℕ → Result (List ℕ × List ℕ) Fault
-value_at [] = Err (open_fault OPEN_UNSPECIFIC)
-value_at (kind ∷ []) = Err (open_fault OPEN_UNSPECIFIC)
-value_at (kind ∷ len ∷ rest) = if nat_lt (length rest) len then Err (open_fault OPEN_UNSPECIFIC) else Ok (take len rest, drop len rest)
+value_at [] = Err (open_fault UNSPECIFIC)
+value_at (kind ∷ []) = Err (open_fault UNSPECIFIC)
+value_at (kind ∷ len ∷ rest) = if nat_lt (length rest) len then Err (open_fault UNSPECIFIC) else Ok (take len rest, drop len rest)
 
 abbrev pub cap_of : ℕ → List ℕ → Cap
 cap_of code value = record { code = code; value = value }
@@ -84,9 +79,9 @@ cap_at octets = value_at octets >>= λ v. Ok (cap_of (slice_index octets 0) v.0,
 abbrev pub caps_reading : List ℕ → Result (List Cap) Fault
 caps_reading octets = all_of cap_at octets
 
--- a parameter in front: its value is inside, its kind is 2, its capabilities fill it
+-- a parameter in front: its value is inside, its kind is that of capabilities, which fill it
 abbrev pub param_at : Reader (List Cap)
-param_at octets = value_at octets >>= λ v. if not (slice_index octets 0 == 2) then Err (open_fault UNSUPPORTED_OPTIONAL_PARAMETER) else (caps_reading v.0 >>= λ caps. Ok (caps, v.1))
+param_at octets = value_at octets >>= λ v. if not (slice_index octets 0 == CAPABILITIES) then Err (open_fault UNSUPPORTED_OPTIONAL_PARAMETER) else (caps_reading v.0 >>= λ caps. Ok (caps, v.1))
 
 abbrev pub params_reading : List ℕ → Result (List (List Cap)) Fault
 params_reading octets = all_of param_at octets
@@ -111,9 +106,9 @@ open_behind body octets = params_reading octets >>= λ params. Ok (open_of body 
 -- version, AS, hold time, identifier, that the parameters fill the rest, then the parameters
 unfoldable pub open_reading : Rule → List ℕ → Result Open Fault
 open_reading rule body =
-    if not (slice_index body 0 == 4) then Err (fault_of OPEN_MESSAGE_ERROR UNSUPPORTED_VERSION_NUMBER (0 ∷ 4 ∷ []))
+    if not (slice_index body 0 == VERSION) then Err (fault_of OPEN_MESSAGE_ERROR UNSUPPORTED_VERSION_NUMBER (0 ∷ VERSION ∷ []))
     else if not (is_peer rule.peer (asn_field body)) then Err (open_fault BAD_PEER_AS)
     else if not (is_hold_time (hold_field body)) then Err (open_fault UNACCEPTABLE_HOLD_TIME)
     else if not (is_unicast (id_field body)) then Err (open_fault BAD_BGP_IDENTIFIER)
-    else if not (length body == 10 + slice_index body 9) then Err (open_fault OPEN_UNSPECIFIC)
+    else if not (length body == 10 + slice_index body 9) then Err (open_fault UNSPECIFIC)
     else open_behind body (drop 10 body)

@@ -1,6 +1,8 @@
 -- How each message is spelt (RFC 4271 section 4), and the one spelling that is written.
 use Rattle.std.specs.Prelude.{◌≡◌, ℕ, ◌+◌, ◌≤◌, ◌<◌, ◌⊎◌, List, [], ◌∷◌, ◌++◌, length, slice_index}
 use Rattle.std.specs.Int.{w16, to_be_bytes}
+use Rattle.bgp_values.specs.declared.messages.TheConstants.{HEADER_LEN, MESSAGE_LIMIT, OPEN, UPDATE, NOTIFICATION, KEEPALIVE}
+use Rattle.bgp_values.specs.declared.ranges.TheConstants.{LEAST_HOLD}
 use Rattle.marker_lanes.specs.Marker.{marker}
 use Rattle.bgp_codec.specs.declared.message.Message.{Message}
 use Rattle.bgp_codec.specs.declared.message.Message.TheVariants.{OpenMsg, UpdateMsg, NoticeMsg, AliveMsg}
@@ -16,7 +18,7 @@ IsOctets octets = (i : ℕ) → slice_index octets i < 256
 
 -- section 4.1: the Marker, the length of the whole message in two octets, the type
 unfoldable pub header_of : ℕ → ℕ → List ℕ
-header_of kind body_len = marker ++ to_be_bytes w16 (19 + body_len) ++ kind ∷ []
+header_of kind body_len = marker ++ to_be_bytes w16 (HEADER_LEN + body_len) ++ kind ∷ []
 
 -- a header, and the body
 unfoldable pub framed : ℕ → List ℕ → List ℕ
@@ -24,10 +26,10 @@ framed kind body = header_of kind (length body) ++ body
 
 -- the type of a message
 abbrev pub kind_of : Message → ℕ
-kind_of (OpenMsg message) = 1
-kind_of (UpdateMsg message) = 2
-kind_of (NoticeMsg notice) = 3
-kind_of AliveMsg = 4
+kind_of (OpenMsg message) = OPEN
+kind_of (UpdateMsg message) = UPDATE
+kind_of (NoticeMsg notice) = NOTIFICATION
+kind_of AliveMsg = KEEPALIVE
 
 -- section 4.5: the error code, the error subcode, the data
 abbrev pub notice_octets : Notice → List ℕ
@@ -40,11 +42,11 @@ SpellsBody rule body (UpdateMsg message) = SpellsUpdate rule.peer body message
 SpellsBody rule body (NoticeMsg notice) = body ≡ notice_octets notice
 SpellsBody rule body AliveMsg = body ≡ []
 
--- these octets spell the message, under the rule: a header and a body of it, at most 4096 octets in all
+-- these octets spell the message, under the rule: a header and a body of it, no more octets in all than a message may have
 pub record Spells (rule : Rule) (octets : List ℕ) (message : Message) : Type 0 where
   pub body : List ℕ
   pub spelt : SpellsBody rule body message
-  pub fits : 19 + length body ≤ 4096
+  pub fits : HEADER_LEN + length body ≤ MESSAGE_LIMIT
   pub whole : octets ≡ framed (kind_of message) body
 
 -- each field is one that can be read, and each part fits its own length field
@@ -67,8 +69,8 @@ written message = framed (kind_of message) (written_body message)
 
 -- what is written has the nineteen octets of a header, and those of its body
 abbrev pub WrittenHasAHeader : Type 0
-WrittenHasAHeader = (message : Message) → length (written message) ≡ 19 + length (written_body message)
+WrittenHasAHeader = (message : Message) → length (written message) ≡ HEADER_LEN + length (written_body message)
 
--- section 4.2: the hold time of an OPEN that is writable is 0, or 3 seconds and more
+-- section 4.2: the hold time of an OPEN that is writable is 0, or no less than the least one
 abbrev pub OpenHasAHoldTime : Type 0
-OpenHasAHoldTime = (rule : Rule) (message : Open) → IsWritable rule (OpenMsg message) → (message.hold ≡ 0) ⊎ (3 ≤ message.hold)
+OpenHasAHoldTime = (rule : Rule) (message : Open) → IsWritable rule (OpenMsg message) → (message.hold ≡ 0) ⊎ (LEAST_HOLD ≤ message.hold)

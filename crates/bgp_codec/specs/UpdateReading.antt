@@ -4,7 +4,7 @@ use Rattle.std.specs.List.{list_any}
 use Rattle.std.specs.Int.{w16, w32, from_be_bytes}
 use Rattle.prefix_lanes.specs.Bits.{PrefixView, masked}
 use Rattle.bgp_codec.specs.declared.fault.Fault.{Fault}
-use Rattle.bgp_codec.specs.declared.fault.TheConstants.{UPDATE_MESSAGE_ERROR, MALFORMED_ATTRIBUTE_LIST, UNRECOGNIZED_WELL_KNOWN_ATTRIBUTE, MISSING_WELL_KNOWN_ATTRIBUTE, ATTRIBUTE_FLAGS_ERROR, ATTRIBUTE_LENGTH_ERROR, INVALID_ORIGIN_ATTRIBUTE, INVALID_NEXT_HOP_ATTRIBUTE, INVALID_NETWORK_FIELD, MALFORMED_AS_PATH}
+use Rattle.bgp_values.specs.declared.faults.TheConstants.{UPDATE_MESSAGE_ERROR, MALFORMED_ATTRIBUTE_LIST, UNRECOGNIZED_WELL_KNOWN_ATTRIBUTE, MISSING_WELL_KNOWN_ATTRIBUTE, ATTRIBUTE_FLAGS_ERROR, ATTRIBUTE_LENGTH_ERROR, INVALID_ORIGIN_ATTRIBUTE, INVALID_NEXT_HOP_ATTRIBUTE, INVALID_NETWORK_FIELD, MALFORMED_AS_PATH}
 use Rattle.bgp_codec.specs.declared.path.Segment.{Segment}
 use Rattle.bgp_codec.specs.declared.path.SegmentKind.{SegmentKind}
 use Rattle.bgp_codec.specs.declared.path.SegmentKind.TheVariants.{AsSet, AsSequence}
@@ -14,8 +14,9 @@ use Rattle.bgp_codec.specs.declared.attributes.Raw.{Raw}
 use Rattle.bgp_codec.specs.declared.update.Update.{Update}
 use Rattle.bgp_codec.specs.Header.{fault_of}
 use Rattle.bgp_codec.specs.Reading.{◌>>=◌, Reader, all_of}
-use Rattle.bgp_codec.specs.Opens.{is_unicast}
-use Rattle.bgp_codec.specs.AttrTable.{origin_code, path_code, next_hop_code, med_code, local_pref_code, atomic_code, aggregator_code, high_flags, optional_flag, is_known, is_partial, flags_fit, size_fits}
+use Rattle.bgp_values.specs.Ranges.{is_unicast}
+use Rattle.bgp_codec.specs.AttrTable.{high_flags, is_known, is_partial, flags_fit, size_fits}
+use Rattle.bgp_values.specs.declared.attributes.TheConstants.{EXTENDED, ORIGIN, AS_PATH, NEXT_HOP, MULTI_EXIT_DISC, LOCAL_PREF, ATOMIC_AGGREGATE, AGGREGATOR, OPTIONAL, INCOMPLETE}
 use Rattle.bgp_codec.specs.Updates.{octet_count, segment_code, raw_of, missing, is_from}
 
 -- a fault of an UPDATE without data
@@ -73,7 +74,7 @@ path_reading octets = all_of segment_at octets
 
 -- whether Extended Length is set
 abbrev pub is_extended : ℕ → Bool
-is_extended flags = flags / 16 % 2 == 1
+is_extended flags = flags / EXTENDED % 2 == 1
 
 -- how many octets stand before an attribute's value, and how many the value has
 abbrev pub head_size : List ℕ → ℕ
@@ -120,13 +121,13 @@ with_other a rs = record a { other = rs }
 -- whether an attribute of this code is there
 abbrev pub has_code : Attrs → ℕ → Bool
 has_code a code =
-    if code == origin_code then is_some a.origin
-    else if code == path_code then is_some a.path
-    else if code == next_hop_code then is_some a.next_hop
-    else if code == med_code then is_some a.med
-    else if code == local_pref_code then is_some a.local_pref
-    else if code == atomic_code then a.atomic
-    else if code == aggregator_code then is_some a.aggregator
+    if code == ORIGIN then is_some a.origin
+    else if code == AS_PATH then is_some a.path
+    else if code == NEXT_HOP then is_some a.next_hop
+    else if code == MULTI_EXIT_DISC then is_some a.med
+    else if code == LOCAL_PREF then is_some a.local_pref
+    else if code == ATOMIC_AGGREGATE then a.atomic
+    else if code == AGGREGATOR then is_some a.aggregator
     else list_any (λ r. r.code == code) a.other
 
 -- before the first of a greater code
@@ -141,19 +142,19 @@ aggregator_of value flags = record { asn = number_at value 0; addr = address_at 
 abbrev pub with_value : Attrs → List ℕ → List ℕ → Result Attrs Fault
 with_value a attr value =
     let code = slice_index attr 1 in
-    if code == origin_code then (if nat_lt 2 (slice_index value 0) then Err (attr_fault INVALID_ORIGIN_ATTRIBUTE attr) else Ok (with_origin a (slice_index value 0)))
-    else if code == path_code then (path_reading value >>= λ p. Ok (with_path a p))
-    else if code == next_hop_code then (if is_unicast (address_at value 0) then Ok (with_next_hop a (address_at value 0)) else Err (attr_fault INVALID_NEXT_HOP_ATTRIBUTE attr))
-    else if code == med_code then Ok (with_med a (address_at value 0))
-    else if code == local_pref_code then Ok (with_local_pref a (address_at value 0))
-    else if code == atomic_code then Ok (with_atomic a)
+    if code == ORIGIN then (if nat_lt INCOMPLETE (slice_index value 0) then Err (attr_fault INVALID_ORIGIN_ATTRIBUTE attr) else Ok (with_origin a (slice_index value 0)))
+    else if code == AS_PATH then (path_reading value >>= λ p. Ok (with_path a p))
+    else if code == NEXT_HOP then (if is_unicast (address_at value 0) then Ok (with_next_hop a (address_at value 0)) else Err (attr_fault INVALID_NEXT_HOP_ATTRIBUTE attr))
+    else if code == MULTI_EXIT_DISC then Ok (with_med a (address_at value 0))
+    else if code == LOCAL_PREF then Ok (with_local_pref a (address_at value 0))
+    else if code == ATOMIC_AGGREGATE then Ok (with_atomic a)
     else Ok (with_aggregator a (aggregator_of value (slice_index attr 0)))
 
 -- an attribute of an unknown code, which has to be optional
 abbrev pub other_reading : Attrs → List ℕ → List ℕ → Result Attrs Fault
 other_reading a attr value =
     let flags = slice_index attr 0 in
-    if nat_lt flags optional_flag then Err (attr_fault UNRECOGNIZED_WELL_KNOWN_ATTRIBUTE attr) else Ok (with_other a (put_raw (raw_of (high_flags flags) (slice_index attr 1) value) a.other))
+    if nat_lt flags OPTIONAL then Err (attr_fault UNRECOGNIZED_WELL_KNOWN_ATTRIBUTE attr) else Ok (with_other a (put_raw (raw_of (high_flags flags) (slice_index attr 1) value) a.other))
 
 -- one attribute more: no repeat of a code, an unknown one is optional, the flags, the length and the value by the table
 abbrev pub with_attr : Attrs → List ℕ → List ℕ → Result Attrs Fault

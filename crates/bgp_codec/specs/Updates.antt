@@ -11,8 +11,10 @@ use Rattle.bgp_codec.specs.declared.attributes.Aggregator.{Aggregator}
 use Rattle.bgp_codec.specs.declared.attributes.Attrs.{Attrs}
 use Rattle.bgp_codec.specs.declared.attributes.Raw.{Raw}
 use Rattle.bgp_codec.specs.declared.update.Update.{Update}
-use Rattle.bgp_codec.specs.Opens.{short_string, is_unicast}
-use Rattle.bgp_codec.specs.AttrTable.{origin_code, path_code, next_hop_code, med_code, local_pref_code, atomic_code, aggregator_code, transitive_flag, high_flags, optional_flag, is_known, flags_of, partial_flag}
+use Rattle.bgp_codec.specs.Opens.{short_string}
+use Rattle.bgp_values.specs.Ranges.{is_unicast}
+use Rattle.bgp_codec.specs.AttrTable.{high_flags, is_known, flags_of, partial_flag}
+use Rattle.bgp_values.specs.declared.attributes.TheConstants.{AS_SET, AS_SEQUENCE, EXTENDED, ORIGIN, AS_PATH, NEXT_HOP, MULTI_EXIT_DISC, LOCAL_PREF, ATOMIC_AGGREGATE, AGGREGATOR, TRANSITIVE, OPTIONAL, INCOMPLETE}
 
 -- two octets of length, and that many octets
 abbrev pub long_string : List ℕ → List ℕ
@@ -40,8 +42,8 @@ pub record SpellsPrefix (octets : List ℕ) (p : PrefixView) : Type 0 where
   pub whole : octets ≡ p.len ∷ body
 
 abbrev pub segment_code : SegmentKind → ℕ
-segment_code AsSet = 1
-segment_code AsSequence = 2
+segment_code AsSet = AS_SET
+segment_code AsSequence = AS_SEQUENCE
 
 -- a segment of a path: its type, the count of its numbers, the numbers
 abbrev pub segment_octets : Segment → List ℕ
@@ -62,7 +64,7 @@ given flags code (Some value) = raw_of flags code value ∷ []
 
 abbrev pub aggregator_raw : Option Aggregator → List Raw
 aggregator_raw None = []
-aggregator_raw (Some g) = raw_of (flags_of aggregator_code + partial_flag g.partial) aggregator_code (aggregator_octets g) ∷ []
+aggregator_raw (Some g) = raw_of (flags_of AGGREGATOR + partial_flag g.partial) AGGREGATOR (aggregator_octets g) ∷ []
 
 -- an unknown code below all known ones, or above them
 abbrev pub stands : Bool → Raw → Bool
@@ -73,18 +75,18 @@ stands false r = not (r.code == 0)
 abbrev pub attributes : Attrs → List Raw
 attributes a =
     filter (stands true) a.other
-    ++ (given transitive_flag origin_code (option_map (λ o. o ∷ []) a.origin)
-    ++ (given transitive_flag path_code (option_map path_octets a.path)
-    ++ (given transitive_flag next_hop_code (option_map (to_be_bytes w32) a.next_hop)
-    ++ (given optional_flag med_code (option_map (to_be_bytes w32) a.med)
-    ++ (given transitive_flag local_pref_code (option_map (to_be_bytes w32) a.local_pref)
-    ++ (given transitive_flag atomic_code (if a.atomic then Some [] else None)
+    ++ (given TRANSITIVE ORIGIN (option_map (λ o. o ∷ []) a.origin)
+    ++ (given TRANSITIVE AS_PATH (option_map path_octets a.path)
+    ++ (given TRANSITIVE NEXT_HOP (option_map (to_be_bytes w32) a.next_hop)
+    ++ (given OPTIONAL MULTI_EXIT_DISC (option_map (to_be_bytes w32) a.med)
+    ++ (given TRANSITIVE LOCAL_PREF (option_map (to_be_bytes w32) a.local_pref)
+    ++ (given TRANSITIVE ATOMIC_AGGREGATE (if a.atomic then Some [] else None)
     ++ (aggregator_raw a.aggregator
     ++ filter (stands false) a.other)))))))
 
 -- flags, code, length in one octet or two, value
 abbrev pub attr_octets : Bool → ℕ → Raw → List ℕ
-attr_octets true low r = (r.flags + 16 + low) ∷ r.code ∷ long_string r.value
+attr_octets true low r = (r.flags + EXTENDED + low) ∷ r.code ∷ long_string r.value
 attr_octets false low r = (r.flags + low) ∷ r.code ∷ short_string r.value
 
 abbrev pub size_limit : Bool → ℕ
@@ -105,12 +107,16 @@ pub record SpellsAttrs (octets : List ℕ) (a : Attrs) : Type 0 where
   pub order : IsPermutation raws (attributes a)
   pub each : SpellsEach SpellsAttr octets raws
 
+-- each number is one of two octets
+abbrev pub AreShort : List ℕ → Type 0
+AreShort numbers = AllByRecursion (λ n. n < 2 ^ 16) numbers
+
 abbrev pub SegmentFits : Segment → Type 0
-SegmentFits s = (1 ≤ length s.numbers) × ((length s.numbers ≤ 255) × AllByRecursion (λ n. n < 2 ^ 16) s.numbers)
+SegmentFits s = (1 ≤ length s.numbers) × ((length s.numbers ≤ 255) × AreShort s.numbers)
 
 -- an attribute that the table does not know is optional
 abbrev pub RawFits : Raw → Type 0
-RawFits r = (is_known r.code ≡ false) × ((optional_flag ≤ r.flags) × (high_flags r.flags ≡ r.flags))
+RawFits r = (is_known r.code ≡ false) × ((OPTIONAL ≤ r.flags) × (high_flags r.flags ≡ r.flags))
 
 -- in rising order of code
 abbrev pub IsRising : List Raw → Type 0
@@ -119,7 +125,7 @@ IsRising (r ∷ rs) = AllByRecursion (λ s. r.code < s.code) rs × IsRising rs
 
 -- the values that attributes may have
 pub record AttrsFit (a : Attrs) : Type 0 where
-  pub origin : IfSome a.origin (λ o. o ≤ 2)
+  pub origin : IfSome a.origin (λ o. o ≤ INCOMPLETE)
   pub path : IfSome a.path (AllByRecursion SegmentFits)
   pub next_hop : IfSome a.next_hop (λ n. (n < 2 ^ 32) × (is_unicast n ≡ true))
   pub med : IfSome a.med (λ n. n < 2 ^ 32)
@@ -130,7 +136,7 @@ pub record AttrsFit (a : Attrs) : Type 0 where
 
 -- the first of ORIGIN, AS_PATH and NEXT_HOP that is not there
 abbrev pub missing : Attrs → Option ℕ
-missing a = if not (is_some a.origin) then Some origin_code else if not (is_some a.path) then Some path_code else if not (is_some a.next_hop) then Some next_hop_code else None
+missing a = if not (is_some a.origin) then Some ORIGIN else if not (is_some a.path) then Some AS_PATH else if not (is_some a.next_hop) then Some NEXT_HOP else None
 
 -- the numbers of a path, in whatever segments
 abbrev pub path_numbers : Option (List Segment) → List ℕ

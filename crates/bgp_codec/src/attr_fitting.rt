@@ -2,13 +2,14 @@
 
 ghost use Rattle.std.specs.Prelude.{◌≡◌, true, IfSome, ◌^◌, ◌≤◌, ◌<◌, ◌↔◌, IsTrue};
 ghost use Rattle.std.specs.List.{AllByRecursion};
-ghost use Rattle.bgp_codec.specs.Opens.{is_unicast};
+ghost use Rattle.bgp_values.specs.declared.attributes.TheConstants.{INCOMPLETE};
+ghost use Rattle.bgp_values.specs.Ranges.{is_unicast};
 ghost use Rattle.bgp_codec.specs.Updates.{SegmentFits, RawFits, IsRising, AttrsFit};
 
-use crate::attributes::{Aggregator, Attrs, OPTIONAL, Raw, high_flags, is_known};
+use crate::attributes::{Aggregator, Attrs, Raw, high_flags, is_known};
 use crate::items::Items;
-use crate::open::is_unicast;
 use crate::path::{Segment, path_fits};
+use bgp_values::{GREATEST_ASN, INCOMPLETE, OPTIONAL, is_unicast};
 
 // Whether these are attributes that the table does not know, with Optional and no low flag.
 fn raws_fit(raws: &[Raw]) -> bool
@@ -40,11 +41,11 @@ fn is_rising(raws: &[Raw]) -> bool
 
 // Whether an ORIGIN, where there is one, may be read.
 fn origin_fits(origin: Option<u8>) -> bool
-    ensures { IsTrue result ↔ IfSome origin (λ o. o ≤ 2) }
+    ensures { IsTrue result ↔ IfSome origin (λ o. o ≤ INCOMPLETE) }
 {
     match origin {
         None => true,
-        Some(origin) => origin <= 2,
+        Some(origin) => origin <= INCOMPLETE,
     }
 }
 
@@ -69,7 +70,7 @@ fn aggregator_fits(aggregator: Option<Aggregator>) -> bool
 {
     match aggregator {
         None => true,
-        Some(by) => by.asn <= 0xffff,
+        Some(by) => by.asn <= GREATEST_ASN,
     }
 }
 

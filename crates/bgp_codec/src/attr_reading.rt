@@ -5,25 +5,24 @@ ghost use Rattle.std.specs.Prelude.{◌≡◌, true, IfErr, insert, slice_index,
 ghost use Rattle.std.specs.List.{list_any};
 ghost use Rattle.bgp_codec.specs.Reading.{Gives, IsNoWant};
 ghost use Rattle.bgp_codec.specs.AttrTable.{is_known};
-ghost use Rattle.bgp_codec.specs.UpdateReading.{is_extended, head_size, value_size, attr_at, has_code, put_raw, with_value, with_attr, other_reading, no_attrs, attrs_reading};
+ghost use Rattle.bgp_codec.specs.UpdateReading.{is_extended, head_size, value_size, attr_at, has_code, put_raw, with_value, with_attr, other_reading, attrs_reading};
 ghost use Rattle.bgp_codec.specs.declared.attributes.Raw.{Raw};
 
 use crate::attributes::{
-    AGGREGATOR, AS_PATH, ATOMIC_AGGREGATE, Aggregator, Attrs, EXTENDED, LOCAL_PREF,
-    MULTI_EXIT_DISC, NEXT_HOP, OPTIONAL, ORIGIN, Raw, flags_fit, high_flags, is_known, is_partial,
-    size_fits,
+    Aggregator, Attrs, Raw, flags_fit, high_flags, is_known, is_partial, size_fits,
 };
-use crate::fault::{
-    ATTRIBUTE_FLAGS_ERROR, ATTRIBUTE_LENGTH_ERROR, CodecError, INVALID_NEXT_HOP_ATTRIBUTE,
-    INVALID_ORIGIN_ATTRIBUTE, MALFORMED_ATTRIBUTE_LIST, UNRECOGNIZED_WELL_KNOWN_ATTRIBUTE,
-    attr_fault, update_fault,
-};
+use crate::fault::{CodecError, attr_fault, update_fault};
 use crate::items::Items;
 use crate::numbers::{address_at, number_at, octet_at};
 use crate::octets::Octets;
-use crate::open::is_unicast;
 use crate::path::read_path;
 use crate::rule::Asn;
+use bgp_values::{
+    AGGREGATOR, AS_PATH, ATOMIC_AGGREGATE, ATTRIBUTE_FLAGS_ERROR, ATTRIBUTE_LENGTH_ERROR, EXTENDED,
+    INCOMPLETE, INVALID_NEXT_HOP_ATTRIBUTE, INVALID_ORIGIN_ATTRIBUTE, LOCAL_PREF,
+    MALFORMED_ATTRIBUTE_LIST, MULTI_EXIT_DISC, NEXT_HOP, OPTIONAL, ORIGIN,
+    UNRECOGNIZED_WELL_KNOWN_ATTRIBUTE, is_unicast,
+};
 use std::alloc::Global;
 
 // Whether an attribute has its length in two octets: the flag Extended Length.
@@ -124,7 +123,7 @@ fn add_value(alloc: Global, attrs: &mut Attrs, attr: &[u8], value: &[u8]) -> Res
     match octet_at(attr, 1) {
         ORIGIN => {
             let origin = octet_at(value, 0);
-            if origin > 2 {
+            if origin > INCOMPLETE {
                 return Err(attr_fault(alloc, INVALID_ORIGIN_ATTRIBUTE, attr));
             }
             attrs.origin = Some(origin);
@@ -173,22 +172,6 @@ fn add_attr(alloc: Global, attrs: &mut Attrs, attr: &[u8], value: &[u8]) -> Resu
     add_value(alloc, attrs, attr, value)
 }
 
-// No attribute.
-fn no_attrs(alloc: Global) -> Attrs
-    ensures { result ≡ no_attrs }
-{
-    Attrs {
-        origin: None,
-        path: None,
-        next_hop: None,
-        med: None,
-        local_pref: None,
-        atomic: false,
-        aggregator: None,
-        other: Items::new(alloc),
-    }
-}
-
 // How many attributes octets consist of that the table does not know, if they are good: what a list
 // of them has to hold.
 fn count_others(octets: &[u8]) -> usize
@@ -211,7 +194,7 @@ fn count_others(octets: &[u8]) -> usize
 pub(crate) fn read_attrs(alloc: Global, octets: &[u8]) -> Result<Attrs, CodecError>
     ensures { Gives (λ attrs. attrs) result (attrs_reading octets.now) }
 {
-    let mut attrs = no_attrs(alloc);
+    let mut attrs = Attrs::none(alloc);
     attrs.other = Items::with_room(alloc, count_others(octets))?;
     let mut left = octets;
     'attrs: while !left.is_empty() {

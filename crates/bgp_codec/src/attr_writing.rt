@@ -5,16 +5,18 @@ ghost use Rattle.std.specs.Prelude.{◌≡◌, if◌then◌else◌, ℕ, List, S
 ghost use Rattle.std.specs.Option.{option_map};
 ghost use Rattle.std.specs.Int.{w32, to_be_bytes};
 ghost use Rattle.std.specs.List.{flat_map, AllByRecursion};
-ghost use Rattle.bgp_codec.specs.AttrTable.{origin_code, path_code, atomic_code, transitive_flag, flags_of};
+ghost use Rattle.bgp_codec.specs.AttrTable.{flags_of};
+ghost use Rattle.bgp_values.specs.declared.attributes.TheConstants.{ORIGIN, AS_PATH, ATOMIC_AGGREGATE, TRANSITIVE, OPTIONAL, PARTIAL};
 ghost use Rattle.bgp_codec.specs.Updates.{SegmentFits, RawFits, AttrsFit, stands, given, raw_of, path_octets, aggregator_raw, raw_octets, attrs_octets};
 ghost use Rattle.bgp_codec.specs.declared.attributes.Raw.{Raw};
 
-use crate::attributes::{
-    AGGREGATOR, AS_PATH, ATOMIC_AGGREGATE, Aggregator, Attrs, EXTENDED, LOCAL_PREF,
-    MULTI_EXIT_DISC, NEXT_HOP, ORIGIN, PARTIAL, Raw, flags_of,
-};
+use crate::attributes::{Aggregator, Attrs, Raw, flags_of};
 use crate::items::Items;
 use crate::path::{Segment, path_len, put_path};
+use bgp_values::{
+    AGGREGATOR, AS_PATH, ATOMIC_AGGREGATE, EXTENDED, LOCAL_PREF, MULTI_EXIT_DISC, NEXT_HOP, ORIGIN,
+    PARTIAL,
+};
 
 // How many octets an attribute has that is written, with a value of so many octets, as far as a
 // `usize` counts.
@@ -55,7 +57,7 @@ fn raws_len(raws: &[Raw], before: bool) -> usize
 
 // How many octets the path has as an attribute, as far as a `usize` counts.
 fn path_attr_len(path: &Option<Items<Segment>>) -> usize
-    ensures { result ≡ min (2 ^ 64 - 1) (length (flat_map raw_octets (given transitive_flag path_code (option_map path_octets path.now)))) }
+    ensures { result ≡ min (2 ^ 64 - 1) (length (flat_map raw_octets (given TRANSITIVE AS_PATH (option_map path_octets path.now)))) }
 {
     match path {
         None => 0,
@@ -83,7 +85,7 @@ pub(crate) fn attrs_len(attrs: &Attrs) -> usize
 // Appends flags, code and length of an attribute with a value of so many octets, for which there is
 // room: Extended Length for 256 octets or more.
 fn put_head(out: &mut Vec<u8>, flags: u8, code: u8, size: usize)
-    requires flags { flags ≤ 224 }
+    requires flags { flags ≤ OPTIONAL + TRANSITIVE + PARTIAL }
     requires size { size < 2 ^ 16 }
     requires room { vec_len out.old + (if nat_le 256 size then 4 else 3) ≤ vec_capacity out.old }
     ensures items { (value : List ℕ) → length value ≡ size → out.new.items ++ value ≡ out.old.items ++ raw_octets (raw_of flags code value) }
@@ -105,7 +107,7 @@ fn put_head(out: &mut Vec<u8>, flags: u8, code: u8, size: usize)
 
 // Appends an attribute, for which there is room.
 fn put_attr(out: &mut Vec<u8>, flags: u8, code: u8, value: &[u8])
-    requires flags { flags ≤ 224 }
+    requires flags { flags ≤ OPTIONAL + TRANSITIVE + PARTIAL }
     requires size { length value.now < 2 ^ 16 }
     requires room { vec_len out.old + length (raw_octets (raw_of flags code value.now)) ≤ vec_capacity out.old }
     ensures items { out.new.items ≡ out.old.items ++ raw_octets (raw_of flags code value.now) }
@@ -132,8 +134,8 @@ fn put_raws(out: &mut Vec<u8>, raws: &[Raw], before: bool)
 
 // Appends ORIGIN where it is there, for which there is room.
 fn put_origin(out: &mut Vec<u8>, origin: Option<u8>)
-    requires room { vec_len out.old + length (flat_map raw_octets (given transitive_flag origin_code (option_map (λ o. o ∷ []) origin))) ≤ vec_capacity out.old }
-    ensures items { out.new.items ≡ out.old.items ++ flat_map raw_octets (given transitive_flag origin_code (option_map (λ o. o ∷ []) origin)) }
+    requires room { vec_len out.old + length (flat_map raw_octets (given TRANSITIVE ORIGIN (option_map (λ o. o ∷ []) origin))) ≤ vec_capacity out.old }
+    ensures items { out.new.items ≡ out.old.items ++ flat_map raw_octets (given TRANSITIVE ORIGIN (option_map (λ o. o ∷ []) origin)) }
     ensures capacity { vec_capacity out.old ≤ vec_capacity out.new }
 {
     if let Some(origin) = origin {
@@ -144,9 +146,9 @@ fn put_origin(out: &mut Vec<u8>, origin: Option<u8>)
 // Appends AS_PATH where it is there, for which there is room.
 fn put_path_attr(out: &mut Vec<u8>, path: &Option<Items<Segment>>)
     requires fit { IfSome path.now (AllByRecursion SegmentFits) }
-    requires size { length (flat_map raw_octets (given transitive_flag path_code (option_map path_octets path.now))) < 2 ^ 16 }
-    requires room { vec_len out.old + length (flat_map raw_octets (given transitive_flag path_code (option_map path_octets path.now))) ≤ vec_capacity out.old }
-    ensures items { out.new.items ≡ out.old.items ++ flat_map raw_octets (given transitive_flag path_code (option_map path_octets path.now)) }
+    requires size { length (flat_map raw_octets (given TRANSITIVE AS_PATH (option_map path_octets path.now))) < 2 ^ 16 }
+    requires room { vec_len out.old + length (flat_map raw_octets (given TRANSITIVE AS_PATH (option_map path_octets path.now))) ≤ vec_capacity out.old }
+    ensures items { out.new.items ≡ out.old.items ++ flat_map raw_octets (given TRANSITIVE AS_PATH (option_map path_octets path.now)) }
     ensures capacity { vec_capacity out.old ≤ vec_capacity out.new }
 {
     if let Some(path) = path {
@@ -168,8 +170,8 @@ fn put_number(out: &mut Vec<u8>, code: u8, number: Option<u32>)
 
 // Appends ATOMIC_AGGREGATE where it is there, for which there is room.
 fn put_atomic(out: &mut Vec<u8>, atomic: bool)
-    requires room { vec_len out.old + length (flat_map raw_octets (given transitive_flag atomic_code (if atomic then Some [] else None))) ≤ vec_capacity out.old }
-    ensures items { out.new.items ≡ out.old.items ++ flat_map raw_octets (given transitive_flag atomic_code (if atomic then Some [] else None)) }
+    requires room { vec_len out.old + length (flat_map raw_octets (given TRANSITIVE ATOMIC_AGGREGATE (if atomic then Some [] else None))) ≤ vec_capacity out.old }
+    ensures items { out.new.items ≡ out.old.items ++ flat_map raw_octets (given TRANSITIVE ATOMIC_AGGREGATE (if atomic then Some [] else None)) }
     ensures capacity { vec_capacity out.old ≤ vec_capacity out.new }
 {
     if atomic {

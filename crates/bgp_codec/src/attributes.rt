@@ -1,13 +1,18 @@
 //! The attributes of a path (RFC 4271 sections 4.3 and 5), and the table of those that are known:
-//! their codes, their flags and the sizes of their values.
+//! their flags and the sizes of their values.
 
 ghost use Rattle.std.specs.Prelude.{◌≡◌};
+ghost use Rattle.bgp_codec.specs.UpdateReading.{no_attrs};
 ghost use Rattle.bgp_codec.specs.AttrTable.{high_flags, is_known, flags_of, is_partial, flags_fit, size_fits};
 
 use crate::items::Items;
 use crate::octets::Octets;
 use crate::path::Segment;
 use crate::rule::Asn;
+use bgp_values::{
+    AGGREGATOR, AS_PATH, ATOMIC_AGGREGATE, MULTI_EXIT_DISC, OPTIONAL, ORIGIN, PARTIAL, TRANSITIVE,
+};
+use std::alloc::Global;
 
 /// Who aggregated routes (RFC 4271 section 5.1.7).
 #[derive(Clone, Copy, Debug, PartialEq, Eq)]
@@ -52,38 +57,30 @@ pub struct Attrs {
     pub other: Items<Raw>,
 }
 
+impl Attrs {
+    /// No attribute. It takes no memory.
+    pub fn none(alloc: Global) -> Attrs
+        ensures { result ≡ no_attrs }
+    {
+        Attrs {
+            origin: None,
+            path: None,
+            next_hop: None,
+            med: None,
+            local_pref: None,
+            atomic: false,
+            aggregator: None,
+            other: Items::new(alloc),
+        }
+    }
+}
+
 // ---- the table
-
-// The flag of an attribute that not every speaker has to know.
-pub(crate) const OPTIONAL: u8 = 0x80;
-
-// The flag of an attribute that is passed on also by who does not know it.
-pub(crate) const TRANSITIVE: u8 = 0x40;
-
-// The flag of an attribute that was passed on by somebody who did not know it.
-pub(crate) const PARTIAL: u8 = 0x20;
-
-// The flag of an attribute whose length has two octets.
-pub(crate) const EXTENDED: u8 = 0x10;
-
-pub(crate) const ORIGIN: u8 = 1;
-
-pub(crate) const AS_PATH: u8 = 2;
-
-pub(crate) const NEXT_HOP: u8 = 3;
-
-pub(crate) const MULTI_EXIT_DISC: u8 = 4;
-
-pub(crate) const LOCAL_PREF: u8 = 5;
-
-pub(crate) const ATOMIC_AGGREGATE: u8 = 6;
-
-pub(crate) const AGGREGATOR: u8 = 7;
 
 pub(crate) fn is_known(code: u8) -> bool
     ensures { result ≡ is_known code }
 {
-    1 <= code && code <= 7
+    ORIGIN <= code && code <= AGGREGATOR
 }
 
 // The three high flags of an octet of flags: Optional, Transitive, and Partial, the lowest of them.

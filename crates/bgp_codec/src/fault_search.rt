@@ -12,20 +12,22 @@ ghost use Rattle.bgp_codec.specs.declared.attributes.Attrs.{Attrs};
 ghost use Rattle.bgp_codec.specs.declared.path.Segment.{Segment};
 
 use crate::attr_reading::read_attr;
-use crate::attributes::{AS_PATH, NEXT_HOP, OPTIONAL, ORIGIN, flags_fit, is_known, size_fits};
-use crate::fault::{
-    ATTRIBUTE_FLAGS_ERROR, ATTRIBUTE_LENGTH_ERROR, CodecError, Fault, INVALID_NEXT_HOP_ATTRIBUTE,
-    INVALID_ORIGIN_ATTRIBUTE, MALFORMED_AS_PATH, MALFORMED_ATTRIBUTE_LIST,
-    MISSING_WELL_KNOWN_ATTRIBUTE, UNRECOGNIZED_WELL_KNOWN_ATTRIBUTE,
-    UNSUPPORTED_OPTIONAL_PARAMETER, UPDATE_MESSAGE_ERROR, attr_fault, open_fault, update_fault,
-};
+use crate::attributes::{flags_fit, is_known, size_fits};
+use crate::fault::{CodecError, Fault, attr_fault, open_fault, update_fault};
 use crate::numbers::{address_at, octet_at};
 use crate::octets::Octets;
-use crate::open::{is_unicast, params_of, read_value};
+use crate::open::{params_of, read_value};
 use crate::path::segment_parts;
 use crate::prefixes::read_prefix;
 use crate::rule::{Asn, Rule};
 use crate::update::parts_of;
+use bgp_values::{
+    AS_PATH, ATTRIBUTE_FLAGS_ERROR, ATTRIBUTE_LENGTH_ERROR, CAPABILITIES, INCOMPLETE,
+    INVALID_NEXT_HOP_ATTRIBUTE, INVALID_ORIGIN_ATTRIBUTE, MALFORMED_AS_PATH,
+    MALFORMED_ATTRIBUTE_LIST, MISSING_WELL_KNOWN_ATTRIBUTE, NEXT_HOP, OPTIONAL, ORIGIN,
+    UNRECOGNIZED_WELL_KNOWN_ATTRIBUTE, UNSUPPORTED_OPTIONAL_PARAMETER, UPDATE_MESSAGE_ERROR,
+    is_unicast,
+};
 use std::alloc::Global;
 
 // ---- OPEN
@@ -47,7 +49,7 @@ fn judge_param(alloc: Global, octets: &[u8]) -> Result<&[u8], CodecError>
     ensures { Judges (λ rest read. read.1 ≡ rest.now) result (param_at octets.now) }
 {
     let (value, rest) = read_value(alloc, octets)?;
-    if octet_at(octets, 0) != 2 {
+    if octet_at(octets, 0) != CAPABILITIES {
         return Err(open_fault(alloc, UNSUPPORTED_OPTIONAL_PARAMETER));
     }
     judge_caps(alloc, value)?;
@@ -126,7 +128,7 @@ fn judge_value(alloc: Global, attr: &[u8], value: &[u8]) -> Result<(), CodecErro
     ensures { (a : Attrs) → Passes result (with_value a attr.now value.now) }
 {
     let code = octet_at(attr, 1);
-    if code == ORIGIN && octet_at(value, 0) > 2 {
+    if code == ORIGIN && octet_at(value, 0) > INCOMPLETE {
         return Err(attr_fault(alloc, INVALID_ORIGIN_ATTRIBUTE, attr));
     }
     if code == NEXT_HOP && !is_unicast(address_at(value, 0)) {

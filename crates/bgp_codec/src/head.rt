@@ -3,39 +3,42 @@
 ghost use Rattle.std.specs.Prelude.{◌≡◌, IfOk, IfErr, Some, None};
 ghost use Rattle.bgp_codec.specs.Header.{header_fault, length_field, kind_field, length_fits, is_message_len, is_kind, begins_with_marker};
 
-use crate::fault::{
-    BAD_MESSAGE_LENGTH, BAD_MESSAGE_TYPE, CONNECTION_NOT_SYNCHRONIZED, Fault, MESSAGE_HEADER_ERROR,
-};
+use crate::fault::Fault;
 use crate::kind::Header;
 use crate::octets::Octets;
+use bgp_values::{
+    BAD_MESSAGE_LENGTH, BAD_MESSAGE_TYPE, CONNECTION_NOT_SYNCHRONIZED, HEADER_LEN, KEEPALIVE,
+    LEAST_NOTIFICATION, LEAST_OPEN, LEAST_UPDATE, MESSAGE_HEADER_ERROR, MESSAGE_LIMIT,
+    NOTIFICATION, OPEN, UPDATE,
+};
 use marker_lanes::is_marker;
 use std::alloc::Global;
 
 // Whether a message of this type may have this length.
-fn fits_kind(kind: u8, len: u16) -> bool
+fn fits_kind(kind: u8, len: usize) -> bool
     ensures { result ≡ length_fits kind len }
 {
     match kind {
-        1 => len >= 29,
-        2 => len >= 23,
-        3 => len >= 21,
-        _ => len == 19,
+        OPEN => len >= LEAST_OPEN,
+        UPDATE => len >= LEAST_UPDATE,
+        NOTIFICATION => len >= LEAST_NOTIFICATION,
+        _ => len == HEADER_LEN,
     }
 }
 
-fn is_message_len(len: u16) -> bool
+fn is_message_len(len: usize) -> bool
     ensures { result ≡ is_message_len len }
 {
-    19 <= len && len <= 4096
+    HEADER_LEN <= len && len <= MESSAGE_LIMIT
 }
 
 fn is_kind(kind: u8) -> bool
     ensures { result ≡ is_kind kind }
 {
-    1 <= kind && kind <= 4
+    OPEN <= kind && kind <= KEEPALIVE
 }
 
-fn begins_with_marker(octets: &[u8; 19]) -> bool
+fn begins_with_marker(octets: &[u8; HEADER_LEN]) -> bool
     ensures { result ≡ begins_with_marker octets.now }
 {
     let marker: &[u8; 16] = octets.first_chunk().unwrap();
@@ -45,12 +48,13 @@ fn begins_with_marker(octets: &[u8; 19]) -> bool
 /// The header of a message, or the first of its checks that fails: Marker, Length, Type, and that
 /// the length fits the type. It takes no memory.
 #[tactic(auto, unfolding(crate::specs::Header::header_fault))]
-pub fn header(alloc: Global, octets: &[u8; 19]) -> Result<Header, Fault>
+pub fn header(alloc: Global, octets: &[u8; HEADER_LEN]) -> Result<Header, Fault>
     ensures good { IfOk result (λ header. (header_fault octets.now ≡ None) × (header.len ≡ length_field octets.now) × (header.kind ≡ kind_field octets.now)) }
     ensures fault { IfErr result (λ fault. header_fault octets.now ≡ Some fault) }
 {
     let (high, low, kind) = (octets[16], octets[17], octets[18]);
-    let len = u16::from_be_bytes([high, low]);
+    let length = u16::from_be_bytes([high, low]);
+    let len = usize::from(length);
     if !begins_with_marker(octets) {
         return Err(Fault {
             code: MESSAGE_HEADER_ERROR,
@@ -79,5 +83,5 @@ pub fn header(alloc: Global, octets: &[u8; 19]) -> Result<Header, Fault>
             extra: Octets::short(alloc, &[high, low]),
         });
     }
-    Ok(Header { len, kind })
+    Ok(Header { len: length, kind })
 }

@@ -3,8 +3,8 @@
 /// What a good header says (RFC 4271 section 4.1).
 #[derive(Clone, Copy, Debug, PartialEq, Eq)]
 pub struct Header {
-    /// The length of the whole message in octets, 19 to 4096.
+    /// The length of the whole message in octets, `HEADER_LEN` to `MESSAGE_LIMIT`.
     pub len: u16,
-    /// The type: 1 OPEN, 2 UPDATE, 3 NOTIFICATION, 4 KEEPALIVE.
+    /// The type: `OPEN`, `UPDATE`, `NOTIFICATION` or `KEEPALIVE`.
     pub kind: u8,
 }

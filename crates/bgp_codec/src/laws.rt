@@ -66,7 +66,7 @@ pub fn header_fault_is_short()
     ensures { HeaderFaultIsShort }
 {}
 
-/// The NOTIFICATION of every fault of a frame fits a message: its data has at most 4075 octets.
+/// The NOTIFICATION of every fault of a frame fits a message: its data has at most `MOST_DATA` octets.
 pub fn fault_fits_a_message()
     ensures { FaultFitsAMessage }
 {}

@@ -3,16 +3,18 @@
 ghost use Rattle.std.specs.Prelude.{◌≡◌, ◌+◌, ◌-◌, ◌^◌, ◌≤◌, ◌<◌, ◌++◌, ◌∷◌, ◌↔◌, IsTrue, IfOk, IfErr, length, min, vec_len, vec_capacity};
 ghost use Rattle.std.specs.List.{flat_map, AllByRecursion};
 ghost use Rattle.bgp_codec.specs.Reading.{Gives, Judged, IsNoWant};
-ghost use Rattle.bgp_codec.specs.Opens.{cap_octets, param_octets, open_octets, asn_field, hold_field, id_field, CapFits, ParamFits, OpenFits, value_at, cap_at, caps_reading, param_at, params_reading, open_reading, open_behind, is_peer, is_hold_time, is_unicast};
+ghost use Rattle.bgp_codec.specs.Opens.{cap_octets, param_octets, open_octets, asn_field, hold_field, id_field, CapFits, ParamFits, OpenFits, value_at, cap_at, caps_reading, param_at, params_reading, open_reading, open_behind, is_peer};
 
-use crate::fault::{
-    BAD_BGP_IDENTIFIER, BAD_PEER_AS, CodecError, Fault, OPEN_MESSAGE_ERROR, OPEN_UNSPECIFIC,
-    UNACCEPTABLE_HOLD_TIME, UNSUPPORTED_OPTIONAL_PARAMETER, UNSUPPORTED_VERSION_NUMBER, open_fault,
-};
+use crate::fault::{CodecError, Fault, open_fault};
 use crate::items::Items;
 use crate::numbers::{count_values, octet_at};
 use crate::octets::Octets;
 use crate::rule::{Asn, Rule};
+use bgp_values::{
+    BAD_BGP_IDENTIFIER, BAD_PEER_AS, CAPABILITIES, OPEN_MESSAGE_ERROR, UNACCEPTABLE_HOLD_TIME,
+    UNSPECIFIC, UNSUPPORTED_OPTIONAL_PARAMETER, UNSUPPORTED_VERSION_NUMBER, VERSION, is_hold_time,
+    is_unicast,
+};
 use std::alloc::Global;
 
 /// What a speaker says that it can do (RFC 5492 section 4).
@@ -43,11 +45,11 @@ pub(crate) fn read_value(alloc: Global, octets: &[u8]) -> Result<(&[u8], &[u8]),
     ensures memory { IfErr result IsNoWant }
 {
     match octets {
-        [] | [_] => Err(open_fault(alloc, OPEN_UNSPECIFIC)),
+        [] | [_] => Err(open_fault(alloc, UNSPECIFIC)),
         [_, len, rest @ ..] => {
             let len = *len as usize;
             if rest.len() < len {
-                return Err(open_fault(alloc, OPEN_UNSPECIFIC));
+                return Err(open_fault(alloc, UNSPECIFIC));
             }
             Ok(rest.split_at(len))
         }
@@ -83,7 +85,7 @@ fn read_param(alloc: Global, octets: &[u8]) -> Result<(Items<Cap>, &[u8]), Codec
     ensures { Gives (λ read. (read.0, read.1.now)) result (param_at octets.now) }
 {
     let (value, rest) = read_value(alloc, octets)?;
-    if octet_at(octets, 0) != 2 {
+    if octet_at(octets, 0) != CAPABILITIES {
         return Err(open_fault(alloc, UNSUPPORTED_OPTIONAL_PARAMETER));
     }
     Ok((read_caps(alloc, value)?, rest))
@@ -113,19 +115,6 @@ fn is_peer(peer: Option<Asn>, asn: u16) -> bool
     }
 }
 
-fn is_hold_time(hold: u16) -> bool
-    ensures { result ≡ is_hold_time hold }
-{
-    hold == 0 || hold >= 3
-}
-
-pub(crate) fn is_unicast(address: u32) -> bool
-    ensures { result ≡ is_unicast address }
-{
-    let first = address / 0x0100_0000;
-    1 <= first && first <= 223
-}
-
 // The fields of a body before its parameters: AS at 1, hold time at 3, identifier at 5.
 fn fields_of(body: &[u8]) -> (u16, u16, u32)
     requires { 10 ≤ length body.now }
@@ -151,11 +140,11 @@ pub(crate) fn params_of<'a>(
     ensures err { IfErr result (λ error. Judged error (open_reading rule.now body.now) × IsNoWant error) }
 {
     let (asn, hold, id) = fields_of(body);
-    if body[0] != 4 {
+    if body[0] != VERSION {
         return Err(CodecError::Fault(Fault {
             code: OPEN_MESSAGE_ERROR,
             sub: UNSUPPORTED_VERSION_NUMBER,
-            extra: Octets::short(alloc, &[0, 4]),
+            extra: Octets::short(alloc, &[0, VERSION]),
         }));
     }
     if !is_peer(rule.peer, asn) {
@@ -168,7 +157,7 @@ pub(crate) fn params_of<'a>(
         return Err(open_fault(alloc, BAD_BGP_IDENTIFIER));
     }
     if body.len() != 10 + body[9] as usize {
-        return Err(open_fault(alloc, OPEN_UNSPECIFIC));
+        return Err(open_fault(alloc, UNSPECIFIC));
     }
     let (_, params) = body.split_at(10);
     Ok(params)
@@ -275,7 +264,7 @@ fn put_params(out: &mut Vec<u8>, params: &[Items<Cap>])
 {
     for caps in params {
         let caps = caps.as_slice();
-        out.push_reserved(2);
+        out.push_reserved(CAPABILITIES);
         out.push_reserved(caps_len(caps) as u8);
         put_caps(out, caps);
     }
@@ -291,7 +280,7 @@ pub(crate) fn put_open(out: &mut Vec<u8>, message: &Open)
     let [asn_high, asn_low] = message.asn.to_be_bytes();
     let [hold_high, hold_low] = message.hold.to_be_bytes();
     let params = message.params.as_slice();
-    out.push_reserved(4);
+    out.push_reserved(VERSION);
     out.push_reserved(asn_high);
     out.push_reserved(asn_low);
     out.push_reserved(hold_high);

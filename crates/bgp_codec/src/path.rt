@@ -4,13 +4,14 @@ ghost use Rattle.std.specs.Prelude.{◌≡◌, ◌+◌, ◌*◌, ◌-◌, ◌^�
 ghost use Rattle.std.specs.List.{flat_map, AllByRecursion};
 ghost use Rattle.std.specs.Int.{w16, to_be_bytes};
 ghost use Rattle.bgp_codec.specs.Reading.{Gives, IsNoWant};
-ghost use Rattle.bgp_codec.specs.Updates.{segment_code, segment_octets, path_octets, SegmentFits, begins_with};
+ghost use Rattle.bgp_codec.specs.Updates.{segment_code, segment_octets, path_octets, SegmentFits, AreShort, begins_with};
 ghost use Rattle.bgp_codec.specs.UpdateReading.{segment_at, segment_with, path_reading, numbers_of};
 
-use crate::fault::{CodecError, MALFORMED_AS_PATH, update_fault};
+use crate::fault::{CodecError, update_fault};
 use crate::items::Items;
 use crate::numbers::count_values;
 use crate::rule::Asn;
+use bgp_values::{AS_SEQUENCE, AS_SET, GREATEST_ASN, MALFORMED_AS_PATH};
 use smallvec::SmallVec;
 use std::alloc::{AllocError, Global};
 use std::marker::Model;
@@ -65,11 +66,6 @@ impl Numbers {
         self.numbers.as_slice()
     }
 }
-
-// The types of segments.
-const AS_SET: u8 = 1;
-
-const AS_SEQUENCE: u8 = 2;
 
 /// A part of a path.
 #[derive(Debug, Drop)]
@@ -158,10 +154,10 @@ pub(crate) fn begins_with(path: &[Segment], asn: Asn) -> bool
 
 // Whether each number fits two octets.
 fn numbers_fit(numbers: &[Asn]) -> bool
-    ensures { IsTrue result ↔ AllByRecursion (λ n. n < 2 ^ 16) numbers.now }
+    ensures { IsTrue result ↔ AreShort numbers.now }
 {
     for number in numbers {
-        if *number > 0xffff {
+        if *number > GREATEST_ASN {
             return false;
         }
     }
@@ -197,7 +193,7 @@ pub(crate) fn path_len(path: &[Segment]) -> usize
 
 // Appends numbers of two octets each, for which there is room.
 fn put_numbers(out: &mut Vec<u8>, numbers: &[Asn])
-    requires fit { AllByRecursion (λ n. n < 2 ^ 16) numbers.now }
+    requires fit { AreShort numbers.now }
     requires room { vec_len out.old + length (flat_map (to_be_bytes w16) numbers.now) ≤ vec_capacity out.old }
     ensures items { out.new.items ≡ out.old.items ++ flat_map (to_be_bytes w16) numbers.now }
     ensures capacity { vec_capacity out.old ≤ vec_capacity out.new }

@@ -7,8 +7,9 @@ ghost use Rattle.bgp_codec.specs.Reading.{Gives, IsNoWant};
 ghost use Rattle.bgp_codec.specs.Updates.{octet_count, prefix_octets};
 ghost use Rattle.bgp_codec.specs.UpdateReading.{address_at, prefix_at, prefixes_reading};
 
-use crate::fault::{CodecError, INVALID_NETWORK_FIELD, update_fault};
+use crate::fault::{CodecError, update_fault};
 use crate::items::Items;
+use bgp_values::INVALID_NETWORK_FIELD;
 use prefix_lanes::Prefix;
 use std::alloc::Global;
 

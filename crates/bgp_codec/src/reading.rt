@@ -1,6 +1,7 @@
 //! From octets to messages.
 
-ghost use Rattle.std.specs.Prelude.{◌≡◌, ◌⊎◌, ◌≤◌, ◌<◌, length, IsOk, IfOk, IfErr, IfSome, Err};
+ghost use Rattle.std.specs.Prelude.{◌≡◌, ◌+◌, ◌⊎◌, ◌≤◌, ◌<◌, length, IsOk, IfOk, IfErr, IfSome, Err};
+ghost use Rattle.bgp_values.specs.declared.messages.TheConstants.{KEEPALIVE, NOTIFICATION, LEAST_NOTIFICATION};
 ghost use Rattle.bgp_codec.specs.declared.message.Message.TheVariants.{OpenMsg, UpdateMsg};
 ghost use Rattle.bgp_codec.specs.Header.{IsFrame, kind_field};
 ghost use Rattle.bgp_codec.specs.Reading.{Decodes, Gives};
@@ -16,6 +17,7 @@ use crate::notice::read_notice;
 use crate::open::read_open;
 use crate::rule::{Asn, Rule};
 use crate::update::read_update;
+use bgp_values::{HEADER_LEN, NOTIFICATION, OPEN, UPDATE};
 use prefix_lanes::{a_prefix_is_its_bits, masking_clears_bits};
 use std::alloc::Global;
 
@@ -58,14 +60,14 @@ fn decode_update(alloc: Global, body: &[u8], peer: Option<Asn>) -> Result<Messag
 fn decode_by_type(alloc: Global, frame: &[u8], rule: &Rule) -> Result<Message, CodecError>
     requires { IsFrame frame.now }
     ensures decodes { Decodes result (reading rule.now frame.now) }
-    ensures alive { kind_field frame.now ≡ 4 → IsOk result }
-    ensures short { kind_field frame.now ≡ 3 → length frame.now ≤ 37 → IsOk result }
+    ensures alive { kind_field frame.now ≡ KEEPALIVE → IsOk result }
+    ensures short { kind_field frame.now ≡ NOTIFICATION → length frame.now ≤ LEAST_NOTIFICATION + 16 → IsOk result }
 {
-    let (_, body) = frame.split_at(19);
+    let (_, body) = frame.split_at(HEADER_LEN);
     match frame[18] {
-        1 => decode_open(alloc, body, rule),
-        2 => decode_update(alloc, body, rule.peer),
-        3 => read_notice(alloc, body),
+        OPEN => decode_open(alloc, body, rule),
+        UPDATE => decode_update(alloc, body, rule.peer),
+        NOTIFICATION => read_notice(alloc, body),
         _ => Ok(Message::AliveMsg),
     }
 }
@@ -89,9 +91,9 @@ pub fn decode(alloc: Global, frame: &[u8], rule: &Rule) -> Result<Message, Codec
     ensures exact { Gives (λ message. message) result (reading rule.now frame.now) }
     ensures refused { IfErr result (RefusesAs rule.now frame.now) }
     // What takes no memory is never refused for want of it: a KEEPALIVE, and a NOTIFICATION whose
-    // data have at most sixteen octets, so whose frame has at most 37.
-    ensures alive { kind_field frame.now ≡ 4 → IsOk result }
-    ensures short { kind_field frame.now ≡ 3 → length frame.now ≤ 37 → IsOk result }
+    // data have at most sixteen octets, so whose frame has at most sixteen more than the least.
+    ensures alive { kind_field frame.now ≡ KEEPALIVE → IsOk result }
+    ensures short { kind_field frame.now ≡ NOTIFICATION → length frame.now ≤ LEAST_NOTIFICATION + 16 → IsOk result }
 {
     a_prefix_is_its_bits();
     masking_clears_bits();

@@ -9,17 +9,18 @@ ghost use Rattle.std.specs.Int.{w16, to_be_bytes};
 use crate::attr_fitting::attrs_fit;
 use crate::attr_reading::read_attrs;
 use crate::attr_writing::{attrs_len, put_attrs};
-use crate::attributes::{AS_PATH, Attrs, NEXT_HOP, ORIGIN};
-use crate::fault::{
-    CodecError, Fault, MALFORMED_AS_PATH, MALFORMED_ATTRIBUTE_LIST, MISSING_WELL_KNOWN_ATTRIBUTE,
-    UPDATE_MESSAGE_ERROR, update_fault,
-};
+use crate::attributes::Attrs;
+use crate::fault::{CodecError, Fault, update_fault};
 use crate::items::Items;
 use crate::numbers::number_at;
 use crate::octets::Octets;
 use crate::path::begins_with;
 use crate::prefixes::{are_canonical, prefixes_len, put_prefixes, read_prefixes};
 use crate::rule::Asn;
+use bgp_values::{
+    AS_PATH, MALFORMED_AS_PATH, MALFORMED_ATTRIBUTE_LIST, MISSING_WELL_KNOWN_ATTRIBUTE, NEXT_HOP,
+    ORIGIN, UPDATE_MESSAGE_ERROR,
+};
 use prefix_lanes::Prefix;
 use std::alloc::Global;
 

@@ -1,6 +1,8 @@
 //! From messages to octets.
 
 ghost use Rattle.std.specs.Prelude.{◌≡◌, ◌+◌, ◌-◌, ◌^◌, min, ◌<◌, ◌≤◌, ◌∷◌, [], ◌++◌, ◌⊎◌, ◌↔◌, IfErr, OnOk, OnErr, IsErrOf, IsOk, length, vec_len, vec_capacity};
+ghost use Rattle.bgp_codec.specs.declared.writing.TheConstants.{MOST_BODY};
+ghost use Rattle.bgp_values.specs.declared.messages.TheConstants.{HEADER_LEN, MESSAGE_LIMIT};
 ghost use Rattle.bgp_codec.specs.Spelling.{IsWritable, header_of, kind_of, written_body, written};
 
 use crate::fault::CodecError;
@@ -9,18 +11,22 @@ use crate::notice::put_notice;
 use crate::open::{params_len, put_open};
 use crate::rule::Rule;
 use crate::update::{put_update, update_len};
+use bgp_values::{HEADER_LEN, KEEPALIVE, MESSAGE_LIMIT, NOTIFICATION, OPEN, UPDATE};
 
 const MARKER: [u8; 16] = [0xff; 16];
 
+// The most octets of a body.
+const MOST_BODY: usize = MESSAGE_LIMIT - HEADER_LEN;
+
 // Appends the header of a message with so many octets behind it, for which there is room.
 fn put_header(out: &mut Vec<u8>, kind: u8, body_len: usize)
-    requires fits { body_len ≤ 4077 }
-    requires room { vec_len out.old + 19 ≤ vec_capacity out.old }
+    requires fits { body_len ≤ MOST_BODY }
+    requires room { vec_len out.old + HEADER_LEN ≤ vec_capacity out.old }
     ensures items { out.new.items ≡ out.old.items ++ header_of kind body_len }
-    ensures len { vec_len out.new ≡ vec_len out.old + 19 }
+    ensures len { vec_len out.new ≡ vec_len out.old + HEADER_LEN }
     ensures capacity { vec_capacity out.old ≤ vec_capacity out.new }
 {
-    let [high, low] = (19 + body_len as u16).to_be_bytes();
+    let [high, low] = ((HEADER_LEN + body_len) as u16).to_be_bytes();
     out.extend_from_slice(&MARKER).unwrap();
     out.push_reserved(high);
     out.push_reserved(low);
@@ -43,10 +49,10 @@ fn kind_of(message: &Message) -> u8
     ensures { result ≡ kind_of message.now }
 {
     match message {
-        Message::OpenMsg(_) => 1,
-        Message::UpdateMsg(_) => 2,
-        Message::NoticeMsg(_) => 3,
-        Message::AliveMsg => 4,
+        Message::OpenMsg(_) => OPEN,
+        Message::UpdateMsg(_) => UPDATE,
+        Message::NoticeMsg(_) => NOTIFICATION,
+        Message::AliveMsg => KEEPALIVE,
     }
 }
 
@@ -68,7 +74,7 @@ fn put_body(out: &mut Vec<u8>, message: &Message, rule: &Rule)
 pub fn written_len(message: &Message) -> usize
     ensures { result ≡ min (2 ^ 64 - 1) (length (written message.now)) }
 {
-    body_len(message).saturating_add(19)
+    body_len(message).saturating_add(HEADER_LEN)
 }
 
 /// Appends the one spelling of a message that is written to a vector that has room for it. It takes
@@ -76,7 +82,7 @@ pub fn written_len(message: &Message) -> usize
 /// messages can be written one by one.
 pub fn put_message(out: &mut Vec<u8>, message: &Message, rule: &Rule)
     requires writable { IsWritable rule.now message.now }
-    requires fits { length (written message.now) ≤ 4096 }
+    requires fits { length (written message.now) ≤ MESSAGE_LIMIT }
     requires room { vec_len out.old + length (written message.now) ≤ vec_capacity out.old }
     ensures items { out.new.items ≡ out.old.items ++ written message.now }
     ensures capacity { vec_capacity out.old ≤ vec_capacity out.new }
@@ -94,16 +100,16 @@ pub fn put_message(out: &mut Vec<u8>, message: &Message, rule: &Rule)
 pub fn encode(message: &Message, rule: &Rule, out: &mut Vec<u8>) -> Result<(), CodecError>
     requires { IsWritable rule.now message.now }
     ensures ok { OnOk result (out.new.items ≡ out.old.items ++ written message.now) }
-    ensures too_long { IsErrOf result CodecError.TooLong ↔ (4096 < length (written message.now)) }
+    ensures too_long { IsErrOf result CodecError.TooLong ↔ (MESSAGE_LIMIT < length (written message.now)) }
     // Want of memory is answered only where room was missing.
     ensures only { IfErr result (λ error. (error ≡ CodecError.TooLong) ⊎ ((error ≡ CodecError.Memory) × (vec_capacity out.old < vec_len out.old + length (written message.now)))) }
     ensures err { OnErr result ((out.new.items ≡ out.old.items) × (vec_capacity out.new ≡ vec_capacity out.old)) }
 {
     let len = body_len(message);
-    if len > 4077 {
+    if len > MOST_BODY {
         return Err(CodecError::TooLong);
     }
-    out.reserve(19 + len)?;
+    out.reserve(HEADER_LEN + len)?;
     put_message(out, message, rule);
     Ok(())
 }

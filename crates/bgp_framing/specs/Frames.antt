@@ -1,6 +1,7 @@
 -- A stream as frames and a rest (RFC 4271 section 4.1: each message says its own length).
 use Rattle.std.specs.Prelude.{◌≡◌, ℕ, ◌≤◌, ◌<◌, List, [], ◌∷◌, ◌++◌, length, take, drop, Some, None, ◌⊎◌}
 use Rattle.std.specs.List.{concat, AllByRecursion}
+use Rattle.bgp_values.specs.declared.messages.TheConstants.{HEADER_LEN}
 use Rattle.bgp_codec.specs.declared.fault.Fault.{Fault}
 use Rattle.bgp_codec.specs.Header.{header_fault, length_field, IsFrame}
 
@@ -22,11 +23,11 @@ SplitsInPieces = (a b : List ℕ) (fs gs : List (List ℕ)) (r s : List ℕ) →
 
 -- too few octets for a header, or a good header and too few octets behind it
 abbrev pub IsPartial : List ℕ → Type 0
-IsPartial octets = (length octets < 19) ⊎ ((19 ≤ length octets) × (header_fault octets ≡ None) × (length octets < length_field octets))
+IsPartial octets = (length octets < HEADER_LEN) ⊎ ((HEADER_LEN ≤ length octets) × (header_fault octets ≡ None) × (length octets < length_field octets))
 
 -- a header that fails a check
 abbrev pub IsFaulty : List ℕ → Type 0
-IsFaulty octets = (fault : Fault) × (19 ≤ length octets) × (header_fault octets ≡ Some fault)
+IsFaulty octets = (fault : Fault) × (HEADER_LEN ≤ length octets) × (header_fault octets ≡ Some fault)
 
 -- a rest is one or the other
 abbrev pub RestIs : Type 0
@@ -36,7 +37,7 @@ RestIs = (octets : List ℕ) (frames : List (List ℕ)) (rest : List ℕ) → Sp
 abbrev pub SplitsIntoNothing : Type 0
 SplitsIntoNothing = (octets : List ℕ) →
     (IsPartial octets → Splits octets [] octets)
-    × ((fault : Fault) (more : List ℕ) → 19 ≤ length octets → header_fault octets ≡ Some fault
+    × ((fault : Fault) (more : List ℕ) → HEADER_LEN ≤ length octets → header_fault octets ≡ Some fault
     → (header_fault (octets ++ more) ≡ Some fault) × Splits (octets ++ more) [] (octets ++ more))
 
 -- a frame in front, as its Length says, and the frames of what stands behind it

@@ -1,5 +1,6 @@
 -- What a framer holds, and what stands in front of it.
 use Rattle.std.specs.Prelude.{◌≡◌, ℕ, ◌≤◌, nat_le, ◌&&◌, ◌||◌, Bool, true, List, [], ◌∷◌, length, take, slice_range, Some, is_some}
+use Rattle.bgp_values.specs.declared.messages.TheConstants.{HEADER_LEN}
 use Rattle.bgp_codec.specs.Header.{header_fault, length_field, IsFrame}
 use Rattle.bgp_framing.specs.Frames.{Splits, IsPartial}
 use Rattle.bgp_framing.specs.declared.framer.Next.{Next}
@@ -20,17 +21,17 @@ with_octets held octets = record { octets = octets; room = held.room }
 abbrev pub IsNext : List ℕ → Next → Type 0
 IsNext octets (Whole start end) = (start ≡ 0) × (end ≤ length octets) × IsFrame (take end octets)
 IsNext octets More = IsPartial octets
-IsNext octets (Bad fault) = (19 ≤ length octets) × (header_fault octets ≡ Some fault)
+IsNext octets (Bad fault) = (HEADER_LEN ≤ length octets) × (header_fault octets ≡ Some fault)
 
 -- the same without the fault, as a framer keeps it
 abbrev pub IsFront : List ℕ → Front → Type 0
 IsFront octets (Message len) = (len ≤ length octets) × IsFrame (take len octets)
 IsFront octets TooFew = IsPartial octets
-IsFront octets Faulty = (19 ≤ length octets) × (is_some (header_fault octets) ≡ true)
+IsFront octets Faulty = (HEADER_LEN ≤ length octets) × (is_some (header_fault octets) ≡ true)
 
 -- a whole message or a fault stands in front
 abbrev pub is_waiting : List ℕ → Bool
-is_waiting octets = nat_le 19 (length octets) && (is_some (header_fault octets) || nat_le (length_field octets) (length octets))
+is_waiting octets = nat_le HEADER_LEN (length octets) && (is_some (header_fault octets) || nat_le (length_field octets) (length octets))
 
 -- a whole message stands in front
 abbrev pub HasFrame : List ℕ → Type 0

@@ -1,16 +1,19 @@
 //! The octets of a stream that are not used yet.
 
 ghost use Rattle.std.specs.Prelude.{◌≡◌, ◌+◌, ◌≤◌, [], ◌++◌, length, drop, false, IfOk, vec_len, vec_capacity};
+ghost use Rattle.bgp_values.specs.declared.messages.TheConstants.{MESSAGE_LIMIT};
 ghost use Rattle.bgp_codec.specs.Header.{length_field};
+ghost use Rattle.bgp_framing.specs.declared.framer.TheConstants.{MOST_HELD};
 ghost use Rattle.bgp_framing.specs.Held.{Held, IsNext, IsFront, is_waiting, HasFrame, with_octets};
 
 use bgp_codec::laws::header_is_its_front;
 use bgp_codec::{Fault, header};
+use bgp_values::{HEADER_LEN, MESSAGE_LIMIT};
 use std::alloc::{AllocError, Global};
 use std::marker::Model;
 
-/// The most octets that are held at once: a message less one octet, and a piece of 4096.
-const MOST_HELD: usize = 8191;
+/// The most octets that are held at once: a message less one octet, and a piece as long as one.
+const MOST_HELD: usize = 2 * MESSAGE_LIMIT - 1;
 
 /// What stands in front of the octets held.
 #[derive(Debug, Drop)]
@@ -47,12 +50,13 @@ pub struct Framer {
 impl Model for Framer {
     ghost use Rattle.std.specs.Prelude.{◌≤◌, drop, vec_capacity, vec_len};
     ghost use Rattle.bgp_framing.specs.Held.{Held, IsFront};
+    ghost use Rattle.bgp_framing.specs.declared.framer.TheConstants.{MOST_HELD};
 
     ghost Value = { Held };
 
     ghost view = { λ framer. record { octets = drop framer.used framer.octets.items; room = vec_capacity framer.octets } };
 
-    ghost invariant = { λ framer. (8191 ≤ vec_capacity framer.octets) × (framer.used ≤ vec_len framer.octets) × IsFront (drop framer.used framer.octets.items) framer.front };
+    ghost invariant = { λ framer. (MOST_HELD ≤ vec_capacity framer.octets) × (framer.used ≤ vec_len framer.octets) × IsFront (drop framer.used framer.octets.items) framer.front };
 }
 
 /// What stands in front of these octets: what a framer answers that holds them. It takes no memory.
@@ -61,7 +65,7 @@ pub fn next_message(alloc: Global, octets: &[u8]) -> Next
     ensures { IsNext octets.now result }
 {
     header_is_its_front();
-    let Some(first) = octets.first_chunk::<19>() else {
+    let Some(first) = octets.first_chunk::<HEADER_LEN>() else {
         return Next::More;
     };
     match header(alloc, first) {
@@ -121,11 +125,11 @@ fn put_behind(octets: &mut Vec<u8>, piece: &[u8])
 }
 
 impl Framer {
-    /// A framer that holds nothing, with room for all that it will hold: at least 8191 octets. It
+    /// A framer that holds nothing, with room for all that it will hold. It
     /// is refused only where memory was.
     pub fn new(alloc: Global) -> Result<Framer, AllocError>
         ensures empty { IfOk result (λ framer. framer.octets ≡ []) }
-        ensures room { IfOk result (λ framer. 8191 ≤ framer.room) }
+        ensures room { IfOk result (λ framer. MOST_HELD ≤ framer.room) }
     {
         Ok(Framer {
             octets: Vec::with_capacity(alloc, MOST_HELD)?,
@@ -166,9 +170,9 @@ impl Framer {
         self.octets.len() - self.used
     }
 
-    /// Adds a piece of the stream, of at most 4096 octets, behind those held. It takes no memory.
+    /// Adds a piece of the stream, of at most [`MESSAGE_LIMIT`] octets, behind those held. It takes no memory.
     pub fn feed(&mut self, piece: &[u8])
-        requires piece_fits { length piece.now ≤ 4096 }
+        requires piece_fits { length piece.now ≤ MESSAGE_LIMIT }
         requires none_waits { is_waiting self.old.octets ≡ false }
         ensures { self.new ≡ with_octets self.old (self.old.octets ++ piece.now) }
     {

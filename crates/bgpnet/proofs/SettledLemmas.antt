@@ -10,11 +10,11 @@ use Rattle.run_model.specs.Network.{Run}
 use Rattle.run_model.specs.Offers.{Finished, Lost, Why, Outcome, Settled, IsIn, made_of}
 use Rattle.snap_marker.specs.Recordings.{RouterOffer, RouterPart, MadeOffer}
 use Rattle.snap_collector.specs.Verdicts.{Member, has_part, of_part, all_parts, first_fault, decides, whole_or_waiting, abandoned_by, abandoned_or, verdict}
-use Rattle.snap_collector.specs.Collector.{kept_behind, kept_of}
+use Rattle.snap_collector.specs.Collector.{kept_behind, kept_of, is_for}
 use Rattle.router_model.specs.Settings.{Setting, IsSetting, is_router, peers}
 use Rattle.router_runs.specs.Runs.{RunOrder, RunState, IsRunTo, logged_steps}
 use Rattle.router_runs.specs.Snapshots.{HaveMade, IsBelievable}
-use Rattle.world_core.specs.World.{World, AgreesWith, is_for}
+use Rattle.world_core.specs.World.{World, AgreesWith}
 use Rattle.world_core.specs.Keeping.{KeepsItsPromises}
 use Rattle.world_core.specs.Verdicts.{members_of}
 use Rattle.bgpnet.specs.Reporting.{deciding, outcome, recorded, part_or}

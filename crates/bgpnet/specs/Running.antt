@@ -38,6 +38,10 @@ use Rattle.text_engines.specs.Checking.{at_prefix}
 use Rattle.bgpnet.specs.Reporting.{router_text, recorded, parts_text}
 use Rattle.bgpnet.specs.Gates.{HasRoom, given_by, told_of, told_each, spacing_of}
 
+-- what is printed where no snapshot is wanted
+abbrev pub unsettled_output : Output
+unsettled_output = output (codes "unsettled\n") DONE
+
 -- ---- the routes of a settled snapshot
 
 -- the paths that these parts have for the prefix of each origin, routers rising
@@ -107,7 +111,7 @@ module _ {G T : Type 0} {given : G → List Chore} {told : G → T} {net : Plan}
 
   pub record PrintsUnsettled (demand : Demand) (last : ℕ) (out : Output) : Type 0 where
     pub unsettled : (g : Setting) → g.net ≡ net → IsSetting g → SettlesOnNone g demand last
-    pub printed : out ≡ output (codes "unsettled\n") DONE
+    pub printed : out ≡ unsettled_output
 
   -- where every origin originates the routes are stable, as `bgpnet check` says of them
   pub record PrintsStableRoutes (last : ℕ) (out : Output) : Type 0 where
@@ -209,4 +213,4 @@ pub record IsFirstWanted (demand : Demand) (net : Plan) (c : CollectorView) (las
 abbrev pub CollectorGives : Demand → Plan → CollectorView → ℕ → Output → Type 0
 CollectorGives demand net c last out =
     ((s : ℕ) × IsFirstWanted demand net c last s × (out ≡ output (parts_text net (decided_by c s)) DONE))
-    ⊎ (((s : ℕ) → 0 < s → s ≤ last → is_wanted demand net c s ≡ false) × (out ≡ output (codes "unsettled\n") DONE))
+    ⊎ (((s : ℕ) → 0 < s → s ≤ last → is_wanted demand net c s ≡ false) × (out ≡ unsettled_output))

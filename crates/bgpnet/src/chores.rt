@@ -8,6 +8,7 @@ ghost use Rattle.bgpnet.specs.Gates.{opening, given_by, told_of, told_each, spac
 use crate::gates::RunGate;
 use net_workers::{Chore, MOST_TURNS};
 use ranked_policy::{Asn, Network};
+use router_core::is_peer;
 use router_model::Command;
 use std::alloc::{AllocError, Global};
 
@@ -19,13 +20,6 @@ pub struct RunOptions {
     /// How many snapshots the least router takes. The words of the program name 1 to
     /// [`MOST_SNAPSHOTS`](crate::command_line::MOST_SNAPSHOTS); for none, all is `unsettled`.
     pub snapshots: u32,
-}
-
-// Whether a link joins two routers.
-fn is_peer(network: &Network, number: Asn, other: Asn) -> bool
-    ensures { result ≡ linked network.now number other }
-{
-    network.linked(number, other)
 }
 
 // Starts the session with each peer, and originates each prefix of which the router is the origin.

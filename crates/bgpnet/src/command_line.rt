@@ -1,7 +1,8 @@
 //! The words behind the program's name.
 
-ghost use Rattle.std.specs.Prelude.{◌≡◌, ◌&&◌, nat_le, true, false, ◌⊎◌, OnOk, OnErr};
+ghost use Rattle.std.specs.Prelude.{◌≡◌, true, false, ◌⊎◌, OnOk, OnErr};
 ghost use Rattle.std.specs.List.{list_all};
+ghost use Rattle.net_text.specs.Words.{is_digit};
 
 use crate::chores::RunOptions;
 use crate::engines::play::play_stream;
@@ -51,8 +52,8 @@ Each message is a line, up to the first fault: its code and subcode (RFC 4271 se
 the NOTIFICATION that tells of it. 'truncated N': the stream ends with N octets of a message. Alone
 stand 'bad hex', where the input has more than digits and blanks or half an octet, and 'refused 0 N6',
 where it has more than 16777216 octets. An UPDATE's other attributes than AS_PATH and NEXT_HOP are
-checked, and not printed. AS numbers have two octets: an UPDATE of a session with four, whose OPEN
-prints 'cap 65', reads as 'fault 3 11'.
+checked, and not printed. AS numbers have two octets: where both OPENs print 'cap 65' they have
+four, and an UPDATE with a path mostly reads as 'fault 3 11'.
 
 With --peer the number of an OPEN, and the first one in the path of an UPDATE that announces, has to
 be AS, else they read as 'fault 2 2' and 'fault 3 11'.
@@ -124,7 +125,7 @@ An order is 'start U V', 'stop U V' or 'reset U V' for U's session with V, 'orig
   E1  the two routers are no peers
   E2  the router is not the prefix's origin
   E3  the snapshot's number is not above the router's last
-  E6  the router has no stamp left for what it chooses
+  E6  the router has no stamp left
   E8  the link has no incarnation left
   V2  the two routers have no link";
 
@@ -160,7 +161,7 @@ const SNAPSHOTS: u32 = 20;
 
 // Whether all octets are decimal digits.
 fn are_digits(text: &[u8]) -> bool
-    ensures { result ≡ list_all (λ octet. nat_le 48 octet && nat_le octet 57) text.now }
+    ensures { result ≡ list_all is_digit text.now }
 {
     let mut are_digits = true;
     for octet in text {

@@ -29,7 +29,7 @@ pub enum Demand {
 fn originates(part: &Part, prefix: &Prefix) -> bool
     ensures { result ≡ (part_of part.now).originated prefix.now }
 {
-    part.originated.iter().any(|one| one.addr() == prefix.addr() && one.len() == prefix.len())
+    part.originated.iter().any(|one| one.equals(prefix))
 }
 
 // Whether every origin has a part of a snapshot, and originates its prefix in it.

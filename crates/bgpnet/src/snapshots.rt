@@ -18,7 +18,7 @@ fn path_in<'k>(kept: &'k [KeptPath], prefix: &Prefix) -> &'k [Asn]
     ensures { result.now ≡ kept_in kept.now prefix.now }
 {
     for one in kept {
-        if one.prefix.addr() == prefix.addr() && one.prefix.len() == prefix.len() {
+        if one.prefix.equals(prefix) {
             return one.path.as_slice();
         }
     }

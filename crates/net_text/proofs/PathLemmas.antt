@@ -6,7 +6,8 @@ use Rattle.std.proofs.lemmas.Bool.{and_parts}
 use Rattle.std.proofs.lemmas.List.{take_more_set}
 use mathlib.Core.Bool.{beq}
 use Rattle.net_text.specs.Lexing.{Text, same}
-use Rattle.net_text.specs.Words.{value_of, is_asn}
+use Rattle.net_text.specs.Words.{value_of}
+use Rattle.bgp_values.specs.Ranges.{is_asn}
 use Rattle.net_text.specs.Taking.{parts_left}
 use Rattle.net_text.proofs.WordLemmas.{some_part}
 

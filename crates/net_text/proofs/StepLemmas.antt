@@ -9,7 +9,9 @@ use Rattle.net_text.specs.declared.code.Code.{Code}
 use Rattle.net_text.specs.declared.code.Code.TheVariants as codes
 use Rattle.net_text.specs.declared.draft.Draft.{Draft}
 use Rattle.net_text.specs.Lexing.{Text}
-use Rattle.net_text.specs.Words.{◌>>=◌, is_asn, path_of, path_word, is_from, is_simple, router_word, prefix_word, rule_path_word, rule_path_words}
+use Rattle.net_text.specs.Words.{◌>>=◌, path_of, path_word, is_from, router_word, prefix_word, rule_path_word, rule_path_words}
+use Rattle.ranked_policy.specs.Tests.{is_simple}
+use Rattle.bgp_values.specs.Ranges.{is_asn}
 use Rattle.net_text.specs.Lines.{are_short, are_distinct, is_ruled, is_full, rule_fault, rule_line, with_rule}
 use Rattle.net_text.specs.Taking.{IsTakeable}
 use Rattle.net_text.specs.Steps.{RefusesOr}

@@ -1,5 +1,6 @@
 -- The lines that are appended whole: what each is printed as.
 use Rattle.std.specs.Prelude.{ℕ, ◌≤◌, List, length}
+use Rattle.bgp_values.specs.declared.messages.TheConstants.{MOST_DATA}
 use Rattle.net_text.specs.declared.lines.Line.{Line}
 use Rattle.net_text.specs.declared.lines.Line.TheVariants as lines
 use Rattle.net_text.specs.Printing.{line, open_line, update_line, notice_line, fault_lines, truncated_line, refused_line, unstable_line}
@@ -16,5 +17,5 @@ text_of (lines.Unstable router has best) = unstable_line router has.now best.now
 
 -- the NOTIFICATION that tells of a fault fits a message
 abbrev pub IsSendable : Line → Type 0
-IsSendable (lines.Fault fault) = length fault.now.extra ≤ 4075
+IsSendable (lines.Fault fault) = length fault.now.extra ≤ MOST_DATA
 IsSendable other = Unit {0}

@@ -4,7 +4,7 @@ use Rattle.std.specs.declared.cmp.Ordering.{Ordering}
 use Rattle.std.specs.Ordering.{nat_cmp, ordering_then}
 use Rattle.std.specs.BTreeSet.{BTreeSet, contains}
 use Rattle.std.specs.List.{list_any}
-use Rattle.prefix_lanes.specs.Bits.{PrefixView}
+use Rattle.prefix_lanes.specs.Bits.{PrefixView, is_prefix}
 use Rattle.ranked_policy.specs.Plans.{Plan}
 use Rattle.ranked_policy.specs.declared.limits.TheConstants.{LONGEST_PATH}
 use Rattle.net_text.specs.declared.code.Code.{Code}
@@ -13,7 +13,7 @@ use Rattle.net_text.specs.declared.code.Refused.{Refused}
 use Rattle.net_text.specs.declared.assignment.Entry.{Entry}
 use Rattle.net_text.specs.declared.entries.Key.{Key}
 use Rattle.net_text.specs.Lexing.{Text, same, words_of, is_skipped, is_ascii}
-use Rattle.net_text.specs.Words.{◌>>=◌, router_word, origin_word, assigned_word, assigned_path, is_prefix}
+use Rattle.net_text.specs.Words.{◌>>=◌, router_word, origin_word, assigned_word, assigned_path}
 use Rattle.net_text.specs.Networks.{refused_at, reading, AreGood}
 
 abbrev pub gives : ℕ → PrefixView → Entry → Bool

@@ -1,13 +1,14 @@
 -- Network lines: what each adds to a network, or its first fault. On one line a wrong form comes first, then the words from left to right, then what came before, then limits on counts.
 use Rattle.std.specs.Prelude.{ℕ, ◌≡◌, ◌<◌, ◌==◌, ◌||◌, ◌&&◌, not, nat_lt, nat_le, Bool, true, false, List, [], ◌∷◌, ◌++◌, length, map, Option, Some, None, Result, Ok, Err, if◌then◌else◌, codes}
 use Rattle.std.specs.List.{list_all, list_any, count_by}
-use Rattle.prefix_lanes.specs.Bits.{PrefixView}
+use Rattle.prefix_lanes.specs.Bits.{PrefixView, is_prefix}
+use Rattle.bgp_values.specs.Ranges.{is_hold_time}
 use Rattle.ranked_policy.specs.declared.network.Settings.{Settings}
 use Rattle.ranked_policy.specs.declared.network.Router.{Router}
 use Rattle.ranked_policy.specs.declared.network.Link.{Link}
 use Rattle.ranked_policy.specs.declared.network.Origin.{Origin}
 use Rattle.ranked_policy.specs.declared.network.Rule.{Rule}
-use Rattle.ranked_policy.specs.declared.limits.TheConstants.{LEAST_HOLD, GREATEST_CUT, GREATEST_PIPE, MOST_ROUTERS, MOST_LINKS, MOST_PREFIXES, MOST_RULES, MOST_PATHS, LONGEST_PATH}
+use Rattle.ranked_policy.specs.declared.limits.TheConstants.{GREATEST_CUT, GREATEST_PIPE, MOST_ROUTERS, MOST_LINKS, MOST_PREFIXES, MOST_RULES, MOST_PATHS, LONGEST_PATH}
 use Rattle.ranked_policy.specs.Plans.{touches}
 use Rattle.ranked_policy.specs.Adding.{with_link}
 use Rattle.net_text.specs.declared.code.Code.{Code}
@@ -18,7 +19,7 @@ use Rattle.net_text.specs.declared.settings.Setting.TheVariants.{Hold, Restart, 
 use Rattle.net_text.specs.declared.settings.Named.{Named}
 use Rattle.net_text.specs.declared.draft.Draft.{Draft}
 use Rattle.net_text.specs.Lexing.{Text, same, words_of, is_skipped, is_ascii}
-use Rattle.net_text.specs.Words.{◌>>=◌, is_number, value_of, number_word, asn_word, router_word, id_word, prefix_word, is_prefix, is_named, path_of, rule_path_words}
+use Rattle.net_text.specs.Words.{◌>>=◌, is_number, value_of, number_word, asn_word, router_word, id_word, prefix_word, is_named, path_of, rule_path_words}
 
 -- ---- settings: seconds of the hold time and until a restart, octets of a cut, items of a pipe
 
@@ -31,7 +32,7 @@ setting_of word =
     else None
 
 abbrev pub in_range : Setting → ℕ → Bool
-in_range Hold n = ((n == 0) || nat_le LEAST_HOLD n) && nat_le n MOST_SECONDS
+in_range Hold n = nat_le n MOST_SECONDS && is_hold_time n
 in_range Restart n = nat_le n MOST_SECONDS
 in_range Cut n = nat_le 1 n && nat_le n GREATEST_CUT
 in_range Pipe n = nat_le 1 n && nat_le n GREATEST_PIPE

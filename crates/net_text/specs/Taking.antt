@@ -3,7 +3,8 @@ use Rattle.std.specs.Prelude.{◌≡◌, ◌≤◌, Bool, true, false, List, [],
 use Rattle.std.specs.List.{list_all}
 use Rattle.ranked_policy.specs.declared.limits.TheConstants.{LONGEST_PATH}
 use Rattle.net_text.specs.Lexing.{Text, parts}
-use Rattle.net_text.specs.Words.{is_asn, path_of}
+use Rattle.net_text.specs.Words.{path_of}
+use Rattle.bgp_values.specs.Ranges.{is_asn}
 
 -- the parts of what is left, where something is
 abbrev pub parts_left : Bool → Text → List Text

@@ -1,8 +1,9 @@
 -- What one word stands for, and its fault: that it cannot be read, then a number outside its limit, then a router that is not known.
-use Rattle.std.specs.Prelude.{ℕ, ◌+◌, ◌-◌, ◌*◌, ◌/◌, ◌^◌, ◌==◌, ◌&&◌, not, nat_le, Bool, true, false, List, [], ◌∷◌, map, Option, Some, None, Result, Ok, Err, if◌then◌else◌, codes, min}
+use Rattle.std.specs.Prelude.{ℕ, ◌+◌, ◌-◌, ◌*◌, ◌^◌, ◌==◌, ◌&&◌, not, nat_le, Bool, false, List, [], ◌∷◌, map, Option, Some, None, Result, Ok, Err, if◌then◌else◌, codes, min}
 use Rattle.std.specs.List.{list_all, list_any}
-use Rattle.prefix_lanes.specs.Bits.{PrefixView, masked}
-use Rattle.ranked_policy.specs.declared.limits.TheConstants.{GREATEST_ASN}
+use Rattle.prefix_lanes.specs.Bits.{PrefixView, masked, is_prefix}
+use Rattle.bgp_values.specs.Ranges.{is_asn, is_unicast}
+use Rattle.ranked_policy.specs.Tests.{is_simple}
 use Rattle.ranked_policy.specs.declared.network.Router.{Router}
 use Rattle.ranked_policy.specs.declared.network.Origin.{Origin}
 use Rattle.net_text.specs.declared.code.Code.{Code}
@@ -41,10 +42,6 @@ number_word test word =
 
 -- ---- routers
 
--- an AS number of two octets that a speaker may have (RFC 4271 section 4.2, RFC 7607)
-abbrev pub is_asn : ℕ → Bool
-is_asn u = nat_le 1 u && nat_le u GREATEST_ASN
-
 abbrev pub is_router : List Router → ℕ → Bool
 is_router routers u = list_any (λ r. r.asn == u) routers
 
@@ -71,9 +68,6 @@ abbrev pub address_of : Text → Option ℕ
 address_of word = address_of_parts (parts 46 word)
 
 -- an address of one host (RFC 4271 section 4.2)
-abbrev pub is_unicast : ℕ → Bool
-is_unicast address = nat_le 1 (address / 2 ^ 24) && nat_le (address / 2 ^ 24) 223
-
 abbrev pub unicast : Option ℕ → Result ℕ Code
 unicast None = Err Unreadable
 unicast (Some address) = if not (is_unicast address) then Err Unreadable else Ok address
@@ -105,9 +99,6 @@ prefix_or_fault (Some q) = Ok q
 abbrev pub prefix_word : Text → Result PrefixView Code
 prefix_word word = prefix_or_fault (prefix_of word)
 
-abbrev pub is_prefix : PrefixView → PrefixView → Bool
-is_prefix p q = (p.addr == q.addr) && (p.len == q.len)
-
 abbrev pub is_named : List Origin → PrefixView → Bool
 is_named origins q = list_any (λ origin. is_prefix origin.prefix q) origins
 
@@ -128,10 +119,6 @@ path_word routers word =
     else if not (list_all is_asn (path_of word)) then Err OutOfLimit
     else if not (list_all (is_router routers) (path_of word)) then Err UnknownRouter
     else Ok tt
-
-abbrev pub is_simple : List ℕ → Bool
-is_simple [] = true
-is_simple (u ∷ us) = not (list_any (λ v. v == u) us) && is_simple us
 
 abbrev pub is_from : ℕ → List ℕ → Bool
 is_from u [] = false

@@ -2,6 +2,7 @@
 //! prints. Each call appends whole lines, with their ends; a refused call changes nothing.
 
 ghost use Rattle.std.specs.Prelude.{◌≡◌, ◌+◌, ◌++◌, ◌<◌, ◌≤◌, codes, length, vec_len, vec_capacity, OnOk, OnErr};
+ghost use Rattle.bgp_values.specs.declared.messages.TheConstants.{MOST_DATA};
 ghost use Rattle.net_text.specs.Printing.{line, message_line, fault_lines, truncated_line, refused_line, unstable_line, stable_line};
 ghost use Rattle.net_text.specs.Appending.{text_of, IsSendable};
 
@@ -79,7 +80,7 @@ pub fn message_line(message: &Message, out: &mut Vec<u8>) -> Result<(), AllocErr
 /// Appends the two lines of a fault: its codes, and in hex the NOTIFICATION that tells of it
 /// (RFC 4271 section 6). It is refused only where memory was, and then changes nothing.
 pub fn fault_lines(fault: &Fault, out: &mut Vec<u8>) -> Result<(), AllocError>
-    requires { length fault.now.extra ≤ 4075 }
+    requires { length fault.now.extra ≤ MOST_DATA }
     ensures ok { OnOk result (out.new.items ≡ out.old.items ++ fault_lines fault.now) }
     ensures err { OnErr result (out.new.items ≡ out.old.items) }
 {

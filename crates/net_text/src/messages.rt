@@ -4,6 +4,7 @@
 
 ghost use Rattle.std.specs.Prelude.{◌≡◌, ◌++◌, ◌∷◌, [], ◌≤◌, length, IfOk, OnOk};
 ghost use Rattle.std.specs.List.{flat_map};
+ghost use Rattle.bgp_values.specs.declared.messages.TheConstants.{MOST_DATA};
 ghost use Rattle.bgp_codec.specs.Spelling.{written};
 ghost use Rattle.net_text.specs.Printing.{line, open_line, cap_text, param_text, notice_line, notice_of, fault_lines, truncated_line};
 
@@ -79,7 +80,7 @@ pub fn put_notice(out: &mut Tail, notice: &Notice) -> Result<(), AllocError>
 
 // The octets of the NOTIFICATION that tells of a fault.
 fn notice_octets(alloc: Global, fault: &Fault) -> Result<Vec<u8>, AllocError>
-    requires { length fault.now.extra ≤ 4075 }
+    requires { length fault.now.extra ≤ MOST_DATA }
     ensures { IfOk result (λ octets. octets.items ≡ written (notice_of fault.now)) }
 {
     let notice = notice_of(alloc, fault).map_err(|_| AllocError)?;
@@ -94,7 +95,7 @@ fn notice_octets(alloc: Global, fault: &Fault) -> Result<Vec<u8>, AllocError>
 #[tactic(auto, unfolding(crate::specs::Printing::fault_lines))]
 #[cold]
 pub fn put_fault(alloc: Global, out: &mut Tail, fault: &Fault) -> Result<(), AllocError>
-    requires { length fault.now.extra ≤ 4075 }
+    requires { length fault.now.extra ≤ MOST_DATA }
     ensures text { OnOk result (out.new.text ≡ out.old.text ++ fault_lines fault.now) }
     ensures front { out.new.front ≡ out.old.front }
 {

@@ -4,7 +4,7 @@ ghost use Rattle.std.specs.Prelude.{◌≡◌, ◌<◌, false, length, Ok, OnOk,
 ghost use Rattle.std.specs.List.{list_any, count_by};
 ghost use Rattle.ranked_policy.specs.Plans.{touches};
 ghost use Rattle.net_text.specs.Lexing.{words_of};
-ghost use Rattle.net_text.specs.Words.{is_prefix};
+ghost use Rattle.prefix_lanes.specs.Bits.{is_prefix};
 ghost use Rattle.net_text.specs.Lines.{setting_line, router_line, link_line, origin_line, rule_line, named_line, words_line, line_reading, joins, is_taken, is_ruled, is_full, rule_fault, IsLongRule, HasLongRule, IsLongLine};
 ghost use Rattle.net_text.specs.Steps.{Steps, RefusesOr, StepsOr};
 
@@ -13,7 +13,7 @@ use crate::draft::Draft;
 use crate::lexing::{is_ascii, is_skipped, next_word, one_word, same, two_words};
 use crate::paths::{are_distinct, are_short, count_words, judge_rule_paths, take_paths};
 use crate::settings::{Setting, judge_setting, naming, setting_of, was_named};
-use crate::words::{asn_word, id_word, is_named, is_prefix, prefix_word, router_word};
+use crate::words::{asn_word, id_word, is_named, prefix_word, router_word};
 use prefix_lanes::Prefix;
 use ranked_policy::{
     Asn, Link, MOST_LINKS, MOST_PATHS, MOST_PREFIXES, MOST_ROUTERS, MOST_RULES, Router, Rule,
@@ -118,7 +118,7 @@ fn read_origin(draft: &mut Draft, words: &[u8]) -> Result<(), Code>
 fn has_rule(rules: &[Rule], prefix: &Prefix) -> bool
     ensures { result ≡ list_any (λ rule. is_prefix rule.prefix prefix.now) rules.now }
 {
-    rules.iter().any(|rule| is_prefix(&rule.prefix, prefix))
+    rules.iter().any(|rule| rule.prefix.equals(prefix))
 }
 
 // Whether the router has a rule for this prefix.

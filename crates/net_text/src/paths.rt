@@ -4,13 +4,16 @@
 ghost use Rattle.std.specs.Prelude.{◌≡◌, ◌<◌, ◌≤◌, ◌==◌, ◌∷◌, [], true, false, not, nat_le, length, map, IfOk, IfErr, if◌then◌else◌};
 ghost use Rattle.std.specs.List.{list_all, list_any, All};
 ghost use Rattle.net_text.specs.Lexing.{parts, same, words_of};
-ghost use Rattle.net_text.specs.Words.{is_number, is_asn, is_router, value_of, path_of, path_word, is_simple, is_from, rule_path_word, rule_path_words, is_none, assigned_word, assigned_path};
+ghost use Rattle.net_text.specs.Words.{is_number, is_router, value_of, path_of, path_word, is_from, rule_path_word, rule_path_words, is_none, assigned_word, assigned_path};
+ghost use Rattle.ranked_policy.specs.Tests.{is_simple};
+ghost use Rattle.bgp_values.specs.Ranges.{is_asn};
 ghost use Rattle.net_text.specs.Lines.{are_distinct, are_short};
 ghost use Rattle.net_text.specs.Taking.{parts_left, IsTakeable};
 
 use crate::code::Code;
 use crate::lexing::{cut, next_word, same};
-use crate::words::{is_asn, is_number, is_router, value_of};
+use crate::words::{is_number, is_router, value_of};
+use bgp_values::is_asn;
 use ranked_policy::{Asn, LONGEST_PATH, MOST_PATHS, Path, Router};
 use std::alloc::{AllocError, Global};
 use std::collections::BTreeSet;

@@ -9,7 +9,8 @@ ghost use Rattle.net_text.specs.Lines.{setting_of, in_range, set_to, was_named, 
 use crate::code::Code;
 use crate::lexing::{next_line, next_word, same};
 use crate::words::{is_number, value_of};
-use ranked_policy::{GREATEST_CUT, GREATEST_PIPE, LEAST_HOLD, Settings};
+use bgp_values::is_hold_time;
+use ranked_policy::{GREATEST_CUT, GREATEST_PIPE, Settings};
 
 /// The greatest hold time, and the greatest wait before a session starts again, in seconds: an OPEN has two
 /// octets for the first (RFC 4271 section 4.2).
@@ -72,9 +73,7 @@ fn in_range(setting: Setting, number: u64) -> bool
     ensures { result ≡ in_range setting number }
 {
     match setting {
-        Setting::Hold => {
-            (number == 0 || u64::from(LEAST_HOLD) <= number) && number <= u64::from(MOST_SECONDS)
-        }
+        Setting::Hold => number <= u64::from(MOST_SECONDS) && is_hold_time(number as u16),
         Setting::Restart => number <= u64::from(MOST_SECONDS),
         Setting::Cut => 1 <= number && number <= GREATEST_CUT as u64,
         Setting::Pipe => 1 <= number && number <= GREATEST_PIPE as u64,

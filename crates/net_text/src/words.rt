@@ -2,12 +2,14 @@
 
 ghost use Rattle.std.specs.Prelude.{◌≡◌, ◌-◌, ◌^◌, ◌∷◌, [], ℕ, true, false, min, IfSome, IfNone};
 ghost use Rattle.std.specs.List.{list_all, list_any};
-ghost use Rattle.net_text.specs.Words.{is_digit, is_number, value_of, is_octet, is_asn, asn_word, is_router, router_word, address_of, is_unicast, id_word, prefix_of, prefix_word, is_named, origin_word, is_prefix};
+ghost use Rattle.net_text.specs.Words.{is_digit, is_number, value_of, is_octet, asn_word, is_router, router_word, address_of, id_word, prefix_of, prefix_word, is_named, origin_word};
+ghost use Rattle.bgp_values.specs.Ranges.{is_asn, is_unicast};
 
 use crate::code::Code;
 use crate::lexing::cut;
+use bgp_values::{is_asn, is_unicast};
 use prefix_lanes::Prefix;
-use ranked_policy::{Asn, GREATEST_ASN, Origin, Router};
+use ranked_policy::{Asn, Origin, Router};
 
 fn is_digit(x: u8) -> bool
     ensures { result ≡ is_digit x }
@@ -40,12 +42,6 @@ pub fn value_of(word: &[u8]) -> u64
             .saturating_add(u64::from(x.saturating_sub(b'0')));
     }
     value
-}
-
-pub(crate) fn is_asn(number: u64) -> bool
-    ensures { result ≡ is_asn number }
-{
-    1 <= number && number <= u64::from(GREATEST_ASN)
 }
 
 // A number that an AS can have (RFC 4271 section 4.2, RFC 7607).
@@ -110,8 +106,7 @@ pub(crate) fn id_word(word: &[u8]) -> Result<u32, Code>
     let Some(address) = address_of(word) else {
         return Err(Code::Unreadable);
     };
-    let first = address / 0x0100_0000;
-    if !(1 <= first && first <= 223) {
+    if !is_unicast(address) {
         return Err(Code::Unreadable);
     }
     Ok(address)
@@ -138,18 +133,10 @@ pub(crate) fn prefix_word(word: &[u8]) -> Result<Prefix, Code>
     prefix_of(word).ok_or(Code::BadPrefix)
 }
 
-pub(crate) fn is_prefix(prefix: &Prefix, other: &Prefix) -> bool
-    ensures { result ≡ is_prefix prefix.now other.now }
-{
-    prefix.addr() == other.addr() && prefix.len() == other.len()
-}
-
 pub(crate) fn is_named(origins: &[Origin], prefix: &Prefix) -> bool
     ensures { result ≡ is_named origins.now prefix.now }
 {
-    origins
-        .iter()
-        .any(|origin| is_prefix(&origin.prefix, prefix))
+    origins.iter().any(|origin| origin.prefix.equals(prefix))
 }
 
 /// A prefix that a router originates: `BadPrefix` where it cannot be read or has no origin.

@@ -1,5 +1,4 @@
 pub mod Lanes
-pub mod Linking
 pub mod Lists
 pub mod Blocks
 pub mod Runs

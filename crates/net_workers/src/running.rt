@@ -3,51 +3,28 @@
 ghost use Rattle.std.specs.Prelude.{◌≡◌, ◌<◌, ℕ, [], length, map, true, All, IfOk, IfNone, slice_index_or};
 ghost use Rattle.std.specs.List.{AllByRecursion};
 ghost use Rattle.ranked_policy.specs.Plans.{IsNetwork, IsRouter, numbers};
-ghost use Rattle.router_model.specs.Settings.{linked, peers};
+ghost use Rattle.router_model.specs.Settings.{peers};
 ghost use Rattle.net_workers.specs.Lanes.{AreNew};
 ghost use Rattle.net_workers.specs.Dealt.{AreDealt};
-ghost use Rattle.world_core.specs.Views.{IsNewRouter};
 ghost use Rattle.net_workers.specs.Ran.{IsFresh, Ran, lines_of};
 
 use crate::dealing::deal;
 use crate::ends::Ends;
 use crate::place::{Board, Place};
 use ranked_policy::{Asn, Network};
-use router_core::Router;
+use router_core::is_peer;
 use std::alloc::{AllocError, Global};
 use std::sync::Wait;
 use std::thread;
 use std::thread::Threads;
 use worker_loop::{Desk, Gate, Lines, Worker, WorkerFault};
+use world_core::new_router;
 
 /// A worker, and how it ended.
 #[derive(Drop)]
 pub(crate) struct Ended<'a, G> {
     pub worker: Worker<'a, Ends, Place, G>,
     pub fault: Option<WorkerFault>,
-}
-
-// A router of the network, as it starts.
-fn new_router<'a>(
-    alloc: Global,
-    network: &'a Network,
-    number: Asn,
-) -> Result<Router<'a>, AllocError>
-    requires { IsRouter network.now.routers number }
-    ensures new { IfOk result (IsNewRouter network.now) }
-    ensures number { IfOk result (λ router. router.number ≡ number) }
-{
-    match Router::new(alloc, network, number) {
-        Ok(router) => Ok(router),
-        Err(_) => Err(AllocError),
-    }
-}
-
-// Whether a link joins two routers.
-fn is_peer(network: &Network, number: Asn, other: Asn) -> bool
-    ensures { result ≡ linked network.now number other }
-{
-    network.linked(number, other)
 }
 
 // The peers of a router, rising.

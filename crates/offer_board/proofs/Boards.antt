@@ -19,7 +19,8 @@ use Rattle.snap_collector.specs.Collector.{CollectorView, made_for, is_for}
 use Rattle.snap_collector.specs.Laws.{IsKeptOf, KeptGoesOn, NothingIsKept}
 use Rattle.snap_collector.specs.Taking.{Takes, Keeps, has_decided}
 use Rattle.offer_board.specs.declared.board.Made.{Made}
-use Rattle.offer_board.specs.Boards.{BoardView, IsBoard, collected, collected_in, offers_in, greatest_stamp}
+use Rattle.offer_board.specs.Boards.{BoardView, IsBoard, collected, collected_in, offers_in}
+use Rattle.run_model.specs.declared.stamps.TheConstants.{GREATEST_STAMP}
 
 -- ---- stamps
 
@@ -101,7 +102,7 @@ first_board law c offers nothing none =
       kept = λ s. subst (IsKeptOf (map member_of c.members) s []) (sym (ap (λ f. f s) nothing)) (law (map member_of c.members) s);
     })
 
-pub next_board : KeptGoesOn → (x : BoardView) → IsBoard x → (c : CollectorView) (offers : List Made) (at : ℕ) (o : Offer) (m : Made) (t : Taken) → x.stamp < at → at ≤ greatest_stamp
+pub next_board : KeptGoesOn → (x : BoardView) → IsBoard x → (c : CollectorView) (offers : List Made) (at : ℕ) (o : Offer) (m : Made) (t : Taken) → x.stamp < at → at ≤ GREATEST_STAMP
     → offers ≡ x.offers ++ m ∷ [] → m.stamp ≡ at → made_by m.offer ≡ made_by o → Takes x.collector c o (Ok t) → IsBoard (record { collector = c; offers = offers; stamp = at })
 next_board law x board c offers at o m t later few more stamp says takes =
     subst (λ os. IsBoard (record { collector = c; offers = os; stamp = at })) (sym more)

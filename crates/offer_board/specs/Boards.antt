@@ -1,6 +1,7 @@
 -- What lies under the lock, as contracts see it.
 use Rattle.std.specs.Prelude.{ℕ, ◌≡◌, ◌≤◌, ◌<◌, ◌+◌, max, List, [], ◌∷◌, ◌++◌, map, None, Some, Result, Ok, Err}
 use Rattle.std.specs.List.{AllByRecursion}
+use Rattle.run_model.specs.declared.stamps.TheConstants.{GREATEST_STAMP}
 use Rattle.run_model.specs.Stamps.{Collected, Pairwise}
 use Rattle.snap_marker.specs.Parts.{router_of}
 use Rattle.snap_marker.specs.Recordings.{MadeOffer}
@@ -13,10 +14,6 @@ use Rattle.snap_collector.specs.Collector.{CollectorView, made_for}
 use Rattle.snap_collector.specs.Laws.{IsKeptOf}
 use Rattle.snap_collector.specs.Taking.{Takes, refusal_of}
 use Rattle.offer_board.specs.declared.board.Made.{Made}
-
--- no event has a greater stamp
-abbrev pub greatest_stamp : ℕ
-greatest_stamp = 4611686018427387904
 
 -- the collector, every offer that was made, late ones too, and the stamp of the last
 pub record BoardView : Type 0 where
@@ -39,25 +36,25 @@ offers_in offers = map (λ m. made_by m.offer) offers
 pub record IsBoard (x : BoardView) : Type 0 where
   pub rising : Pairwise (λ a b. a.stamp < b.stamp) (collected_in x.offers)
   pub last : AllByRecursion (λ m. m.stamp ≤ x.stamp) x.offers
-  pub few : x.stamp ≤ greatest_stamp
+  pub few : x.stamp ≤ GREATEST_STAMP
   pub kept : (s : ℕ) → IsKeptOf (map member_of x.collector.members) s (offers_in x.offers) (made_for x.collector s)
 
 -- an offer joins those that were made, with this stamp
 pub record Joins (x y : BoardView) (after : ℕ) (o : Offer) (taken : Taken) (at : ℕ) : Type 0 where
   pub stamp : at ≡ max x.stamp after + 1
-  pub few : at ≤ greatest_stamp
+  pub few : at ≤ GREATEST_STAMP
   pub offers : collected_in y.offers ≡ collected_in x.offers ++ record { stamp = at; router = router_of o; offer = made_by o } ∷ []
   pub last : y.stamp ≡ at
   pub takes : Takes x.collector y.collector o (Ok taken)
 
 -- a stamp is left for what a router offers whose last event has this one
 abbrev pub HasStamp : BoardView → ℕ → Type 0
-HasStamp x stamp = max x.stamp stamp + 1 ≤ greatest_stamp
+HasStamp x stamp = max x.stamp stamp + 1 ≤ GREATEST_STAMP
 
 -- what a router offers whose last event has this stamp: its stamp is judged first, then whether the collector refuses it, and memory last
 abbrev pub Offers : BoardView → BoardView → ℕ → Offer → Result (Taken × ℕ) CollectError → Type 0
 Offers x y stamp o (Ok answer) = Joins x y stamp o answer.0 answer.1
-Offers x y stamp o (Err refusal.StampEnd) = (greatest_stamp < max x.stamp stamp + 1) × (y ≡ x)
+Offers x y stamp o (Err refusal.StampEnd) = (GREATEST_STAMP < max x.stamp stamp + 1) × (y ≡ x)
 Offers x y stamp o (Err (refusal.Stranger u)) = HasStamp x stamp × (refusal_of x.collector o ≡ Some (refusal.Stranger u)) × (y ≡ x)
 Offers x y stamp o (Err (refusal.Twice u)) = HasStamp x stamp × (refusal_of x.collector o ≡ Some (refusal.Twice u)) × (y ≡ x)
 Offers x y stamp o (Err refusal.Memory) = HasStamp x stamp × (refusal_of x.collector o ≡ None) × (y ≡ x)

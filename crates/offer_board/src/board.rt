@@ -5,14 +5,12 @@ ghost use Rattle.snap_collector.specs.Collector.{AreMembers};
 ghost use Rattle.offer_board.specs.Boards.{BoardView, IsBoard, Offers};
 
 use ranked_policy::Network;
+use run_model::GREATEST_STAMP;
 use snap_collector::laws::{kept_goes_on, nothing_is_kept};
 use snap_collector::{CollectError, Collector, Taken};
 use snap_marker::Offer;
 use std::alloc::{AllocError, Global};
 use std::marker::Model;
-
-/// The greatest stamp, 2^62.
-const GREATEST_STAMP: u64 = 0x4000_0000_0000_0000;
 
 /// An offer that was made, and the stamp of the event that made it.
 #[derive(Debug, Drop)]

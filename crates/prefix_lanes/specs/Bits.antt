@@ -1,5 +1,5 @@
 -- A prefix is a list of at most 32 bits, the first of an address (RFC 4271 section 4.3).
-use Rattle.std.specs.Prelude.{ℕ, zero, suc, ◌-◌, ◌*◌, ◌/◌, ◌%◌, ◌^◌, ◌==◌, ◌≡◌, ◌≤◌, ◌<◌, Bool, List, [], ◌∷◌, take}
+use Rattle.std.specs.Prelude.{ℕ, zero, suc, ◌-◌, ◌*◌, ◌/◌, ◌%◌, ◌^◌, ◌==◌, ◌&&◌, ◌≡◌, ◌≤◌, ◌<◌, Bool, List, [], ◌∷◌, take}
 use mathlib.Core.List.{IsPrefix}
 
 -- the n low bits of a number, the most significant first
@@ -33,3 +33,7 @@ masked addr len = addr / 2 ^ (32 - len) * 2 ^ (32 - len)
 -- the second begins with the bits of the first
 abbrev pub Covers : PrefixView → PrefixView → Type 0
 Covers p q = IsPrefix (bits p) (bits q)
+
+-- one and the same
+abbrev pub is_prefix : PrefixView → PrefixView → Bool
+is_prefix p q = (p.addr == q.addr) && (p.len == q.len)

@@ -2,6 +2,7 @@
 
 ghost use Rattle.std.specs.Prelude.{◌≡◌, ◌<◌, ◌≤◌, ◌↔◌, ◌++◌, [], ◌∷◌, length, OnOk, OnErr, IsTrue, MatchOption};
 ghost use Rattle.prefix_lanes.specs.Covering.{IsLongest};
+ghost use Rattle.prefix_lanes.specs.declared.cover_table.TheConstants.{CAPACITY};
 
 use crate::prefix::Prefix;
 use std::alloc::Global;
@@ -30,12 +31,13 @@ pub struct CoverTable {
 impl Model for CoverTable {
     ghost use Rattle.std.specs.Prelude.{List, take, ◌≤◌};
     ghost use Rattle.prefix_lanes.specs.Bits.{PrefixView};
+    ghost use Rattle.prefix_lanes.specs.declared.cover_table.TheConstants.{CAPACITY};
 
     ghost Value = { List PrefixView };
 
     ghost view = { λ a. take a.count a.places };
 
-    ghost invariant = { λ a. a.count ≤ 64 };
+    ghost invariant = { λ a. a.count ≤ CAPACITY };
 }
 
 impl CoverTable {
@@ -52,16 +54,16 @@ impl CoverTable {
     /// The prefixes, the first pushed first.
     pub fn as_slice(&self) -> &[Prefix]
         ensures value { result.now ≡ self.now }
-        ensures few { length self.now ≤ 64 }
+        ensures few { length self.now ≤ CAPACITY }
     {
         &self.places[..self.count]
     }
 
-    /// Adds a prefix at the end. Takes no memory. Refused `TableFull` exactly where 64 are there,
+    /// Adds a prefix at the end. Takes no memory. Refused `TableFull` exactly where `CAPACITY` are there,
     /// which leaves the table as it was.
     pub fn push(&mut self, prefix: Prefix) -> Result<(), CoverError>
         ensures ok { OnOk result (self.new ≡ self.old ++ prefix ∷ []) }
-        ensures full { (result ≡ Err CoverError.TableFull) ↔ (64 ≤ length self.old) }
+        ensures full { (result ≡ Err CoverError.TableFull) ↔ (CAPACITY ≤ length self.old) }
         ensures err { OnErr result (self.new ≡ self.old) }
     {
         if self.count >= CAPACITY {

@@ -1,7 +1,7 @@
 //! One prefix.
 
 ghost use Rattle.std.specs.Prelude.{◌≡◌, ◌≤◌, ◌↔◌, IsTrue, IsSome, IfSome, take};
-ghost use Rattle.prefix_lanes.specs.Bits.{address_bits, bits, masked, Covers, IsCanonical};
+ghost use Rattle.prefix_lanes.specs.Bits.{address_bits, bits, masked, Covers, IsCanonical, is_prefix};
 
 use crate::mask::{ADDRESS_BITS, begin_alike, mask};
 use std::marker::Model;
@@ -41,6 +41,13 @@ impl Prefix {
             addr: mask(addr, len),
             len,
         })
+    }
+
+    /// Whether the two are one prefix.
+    pub fn equals(&self, other: &Prefix) -> bool
+        ensures { result ≡ is_prefix self.now other.now }
+    {
+        self.addr == other.addr && self.len == other.len
     }
 
     /// The address: the bits of the prefix, then zeros.

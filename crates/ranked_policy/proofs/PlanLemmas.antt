@@ -13,7 +13,8 @@ use Rattle.ranked_policy.specs.declared.network.Link.{Link}
 use Rattle.ranked_policy.specs.declared.network.Origin.{Origin}
 use Rattle.ranked_policy.specs.declared.network.Rule.{Rule}
 use Rattle.ranked_policy.specs.Paths.{IsSimple, BeginsWith}
-use Rattle.ranked_policy.specs.Plans.{Plan, numbers, identifiers, Joins, touches, IsRouter, IsBefore, IsAsn, IsUnicast, AreLinks, AreOrigins, AreRanked, AreRules, IsPlan}
+use Rattle.ranked_policy.specs.Plans.{Plan, numbers, identifiers, Joins, touches, IsRouter, IsBefore, AreLinks, AreOrigins, AreRanked, AreRules, IsPlan}
+use Rattle.bgp_values.specs.Ranges.{IsAsn, IsUnicast}
 use Rattle.ranked_policy.specs.Adding.{with_link, Changes}
 use Rattle.ranked_policy.proofs.Rising.{pairs_insert, all_parts}
 

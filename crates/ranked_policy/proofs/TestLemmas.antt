@@ -11,7 +11,7 @@ use Rattle.std.proofs.lemmas.List.{get_or_default}
 use Rattle.std.proofs.lemmas.List.Folds.{Any-from_list_any, list_any-from_Any}
 use Rattle.std.proofs.lemmas.List.Elements.{All-nil, All-cons, All-contains}
 use Rattle.std.proofs.lemmas.List.Kept.{AllPairs-cons}
-use Rattle.prefix_lanes.specs.Bits.{PrefixView, Covers, bits}
+use Rattle.prefix_lanes.specs.Bits.{PrefixView, Covers, bits, is_prefix}
 use Rattle.prefix_lanes.specs.Laws.{HasItsLength, SameBitsSamePrefix}
 use Rattle.ranked_policy.specs.declared.network.Rule.{Rule}
 use Rattle.ranked_policy.specs.Paths.{IsSimple, BeginsWith, EndsWith, IsRoute}
@@ -63,8 +63,8 @@ contains_test {X} p each xs y = alike (list_any (λ x. p x y) xs) (any_test (λ 
 
 -- ---- prefixes
 
-prefix_test : (p q : PrefixView) → Decides (test.same_prefix p q) (p ≡ q)
-prefix_test p q = alike (test.same_prefix p q) (both (p.addr == q.addr) (p.len == q.len) (eq_test p.addr q.addr) (eq_test p.len q.len))
+prefix_test : (p q : PrefixView) → Decides (is_prefix p q) (p ≡ q)
+prefix_test p q = alike (is_prefix p q) (both (p.addr == q.addr) (p.len == q.len) (eq_test p.addr q.addr) (eq_test p.len q.len))
     (λ h. λ i. record { addr = h.0 i; len = h.1 i }) (λ e. (ap (λ x. x.addr) e, ap (λ x. x.len) e))
 
 bit_test : (x y : Bool) → Decides (test.same_bit x y) (x ≡ y)
@@ -211,8 +211,8 @@ none_or_rule rules q rule is none = absurd (All-contains (λ r. Covers r.prefix 
 
 module _ (one : OneRule) (t : Table) (table : IsTable t) (q : PrefixView) where
   origin_test : (u : ℕ) → Decides (test.originates t q u) (Originates t q u)
-  origin_test u = any_test (λ o. test.same_prefix o.prefix q && (o.router == u)) (λ o. (o.prefix ≡ q) × (o.router ≡ u)) t.origins
-      (λ o. both (test.same_prefix o.prefix q) (o.router == u) (prefix_test o.prefix q) (eq_test o.router u))
+  origin_test u = any_test (λ o. is_prefix o.prefix q && (o.router == u)) (λ o. (o.prefix ≡ q) × (o.router ≡ u)) t.origins
+      (λ o. both (is_prefix o.prefix q) (o.router == u) (prefix_test o.prefix q) (eq_test o.router u))
 
   listed_test : (found : Option Rule) (path : List ℕ) → IsFound t.rules q found → Decides (test.is_listed found path) (IsListed t.rules q path)
   listed_test None path none = (λ h. inr none, λ h. refl)

@@ -12,7 +12,8 @@ use Rattle.ranked_policy.specs.declared.refusal.NetError.{NetError}
 use Rattle.ranked_policy.specs.declared.refusal.NetError.TheVariants.{NotSimple, TooLong, Repeated, Memory, UnknownRouter, Limit, BadNumber, NotConnected}
 use Rattle.ranked_policy.specs.Paths.{IsSimple, BeginsWith}
 use Rattle.ranked_policy.specs.declared.limits.TheConstants.{MOST_ROUTERS, MOST_LINKS, MOST_PREFIXES, MOST_RULES, MOST_PATHS, LONGEST_PATH}
-use Rattle.ranked_policy.specs.Plans.{Plan, Joins, touches, IsRouter, IsNamed, IsConnected, IsAsn, IsUnicast, IsSettings}
+use Rattle.ranked_policy.specs.Plans.{Plan, Joins, touches, IsRouter, IsNamed, IsConnected, IsSettings}
+use Rattle.bgp_values.specs.Ranges.{IsAsn, IsUnicast}
 
 -- the order in which refusals are judged: want of memory last
 abbrev pub turn : NetError → ℕ

@@ -1,14 +1,15 @@
 -- A network of routers: their numbers and identifiers, links, the prefixes that each originates, and each router's ranked paths.
-use Rattle.std.specs.Prelude.{ℕ, ◌≡◌, ◌≢◌, ◌≤◌, ◌<◌, ◌/◌, ◌||◌, ◌==◌, Bool, List, [], ◌∷◌, length, map}
+use Rattle.std.specs.Prelude.{ℕ, ◌≡◌, ◌≢◌, ◌≤◌, ◌<◌, ◌||◌, ◌==◌, Bool, List, [], ◌∷◌, length, map}
 use Rattle.std.specs.List.{All, AllPairs, Any, Contains, count_by}
 use mathlib.Core.Logic.{◌⊎◌}
+use Rattle.bgp_values.specs.Ranges.{IsAsn, IsHoldTime, IsUnicast}
 use Rattle.prefix_lanes.specs.Bits.{PrefixView, IsCanonical}
 use Rattle.ranked_policy.specs.declared.network.Settings.{Settings}
 use Rattle.ranked_policy.specs.declared.network.Router.{Router}
 use Rattle.ranked_policy.specs.declared.network.Link.{Link}
 use Rattle.ranked_policy.specs.declared.network.Origin.{Origin}
 use Rattle.ranked_policy.specs.declared.network.Rule.{Rule}
-use Rattle.ranked_policy.specs.declared.limits.TheConstants.{GREATEST_ASN, LEAST_HOLD, GREATEST_CUT, GREATEST_PIPE, MOST_ROUTERS, MOST_LINKS, MOST_PREFIXES, MOST_RULES, MOST_PATHS, LONGEST_PATH}
+use Rattle.ranked_policy.specs.declared.limits.TheConstants.{GREATEST_CUT, GREATEST_PIPE, MOST_ROUTERS, MOST_LINKS, MOST_PREFIXES, MOST_RULES, MOST_PATHS, LONGEST_PATH}
 use Rattle.ranked_policy.specs.Paths.{IsSimple, BeginsWith}
 
 -- a network as plain data: the routers by rising number, the origins by rising prefix, links and rules as they were named
@@ -59,17 +60,9 @@ Joined links u w = (vs : List ℕ) × Walks links u vs w
 abbrev pub IsConnected : List Router → List Link → Type 0
 IsConnected routers links = (u v : ℕ) → IsRouter routers u → IsRouter routers v → Joined links u v
 
--- an AS number of two octets that a speaker may have (RFC 4271 section 4.2, RFC 7607)
-abbrev pub IsAsn : ℕ → Type 0
-IsAsn u = (1 ≤ u) × (u ≤ GREATEST_ASN)
-
--- an identifier is an address of one host (RFC 4271 section 4.2)
-abbrev pub IsUnicast : ℕ → Type 0
-IsUnicast address = (1 ≤ address / 16777216) × (address / 16777216 ≤ 223)
-
 -- the hold time that each OPEN proposes (RFC 4271 section 4.2), the octets of a piece, the items of a pipe
 pub record IsSettings (s : Settings) : Type 0 where
-  pub hold : (s.hold ≡ 0) ⊎ (LEAST_HOLD ≤ s.hold)
+  pub hold : IsHoldTime s.hold
   pub cut : (1 ≤ s.cut) × (s.cut ≤ GREATEST_CUT)
   pub pipe : (1 ≤ s.pipe) × (s.pipe ≤ GREATEST_PIPE)
 

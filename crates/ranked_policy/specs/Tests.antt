@@ -3,15 +3,12 @@ use Rattle.std.specs.Prelude.{ℕ, ◌≡◌, ◌≢◌, ◌==◌, ◌&&◌, ◌
 use Rattle.std.specs.Bool.{Decides}
 use Rattle.std.specs.List.{list_any, Contains}
 use mathlib.Core.Logic.{◌⊎◌}
-use Rattle.prefix_lanes.specs.Bits.{PrefixView, bits}
+use Rattle.prefix_lanes.specs.Bits.{PrefixView, bits, is_prefix}
 use Rattle.ranked_policy.specs.declared.limits.TheConstants.{LONGEST_PATH}
 use Rattle.ranked_policy.specs.declared.network.Rule.{Rule}
 use Rattle.ranked_policy.specs.Policies.{Table, IsTable, IsPermitted, IsPreferred}
 
 -- ---- prefixes
-
-abbrev pub same_prefix : PrefixView → PrefixView → Bool
-same_prefix p q = (p.addr == q.addr) && (p.len == q.len)
 
 abbrev pub same_bit : Bool → Bool → Bool
 same_bit true b = b
@@ -73,7 +70,7 @@ is_shorter a b = nat_lt (length a) (length b) || ((length a == length b) && come
 -- ---- the policy of a router for a prefix
 
 abbrev pub originates : Table → PrefixView → ℕ → Bool
-originates table q u = list_any (λ origin. same_prefix origin.prefix q && (origin.router == u)) table.origins
+originates table q u = list_any (λ origin. is_prefix origin.prefix q && (origin.router == u)) table.origins
 
 -- the longer of two rules, where there are two
 abbrev pub longer : Rule → Option Rule → Rule

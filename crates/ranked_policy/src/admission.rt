@@ -3,17 +3,19 @@
 ghost use Rattle.std.specs.Prelude.{◌≡◌, ◌≢◌, ◌≤◌, ◌<◌, ◌↔◌, ℕ, IsTrue, length, MatchResult};
 ghost use Rattle.std.specs.List.{All, AllPairs, Any, Contains, count_by};
 ghost use Rattle.ranked_policy.specs.Paths.{IsSimple, BeginsWith};
-ghost use Rattle.ranked_policy.specs.Plans.{IsRouter, IsOrigin, IsNamed, Linked, Joins, touches, IsAsn, IsUnicast, IsSettings};
+ghost use Rattle.ranked_policy.specs.Plans.{IsRouter, IsOrigin, IsNamed, Linked, Joins, touches, IsSettings};
+ghost use Rattle.bgp_values.specs.Ranges.{IsAsn, IsUnicast};
 ghost use Rattle.ranked_policy.specs.Adding.{IsJudged, RouterMeets, LinkMeets, OriginMeets, RuleMeets};
 
 use crate::limits::{
-    GREATEST_ASN, GREATEST_CUT, GREATEST_PIPE, LEAST_HOLD, LONGEST_PATH, MOST_LINKS, MOST_PATHS,
-    MOST_PREFIXES, MOST_ROUTERS, MOST_RULES,
+    GREATEST_CUT, GREATEST_PIPE, LONGEST_PATH, MOST_LINKS, MOST_PATHS, MOST_PREFIXES, MOST_ROUTERS,
+    MOST_RULES,
 };
 use crate::network::{Link, Origin, Router, Rule, Settings};
 use crate::path::{Asn, Path};
 use crate::policy::{begins_with, is_listed, is_simple};
 use crate::refusal::NetError;
+use bgp_values::{is_asn, is_hold_time, is_unicast};
 use prefix_lanes::Prefix;
 
 // Whether each setting is in its range.
@@ -21,7 +23,7 @@ pub(crate) fn is_settings(settings: &Settings) -> bool
     ensures { IsTrue result ↔ IsSettings settings.now }
 {
     let _restart = settings.restart;
-    (settings.hold == 0 || settings.hold >= LEAST_HOLD)
+    is_hold_time(settings.hold)
         && 1 <= settings.cut
         && settings.cut <= GREATEST_CUT
         && 1 <= settings.pipe
@@ -32,8 +34,7 @@ pub(crate) fn is_settings(settings: &Settings) -> bool
 fn is_numbered(asn: Asn, id: u32) -> bool
     ensures { IsTrue result ↔ (IsAsn asn × IsUnicast id) }
 {
-    let first = id / 0x0100_0000;
-    1 <= asn && asn <= GREATEST_ASN && 1 <= first && first <= 223
+    is_asn(u64::from(asn)) && is_unicast(id)
 }
 
 // Whether no router has the number or the identifier.

@@ -33,8 +33,8 @@ mod ways;
 pub use builder::NetBuilder;
 pub use items::Items;
 pub use limits::{
-    GREATEST_ASN, GREATEST_CUT, GREATEST_PIPE, LEAST_HOLD, LONGEST_PATH, MOST_LINKS, MOST_PATHS,
-    MOST_PREFIXES, MOST_ROUTERS, MOST_RULES,
+    GREATEST_CUT, GREATEST_PIPE, LONGEST_PATH, MOST_LINKS, MOST_PATHS, MOST_PREFIXES, MOST_ROUTERS,
+    MOST_RULES,
 };
 pub use network::{Link, Network, Origin, Router, Rule, Settings};
 pub use path::{Asn, Path};

@@ -17,9 +17,9 @@ use Rattle.rib_tables.specs.declared.place_set.PlaceSet.{PlaceSet}
 use Rattle.rib_tables.specs.Places.{has}
 use Rattle.rib_tables.specs.Rows.{AreFit, Marks, on, hearing, hearing_all}
 use Rattle.rib_tables.proofs.RowChoices.{some_of}
-use Rattle.prefix_lanes.specs.Bits.{PrefixView}
+use Rattle.prefix_lanes.specs.Bits.{PrefixView, is_prefix}
 use Rattle.rib_tables.specs.declared.word.Word.{Word}
-use Rattle.rib_tables.specs.Words.{nothing, is_prefix, lists, mentions}
+use Rattle.rib_tables.specs.Words.{nothing, lists, mentions}
 use Rattle.bgp_codec.specs.declared.update.Update.{Update}
 use Rattle.rib_tables.proofs.WordLemmas.{is_prefix-true, is_prefix-from}
 

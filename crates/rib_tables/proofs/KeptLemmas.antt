@@ -1,9 +1,8 @@
 -- Kept paths by their look-up.
 use Rattle.std.proofs.Common.{◌≡◌, true, false, [], ◌∷◌, refl}
 use Rattle.std.proofs.lemmas.Bool.{cond-true, cond-false}
-use Rattle.prefix_lanes.specs.Bits.{PrefixView}
+use Rattle.prefix_lanes.specs.Bits.{PrefixView, is_prefix}
 use Rattle.rib_tables.specs.Tables.{Kept}
-use Rattle.rib_tables.specs.Words.{is_prefix}
 use Rattle.rib_tables.specs.Tables.{Paths, path_of}
 
 pub path_of-first : (k : Kept) (ks : Paths) (q : PrefixView) → is_prefix k.prefix q ≡ true → path_of (k ∷ ks) q ≡ k.path

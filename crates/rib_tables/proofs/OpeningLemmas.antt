@@ -5,7 +5,7 @@ use Rattle.std.specs.List.{slice_get, All, AllPairs, Contains, list_any}
 use Rattle.std.proofs.lemmas.Bool.{cases_Bool, both_ways, cond-false, false≢true, false_from_ne_true}
 use Rattle.std.proofs.lemmas.List.{length-map, length-take-le, take_more, map-append, get_or-map, get_or-take}
 use Rattle.std.proofs.lemmas.Option.{slice_get_within, get_or_from_slice_get, slice_get-get_or}
-use Rattle.prefix_lanes.specs.Bits.{PrefixView}
+use Rattle.prefix_lanes.specs.Bits.{PrefixView, is_prefix}
 use Rattle.ranked_policy.specs.declared.network.Origin.{Origin}
 use Rattle.ranked_policy.specs.Plans.{Plan, IsNetwork, IsRouter, IsOrigin, IsBefore, Linked}
 use Rattle.ranked_policy.specs.Policies.{Table, IsTableOf, Originates}
@@ -14,7 +14,7 @@ use Rattle.rib_tables.specs.declared.place_set.PlaceSet.{PlaceSet}
 use Rattle.rib_tables.specs.declared.row.Peer.{Peer}
 use Rattle.rib_tables.specs.declared.row.Row.{Row}
 use Rattle.rib_tables.specs.Places.{has}
-use Rattle.rib_tables.specs.Words.{nothing, is_prefix}
+use Rattle.rib_tables.specs.Words.{nothing}
 use Rattle.rib_tables.specs.Tables.{word_of, IsSilent}
 use Rattle.rib_tables.specs.Choices.{Speaks}
 use Rattle.rib_tables.specs.Owners.{IsNew}

@@ -6,7 +6,7 @@ use Rattle.std.specs.List.{slice_get, AllPairs}
 use Rattle.std.proofs.lemmas.Bool.{cases_Bool, cases_order, both_ways, cond-true, cond-false}
 use Rattle.std.proofs.lemmas.List.{length-map, length-set, get_or-map, get_or-set_same}
 use Rattle.std.proofs.lemmas.Option.{slice_get_within, get_or_from_slice_get, slice_get-get_or}
-use Rattle.prefix_lanes.specs.Bits.{PrefixView}
+use Rattle.prefix_lanes.specs.Bits.{PrefixView, is_prefix}
 use Rattle.bgp_codec.specs.declared.update.Update.{Update}
 use Rattle.ranked_policy.specs.declared.network.Origin.{Origin}
 use Rattle.ranked_policy.specs.Plans.{Plan, IsNamed, IsBefore}
@@ -16,7 +16,7 @@ use Rattle.rib_tables.specs.declared.place_set.PlaceSet.{PlaceSet}
 use Rattle.rib_tables.specs.declared.row.Peer.{Peer}
 use Rattle.rib_tables.specs.declared.row.Row.{Row}
 use Rattle.rib_tables.specs.Places.{has}
-use Rattle.rib_tables.specs.Words.{nothing, announced_word, Announces, Mentions, Says, is_prefix, lists, mentions}
+use Rattle.rib_tables.specs.Words.{nothing, announced_word, Announces, Mentions, Says, lists, mentions}
 use Rattle.rib_tables.specs.Tables.{Words, word_of, Applies}
 use Rattle.rib_tables.specs.Owners.{HearsUpdate}
 use Rattle.rib_tables.specs.Rows.{says_in, said_in, established_in, kept_in, originated_in, view_of, IsRow, AreRows, AreDecided, IsRowBest, IsRib, AreFit, Marks, hearing, hearing_all, hearing_update}

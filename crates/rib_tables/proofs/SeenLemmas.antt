@@ -5,7 +5,7 @@ use Rattle.std.specs.List.{slice_get, Contains}
 use Rattle.std.proofs.lemmas.Bool.{cases_Bool, cases_order, both_ways, cond-true, cond-false, false_from_ne_true}
 use Rattle.std.proofs.lemmas.List.Elements.{Contains-get_or, Contains-append_right, Contains-append_cases}
 use Rattle.std.proofs.lemmas.Option.{slice_get_within, get_or_from_slice_get, slice_get-get_or}
-use Rattle.prefix_lanes.specs.Bits.{PrefixView}
+use Rattle.prefix_lanes.specs.Bits.{PrefixView, is_prefix}
 use Rattle.ranked_policy.specs.declared.network.Origin.{Origin}
 use Rattle.ranked_policy.specs.Plans.{Plan, IsBefore}
 use Rattle.ranked_policy.specs.Policies.{Table}
@@ -16,7 +16,7 @@ use Rattle.rib_tables.specs.declared.place_set.PlaceSet.{PlaceSet}
 use Rattle.rib_tables.specs.declared.row.Peer.{Peer}
 use Rattle.rib_tables.specs.declared.row.Row.{Row}
 use Rattle.rib_tables.specs.Places.{has}
-use Rattle.rib_tables.specs.Words.{nothing, path_in, is_prefix}
+use Rattle.rib_tables.specs.Words.{nothing, path_in}
 use Rattle.rib_tables.specs.Tables.{word_of, path_of}
 use Rattle.rib_tables.specs.Least.{HoldsOfAll, IsLeastWithout}
 use Rattle.rib_tables.specs.Choices.{Hears, IsBestOf, IsBest}

@@ -10,7 +10,7 @@ use Rattle.rib_tables.specs.Owners.{ComesUp, ForgetsPeer}
 use Rattle.std.proofs.lemmas.Bool.{cases_Bool, cases_order, both_ways, cond-true, cond-false, false≢true}
 use Rattle.std.proofs.lemmas.List.{length-set}
 use Rattle.std.proofs.lemmas.Option.{slice_get_within, get_or_from_slice_get, slice_get-get_or}
-use Rattle.prefix_lanes.specs.Bits.{PrefixView}
+use Rattle.prefix_lanes.specs.Bits.{PrefixView, is_prefix}
 use Rattle.ranked_policy.specs.Plans.{Plan, Linked}
 use Rattle.rib_tables.specs.declared.word.Word.{Word}
 use Rattle.rib_tables.specs.declared.word.Word.TheVariants.{Sequence}
@@ -18,7 +18,7 @@ use Rattle.rib_tables.specs.declared.place_set.PlaceSet.{PlaceSet}
 use Rattle.rib_tables.specs.declared.row.Peer.{Peer}
 use Rattle.rib_tables.specs.declared.row.Row.{Row}
 use Rattle.rib_tables.specs.Places.{has}
-use Rattle.rib_tables.specs.Words.{nothing, is_prefix}
+use Rattle.rib_tables.specs.Words.{nothing}
 use Rattle.rib_tables.specs.Choices.{IsBestOf}
 use Rattle.rib_tables.specs.Rows.{RowHears, IsRow, AreRows, AreDecided, IsRowBest, IsRib, Marks, MarksSpeaking, Speaking, forgetting, keeping, on, says_in, said_in, established_in, originated_in, kept_in, view_of}
 use Rattle.rib_tables.proofs.RowChoices.{some_of, first_as}

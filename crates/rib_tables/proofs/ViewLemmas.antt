@@ -4,12 +4,12 @@ use Rattle.std.specs.Prelude.{◌==◌}
 use Rattle.std.specs.List.{slice_get}
 use Rattle.std.proofs.lemmas.Bool.{cases_Bool, both_ways, false_from_ne_true, and_from, eq-eqb, eqb-true}
 use Rattle.std.proofs.lemmas.Option.{slice_get_within}
-use Rattle.prefix_lanes.specs.Bits.{PrefixView}
+use Rattle.prefix_lanes.specs.Bits.{PrefixView, is_prefix}
 use Rattle.rib_tables.specs.declared.word.Word.{Word}
 use Rattle.rib_tables.specs.Tables.{Said}
 use Rattle.rib_tables.specs.declared.row.Peer.{Peer}
 use Rattle.rib_tables.specs.declared.row.Row.{Row}
-use Rattle.rib_tables.specs.Words.{nothing, is_prefix}
+use Rattle.rib_tables.specs.Words.{nothing}
 use Rattle.rib_tables.specs.Tables.{Words, word_of, is_of}
 use Rattle.rib_tables.specs.Rows.{says_in, said_in}
 use Rattle.rib_tables.proofs.WordLemmas.{is_prefix-from, is_of-true, word_of-first, word_of-next}

@@ -6,11 +6,11 @@ use Rattle.std.specs.List.{AllByRecursion, Contains, filter}
 use Rattle.std.proofs.lemmas.Bool.{cases_Bool, both_ways, and_parts, and_from, eq-eqb, eqb-true, cond-true, cond-false, false_from_ne_true}
 use Rattle.std.proofs.lemmas.Bool.Decides.{Decides-by_or, Decides-or}
 use Rattle.std.proofs.lemmas.List.Elements.{Decides-contains}
-use Rattle.prefix_lanes.specs.Bits.{PrefixView}
+use Rattle.prefix_lanes.specs.Bits.{PrefixView, is_prefix}
 use Rattle.bgp_codec.specs.declared.update.Update.{Update}
 use Rattle.rib_tables.specs.declared.word.Word.{Word}
 use Rattle.rib_tables.specs.Tables.{Said}
-use Rattle.rib_tables.specs.Words.{nothing, Mentions, is_prefix, lists, mentions}
+use Rattle.rib_tables.specs.Words.{nothing, Mentions, lists, mentions}
 use Rattle.rib_tables.specs.Tables.{Words, is_of, word_of}
 
 -- ---- prefixes

@@ -1,7 +1,7 @@
 -- The tables of a router by the places of its prefixes and of its peers.
 use Rattle.std.specs.Prelude.{ℕ, ◌≡◌, ◌≢◌, ◌<◌, ◌≤◌, ◌↔◌, Bool, true, false, List, [], ◌∷◌, ◌++◌, Some, length, slice_get, slice_set, if◌then◌else◌, map}
 use Rattle.std.specs.List.{All, AllPairs}
-use Rattle.prefix_lanes.specs.Bits.{PrefixView}
+use Rattle.prefix_lanes.specs.Bits.{PrefixView, is_prefix}
 use Rattle.ranked_policy.specs.declared.network.Origin.{Origin}
 use Rattle.ranked_policy.specs.declared.limits.TheConstants.{MOST_PREFIXES}
 use Rattle.ranked_policy.specs.Plans.{Plan, IsNetwork, IsRouter, IsOrigin, Linked}
@@ -12,7 +12,7 @@ use Rattle.rib_tables.specs.declared.place_set.PlaceSet.{PlaceSet}
 use Rattle.rib_tables.specs.declared.row.Peer.{Peer}
 use Rattle.rib_tables.specs.declared.row.Row.{Row}
 use Rattle.rib_tables.specs.Places.{has}
-use Rattle.rib_tables.specs.Words.{nothing, announced_word, is_prefix, lists}
+use Rattle.rib_tables.specs.Words.{nothing, announced_word, lists}
 use Rattle.bgp_codec.specs.declared.update.Update.{Update}
 use Rattle.rib_tables.specs.Tables.{Words, Paths}
 use Rattle.rib_tables.specs.Choices.{IsBestOf, Speaks}

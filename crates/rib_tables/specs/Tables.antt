@@ -1,13 +1,13 @@
 -- The words of peers and the kept paths of one router (RFC 4271 section 3.2), and what each call does to them.
 -- What a table holds is told by a look-up alone: `word_of` at a peer and a prefix, `path_of` at a prefix.
 use Rattle.std.specs.Prelude.{ℕ, ◌≡◌, ◌≢◌, ◌==◌, ◌&&◌, Bool, List, [], ◌∷◌, if◌then◌else◌}
-use Rattle.prefix_lanes.specs.Bits.{PrefixView}
+use Rattle.prefix_lanes.specs.Bits.{PrefixView, is_prefix}
 use Rattle.bgp_codec.specs.declared.update.Update.{Update}
 use Rattle.ranked_policy.specs.declared.network.Origin.{Origin}
 use Rattle.ranked_policy.specs.Plans.{IsNamed}
 use Rattle.rib_tables.specs.declared.word.Word.{Word}
 use Rattle.rib_tables.specs.declared.word.Word.TheVariants.{Sequence}
-use Rattle.rib_tables.specs.Words.{nothing, Mentions, Says, is_prefix}
+use Rattle.rib_tables.specs.Words.{nothing, Mentions, Says}
 
 -- what a peer says of a prefix
 pub record Said : Type 0 where

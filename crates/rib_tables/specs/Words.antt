@@ -1,8 +1,8 @@
 -- What an UPDATE says of a prefix (RFC 4271 sections 3.2 and 4.3).
-use Rattle.std.specs.Prelude.{ℕ, ◌≡◌, ◌==◌, ◌&&◌, ◌||◌, Bool, false, List, [], ◌∷◌, Option, Some, None, if◌then◌else◌}
+use Rattle.std.specs.Prelude.{ℕ, ◌≡◌, ◌||◌, Bool, false, List, [], ◌∷◌, Option, Some, None, if◌then◌else◌}
 use Rattle.std.specs.List.{Contains}
 use mathlib.Core.Logic.{◌⊎◌}
-use Rattle.prefix_lanes.specs.Bits.{PrefixView}
+use Rattle.prefix_lanes.specs.Bits.{PrefixView, is_prefix}
 use Rattle.bgp_codec.specs.declared.attributes.Attrs.{Attrs}
 use Rattle.bgp_codec.specs.declared.path.Segment.{Segment}
 use Rattle.bgp_codec.specs.declared.path.SegmentKind.{SegmentKind}
@@ -55,9 +55,6 @@ Says u q word =
     ⊎ ((Announces u q → ⊥) × Withdraws u q × (word ≡ nothing))
 
 -- ---- the same as tests
-
-abbrev pub is_prefix : PrefixView → PrefixView → Bool
-is_prefix p q = (p.addr == q.addr) && (p.len == q.len)
 
 abbrev pub lists : List PrefixView → PrefixView → Bool
 lists [] q = false

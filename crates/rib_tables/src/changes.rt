@@ -2,12 +2,12 @@
 
 ghost use Rattle.std.specs.Prelude.{◌≡◌, ◌≢◌, ◌<◌, ◌≤◌, ◌↔◌, ◌∷◌, [], ℕ, true, false, length, map, slice_get, slice_index_or, slice_set, Some, IsTrue, IfOk, OnOk, OnErr, MatchOption};
 ghost use Rattle.std.specs.List.{All};
-ghost use Rattle.prefix_lanes.specs.Bits.{PrefixView};
+ghost use Rattle.prefix_lanes.specs.Bits.{PrefixView, is_prefix};
 ghost use Rattle.rib_tables.specs.declared.row.Peer.{Peer};
 ghost use Rattle.rib_tables.specs.declared.row.Row.{Row};
 ghost use Rattle.rib_tables.specs.declared.word.Word.TheVariants.{Sequence};
 ghost use Rattle.rib_tables.specs.declared.place_set.PlaceSet.{PlaceSet};
-ghost use Rattle.rib_tables.specs.Words.{announced_word, nothing, is_prefix, lists, mentions};
+ghost use Rattle.rib_tables.specs.Words.{announced_word, nothing, lists, mentions};
 ghost use Rattle.rib_tables.specs.Places.{has};
 ghost use Rattle.rib_tables.specs.Rows.{AreFit, AreWaiting, IsWaiting, Marks, MarksSpeaking, on, hearing, hearing_all, hearing_update, telling, keeping, originating, forgetting, clearing};
 

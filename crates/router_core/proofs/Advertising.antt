@@ -11,7 +11,8 @@ use Rattle.router_model.specs.declared.refusal.Stepped.{Stepped}
 use Rattle.router_model.specs.Settings.{Setting, peers}
 use Rattle.router_model.specs.State.{untold, is_waiting_peer}
 use Rattle.router_model.specs.Step.{Advertises, telling_to, telling_of}
-use Rattle.router_model.specs.Calls.{Stamped, Advertise, Gives, answer, judged, has_room, stamped_after, greatest_stamp}
+use Rattle.router_model.specs.Calls.{Stamped, Advertise, Gives, answer, judged, has_room, stamped_after}
+use Rattle.run_model.specs.declared.stamps.TheConstants.{GREATEST_STAMP}
 use Rattle.router_core.specs.declared.router.choose.Next.TheVariants as next
 use Rattle.router_core.specs.Views.{RouterView, IsNext, Tells, Ends, plain_of, unchosen, waits_at, has_room_at, told_to}
 
@@ -39,4 +40,4 @@ module _ (g : Setting) (x : RouterView) (same : g.net ≡ x.net) where
     by_stamp false h = subst (λ (z : Stamped). Ends false false r (plain_of x) z (plain_of y)) (told_is v q waits_for) h
 
     pub tells : find (has_room_at x) (peers x.net x.number) ≡ Some v → Tells r x v q y → Gives g x.number r (answer g x.number (plain_of x) Advertise) (plain_of x) Advertise (plain_of y)
-    tells first h = rw (rooms ∙ first) (by_stamp (nat_lt greatest_stamp (x.stamp + 1)) h)
+    tells first h = rw (rooms ∙ first) (by_stamp (nat_lt GREATEST_STAMP (x.stamp + 1)) h)

@@ -8,11 +8,12 @@ use Rattle.std.proofs.lemmas.List.Elements.{All-contains}
 use Rattle.std.proofs.lemmas.List.{length-map}
 use Rattle.std.proofs.lemmas.List.Folds.{Any-from_list_any, list_any-from_Any}
 use Rattle.bgp_codec.specs.declared.message.Message.TheVariants.{OpenMsg}
-use Rattle.bgp_codec.specs.Opens.{OpenFits, is_hold_time, is_unicast}
+use Rattle.bgp_codec.specs.Opens.{OpenFits}
+use Rattle.bgp_values.specs.Ranges.{is_hold_time, is_unicast, IsUnicast, IsAsn}
 use Rattle.bgp_codec.specs.Spelling.{WrittenHasAHeader}
 use Rattle.ranked_policy.specs.declared.network.Link.{Link}
 use Rattle.ranked_policy.specs.declared.network.Router.{Router}
-use Rattle.ranked_policy.specs.Plans.{Plan, IsNetwork, Joins, Linked, IsUnicast, IsAsn, IsRouter, numbers, identifiers}
+use Rattle.ranked_policy.specs.Plans.{Plan, IsNetwork, Joins, Linked, IsRouter, numbers, identifiers}
 use Rattle.router_model.specs.Settings.{joins, linked, identifier}
 use Rattle.router_side.specs.Sayings.{IsSayable}
 

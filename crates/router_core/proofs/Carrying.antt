@@ -28,7 +28,8 @@ use Rattle.router_model.specs.Settings.{Setting, linked, peers}
 use Rattle.router_model.specs.Sides.{Side, AtHand, NoMessage, Draft, carried, acted_with, is_up, without_front, met, reset}
 use Rattle.router_model.specs.State.{open_of}
 use Rattle.router_model.specs.Step.{RouterEvent, Obeys, with_side, moved, seen, close_at}
-use Rattle.router_model.specs.Calls.{Stamped, Call, Obey, Gives, answer, judged, unless, greatest_stamp, stamped_after}
+use Rattle.router_model.specs.Calls.{Stamped, Call, Obey, Gives, answer, judged, unless, stamped_after}
+use Rattle.run_model.specs.declared.stamps.TheConstants.{GREATEST_STAMP}
 use Rattle.router_side.specs.SideOf.{side, side_opening}
 use Rattle.router_core.specs.declared.peers.Peer.{Peer}
 use Rattle.router_core.specs.Views.{RouterView, IsSound, IsTabled, IsMarked, IsTellable, IsPathWord, Follows, side_at, sides_of, listed, IsAt, config_of, plain_of, Ends}
@@ -145,7 +146,7 @@ module _ (r : RouterView) (v i : ℕ) (p q : Peer) (c : Changes r v i p q) where
         record { over = k.over (peers r.net r.number) s.marked.over; unfinished = own.unfinished; queue = own.queue }
 
     -- it is still what a router of the code is
-    pub stays : IsSound r → stamp ≤ greatest_stamp → Tracks r v q t → Records r m → IsSound (with_peer r i q t m stamp)
+    pub stays : IsSound r → stamp ≤ GREATEST_STAMP → Tracks r v q t → Records r m → IsSound (with_peer r i q t m stamp)
     stays s l k n = record {
       network = s.network;
       router = s.router;
@@ -266,11 +267,11 @@ keeps_here r v i p at here s a b e k =
 -- a call whose event is the draft of one side, carried out
 pub one_step : (g : Setting) (r : RouterView) (y : Stamped) (v : ℕ) (h : AtHand) (a b : Draft) (stamp : ℕ) (call : Call) (e : RouterEvent) (res : Result Stepped RouterError) (o : Draft → Bool) → a ≡ b
     → stamped_after g r.number (plain_of r) call e ≡ record { router = moved (plain_of r).router v h b; stamp = stamp }
-    → Ends (nat_lt greatest_stamp stamp) (o a) res (plain_of r) (record { router = moved (plain_of r).router v h a; stamp = stamp }) y
-    → Gives g r.number res (judged None (Some e) (nat_lt greatest_stamp stamp) (o b)) (plain_of r) call y
+    → Ends (nat_lt GREATEST_STAMP stamp) (o a) res (plain_of r) (record { router = moved (plain_of r).router v h a; stamp = stamp }) y
+    → Gives g r.number res (judged None (Some e) (nat_lt GREATEST_STAMP stamp) (o b)) (plain_of r) call y
 one_step g r y v h a b stamp call e res o same is ends =
-    ends_give g r.number (nat_lt greatest_stamp stamp) (o b) res (plain_of r) y (record { router = moved (plain_of r).router v h b; stamp = stamp }) call e is
-    (subst (λ (w : Draft). Ends (nat_lt greatest_stamp stamp) (o w) res (plain_of r) (record { router = moved (plain_of r).router v h w; stamp = stamp }) y) same ends)
+    ends_give g r.number (nat_lt GREATEST_STAMP stamp) (o b) res (plain_of r) y (record { router = moved (plain_of r).router v h b; stamp = stamp }) call e is
+    (subst (λ (w : Draft). Ends (nat_lt GREATEST_STAMP stamp) (o w) res (plain_of r) (record { router = moved (plain_of r).router v h w; stamp = stamp }) y) same ends)
 
 -- the first test of a call: whether the peer is linked
 pub is_linked : (g : Setting) (r : RouterView) (v : ℕ) (b : Bool) → IsOf g r → listed v r.peers ≡ b → linked g.net r.number v ≡ b
@@ -279,25 +280,25 @@ is_linked g r v b of l = sym (of.links v) ∙ l
 module _ (g : Setting) (r : RouterView) (y : Stamped) (v i : ℕ) (p : Peer) (a : Draft) (res : Result Stepped RouterError) (of : IsOf g r) (at : IsAt r.peers v i) (here : p ≡ get_or r.peers i p)
     (l : listed v r.peers ≡ true) where
   abbrev pub Ended : Bool → ℕ → Type 0
-  Ended o stamp = Ends (nat_lt greatest_stamp stamp) o res (plain_of r) (record { router = moved (plain_of r).router v NoMessage a; stamp = stamp }) y
+  Ended o stamp = Ends (nat_lt GREATEST_STAMP stamp) o res (plain_of r) (record { router = moved (plain_of r).router v NoMessage a; stamp = stamp }) y
 
   pub starts : a ≡ met r.own_open (side p.end) ManualStart → Ended a.overflows (r.stamp + 1) → Gives g r.number res (answer g r.number (plain_of r) (Obey (Start v))) (plain_of r) (Obey (Start v)) y
   starts made ends =
       let b = met (open_of g.net r.number) (sides_of r v) ManualStart in
-      subst (λ (t : Bool). Gives g r.number res (judged (unless t error.NoSuchPeer) (Some (alone (Obeys (Start v)))) (nat_lt greatest_stamp (r.stamp + 1)) b.overflows) (plain_of r) (Obey (Start v)) y)
+      subst (λ (t : Bool). Gives g r.number res (judged (unless t error.NoSuchPeer) (Some (alone (Obeys (Start v)))) (nat_lt GREATEST_STAMP (r.stamp + 1)) b.overflows) (plain_of r) (Obey (Start v)) y)
       (sym (is_linked g r v true of l))
       (one_step g r y v NoMessage a b (r.stamp + 1) (Obey (Start v)) (alone (Obeys (Start v))) res (λ w. w.overflows) (drafted g r v i p (λ o s. met o s ManualStart) a of at here made) refl ends)
 
   pub stops : a ≡ met r.own_open (side p.end) ManualStop → Ended false (r.stamp + 1) → Gives g r.number res (answer g r.number (plain_of r) (Obey (Stop v))) (plain_of r) (Obey (Stop v)) y
   stops made ends =
       let b = met (open_of g.net r.number) (sides_of r v) ManualStop in
-      subst (λ (t : Bool). Gives g r.number res (judged (unless t error.NoSuchPeer) (Some (alone (Obeys (Stop v)))) (nat_lt greatest_stamp (r.stamp + 1)) false) (plain_of r) (Obey (Stop v)) y)
+      subst (λ (t : Bool). Gives g r.number res (judged (unless t error.NoSuchPeer) (Some (alone (Obeys (Stop v)))) (nat_lt GREATEST_STAMP (r.stamp + 1)) false) (plain_of r) (Obey (Stop v)) y)
       (sym (is_linked g r v true of l))
       (one_step g r y v NoMessage a b (r.stamp + 1) (Obey (Stop v)) (alone (Obeys (Stop v))) res (λ w. false) (drafted g r v i p (λ o s. met o s ManualStop) a of at here made) refl ends)
 
   pub resets : a ≡ reset r.own_open (side p.end) → Ended a.overflows (r.stamp + 1) → Gives g r.number res (answer g r.number (plain_of r) (Obey (Reset v))) (plain_of r) (Obey (Reset v)) y
   resets made ends =
       let b = reset (open_of g.net r.number) (sides_of r v) in
-      subst (λ (t : Bool). Gives g r.number res (judged (unless t error.NoSuchPeer) (Some (alone (Obeys (Reset v)))) (nat_lt greatest_stamp (r.stamp + 1)) b.overflows) (plain_of r) (Obey (Reset v)) y)
+      subst (λ (t : Bool). Gives g r.number res (judged (unless t error.NoSuchPeer) (Some (alone (Obeys (Reset v)))) (nat_lt GREATEST_STAMP (r.stamp + 1)) b.overflows) (plain_of r) (Obey (Reset v)) y)
       (sym (is_linked g r v true of l))
       (one_step g r y v NoMessage a b (r.stamp + 1) (Obey (Reset v)) (alone (Obeys (Reset v))) res (λ w. w.overflows) (drafted g r v i p reset a of at here made) refl ends)

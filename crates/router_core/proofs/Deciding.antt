@@ -4,10 +4,10 @@ use Rattle.std.specs.Prelude.{nat_lt, Ok, Err}
 use Rattle.std.specs.List.{Contains}
 use Rattle.std.proofs.Math.Path.{fun_ext}
 use Rattle.std.proofs.lemmas.Bool.Decides.{not_from_Decides}
-use Rattle.prefix_lanes.specs.Bits.{PrefixView}
+use Rattle.prefix_lanes.specs.Bits.{PrefixView, is_prefix}
 use Rattle.ranked_policy.specs.Plans.{Plan, IsNamed}
 use Rattle.ranked_policy.specs.Policies.{Table, IsPermitted}
-use Rattle.rib_tables.specs.Words.{is_prefix, path_in}
+use Rattle.rib_tables.specs.Words.{path_in}
 use Rattle.rib_tables.specs.Tables.{path_of, Paths}
 use Rattle.rib_tables.specs.Least.{HoldsOfAll, IsLeastWithout}
 use Rattle.rib_tables.specs.Choices.{Hears, IsOwn, IsFirstOrNone, IsBest}
@@ -19,8 +19,10 @@ use Rattle.router_model.specs.declared.refusal.Stepped.TheVariants as stepped
 use Rattle.router_model.specs.Settings.{Setting}
 use Rattle.router_model.specs.State.{undecided, route}
 use Rattle.router_model.specs.Step.{keeping}
-use Rattle.router_model.specs.Calls.{Decide, Gives, answer, greatest_stamp}
-use Rattle.router_core.specs.Views.{RouterView, IsSound, IsTabled, IsTellable, AreShort, plain_of}
+use Rattle.router_model.specs.Calls.{Decide, Gives, answer}
+use Rattle.run_model.specs.declared.stamps.TheConstants.{GREATEST_STAMP}
+use Rattle.router_core.specs.Views.{RouterView, IsSound, IsTabled, IsTellable, plain_of}
+use Rattle.bgp_codec.specs.Updates.{AreShort}
 use Rattle.router_core.proofs.Naming.{is_prefix-true, is_prefix-from}
 use Rattle.router_core.proofs.Beginnings.{asn_fits}
 use Rattle.router_core.proofs.Originations.{with_tables, stays_sound}
@@ -88,7 +90,7 @@ module _ (x : RouterView) (sound : IsSound x) where
         originated = h.originated;
       }
 
-  pub sound_deciding : (t : RibView) (q : PrefixView) → Decides x.tables t q → IsNamed x.tables.net.origins q → (stamp : ℕ) → stamp ≤ greatest_stamp → IsSound (with_tables x t stamp)
+  pub sound_deciding : (t : RibView) (q : PrefixView) → Decides x.tables t q → IsNamed x.tables.net.origins q → (stamp : ℕ) → stamp ≤ GREATEST_STAMP → IsSound (with_tables x t stamp)
   sound_deciding t q d named stamp few =
       let here : IsNamed x.net.origins q = subst (λ (net : Plan). IsNamed net.origins q) sound.tabled.net named in
       let whole = tabled_kept t q d.best d.keeps (best_tellable q d.best d.is_best) here stamp in
@@ -104,13 +106,13 @@ module _ (over : BestOverWords) (one : OneBest) (g : Setting) (x : RouterView) (
     pub first : undecided g x.number (plain_of x).router ≡ Some q
     first = sym (undecided_is over one g x c (Some q) least)
 
-    pub late_to_decide : nat_lt greatest_stamp (x.stamp + 1) ≡ true → Gives g x.number (Err error.StampEnd) (answer g x.number (plain_of x) Decide) (plain_of x) Decide (plain_of x)
+    pub late_to_decide : nat_lt GREATEST_STAMP (x.stamp + 1) ≡ true → Gives g x.number (Err error.StampEnd) (answer g x.number (plain_of x) Decide) (plain_of x) Decide (plain_of x)
     late_to_decide late = rw (first, late) (refl, refl)
 
-    pub no_memory_to_decide : nat_lt greatest_stamp (x.stamp + 1) ≡ false → Gives g x.number (Err error.Memory) (answer g x.number (plain_of x) Decide) (plain_of x) Decide (plain_of x)
+    pub no_memory_to_decide : nat_lt GREATEST_STAMP (x.stamp + 1) ≡ false → Gives g x.number (Err error.Memory) (answer g x.number (plain_of x) Decide) (plain_of x) Decide (plain_of x)
     no_memory_to_decide early = rw (first, early) (refl, refl)
 
-    pub decides : (t : RibView) → Decides x.tables t q → nat_lt greatest_stamp (x.stamp + 1) ≡ false
+    pub decides : (t : RibView) → Decides x.tables t q → nat_lt GREATEST_STAMP (x.stamp + 1) ≡ false
         → Gives g x.number (Ok stepped.Did) (answer g x.number (plain_of x) Decide) (plain_of x) Decide (plain_of (with_tables x t (x.stamp + 1)))
     decides t d early =
         let named = subst (λ (net : Plan). IsNamed net.origins q) c.sound.tabled.net least.is_named in

@@ -7,13 +7,14 @@ use Rattle.prefix_lanes.specs.Bits.{PrefixView}
 use Rattle.bgp_codec.specs.declared.update.Update.{Update}
 use Rattle.ranked_policy.specs.declared.network.Origin.{Origin}
 use Rattle.rib_tables.specs.declared.word.Word.{Word}
-use Rattle.rib_tables.specs.Words.{nothing, path_in}
+use Rattle.rib_tables.specs.Words.{nothing, path_in, last_word}
 use Rattle.rib_tables.specs.Tables.{word_of}
 use Rattle.rib_tables.specs.Owners.{RibView, ComesUp, ForgetsPeer, HearsUpdate}
 use Rattle.router_model.specs.Sides.{Side, is_up}
-use Rattle.router_model.specs.State.{heard, last_told, last_word}
+use Rattle.router_model.specs.State.{heard, last_told}
 use Rattle.router_side.specs.Freshness.{IsUnsaid}
-use Rattle.router_core.specs.Views.{Follows, AreShort}
+use Rattle.router_core.specs.Views.{Follows}
+use Rattle.bgp_codec.specs.Updates.{AreShort}
 use Rattle.router_core.specs.Following.{Followed, ComesUpAgain}
 
 -- ---- all but one peer is as it was

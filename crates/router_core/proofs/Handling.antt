@@ -5,7 +5,7 @@ use Rattle.std.specs.List.{list_any, Contains, AllByRecursion}
 use Rattle.std.proofs.lemmas.Bool.{eq-eqb, eqb-true, eqb-false}
 use Rattle.std.proofs.lemmas.List.Folds.{Any-from_list_any, list_any-from_Any}
 use Rattle.std.proofs.lemmas.Bool.Decides.{nat_tests}
-use Rattle.prefix_lanes.specs.Bits.{PrefixView}
+use Rattle.prefix_lanes.specs.Bits.{PrefixView, is_prefix}
 use Rattle.bgp_codec.specs.declared.message.Message.{Message}
 use Rattle.bgp_codec.specs.declared.message.Message.TheVariants.{OpenMsg, UpdateMsg, NoticeMsg, AliveMsg}
 use Rattle.bgp_codec.specs.declared.fault.Fault.{Fault}
@@ -13,13 +13,13 @@ use Rattle.bgp_codec.specs.declared.rule.Rule.{Rule}
 use Rattle.bgp_codec.specs.declared.path.Segment.{Segment}
 use Rattle.bgp_codec.specs.declared.path.SegmentKind.{SegmentKind}
 use Rattle.bgp_codec.specs.declared.path.SegmentKind.TheVariants.{AsSet, AsSequence}
-use Rattle.bgp_codec.specs.Updates.{SegmentFits}
+use Rattle.bgp_codec.specs.Updates.{SegmentFits, AreShort}
 use Rattle.bgp_codec.specs.Spelling.{IsWritable}
 use Rattle.bgp_codec.specs.declared.update.Update.{Update}
 use Rattle.ranked_policy.specs.declared.network.Origin.{Origin}
 use Rattle.ranked_policy.specs.Plans.{Plan, IsNamed}
 use Rattle.rib_tables.specs.declared.word.Word.{Word}
-use Rattle.rib_tables.specs.Words.{nothing, is_prefix, lists, segment_word, segments_word, path_word, announced_word}
+use Rattle.rib_tables.specs.Words.{nothing, lists, segment_word, segments_word, path_word, announced_word, last_word, word_after}
 use Rattle.rib_tables.specs.Tables.{Applies, word_of}
 use Rattle.rib_tables.specs.Owners.{RibView, HearsUpdate}
 use Rattle.rib_tables.specs.Promises.{WordFollows}
@@ -28,12 +28,12 @@ use Rattle.snap_marker.specs.declared.part.Channel.{Channel}
 use Rattle.snap_marker.specs.Parts.{IsOver, IsLink, leads_to, peers_of}
 use Rattle.snap_marker.specs.Recordings.{Snapshots}
 use Rattle.router_model.specs.Sides.{Side, AtHand, NoMessage, HasFault, HasUpdate, Draft, acted_with, with_update, carried, at_hand, front, without_front, handled, is_up, is_established}
-use Rattle.router_model.specs.State.{last_word, word_after, rule_of}
+use Rattle.router_model.specs.State.{rule_of}
 use Rattle.router_model.specs.Step.{seen}
 use Rattle.router_side.specs.Freshness.{IsFresh, ComesUpUnsaid, ActsWhereUp, HandlingKeepsFresh}
 use Rattle.router_side.specs.SideOf.{side}
 use Rattle.router_core.specs.declared.peers.Peer.{Peer}
-use Rattle.router_core.specs.Views.{RouterView, IsSound, Follows, IsPathWord, AreShort, listed}
+use Rattle.router_core.specs.Views.{RouterView, IsSound, Follows, IsPathWord, listed}
 use Rattle.router_core.specs.Following.{Followed, standing}
 use Rattle.router_core.specs.Handling.{update_acted, seen_where, Hears, HandlesFront}
 use Rattle.router_core.proofs.Naming.{is_prefix-true, is_prefix-from}

@@ -16,7 +16,8 @@ use Rattle.router_model.specs.Settings.{Setting}
 use Rattle.router_model.specs.Sides.{Draft, NoMessage, met, reset, signed, second}
 use Rattle.router_model.specs.State.{undecided}
 use Rattle.router_model.specs.Step.{RouterEvent, Handles, Decides, moved, overflows_taking}
-use Rattle.router_model.specs.Calls.{Stamped, Call, Obey, Tick, Take, Handle, Decide, Answer, Steps, Idle, Refuses, Gives, answer, judged, unless, if_so, greatest_stamp, stamped_after}
+use Rattle.router_model.specs.Calls.{Stamped, Call, Obey, Tick, Take, Handle, Decide, Answer, Steps, Idle, Refuses, Gives, answer, judged, unless, if_so, stamped_after}
+use Rattle.run_model.specs.declared.stamps.TheConstants.{GREATEST_STAMP}
 use Rattle.router_side.specs.SideOf.{side}
 use Rattle.router_core.specs.declared.peers.Peer.{Peer}
 use Rattle.router_core.specs.Views.{RouterView, IsSound, IsAt, listed, plain_of, Ends}
@@ -58,22 +59,22 @@ judged_ends g u s o x z a call f =
 
 module _ (g : Setting) (r : RouterView) (v i : ℕ) (p : Peer) (of : IsOf g r) (at : IsAt r.peers v i) (here : p ≡ get_or r.peers i p) (l : listed v r.peers ≡ true) where
   pub start_judged : (a : Draft) → a ≡ met r.own_open (side p.end) ManualStart
-      → verdict_of (nat_lt greatest_stamp (r.stamp + 1)) a.overflows ≡ judged_as (answer g r.number (plain_of r) (Obey (Start v)))
+      → verdict_of (nat_lt GREATEST_STAMP (r.stamp + 1)) a.overflows ≡ judged_as (answer g r.number (plain_of r) (Obey (Start v)))
   start_judged a made =
-      judged_ends g r.number (nat_lt greatest_stamp (r.stamp + 1)) a.overflows (plain_of r) (record { router = moved (plain_of r).router v NoMessage a; stamp = r.stamp + 1 })
+      judged_ends g r.number (nat_lt GREATEST_STAMP (r.stamp + 1)) a.overflows (plain_of r) (record { router = moved (plain_of r).router v NoMessage a; stamp = r.stamp + 1 })
       (answer g r.number (plain_of r) (Obey (Start v))) (Obey (Start v))
-      (λ y ends. starts g r y v i p a (verdict_of (nat_lt greatest_stamp (r.stamp + 1)) a.overflows) of at here l made ends)
+      (λ y ends. starts g r y v i p a (verdict_of (nat_lt GREATEST_STAMP (r.stamp + 1)) a.overflows) of at here l made ends)
 
   pub reset_judged : (a : Draft) → a ≡ reset r.own_open (side p.end)
-      → verdict_of (nat_lt greatest_stamp (r.stamp + 1)) a.overflows ≡ judged_as (answer g r.number (plain_of r) (Obey (Reset v)))
+      → verdict_of (nat_lt GREATEST_STAMP (r.stamp + 1)) a.overflows ≡ judged_as (answer g r.number (plain_of r) (Obey (Reset v)))
   reset_judged a made =
-      judged_ends g r.number (nat_lt greatest_stamp (r.stamp + 1)) a.overflows (plain_of r) (record { router = moved (plain_of r).router v NoMessage a; stamp = r.stamp + 1 })
+      judged_ends g r.number (nat_lt GREATEST_STAMP (r.stamp + 1)) a.overflows (plain_of r) (record { router = moved (plain_of r).router v NoMessage a; stamp = r.stamp + 1 })
       (answer g r.number (plain_of r) (Obey (Reset v))) (Obey (Reset v))
-      (λ y ends. resets g r y v i p a (verdict_of (nat_lt greatest_stamp (r.stamp + 1)) a.overflows) of at here l made ends)
+      (λ y ends. resets g r y v i p a (verdict_of (nat_lt GREATEST_STAMP (r.stamp + 1)) a.overflows) of at here l made ends)
 
-  pub handle_judged : is_waiting (side p.end).held ≡ true → verdict_of (nat_lt greatest_stamp (r.stamp + 1)) false ≡ judged_as (answer g r.number (plain_of r) (Handle v))
+  pub handle_judged : is_waiting (side p.end).held ≡ true → verdict_of (nat_lt GREATEST_STAMP (r.stamp + 1)) false ≡ judged_as (answer g r.number (plain_of r) (Handle v))
   handle_judged w =
-      let s = nat_lt greatest_stamp (r.stamp + 1) in
+      let s = nat_lt GREATEST_STAMP (r.stamp + 1) in
       let e : RouterEvent = alone (Handles v) in
       judged_ends g r.number s false (plain_of r) (stamped_after g r.number (plain_of r) (Handle v) e) (answer g r.number (plain_of r) (Handle v)) (Handle v)
       (λ y ends. hand_is g r v i p of at here l (verdict_of s false) y true s w refl
@@ -81,17 +82,17 @@ module _ (g : Setting) (r : RouterView) (v i : ℕ) (p : Peer) (of : IsOf g r) (
 
   module _ (stamp : ℕ) (free : is_waiting (side p.end).held ≡ false) (a : Draft) (n : ℕ) where
     pub dial_judged : a ≡ signed r.own_open (side p.end) (sign.Dial n)
-        → verdict_of (nat_lt greatest_stamp (max r.stamp stamp + 1)) a.overflows ≡ judged_as (answer g r.number (plain_of r) (Take v stamp (item.Dial n)))
+        → verdict_of (nat_lt GREATEST_STAMP (max r.stamp stamp + 1)) a.overflows ≡ judged_as (answer g r.number (plain_of r) (Take v stamp (item.Dial n)))
     dial_judged made =
-        judged_ends g r.number (nat_lt greatest_stamp (max r.stamp stamp + 1)) a.overflows (plain_of r) (record { router = moved (plain_of r).router v NoMessage a; stamp = max r.stamp stamp + 1 })
+        judged_ends g r.number (nat_lt GREATEST_STAMP (max r.stamp stamp + 1)) a.overflows (plain_of r) (record { router = moved (plain_of r).router v NoMessage a; stamp = max r.stamp stamp + 1 })
         (answer g r.number (plain_of r) (Take v stamp (item.Dial n))) (Take v stamp (item.Dial n))
-        (λ y ends. takes_dial g r v i p of at here l stamp y a (verdict_of (nat_lt greatest_stamp (max r.stamp stamp + 1)) a.overflows) n free made ends)
+        (λ y ends. takes_dial g r v i p of at here l stamp y a (verdict_of (nat_lt GREATEST_STAMP (max r.stamp stamp + 1)) a.overflows) n free made ends)
 
   -- any other item dials nothing
   pub item_judged : (stamp : ℕ) → is_waiting (side p.end).held ≡ false → (what : What) → overflows_taking g r.number (plain_of r).router v what ≡ false
-      → verdict_of (nat_lt greatest_stamp (max r.stamp stamp + 1)) false ≡ judged_as (answer g r.number (plain_of r) (Take v stamp what))
+      → verdict_of (nat_lt GREATEST_STAMP (max r.stamp stamp + 1)) false ≡ judged_as (answer g r.number (plain_of r) (Take v stamp what))
   item_judged stamp free what none =
-      let s = nat_lt greatest_stamp (max r.stamp stamp + 1) in
+      let s = nat_lt GREATEST_STAMP (max r.stamp stamp + 1) in
       let e : RouterEvent = takes v what in
       judged_ends g r.number s false (plain_of r) (stamped_after g r.number (plain_of r) (Take v stamp what) e) (answer g r.number (plain_of r) (Take v stamp what)) (Take v stamp what)
       (λ y ends. late_is g r v i p of at here l stamp what (verdict_of s false) y s free refl
@@ -99,10 +100,10 @@ module _ (g : Setting) (r : RouterView) (v i : ℕ) (p : Peer) (of : IsOf g r) (
       (ends_give g r.number s false (verdict_of s false) (plain_of r) y (stamped_after g r.number (plain_of r) (Take v stamp what) e) (Take v stamp what) e refl ends)))
 
 pub tick_judged : (g : Setting) (r : RouterView) → g.net ≡ r.net → IsSound r
-    → verdict_of (nat_lt greatest_stamp (r.stamp + 1)) (overflow_in (second r.own_open) r.peers) ≡ judged_as (answer g r.number (plain_of r) Tick)
+    → verdict_of (nat_lt GREATEST_STAMP (r.stamp + 1)) (overflow_in (second r.own_open) r.peers) ≡ judged_as (answer g r.number (plain_of r) Tick)
 tick_judged g r e s =
-    judged_ends g r.number (nat_lt greatest_stamp (r.stamp + 1)) (overflow_in (second r.own_open) r.peers) (plain_of r) (ticked g r e s) (answer g r.number (plain_of r) Tick) Tick
-    (λ y ends. ticks g r e s (verdict_of (nat_lt greatest_stamp (r.stamp + 1)) (overflow_in (second r.own_open) r.peers)) y ends)
+    judged_ends g r.number (nat_lt GREATEST_STAMP (r.stamp + 1)) (overflow_in (second r.own_open) r.peers) (plain_of r) (ticked g r e s) (answer g r.number (plain_of r) Tick) Tick
+    (λ y ends. ticks g r e s (verdict_of (nat_lt GREATEST_STAMP (r.stamp + 1)) (overflow_in (second r.own_open) r.peers)) y ends)
 
 -- a command to originate or to withdraw
 pub origin_judged : (over : Option RouterEvent → Bool) (t b s : Bool) (why : RouterError) (e : RouterEvent) → over (Some e) ≡ false → t ≡ true → b ≡ true
@@ -111,5 +112,5 @@ origin_judged over t b s why e none et eb = rw (et, eb, none) (verdict_is e s fa
 
 -- a decision
 pub decide_judged : (g : Setting) (x : RouterView) (q : PrefixView) → undecided g x.number (plain_of x).router ≡ Some q
-    → verdict_of (nat_lt greatest_stamp (x.stamp + 1)) false ≡ judged_as (answer g x.number (plain_of x) Decide)
-decide_judged g x q first = rw first (verdict_is (alone Decides) (nat_lt greatest_stamp (x.stamp + 1)) false)
+    → verdict_of (nat_lt GREATEST_STAMP (x.stamp + 1)) false ≡ judged_as (answer g x.number (plain_of x) Decide)
+decide_judged g x q first = rw first (verdict_is (alone Decides) (nat_lt GREATEST_STAMP (x.stamp + 1)) false)

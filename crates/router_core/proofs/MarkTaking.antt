@@ -19,7 +19,8 @@ use Rattle.router_model.specs.Sides.{is_up, uses}
 use Rattle.router_model.specs.State.{Router}
 use Rattle.run_model.specs.Network.{alone}
 use Rattle.router_model.specs.Step.{Obeys, records, marked_by}
-use Rattle.router_model.specs.Calls.{Stamped, Obey, Gives, answer, judged, unless, greatest_stamp}
+use Rattle.router_model.specs.Calls.{Stamped, Obey, Gives, answer, judged, unless}
+use Rattle.run_model.specs.declared.stamps.TheConstants.{GREATEST_STAMP}
 use Rattle.router_core.specs.Views.{RouterView, IsSound, sides_of, plain_of, Answers, TakesMark}
 use Rattle.router_core.specs.Recorded.{RecordsAt}
 
@@ -78,17 +79,17 @@ module _ (r : RouterView) (s : ℕ) where
   Snaps g res y greater late =
       Gives g r.number res (judged (unless greater (error.OldSnapshot r.marks.last)) (Some (alone (Obeys (Snapshot s)))) late false) (plain_of r) (Obey (Snapshot s)) y
 
-  snap_is : (g : Setting) (res : Result Stepped RouterError) (y : Stamped) (greater late : Bool) → nat_lt r.marks.last s ≡ greater → nat_lt greatest_stamp (r.stamp + 1) ≡ late → Snaps g res y greater late
+  snap_is : (g : Setting) (res : Result Stepped RouterError) (y : Stamped) (greater late : Bool) → nat_lt r.marks.last s ≡ greater → nat_lt GREATEST_STAMP (r.stamp + 1) ≡ late → Snaps g res y greater late
       → Gives g r.number res (answer g r.number (plain_of r) (Obey (Snapshot s))) (plain_of r) (Obey (Snapshot s)) y
   snap_is g res y greater late e f h =
-      subst (λ (b : Bool). Snaps g res y b (nat_lt greatest_stamp (r.stamp + 1))) (sym e) (subst (λ (b : Bool). Snaps g res y greater b) (sym f) h)
+      subst (λ (b : Bool). Snaps g res y b (nat_lt GREATEST_STAMP (r.stamp + 1))) (sym e) (subst (λ (b : Bool). Snaps g res y greater b) (sym f) h)
 
   pub snaps_old : nat_lt r.marks.last s ≡ false → Answers (Err (error.OldSnapshot r.marks.last)) r (Obey (Snapshot s)) r
-  snaps_old l = λ g q ranks. snap_is g (Err (error.OldSnapshot r.marks.last)) (plain_of r) false (nat_lt greatest_stamp (r.stamp + 1)) l refl (refl, refl)
+  snaps_old l = λ g q ranks. snap_is g (Err (error.OldSnapshot r.marks.last)) (plain_of r) false (nat_lt GREATEST_STAMP (r.stamp + 1)) l refl (refl, refl)
 
-  pub snaps_late : nat_lt r.marks.last s ≡ true → nat_lt greatest_stamp (r.stamp + 1) ≡ true → Answers (Err error.StampEnd) r (Obey (Snapshot s)) r
+  pub snaps_late : nat_lt r.marks.last s ≡ true → nat_lt GREATEST_STAMP (r.stamp + 1) ≡ true → Answers (Err error.StampEnd) r (Obey (Snapshot s)) r
   snaps_late l t = λ g q ranks. snap_is g (Err error.StampEnd) (plain_of r) true true l t (refl, refl)
 
-  pub snaps : (res : Result Stepped RouterError) (y : RouterView) → nat_lt r.marks.last s ≡ true → nat_lt greatest_stamp (r.stamp + 1) ≡ false → RecordsAt res r s None (r.stamp + 1) y
+  pub snaps : (res : Result Stepped RouterError) (y : RouterView) → nat_lt r.marks.last s ≡ true → nat_lt GREATEST_STAMP (r.stamp + 1) ≡ false → RecordsAt res r s None (r.stamp + 1) y
       → Answers res r (Obey (Snapshot s)) y
   snaps res y l t k = λ g q ranks. snap_is g res (plain_of y) true false l t (k g q ranks)

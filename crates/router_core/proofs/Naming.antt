@@ -7,10 +7,10 @@ use Rattle.std.proofs.lemmas.Bool.{and_parts, and_from, eq-eqb, eqb-true}
 use Rattle.std.proofs.lemmas.Bool.Decides.{Decides-by_or, same_from_decides}
 use Rattle.std.proofs.lemmas.List.Elements.{Decides-contains}
 use Rattle.std.proofs.lemmas.List.Folds.{Any-from_list_any, list_any-from_Any}
-use Rattle.prefix_lanes.specs.Bits.{PrefixView}
+use Rattle.prefix_lanes.specs.Bits.{PrefixView, is_prefix}
 use Rattle.ranked_policy.specs.declared.network.Origin.{Origin}
 use Rattle.ranked_policy.specs.Plans.{Plan, IsOrigin, Linked}
-use Rattle.rib_tables.specs.Words.{is_prefix, lists}
+use Rattle.rib_tables.specs.Words.{lists}
 use Rattle.router_model.specs.Settings.{is_origin, joins, linked}
 use Rattle.router_core.proofs.Beginnings.{is_joined, joins_is}
 

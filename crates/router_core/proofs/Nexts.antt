@@ -12,7 +12,7 @@ use Rattle.rib_tables.specs.Least.{HoldsOfAll, IsLeastWithout}
 use Rattle.rib_tables.specs.Owners.{AllServed, IsServed}
 use Rattle.outbox.specs.Items.{octets_waiting}
 use Rattle.router_model.specs.Settings.{linked, peers}
-use Rattle.router_model.specs.Calls.{outbox_limit}
+use Rattle.router_model.specs.declared.limits.TheConstants.{OUTBOX_LIMIT}
 use Rattle.router_side.specs.SideOf.{side, side_opening}
 use Rattle.router_core.specs.declared.peers.Peer.{Peer}
 use Rattle.router_core.specs.declared.router.choose.Next.TheVariants as next
@@ -134,7 +134,7 @@ module _ (x : RouterView) (sound : IsSound x) where
       or_some None c = refl
       or_some (Some v) c = refl
 
-      pub past_full : nat_lt (octets_waiting (side p.end).outbox) outbox_limit ≡ false → (blocked : Option ℕ) → Looked x i blocked → Looked x (i + 1) (option_or blocked (Some p.number))
+      pub past_full : nat_lt (octets_waiting (side p.end).outbox) OUTBOX_LIMIT ≡ false → (blocked : Option ℕ) → Looked x i blocked → Looked x (i + 1) (option_or blocked (Some p.number))
       past_full full blocked k =
           let no_room : has_room_at x p.number ≡ false = rw (waits, octets, full) refl in
           let first : find (waits_at x) (numbers_from x.peers i) ≡ Some p.number = find_on (waits_at x) x.peers i p lt is ∙ rw waits refl in
@@ -146,7 +146,7 @@ module _ (x : RouterView) (sound : IsSound x) where
       may_tell : MayTell x i q
       may_tell = record { peer = p.number; place = at; waits = sym (untold_is (unchosen x.net) x sound refl p.number link (Some q) least) }
 
-      pub is_next : nat_lt (octets_waiting (side p.end).outbox) outbox_limit ≡ true → (blocked : Option ℕ) → Looked x i blocked → IsNext x (next.Peer i q)
+      pub is_next : nat_lt (octets_waiting (side p.end).outbox) OUTBOX_LIMIT ≡ true → (blocked : Option ℕ) → Looked x i blocked → IsNext x (next.Peer i q)
       unfolding may_tell
       is_next free blocked k =
           let room : has_room_at x p.number ≡ true = rw (waits, octets, free) refl in

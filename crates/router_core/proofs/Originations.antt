@@ -6,15 +6,16 @@ use Rattle.std.proofs.Math.Path.{fun_ext}
 use Rattle.std.proofs.lemmas.Bool.{false_from_ne_true}
 use Rattle.std.proofs.lemmas.Bool.Decides.{same_from_decides, not_from_Decides}
 use mathlib.Core.Logic.{inl, inr}
-use Rattle.prefix_lanes.specs.Bits.{PrefixView}
+use Rattle.prefix_lanes.specs.Bits.{PrefixView, is_prefix}
 use Rattle.ranked_policy.specs.Plans.{IsOrigin, IsNamed}
-use Rattle.rib_tables.specs.Words.{is_prefix, lists}
+use Rattle.rib_tables.specs.Words.{lists}
 use Rattle.rib_tables.specs.Owners.{RibView, Originating, Withdrawing}
 use Rattle.router_model.specs.declared.command.Command.TheVariants.{Originate, Withdraw}
 use Rattle.router_model.specs.declared.refusal.RouterError.TheVariants as error
 use Rattle.router_model.specs.declared.refusal.Stepped.TheVariants as stepped
 use Rattle.router_model.specs.Settings.{Setting, is_origin}
-use Rattle.router_model.specs.Calls.{Obey, Gives, answer, greatest_stamp}
+use Rattle.router_model.specs.Calls.{Obey, Gives, answer}
+use Rattle.run_model.specs.declared.stamps.TheConstants.{GREATEST_STAMP}
 use Rattle.router_core.specs.Views.{RouterView, IsSound, IsTabled, plain_of}
 use Rattle.router_core.proofs.Naming.{is_prefix-true, is_prefix-from, decides_lists, lists_is, origin_is}
 
@@ -48,7 +49,7 @@ listed_less ps qs q h p false e =
 
 -- ---- what stays sound
 
-module _ (x : RouterView) (stamp : ℕ) (sound : IsSound x) (few : stamp ≤ greatest_stamp) where
+module _ (x : RouterView) (stamp : ℕ) (sound : IsSound x) (few : stamp ≤ GREATEST_STAMP) where
   tabled : (ps : List PrefixView) → ((p : PrefixView) → Contains ps p → IsNamed x.net.origins p) → IsTabled (with_tables x (with_originated x.tables ps) stamp)
   tabled ps named =
       let t = sound.tabled in
@@ -122,11 +123,11 @@ module _ (g : Setting) (x : RouterView) (same : g.net ≡ x.net) (q : PrefixView
         → Gives g x.number (Ok stepped.Nothing) (answer g x.number (plain_of x) (Obey (Withdraw q))) (plain_of x) (Obey (Withdraw q)) (plain_of x)
     withdrawn_already e = rw (origin, listed, e) (refl, refl)
 
-    pub late_to_originate : o ≡ false → nat_lt greatest_stamp (x.stamp + 1) ≡ true
+    pub late_to_originate : o ≡ false → nat_lt GREATEST_STAMP (x.stamp + 1) ≡ true
         → Gives g x.number (Err error.StampEnd) (answer g x.number (plain_of x) (Obey (Originate q))) (plain_of x) (Obey (Originate q)) (plain_of x)
     late_to_originate e late = rw (origin, listed, e, late) (refl, refl)
 
-    pub late_to_withdraw : o ≡ true → nat_lt greatest_stamp (x.stamp + 1) ≡ true
+    pub late_to_withdraw : o ≡ true → nat_lt GREATEST_STAMP (x.stamp + 1) ≡ true
         → Gives g x.number (Err error.StampEnd) (answer g x.number (plain_of x) (Obey (Withdraw q))) (plain_of x) (Obey (Withdraw q)) (plain_of x)
     late_to_withdraw e late = rw (origin, listed, e, late) (refl, refl)
 
@@ -136,13 +137,13 @@ module _ (g : Setting) (x : RouterView) (same : g.net ≡ x.net) (q : PrefixView
         ap (λ (s : RibView). plain_of (with_tables x s stamp)) rest
         ∙ ap (λ (f : PrefixView → Bool). record { router = record (plain_of x).router { originated = f }; stamp = stamp }) (fun_ext all)
 
-    pub originates : (t : RibView) → Originating x.tables t q → o ≡ false → nat_lt greatest_stamp (x.stamp + 1) ≡ false
+    pub originates : (t : RibView) → Originating x.tables t q → o ≡ false → nat_lt GREATEST_STAMP (x.stamp + 1) ≡ false
         → Gives g x.number (Ok stepped.Did) (answer g x.number (plain_of x) (Obey (Originate q))) (plain_of x) (Obey (Originate q)) (plain_of (with_tables x t (x.stamp + 1)))
     originates t made e early =
         rw (origin, listed, e, early)
         (refl, left t t.originated true made.rest (λ p. listed_more x.tables.originated t.originated q made.originated p (is_prefix q p) refl) (x.stamp + 1))
 
-    pub withdraws : (t : RibView) → Withdrawing x.tables t q → o ≡ true → nat_lt greatest_stamp (x.stamp + 1) ≡ false
+    pub withdraws : (t : RibView) → Withdrawing x.tables t q → o ≡ true → nat_lt GREATEST_STAMP (x.stamp + 1) ≡ false
         → Gives g x.number (Ok stepped.Did) (answer g x.number (plain_of x) (Obey (Withdraw q))) (plain_of x) (Obey (Withdraw q)) (plain_of (with_tables x t (x.stamp + 1)))
     withdraws t made e early =
         rw (origin, listed, e, early)

@@ -5,10 +5,10 @@ use Rattle.std.proofs.Math.Path.{fun_ext}
 use Rattle.std.proofs.lemmas.Bool.{eqb-true, eq-eqb, ne_eqb, eqb-false}
 use Rattle.std.proofs.lemmas.List.Kept.{AllPairs-filter}
 use Rattle.std.proofs.lemmas.List.Folds.{Any-from_list_any, list_any-from_Any}
-use Rattle.prefix_lanes.specs.Bits.{PrefixView}
+use Rattle.prefix_lanes.specs.Bits.{PrefixView, is_prefix}
 use Rattle.ranked_policy.specs.declared.network.Origin.{Origin}
 use Rattle.ranked_policy.specs.Plans.{Plan, IsNetwork, IsNamed, numbers}
-use Rattle.rib_tables.specs.Words.{is_prefix, lists}
+use Rattle.rib_tables.specs.Words.{lists}
 use Rattle.rib_tables.specs.Tables.{Paths, path_of}
 use Rattle.snap_marker.specs.declared.part.Channel.{Channel}
 use Rattle.snap_marker.specs.Parts.{Seen, seen, peers_of, epoch_in, channel_in, waits_in, kept_in, originated_in, messages}

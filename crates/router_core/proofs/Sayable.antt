@@ -10,7 +10,7 @@ use Rattle.bgp_codec.specs.declared.attributes.Raw.{Raw}
 use Rattle.bgp_codec.specs.declared.update.Update.{Update}
 use Rattle.bgp_codec.specs.Updates.{prefix_octets, raw_octets, attr_octets, raw_of, attrs_octets, path_octets, long_string, octet_count, UpdateFits, AttrsFit}
 use Rattle.bgp_codec.specs.Spelling.{WrittenHasAHeader}
-use Rattle.ranked_policy.specs.Plans.{IsUnicast}
+use Rattle.bgp_values.specs.Ranges.{IsUnicast}
 use Rattle.router_model.specs.State.{withdrawal, announcement, telling}
 use Rattle.router_side.specs.Sayings.{IsSayable}
 use Rattle.router_core.specs.Views.{IsTellable}

@@ -19,7 +19,8 @@ use Rattle.snap_marker.specs.Recordings.{closed}
 use Rattle.snap_marker.specs.Parts.{MarkView, snapshots_of}
 use Rattle.router_model.specs.Step.{Handles, put_from, moved, seen, close_at, with_side}
 use Rattle.router_core.proofs.Following.{Leaves}
-use Rattle.router_model.specs.Calls.{Stamped, Put, Handle, Gives, answer, judged, unless, if_so, put_event, greatest_stamp, overflows_at}
+use Rattle.router_model.specs.Calls.{Stamped, Put, Handle, Gives, answer, judged, unless, if_so, put_event, overflows_at}
+use Rattle.run_model.specs.declared.stamps.TheConstants.{GREATEST_STAMP}
 use Rattle.router_side.specs.SideOf.{side_opening}
 use Rattle.ranked_policy.specs.Plans.{Plan}
 use Rattle.router_model.specs.Settings.{Setting, linked}
@@ -47,22 +48,22 @@ module _ (g : Setting) (r : RouterView) (v i : ℕ) (p : Peer) (of : IsOf g r) (
   abbrev Puts : Result Stepped RouterError → Stamped → Bool → Option What → Bool → Type 0
   Puts res y t n late = Gives g r.number res (judged (unless t error.NoSuchPeer) (put_event v n) late (overflows_at g r.number (plain_of r).router (put_event v n))) (plain_of r) (Put v) y
 
-  put_is : (res : Result Stepped RouterError) (y : Stamped) (n : Option What) (late : Bool) → next_item r.net.settings.cut (side p.end).outbox ≡ n → nat_lt greatest_stamp (r.stamp + 1) ≡ late → Puts res y true n late
+  put_is : (res : Result Stepped RouterError) (y : Stamped) (n : Option What) (late : Bool) → next_item r.net.settings.cut (side p.end).outbox ≡ n → nat_lt GREATEST_STAMP (r.stamp + 1) ≡ late → Puts res y true n late
       → Gives g r.number res (answer g r.number (plain_of r) (Put v)) (plain_of r) (Put v) y
   put_is res y n late is at_stamp h =
-      subst (λ (t : Bool). Puts res y t (next_item g.net.settings.cut (sides_of r v).outbox) (nat_lt greatest_stamp (r.stamp + 1))) (sym (is_linked g r v true of l))
-      (subst (λ (w : Option What). Puts res y true w (nat_lt greatest_stamp (r.stamp + 1))) (sym (next_there ∙ is))
+      subst (λ (t : Bool). Puts res y t (next_item g.net.settings.cut (sides_of r v).outbox) (nat_lt GREATEST_STAMP (r.stamp + 1))) (sym (is_linked g r v true of l))
+      (subst (λ (w : Option What). Puts res y true w (nat_lt GREATEST_STAMP (r.stamp + 1))) (sym (next_there ∙ is))
       (subst (λ (b : Bool). Puts res y true n b) (sym at_stamp) h))
 
   pub puts_nothing : is_some (next_item r.net.settings.cut (side p.end).outbox) ≡ false → Gives g r.number (Ok stepped.Nothing) (answer g r.number (plain_of r) (Put v)) (plain_of r) (Put v) (plain_of r)
-  puts_nothing h = put_is (Ok stepped.Nothing) (plain_of r) None (nat_lt greatest_stamp (r.stamp + 1)) (none_is (next_item r.net.settings.cut (side p.end).outbox) h) refl (refl, refl)
+  puts_nothing h = put_is (Ok stepped.Nothing) (plain_of r) None (nat_lt GREATEST_STAMP (r.stamp + 1)) (none_is (next_item r.net.settings.cut (side p.end).outbox) h) refl (refl, refl)
 
-  pub puts_late : is_some (next_item r.net.settings.cut (side p.end).outbox) ≡ true → nat_lt greatest_stamp (r.stamp + 1) ≡ true
+  pub puts_late : is_some (next_item r.net.settings.cut (side p.end).outbox) ≡ true → nat_lt GREATEST_STAMP (r.stamp + 1) ≡ true
       → Gives g r.number (Err error.StampEnd) (answer g r.number (plain_of r) (Put v)) (plain_of r) (Put v) (plain_of r)
   puts_late h late = let n = some_is (next_item r.net.settings.cut (side p.end).outbox) h in put_is (Err error.StampEnd) (plain_of r) (Some n.0) true n.1 late (refl, refl)
 
   pub puts_item : (q : Peer) → Changes r v i p q → side q.end ≡ put_next (side p.end) r.net.settings.cut → is_some (next_item r.net.settings.cut (side p.end).outbox) ≡ true
-      → nat_lt greatest_stamp (r.stamp + 1) ≡ false
+      → nat_lt GREATEST_STAMP (r.stamp + 1) ≡ false
       → Gives g r.number (Ok stepped.Did) (answer g r.number (plain_of r) (Put v)) (plain_of r) (Put v) (plain_of (with_peer r i q r.tables r.marks (r.stamp + 1)))
   puts_item q c is h late =
       let n = some_is (next_item r.net.settings.cut (side p.end).outbox) h in
@@ -74,27 +75,27 @@ module _ (g : Setting) (r : RouterView) (v i : ℕ) (p : Peer) (of : IsOf g r) (
   abbrev Hands : Result Stepped RouterError → Stamped → Bool → Bool → Bool → Type 0
   Hands res y t b late = Gives g r.number res (judged (unless t error.NoSuchPeer) (if_so b (alone (Handles v))) late (overflows_at g r.number (plain_of r).router (if_so b (alone (Handles v))))) (plain_of r) (Handle v) y
 
-  pub hand_is : (res : Result Stepped RouterError) (y : Stamped) (b late : Bool) → is_waiting (side p.end).held ≡ b → nat_lt greatest_stamp (r.stamp + 1) ≡ late → Hands res y true b late
+  pub hand_is : (res : Result Stepped RouterError) (y : Stamped) (b late : Bool) → is_waiting (side p.end).held ≡ b → nat_lt GREATEST_STAMP (r.stamp + 1) ≡ late → Hands res y true b late
       → Gives g r.number res (answer g r.number (plain_of r) (Handle v)) (plain_of r) (Handle v) y
   hand_is res y b late is at_stamp h =
-      subst (λ (t : Bool). Hands res y t (is_waiting (sides_of r v).held) (nat_lt greatest_stamp (r.stamp + 1))) (sym (is_linked g r v true of l))
-      (subst (λ (w : Bool). Hands res y true w (nat_lt greatest_stamp (r.stamp + 1))) (sym (ap (λ (s : Side). is_waiting s.held) stands ∙ is))
+      subst (λ (t : Bool). Hands res y t (is_waiting (sides_of r v).held) (nat_lt GREATEST_STAMP (r.stamp + 1))) (sym (is_linked g r v true of l))
+      (subst (λ (w : Bool). Hands res y true w (nat_lt GREATEST_STAMP (r.stamp + 1))) (sym (ap (λ (s : Side). is_waiting s.held) stands ∙ is))
       (subst (λ (w : Bool). Hands res y true b w) (sym at_stamp) h))
 
   pub hands_nothing : is_waiting (side p.end).held ≡ false → Gives g r.number (Ok stepped.Nothing) (answer g r.number (plain_of r) (Handle v)) (plain_of r) (Handle v) (plain_of r)
-  hands_nothing h = hand_is (Ok stepped.Nothing) (plain_of r) false (nat_lt greatest_stamp (r.stamp + 1)) h refl (refl, refl)
+  hands_nothing h = hand_is (Ok stepped.Nothing) (plain_of r) false (nat_lt GREATEST_STAMP (r.stamp + 1)) h refl (refl, refl)
 
-  pub hands_late : is_waiting (side p.end).held ≡ true → nat_lt greatest_stamp (r.stamp + 1) ≡ true
+  pub hands_late : is_waiting (side p.end).held ≡ true → nat_lt GREATEST_STAMP (r.stamp + 1) ≡ true
       → Gives g r.number (Err error.StampEnd) (answer g r.number (plain_of r) (Handle v)) (plain_of r) (Handle v) (plain_of r)
   hands_late h late = hand_is (Err error.StampEnd) (plain_of r) true true h late (refl, refl)
 
-  pub hands_refused : (y : Stamped) → y ≡ plain_of r → is_waiting (side p.end).held ≡ true → nat_lt greatest_stamp (r.stamp + 1) ≡ false
+  pub hands_refused : (y : Stamped) → y ≡ plain_of r → is_waiting (side p.end).held ≡ true → nat_lt GREATEST_STAMP (r.stamp + 1) ≡ false
       → Gives g r.number (Err error.Memory) (answer g r.number (plain_of r) (Handle v)) (plain_of r) (Handle v) y
   hands_refused y same h late = hand_is (Err error.Memory) y true false h late (refl, same)
 
   pub hands_front : (q : Peer) (c : Changes r v i p q) (t : RibView) (m : MarkView) (h : AtHand) (a : Draft) → h ≡ at_hand (front (rule_of v) (side p.end).held)
       → a ≡ handled r.own_open (front (rule_of v) (side p.end).held) (side p.end) → side q.end ≡ carried h (without_front (side p.end)) a → Leaves r.tables t v
-      → snapshots_of m ≡ seen a.acts h v (closed (close_at v a.left) (snapshots_of r.marks)) → is_waiting (side p.end).held ≡ true → nat_lt greatest_stamp (r.stamp + 1) ≡ false
+      → snapshots_of m ≡ seen a.acts h v (closed (close_at v a.left) (snapshots_of r.marks)) → is_waiting (side p.end).held ≡ true → nat_lt GREATEST_STAMP (r.stamp + 1) ≡ false
       → Gives g r.number (Ok stepped.Did) (answer g r.number (plain_of r) (Handle v)) (plain_of r) (Handle v) (plain_of (with_peer r i q t m (r.stamp + 1)))
   hands_front q c t m h a eh ea is l x w late =
       let n = front (rule_of v) (sides_of r v).held in
@@ -126,9 +127,9 @@ any_setting r = record { net = r.net; best = λ u q originated words. [] }
 
 -- the same, of a router that shows an item
 pub has_next : (r : RouterView) (v : ℕ) → IsSound r → HasNext r v
-    → (listed v r.peers ≡ true) × (is_some (next_item r.net.settings.cut (sides_of r v).outbox) ≡ true) × (nat_lt greatest_stamp (r.stamp + 1) ≡ false)
+    → (listed v r.peers ≡ true) × (is_some (next_item r.net.settings.cut (sides_of r v).outbox) ≡ true) × (nat_lt GREATEST_STAMP (r.stamp + 1) ≡ false)
 has_next r v s h =
-    let can = can_put (r.stamp + 1) (any_setting r) r v h.0 (linked r.net r.number v) (next_item r.net.settings.cut (sides_of r v).outbox) (nat_lt greatest_stamp (r.stamp + 1)) (h.1 (any_setting r) refl) in
+    let can = can_put (r.stamp + 1) (any_setting r) r v h.0 (linked r.net r.number v) (next_item r.net.settings.cut (sides_of r v).outbox) (nat_lt GREATEST_STAMP (r.stamp + 1)) (h.1 (any_setting r) refl) in
     (s.links v ∙ can.0, can.1, can.2)
 
 -- what is put next towards a peer, by its place
@@ -140,14 +141,14 @@ item_here r v i p at here =
 pub shows_no_peer : (g : Setting) (r : RouterView) (v : ℕ) → g.net ≡ r.net → linked r.net r.number v ≡ false → Shows (r.stamp + 1) (Err error.NoSuchPeer) (answer g r.number (plain_of r) (Put v))
 shows_no_peer g r v e l =
     let n = next_item g.net.settings.cut (sides_of r v).outbox in
-    subst (λ (b : Bool). Seen (r.stamp + 1) g r v (Err error.NoSuchPeer) b n (nat_lt greatest_stamp (r.stamp + 1))) (sym (ap (λ (k : Plan). linked k r.number v) e ∙ l)) refl
+    subst (λ (b : Bool). Seen (r.stamp + 1) g r v (Err error.NoSuchPeer) b n (nat_lt GREATEST_STAMP (r.stamp + 1))) (sym (ap (λ (k : Plan). linked k r.number v) e ∙ l)) refl
 
 module _ (g : Setting) (r : RouterView) (v : ℕ) (of : IsOf g r) where
   seen_is : (res : Result (Option Item) RouterError) (t : Bool) (n : Option What) (late : Bool) → listed v r.peers ≡ t → next_item r.net.settings.cut (sides_of r v).outbox ≡ n
-      → nat_lt greatest_stamp (r.stamp + 1) ≡ late → Seen (r.stamp + 1) g r v res t n late → Shows (r.stamp + 1) res (answer g r.number (plain_of r) (Put v))
+      → nat_lt GREATEST_STAMP (r.stamp + 1) ≡ late → Seen (r.stamp + 1) g r v res t n late → Shows (r.stamp + 1) res (answer g r.number (plain_of r) (Put v))
   seen_is res t n late l is at_stamp h =
-      subst (λ (b : Bool). Seen (r.stamp + 1) g r v res b (next_item g.net.settings.cut (sides_of r v).outbox) (nat_lt greatest_stamp (r.stamp + 1))) (sym (is_linked g r v t of l))
-      (subst (λ (w : Option What). Seen (r.stamp + 1) g r v res t w (nat_lt greatest_stamp (r.stamp + 1))) (sym (ap (λ (k : ℕ). next_item k (sides_of r v).outbox) of.cut ∙ is))
+      subst (λ (b : Bool). Seen (r.stamp + 1) g r v res b (next_item g.net.settings.cut (sides_of r v).outbox) (nat_lt GREATEST_STAMP (r.stamp + 1))) (sym (is_linked g r v t of l))
+      (subst (λ (w : Option What). Seen (r.stamp + 1) g r v res t w (nat_lt GREATEST_STAMP (r.stamp + 1))) (sym (ap (λ (k : ℕ). next_item k (sides_of r v).outbox) of.cut ∙ is))
       (subst (λ (b : Bool). Seen (r.stamp + 1) g r v res t n b) (sym at_stamp) h))
 
   module _ (i : ℕ) (p : Peer) (at : IsAt r.peers v i) (here : p ≡ get_or r.peers i p) (l : listed v r.peers ≡ true) where
@@ -155,16 +156,16 @@ module _ (g : Setting) (r : RouterView) (v : ℕ) (of : IsOf g r) where
     waits = ap (λ (s : Side). next_item r.net.settings.cut s.outbox) (side_here (side_opening (config_of r.net)) r.peers v i p at ∙ ap (λ (w : Peer). side w.end) (sym here))
 
     pub shows_nothing : is_some (next_item r.net.settings.cut (side p.end).outbox) ≡ false → Shows (r.stamp + 1) (Ok None) (answer g r.number (plain_of r) (Put v))
-    shows_nothing h = seen_is (Ok None) true None (nat_lt greatest_stamp (r.stamp + 1)) l (waits ∙ none_is (next_item r.net.settings.cut (side p.end).outbox) h) refl refl
+    shows_nothing h = seen_is (Ok None) true None (nat_lt GREATEST_STAMP (r.stamp + 1)) l (waits ∙ none_is (next_item r.net.settings.cut (side p.end).outbox) h) refl refl
 
-    pub shows_late : is_some (next_item r.net.settings.cut (side p.end).outbox) ≡ true → nat_lt greatest_stamp (r.stamp + 1) ≡ true
+    pub shows_late : is_some (next_item r.net.settings.cut (side p.end).outbox) ≡ true → nat_lt GREATEST_STAMP (r.stamp + 1) ≡ true
         → Shows (r.stamp + 1) (Err error.StampEnd) (answer g r.number (plain_of r) (Put v))
     shows_late h late = let n = some_is (next_item r.net.settings.cut (side p.end).outbox) h in seen_is (Err error.StampEnd) true (Some n.0) true l (waits ∙ n.1) late refl
 
-    pub shows_item : (what : What) → Some what ≡ next_item r.net.settings.cut (side p.end).outbox → nat_lt greatest_stamp (r.stamp + 1) ≡ false
+    pub shows_item : (what : What) → Some what ≡ next_item r.net.settings.cut (side p.end).outbox → nat_lt GREATEST_STAMP (r.stamp + 1) ≡ false
         → Shows (r.stamp + 1) (Ok (Some (record { stamp = r.stamp + 1; what = what }))) (answer g r.number (plain_of r) (Put v))
     shows_item what is late = seen_is (Ok (Some (record { stamp = r.stamp + 1; what = what }))) true (Some what) false l (waits ∙ sym is) late refl
 
-    pub shows_memory : is_some (next_item r.net.settings.cut (side p.end).outbox) ≡ true → nat_lt greatest_stamp (r.stamp + 1) ≡ false
+    pub shows_memory : is_some (next_item r.net.settings.cut (side p.end).outbox) ≡ true → nat_lt GREATEST_STAMP (r.stamp + 1) ≡ false
         → Shows (r.stamp + 1) (Err error.Memory) (answer g r.number (plain_of r) (Put v))
     shows_memory h late = let n = some_is (next_item r.net.settings.cut (side p.end).outbox) h in seen_is (Err error.Memory) true (Some n.0) false l (waits ∙ n.1) late refl

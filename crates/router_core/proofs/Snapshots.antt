@@ -18,7 +18,7 @@ use Rattle.router_model.specs.Settings.{Setting, linked, peers}
 use Rattle.router_model.specs.Sides.{Side, marked, is_up}
 use Rattle.router_model.specs.State.{Router, is_pending}
 use Rattle.router_model.specs.Step.{awaits, recorded_part, recording_of, records}
-use Rattle.router_model.specs.Calls.{greatest_stamp}
+use Rattle.run_model.specs.declared.stamps.TheConstants.{GREATEST_STAMP}
 use Rattle.router_side.specs.SideOf.{side_opening}
 use Rattle.router_core.specs.declared.peers.Peer.{Peer}
 use Rattle.router_core.specs.Views.{RouterView, IsSound, side_at, sides_of, listed, config_of, plain_of}
@@ -71,7 +71,7 @@ module _ (r : RouterView) (qs : List Peer) (m : MarkView) (stamp : ℕ) (f : Sid
   same_at : {X : Type 0} (get : Side → X) → ((s : Side) → get (f s) ≡ get s) → (v : ℕ) → get (side_at none qs v) ≡ get (sides_of r v)
   same_at get h v = ap get (become_sides f none r.peers qs b v) ∙ by_listed get h v (listed v r.peers)
 
-  pub stays_sound : IsSound r → stamp ≤ greatest_stamp → Marks r m → IsSound (with_peers r qs m stamp)
+  pub stays_sound : IsSound r → stamp ≤ GREATEST_STAMP → Marks r m → IsSound (with_peers r qs m stamp)
   stays_sound s few k =
       let t = s.tabled in
       record {

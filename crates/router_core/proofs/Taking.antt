@@ -23,7 +23,8 @@ use Rattle.router_model.specs.Sides.{Side, Draft, NoMessage, signed, fed, uses, 
 use Rattle.router_side.specs.SideOf.{side}
 use Rattle.router_model.specs.State.{open_of}
 use Rattle.router_model.specs.Step.{moved, taken}
-use Rattle.router_model.specs.Calls.{Stamped, Take, Gives, answer, judged, unless, first_of, greatest_stamp, overflows_at}
+use Rattle.router_model.specs.Calls.{Stamped, Take, Gives, answer, judged, unless, first_of, overflows_at}
+use Rattle.run_model.specs.declared.stamps.TheConstants.{GREATEST_STAMP}
 use Rattle.router_side.specs.SideOf.{side_opening}
 use Rattle.router_model.specs.Settings.{Setting}
 use Rattle.router_core.specs.Views.{RouterView, sides_of, listed, IsAt, config_of, plain_of, Ends}
@@ -81,7 +82,7 @@ module _ (g : Setting) (r : RouterView) (v i : ℕ) (p : Peer) (of : IsOf g r) (
   abbrev Takes : What → Result Stepped RouterError → Stamped → Bool → Bool → Type 0
   Takes what res y t b =
       Gives g r.number res
-      (judged (first_of (unless t error.NoSuchPeer) (unless (not b) (error.Held v))) (Some (takes v what)) (nat_lt greatest_stamp next) (overflows_at g r.number (plain_of r).router (Some (takes v what))))
+      (judged (first_of (unless t error.NoSuchPeer) (unless (not b) (error.Held v))) (Some (takes v what)) (nat_lt GREATEST_STAMP next) (overflows_at g r.number (plain_of r).router (Some (takes v what))))
       (plain_of r) (Take v stamp what) y
 
   take_is : (what : What) (res : Result Stepped RouterError) (y : Stamped) (b : Bool) → is_waiting (side p.end).held ≡ b → Takes what res y true b
@@ -95,7 +96,7 @@ module _ (g : Setting) (r : RouterView) (v i : ℕ) (p : Peer) (of : IsOf g r) (
 
   module _ (y : Stamped) (a : Draft) (res : Result Stepped RouterError) (e : ℕ) (free : is_waiting (side p.end).held ≡ false) where
     pub takes_dial : a ≡ signed r.own_open (side p.end) (sign.Dial e)
-        → Ends (nat_lt greatest_stamp next) a.overflows res (plain_of r) (record { router = moved (plain_of r).router v NoMessage a; stamp = next }) y
+        → Ends (nat_lt GREATEST_STAMP next) a.overflows res (plain_of r) (record { router = moved (plain_of r).router v NoMessage a; stamp = next }) y
         → Gives g r.number res (answer g r.number (plain_of r) (Take v stamp (item.Dial e))) (plain_of r) (Take v stamp (item.Dial e)) y
     takes_dial made ends =
         take_is (item.Dial e) res y false free
@@ -103,31 +104,31 @@ module _ (g : Setting) (r : RouterView) (v i : ℕ) (p : Peer) (of : IsOf g r) (
         (drafted g r v i p (λ o s. signed o s (sign.Dial e)) a of at here made) refl ends)
 
     pub takes_shut : a ≡ signed r.own_open (side p.end) (sign.Shut e)
-        → Ends (nat_lt greatest_stamp next) false res (plain_of r) (record { router = moved (plain_of r).router v NoMessage a; stamp = next }) y
+        → Ends (nat_lt GREATEST_STAMP next) false res (plain_of r) (record { router = moved (plain_of r).router v NoMessage a; stamp = next }) y
         → Gives g r.number res (answer g r.number (plain_of r) (Take v stamp (item.Shut e))) (plain_of r) (Take v stamp (item.Shut e)) y
     takes_shut made ends =
         take_is (item.Shut e) res y false free
         (one_step g r y v NoMessage a (signed (open_of g.net r.number) (sides_of r v) (sign.Shut e)) next (Take v stamp (item.Shut e)) (takes v (item.Shut e)) res (λ w. false)
         (drafted g r v i p (λ o s. signed o s (sign.Shut e)) a of at here made) refl ends)
 
-  pub late_is : (what : What) (res : Result Stepped RouterError) (y : Stamped) (late : Bool) → is_waiting (side p.end).held ≡ false → nat_lt greatest_stamp next ≡ late
+  pub late_is : (what : What) (res : Result Stepped RouterError) (y : Stamped) (late : Bool) → is_waiting (side p.end).held ≡ false → nat_lt GREATEST_STAMP next ≡ late
       → Gives g r.number res (judged None (Some (takes v what)) late (overflows_at g r.number (plain_of r).router (Some (takes v what)))) (plain_of r) (Take v stamp what) y
       → Gives g r.number res (answer g r.number (plain_of r) (Take v stamp what)) (plain_of r) (Take v stamp what) y
   late_is what res y late free is h =
       take_is what res y false free
       (subst (λ (b : Bool). Gives g r.number res (judged None (Some (takes v what)) b (overflows_at g r.number (plain_of r).router (Some (takes v what)))) (plain_of r) (Take v stamp what) y) (sym is) h)
 
-  pub takes_late : (what : What) → is_waiting (side p.end).held ≡ false → nat_lt greatest_stamp next ≡ true
+  pub takes_late : (what : What) → is_waiting (side p.end).held ≡ false → nat_lt GREATEST_STAMP next ≡ true
       → Gives g r.number (Err error.StampEnd) (answer g r.number (plain_of r) (Take v stamp what)) (plain_of r) (Take v stamp what) (plain_of r)
   takes_late what free late = late_is what (Err error.StampEnd) (plain_of r) true free late (refl, refl)
 
   pub takes_piece : (e : ℕ) (octets : List ℕ) (q : Peer) → Changes r v i p q → side q.end ≡ fed (side p.end) e octets → is_waiting (side p.end).held ≡ false
-      → nat_lt greatest_stamp next ≡ false
+      → nat_lt GREATEST_STAMP next ≡ false
       → Gives g r.number (Ok stepped.Did) (answer g r.number (plain_of r) (Take v stamp (item.Piece e octets))) (plain_of r) (Take v stamp (item.Piece e octets)) (plain_of (with_peer r i q r.tables r.marks next))
   takes_piece e octets q c is free late =
       late_is (item.Piece e octets) (Ok stepped.Did) (plain_of (with_peer r i q r.tables r.marks next)) false free late (refl, becomes r v i p q c next (λ s. fed s e octets) is)
 
-  pub takes_mark : (res : Result Stepped RouterError) (y : Stamped) (e n : ℕ) → is_waiting (side p.end).held ≡ false → nat_lt greatest_stamp next ≡ false
+  pub takes_mark : (res : Result Stepped RouterError) (y : Stamped) (e n : ℕ) → is_waiting (side p.end).held ≡ false → nat_lt GREATEST_STAMP next ≡ false
       → MatchResult res (λ did. (did ≡ stepped.Did) × (y ≡ record { router = taken g r.number (plain_of r).router v (item.Mark e n); stamp = next })) (λ why. (why ≡ error.Memory) × (y ≡ plain_of r))
       → Gives g r.number res (answer g r.number (plain_of r) (Take v stamp (item.Mark e n))) (plain_of r) (Take v stamp (item.Mark e n)) y
   takes_mark res y e n free late h = late_is (item.Mark e n) res y false free late h

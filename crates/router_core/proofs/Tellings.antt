@@ -2,20 +2,20 @@
 use Rattle.std.proofs.Common.{◌≡◌, ℕ, ◌+◌, ◌<◌, ◌≤◌, ◌==◌, Bool, true, false, cond, ◌||◌, List, [], ◌∷◌, ◌++◌, refl, sym, ap, subst, ◌∙◌, arith, inl, inr, set}
 use Rattle.std.proofs.lemmas.Bool.{eq-eqb, eqb-true, eqb-false, ne_eqb}
 use Rattle.std.proofs.lemmas.Bool.Decides.{not_from_Decides}
-use Rattle.prefix_lanes.specs.Bits.{PrefixView}
+use Rattle.prefix_lanes.specs.Bits.{PrefixView, is_prefix}
 use Rattle.bgp_codec.specs.declared.update.Update.{Update}
 use Rattle.session_fsm.specs.declared.state.State.{State}
 use Rattle.session_fsm.specs.declared.state.State.TheVariants.{Idle, Connect, Active, OpenSent, OpenConfirm, Established}
 use Rattle.ranked_policy.specs.Plans.{IsNamed}
 use Rattle.rib_tables.specs.declared.word.Word.{Word}
 use Rattle.rib_tables.specs.declared.word.Word.TheVariants.{Sequence}
-use Rattle.rib_tables.specs.Words.{nothing, is_prefix}
+use Rattle.rib_tables.specs.Words.{nothing, word_after, last_word}
 use Rattle.rib_tables.specs.Tables.{Words, word_of, path_of}
 use Rattle.rib_tables.specs.Owners.{RibView, TellsKept}
 use Rattle.router_model.specs.Settings.{identifier}
 use Rattle.router_model.specs.Sides.{Side, is_up, is_established, told}
-use Rattle.router_model.specs.State.{telling, word_after, last_word, last_told}
-use Rattle.router_model.specs.Calls.{greatest_stamp}
+use Rattle.router_model.specs.State.{telling, last_told}
+use Rattle.run_model.specs.declared.stamps.TheConstants.{GREATEST_STAMP}
 use Rattle.router_side.specs.Freshness.{IsFresh, is_opening, is_away}
 use Rattle.router_side.specs.SideOf.{side, side_opening}
 use Rattle.router_core.specs.declared.peers.Peer.{Peer}
@@ -89,7 +89,7 @@ module _ (x : RouterView) (sound : IsSound x) (v i : ℕ) (place : IsAt x.peers 
   tabled : IsTabled x
   tabled = sound.tabled
 
-  sound_with : (t : RibView) (stamp : ℕ) → stamp ≤ greatest_stamp → IsTabled (with_peer_and_tables x i peer t stamp) → IsSound (with_peer_and_tables x i peer t stamp)
+  sound_with : (t : RibView) (stamp : ℕ) → stamp ≤ GREATEST_STAMP → IsTabled (with_peer_and_tables x i peer t stamp) → IsSound (with_peer_and_tables x i peer t stamp)
   sound_with t stamp few h = record {
     network = sound.network;
     router = sound.router;
@@ -191,7 +191,7 @@ module _ (x : RouterView) (sound : IsSound x) (v i : ℕ) (place : IsAt x.peers 
             originated = tabled.originated;
           }
 
-      pub sound_told : stamp ≤ greatest_stamp → IsSound (with_peer_and_tables x i peer t stamp)
+      pub sound_told : stamp ≤ GREATEST_STAMP → IsSound (with_peer_and_tables x i peer t stamp)
       sound_told few = sound_with t stamp few (subst (λ (s : RibView). IsTabled (with_peer_and_tables x i peer s stamp)) (sym tells.rest) tabled_told)
 
       pub plain_told : stamp ≡ x.stamp + 1 → plain_of (with_peer_and_tables x i peer t stamp) ≡ told_to (plain_of x) x.net x.number v q

@@ -28,7 +28,8 @@ use Rattle.router_model.specs.Settings.{Setting, linked, peers}
 use Rattle.router_model.specs.Sides.{Side, Draft, NoMessage, carried, met, second, comes, obeys, draft_of}
 use Rattle.router_model.specs.State.{open_of}
 use Rattle.router_model.specs.Step.{Obeys, Ticks, all_moved, forgetting, first_close}
-use Rattle.router_model.specs.Calls.{Stamped, Tick, Obey, Gives, answer, judged, greatest_stamp}
+use Rattle.router_model.specs.Calls.{Stamped, Tick, Obey, Gives, answer, judged}
+use Rattle.run_model.specs.declared.stamps.TheConstants.{GREATEST_STAMP}
 use Rattle.router_side.specs.SideOf.{side, side_opening}
 use Rattle.router_core.specs.declared.peers.Peer.{Peer}
 use Rattle.router_core.specs.Views.{RouterView, IsSound, IsTellable, IsPathWord, side_at, sides_of, config_of, plain_of, Ends}
@@ -46,7 +47,7 @@ use Rattle.router_core.proofs.Moving.{overflow_is, left_is}
 abbrev pub at_stamp : RouterView → RibView → ℕ → RouterView
 at_stamp x t stamp = record { net = x.net; number = x.number; own_open = x.own_open; peers = x.peers; tables = t; marks = x.marks; stamp = stamp }
 
-pub stamped_sound : (x : RouterView) (stamp : ℕ) → IsSound x → stamp ≤ greatest_stamp → IsSound (at_stamp x x.tables stamp)
+pub stamped_sound : (x : RouterView) (stamp : ℕ) → IsSound x → stamp ≤ GREATEST_STAMP → IsSound (at_stamp x x.tables stamp)
 stamped_sound x stamp s few =
     let t = s.tabled in
     record {
@@ -71,7 +72,7 @@ stamped_sound x stamp s few =
       marked = record { over = s.marked.over; unfinished = s.marked.unfinished; queue = s.marked.queue };
     }
 
-pub cleared_sound : (x : RouterView) (t : RibView) (stamp : ℕ) → IsSound x → stamp ≤ greatest_stamp → Clears x.tables t → IsSound (at_stamp x t stamp)
+pub cleared_sound : (x : RouterView) (t : RibView) (stamp : ℕ) → IsSound x → stamp ≤ GREATEST_STAMP → Clears x.tables t → IsSound (at_stamp x t stamp)
 cleared_sound x t stamp s few c =
     let h = s.tabled in
     record {
@@ -148,20 +149,20 @@ module _ (g : Setting) (r : RouterView) (e : g.net ≡ r.net) (s : IsSound r) wh
       ∙ ap (list_any (λ v. (second r.own_open (sides_of r v)).overflows)) (s.numbers ∙ ap (λ (n : Plan). peers n r.number) (sym e))
       ∙ ap (λ (o : Message). list_any (λ v. (second o (sides_of r v)).overflows) (peers g.net r.number)) own_same
 
-  pub ticks : (res : Result Stepped RouterError) (y : Stamped) → Ends (nat_lt greatest_stamp (r.stamp + 1)) (overflow_in (second r.own_open) r.peers) res (plain_of r) ticked y
+  pub ticks : (res : Result Stepped RouterError) (y : Stamped) → Ends (nat_lt GREATEST_STAMP (r.stamp + 1)) (overflow_in (second r.own_open) r.peers) res (plain_of r) ticked y
       → Gives g r.number res (answer g r.number (plain_of r) Tick) (plain_of r) Tick y
   ticks res y h =
-      subst (λ (o : Bool). Gives g r.number res (judged None (Some (alone Ticks)) (nat_lt greatest_stamp (r.stamp + 1)) o) (plain_of r) Tick y) overflow_same
-      (ends_give g r.number (nat_lt greatest_stamp (r.stamp + 1)) (overflow_in (second r.own_open) r.peers) res (plain_of r) y ticked Tick (alone Ticks)
+      subst (λ (o : Bool). Gives g r.number res (judged None (Some (alone Ticks)) (nat_lt GREATEST_STAMP (r.stamp + 1)) o) (plain_of r) Tick y) overflow_same
+      (ends_give g r.number (nat_lt GREATEST_STAMP (r.stamp + 1)) (overflow_in (second r.own_open) r.peers) res (plain_of r) y ticked Tick (alone Ticks)
       (ap (λ (o : Message). record { router = all_moved g r.number (plain_of r).router (λ v. second o (sides_of r v)); stamp = r.stamp + 1 }) (sym own_same)) h)
 
   abbrev pub restarted : Stamped
   restarted = record { router = forgetting (all_moved g r.number (plain_of r).router (λ v. met r.own_open (sides_of r v) ManualStop)); stamp = r.stamp + 1 }
 
-  pub restarts : (res : Result Stepped RouterError) (y : Stamped) → Ends (nat_lt greatest_stamp (r.stamp + 1)) false res (plain_of r) restarted y
+  pub restarts : (res : Result Stepped RouterError) (y : Stamped) → Ends (nat_lt GREATEST_STAMP (r.stamp + 1)) false res (plain_of r) restarted y
       → Gives g r.number res (answer g r.number (plain_of r) (Obey Restart)) (plain_of r) (Obey Restart) y
   restarts res y h =
-      ends_give g r.number (nat_lt greatest_stamp (r.stamp + 1)) false res (plain_of r) y restarted (Obey Restart) (alone (Obeys Restart))
+      ends_give g r.number (nat_lt GREATEST_STAMP (r.stamp + 1)) false res (plain_of r) y restarted (Obey Restart) (alone (Obeys Restart))
       (ap (λ (o : Message). record { router = forgetting (all_moved g r.number (plain_of r).router (λ v. met o (sides_of r v) ManualStop)); stamp = r.stamp + 1 }) (sym own_same)) h
 
 -- what is cleared keeps and originates nothing

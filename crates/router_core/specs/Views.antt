@@ -1,5 +1,7 @@
 -- A router of the code as a router of the definitions: its list of peers as a function of numbers, its tables as what its sides say.
 use Rattle.std.specs.Prelude.{ℕ, zero, suc, ◌≡◌, ◌≢◌, ◌≤◌, ◌<◌, ◌==◌, ◌^◌, nat_lt, Bool, true, false, cond, List, [], ◌∷◌, length, map, Option, None, Some, Result, Ok, Err, MatchResult, ◌+◌}
+use Rattle.ranked_policy.specs.declared.limits.TheConstants.{LONGEST_PATH}
+use Rattle.bgp_codec.specs.Updates.{AreShort}
 use Rattle.bgp_codec.specs.declared.message.Message.{Message}
 use Rattle.session_fsm.specs.declared.config.SessionConfig.{SessionConfig}
 use Rattle.ranked_policy.specs.Plans.{Plan, IsNetwork, IsRouter}
@@ -31,7 +33,8 @@ use Rattle.run_model.specs.Network.{alone, puts, takes, offers}
 use Rattle.router_model.specs.Sides.{Side, AtHand, Draft, carried, at_hand, front, without_front, handled, is_up, told}
 use Rattle.router_model.specs.State.{open_of, new_router, heard, last_told, telling, untold, is_waiting_peer}
 use Rattle.router_model.specs.Step.{moved, taken, next_offer, with_side}
-use Rattle.router_model.specs.Calls.{Stamped, Call, Put, Answer, Steps, Idle, Refuses, greatest_stamp, answer, Gives, has_room}
+use Rattle.router_model.specs.Calls.{Stamped, Call, Put, Answer, Steps, Idle, Refuses, answer, Gives, has_room}
+use Rattle.run_model.specs.declared.stamps.TheConstants.{GREATEST_STAMP}
 use Rattle.router_core.specs.declared.peers.Peer.{Peer}
 use Rattle.router_core.specs.declared.router.choose.Next.{Next}
 use Rattle.router_core.specs.declared.router.choose.Next.TheVariants as next
@@ -99,13 +102,9 @@ pub record Follows (origins : List Origin) (t : RibView) (v : ℕ) (s : Side) : 
   pub heard : (q : PrefixView) → IsNamed origins q → word_of t.heard v q ≡ heard_now s q
   pub told : (q : PrefixView) → IsNamed origins q → word_of t.sent v q ≡ told_now s q
 
--- each number is one of two octets
-abbrev pub AreShort : List ℕ → Type 0
-AreShort numbers = AllByRecursion (λ n. n < 2 ^ 16) numbers
-
 -- a path that can be told: of at most so many numbers, each of two octets
 pub record IsTellable (path : List ℕ) : Type 0 where
-  pub few : length path ≤ 16
+  pub few : length path ≤ LONGEST_PATH
   pub short : AreShort path
 
 -- the word is a path, and no AS_PATH of another kind
@@ -138,7 +137,7 @@ pub record IsSound (x : RouterView) : Type 0 where
   pub links : (v : ℕ) → listed v x.peers ≡ linked x.net x.number v
   pub own_open : x.own_open ≡ open_of x.net x.number
   pub sayable : IsSayable x.own_open
-  pub stamp : x.stamp ≤ greatest_stamp
+  pub stamp : x.stamp ≤ GREATEST_STAMP
   pub tabled : IsTabled x
   pub marked : IsMarked x
 
@@ -185,7 +184,7 @@ Ends false false r x z y = MatchResult r (λ s. (s ≡ stepped.Did) × (y ≡ z)
 -- a draft of one side is carried out, at this stamp
 abbrev pub Carries : Result Stepped RouterError → RouterView → ℕ → AtHand → Draft → Bool → ℕ → RouterView → Type 0
 Carries r x v h a overflows stamp y =
-    Ends (nat_lt greatest_stamp stamp) overflows r (plain_of x) (record { router = moved (plain_of x).router v h a; stamp = stamp }) (plain_of y)
+    Ends (nat_lt GREATEST_STAMP stamp) overflows r (plain_of x) (record { router = moved (plain_of x).router v h a; stamp = stamp }) (plain_of y)
 
 -- a marker of a peer is taken at this stamp, or memory was wanting
 abbrev pub TakesMark : Result Stepped RouterError → RouterView → ℕ → ℕ → ℕ → ℕ → RouterView → Type 0
@@ -236,4 +235,4 @@ told_to x net u v q = record {
 }
 
 abbrev pub Tells : Result Stepped RouterError → RouterView → ℕ → PrefixView → RouterView → Type 0
-Tells r x v q y = Ends (nat_lt greatest_stamp (x.stamp + 1)) false r (plain_of x) (told_to (plain_of x) x.net x.number v q) (plain_of y)
+Tells r x v q y = Ends (nat_lt GREATEST_STAMP (x.stamp + 1)) false r (plain_of x) (told_to (plain_of x) x.net x.number v q) (plain_of y)

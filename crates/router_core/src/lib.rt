@@ -16,7 +16,8 @@ mod router;
 mod tables;
 mod telling;
 
+pub use opening::is_peer;
 pub use outbox::{Item, PieceOctets, What};
-pub use router::{Call, GREATEST_STAMP, Router};
+pub use router::{Call, Router};
 pub use router_model::{Command, RouterError, Stepped};
 pub use snap_marker::Offer;

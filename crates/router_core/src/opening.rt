@@ -2,9 +2,9 @@
 
 ghost use Rattle.std.specs.Prelude.{◌≡◌, [], map, IfOk};
 ghost use Rattle.std.specs.List.{AllByRecursion};
-ghost use Rattle.session_fsm.specs.Table.{IsHoldTime};
+ghost use Rattle.bgp_values.specs.Ranges.{IsHoldTime, IsUnicast};
 ghost use Rattle.bgp_codec.specs.declared.message.Message.TheVariants.{OpenMsg};
-ghost use Rattle.ranked_policy.specs.Plans.{IsRouter, IsUnicast};
+ghost use Rattle.ranked_policy.specs.Plans.{IsRouter};
 ghost use Rattle.router_model.specs.Settings.{linked, peers};
 ghost use Rattle.router_model.specs.State.{open_of};
 ghost use Rattle.router_side.specs.Sayings.{IsSayable};
@@ -45,8 +45,8 @@ pub(crate) fn own_open(alloc: Global, network: &Network, number: Asn) -> Message
     open_message(alloc, number as u16, settings.hold, router.id)
 }
 
-// Whether a link joins two routers.
-fn is_peer(network: &Network, number: Asn, other: Asn) -> bool
+/// Whether a link joins two routers: each is the other's peer.
+pub fn is_peer(network: &Network, number: Asn, other: Asn) -> bool
     ensures { result ≡ linked network.now number other }
 {
     network.linked(number, other)

@@ -32,9 +32,6 @@ use snap_marker::MarkState;
 use std::alloc::Global;
 use std::marker::Model;
 
-/// The greatest stamp of an event, 2^62.
-pub const GREATEST_STAMP: u64 = 0x4000_0000_0000_0000;
-
 /// One router of a network.
 #[derive(Drop)]
 pub struct Router<'a> {

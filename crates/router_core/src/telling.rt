@@ -3,36 +3,19 @@
 ghost use Rattle.std.specs.Prelude.{◌≡◌, ◌≤◌, IfOk, length};
 ghost use Rattle.prefix_lanes.specs.Bits.{IsCanonical};
 ghost use Rattle.bgp_codec.specs.declared.message.Message.TheVariants.{UpdateMsg};
-ghost use Rattle.ranked_policy.specs.Plans.{IsNetwork, IsRouter, IsNamed, IsUnicast};
+ghost use Rattle.ranked_policy.specs.Plans.{IsNetwork, IsRouter, IsNamed};
+ghost use Rattle.bgp_values.specs.Ranges.{IsUnicast};
 ghost use Rattle.router_model.specs.Settings.{identifier};
-ghost use Rattle.router_model.specs.State.{no_attributes, withdrawal, announcement, telling};
+ghost use Rattle.router_model.specs.State.{withdrawal, announcement, telling};
 ghost use Rattle.router_side.specs.Sayings.{IsSayable};
 ghost use Rattle.router_core.specs.Views.{IsTellable};
 
 use bgp_codec::laws::written_has_a_header;
 use bgp_codec::{Attrs, Items, Numbers, Segment, SegmentKind, Update};
+use bgp_values::IGP;
 use prefix_lanes::Prefix;
 use ranked_policy::{Asn, Network};
 use std::alloc::{AllocError, Global};
-
-/// The value of ORIGIN for a route that the AS itself originates: IGP.
-const IGP: u8 = 0;
-
-// No attributes.
-fn no_attributes(alloc: Global) -> Attrs
-    ensures { result ≡ no_attributes }
-{
-    Attrs {
-        origin: None,
-        path: None,
-        next_hop: None,
-        med: None,
-        local_pref: None,
-        atomic: false,
-        aggregator: None,
-        other: Items::new(alloc),
-    }
-}
 
 // One withdrawn prefix.
 fn withdrawal(alloc: Global, prefix: &Prefix) -> Update
@@ -43,7 +26,7 @@ fn withdrawal(alloc: Global, prefix: &Prefix) -> Update
     written_has_a_header();
     Update {
         withdrawn: Items::one(*prefix),
-        attrs: no_attributes(alloc),
+        attrs: Attrs::none(alloc),
         nlri: Items::new(alloc),
     }
 }
@@ -62,16 +45,10 @@ fn announcement(alloc: Global, id: u32, prefix: &Prefix, path: &[Asn]) -> Result
         kind: SegmentKind::AsSequence,
         numbers: Numbers::from_slice(alloc, path)?,
     };
-    let attrs = Attrs {
-        origin: Some(IGP),
-        path: Some(Items::one(segment)),
-        next_hop: Some(id),
-        med: None,
-        local_pref: None,
-        atomic: false,
-        aggregator: None,
-        other: Items::new(alloc),
-    };
+    let mut attrs = Attrs::none(alloc);
+    attrs.origin = Some(IGP);
+    attrs.path = Some(Items::one(segment));
+    attrs.next_hop = Some(id);
     Ok(Update {
         withdrawn: Items::new(alloc),
         attrs,

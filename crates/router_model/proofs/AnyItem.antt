@@ -23,7 +23,8 @@ use Rattle.router_model.specs.Sides as sides
 use Rattle.router_model.specs.Sides.{Side, Draft, draft_of, AtHand, NoMessage, HasFault, HasUpdate, does, obeys, obeys_all, comes, dials, shuts, fits, is_connecting, signed}
 use Rattle.router_model.specs.State.{open_of}
 use Rattle.router_model.specs.Step.{overflows_taking}
-use Rattle.router_model.specs.Calls.{Stamped, greatest_stamp}
+use Rattle.router_model.specs.Calls.{Stamped}
+use Rattle.run_model.specs.declared.stamps.TheConstants.{GREATEST_STAMP}
 use Rattle.router_model.specs.Laws.{HasNumbers, AnyItemIsTaken, WhatWaitsIsHandled}
 use Rattle.router_model.proofs.Leaving.{NoDial}
 
@@ -138,7 +139,7 @@ in_time : (a limit : ℕ) → a < limit → nat_lt limit (a + 1) ≡ false
 in_time a limit h = grind (arith, nat_tests)
 
 pub any_item_is_taken : AnyItemIsTaken
-any_item_is_taken g u v stamp x i link numbers free left = rw (link, free, in_time (max x.stamp stamp) greatest_stamp left, taken_fits g u v x i numbers) refl
+any_item_is_taken g u v stamp x i link numbers free left = rw (link, free, in_time (max x.stamp stamp) GREATEST_STAMP left, taken_fits g u v x i numbers) refl
 
 pub what_waits_is_handled : WhatWaitsIsHandled
-what_waits_is_handled g u v x link waits left = rw (link, waits, in_time x.stamp greatest_stamp left) refl
+what_waits_is_handled g u v x link waits left = rw (link, waits, in_time x.stamp GREATEST_STAMP left) refl

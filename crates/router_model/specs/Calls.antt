@@ -1,8 +1,10 @@
 -- What each call of a router answers: a step, nothing, or a refusal. Everything that the definition of a step leaves open is
 -- settled here: a put takes as much as it may, an UPDATE goes to the least peer that waits and has room.
-use Rattle.std.specs.Prelude.{ℕ, ◌+◌, ◌^◌, ◌≡◌, max, nat_lt, Bool, true, false, ◌&&◌, not, Option, None, Some, is_some, Result, Ok, Err, MatchResult}
+use Rattle.std.specs.Prelude.{ℕ, ◌+◌, ◌≡◌, max, nat_lt, Bool, true, false, ◌&&◌, not, Option, None, Some, is_some, Result, Ok, Err, MatchResult}
 use Rattle.std.specs.List.{find}
 use Rattle.bgp_framing.specs.Held.{is_waiting}
+use Rattle.run_model.specs.declared.stamps.TheConstants.{GREATEST_STAMP}
+use Rattle.router_model.specs.declared.limits.TheConstants.{OUTBOX_LIMIT}
 use Rattle.run_model.specs.Network.{alone, puts, takes}
 use Rattle.outbox.specs.Items.{next_item, octets_waiting}
 use Rattle.router_model.specs.declared.command.Command.{Command}
@@ -37,16 +39,7 @@ pub data Answer : Type 0 where
   Idle : Answer
   Refuses : (why : RouterError) → Answer
 
--- ---- whom an UPDATE is told
-
--- a peer is told no UPDATE while so many octets wait to be put towards it
-abbrev pub outbox_limit : ℕ
-outbox_limit = 65536
-
 -- ---- the order of judging: what bars the event, that there is none, its stamp, its numbers; want of memory comes last
-
-abbrev pub greatest_stamp : ℕ
-greatest_stamp = 2 ^ 62
 
 abbrev pub judged : Option RouterError → Option RouterEvent → (stamp_ends : Bool) → (overflows : Bool) → Answer
 judged (Some why) event stamp_ends overflows = Refuses why
@@ -84,7 +77,7 @@ blocked None (Some v) = Some (error.Blocked v)
 module _ (g : Setting) (u : ℕ) where
   -- a peer waits to be told and its outbox is below the limit
   abbrev pub has_room : Router → ℕ → Bool
-  has_room x v = is_waiting_peer g u x v && nat_lt (octets_waiting (x.sides v).outbox) outbox_limit
+  has_room x v = is_waiting_peer g u x v && nat_lt (octets_waiting (x.sides v).outbox) OUTBOX_LIMIT
 
   -- what bars a call
   abbrev pub bars_command : Router → Command → Option RouterError
@@ -132,7 +125,7 @@ module _ (g : Setting) (u : ℕ) where
 
   abbrev pub answer : Stamped → Call → Answer
   answer x call =
-      judged (bars x.router call) (event_of x.router call) (nat_lt greatest_stamp (stamp_of x call)) (overflows_at x.router (event_of x.router call))
+      judged (bars x.router call) (event_of x.router call) (nat_lt GREATEST_STAMP (stamp_of x call)) (overflows_at x.router (event_of x.router call))
 
   abbrev pub stamped_after : Stamped → Call → RouterEvent → Stamped
   stamped_after x call e = record { router = after g u x.router e; stamp = stamp_of x call }

@@ -17,7 +17,8 @@ use Rattle.router_model.specs.Messages.{updates_in}
 use Rattle.outbox.specs.Items.{passes}
 use Rattle.router_model.specs.Sides.{fits}
 use Rattle.router_model.specs.Step.{RouterEvent, Handles, May, Step, after, says}
-use Rattle.router_model.specs.Calls.{Stamped, Call, Take, Handle, Steps, Idle, answer, greatest_stamp, IsEventOf}
+use Rattle.router_model.specs.Calls.{Stamped, Call, Take, Handle, Steps, Idle, answer, IsEventOf}
+use Rattle.run_model.specs.declared.stamps.TheConstants.{GREATEST_STAMP}
 
 -- the octets and entries of items
 abbrev pub all_passes : List What → List (Passing Message)
@@ -71,13 +72,13 @@ HasNumbers (item.Shut e) = Unit {0}
 abbrev pub AnyItemIsTaken : Type 0
 AnyItemIsTaken =
     (g : Setting) (u v stamp : ℕ) (x : Stamped) (i : What) → linked g.net u v ≡ true → HasNumbers i
-    → is_waiting (x.router.sides v).held ≡ false → max x.stamp stamp < greatest_stamp
+    → is_waiting (x.router.sides v).held ≡ false → max x.stamp stamp < GREATEST_STAMP
     → answer g u x (Take v stamp i) ≡ Steps (takes v i)
 
 -- and what waits is handled, be it a message or a fault
 abbrev pub WhatWaitsIsHandled : Type 0
 WhatWaitsIsHandled =
-    (g : Setting) (u v : ℕ) (x : Stamped) → linked g.net u v ≡ true → is_waiting (x.router.sides v).held ≡ true → x.stamp < greatest_stamp
+    (g : Setting) (u v : ℕ) (x : Stamped) → linked g.net u v ≡ true → is_waiting (x.router.sides v).held ≡ true → x.stamp < GREATEST_STAMP
     → answer g u x (Handle v) ≡ Steps (alone (Handles v))
 
 -- a put may change places with each event that puts nothing in its direction: so runs pass through their cuts

@@ -1,12 +1,11 @@
 -- The network as a router sees it, and how routers choose (Griffin, Shepherd and Wilfong 2002).
 use Rattle.std.specs.Prelude.{ℕ, ◌<◌, ◌^◌, ◌==◌, Bool, ◌&&◌, ◌||◌, cond, List, [], ◌∷◌, filter, map}
 use Rattle.std.specs.List.{list_any}
-use Rattle.prefix_lanes.specs.Bits.{PrefixView}
+use Rattle.prefix_lanes.specs.Bits.{PrefixView, is_prefix}
 use Rattle.ranked_policy.specs.Plans.{Plan, IsRouter, IsNamed, IsNetwork, numbers}
 use Rattle.ranked_policy.specs.declared.network.Link.{Link}
 use Rattle.ranked_policy.specs.declared.network.Origin.{Origin}
 use Rattle.ranked_policy.specs.declared.network.Router as network
-use Rattle.rib_tables.specs.Words.{is_prefix}
 use Rattle.stable_paths.specs.Stable.{IsBest}
 
 -- a network, and the best path of each router for a prefix, by whether it originates the prefix and by the path heard from each peer

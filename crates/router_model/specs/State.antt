@@ -3,11 +3,12 @@
 use Rattle.std.specs.Prelude.{ℕ, nat_eq, Bool, false, ◌&&◌, ◌||◌, not, cond, List, [], ◌∷◌, Option, None, Some}
 use Rattle.std.specs.List.{find, list_any}
 use Rattle.std.specs.Cmp.Lexicographic.{pointwise}
+use Rattle.bgp_values.specs.declared.attributes.TheConstants.{IGP}
+use Rattle.bgp_codec.specs.UpdateReading.{no_attrs}
 use Rattle.prefix_lanes.specs.Bits.{PrefixView}
 use Rattle.bgp_codec.specs.declared.message.Message.{Message}
 use Rattle.bgp_codec.specs.declared.message.Message.TheVariants.{OpenMsg}
 use Rattle.bgp_codec.specs.declared.update.Update.{Update}
-use Rattle.bgp_codec.specs.declared.attributes.Attrs.{Attrs}
 use Rattle.bgp_codec.specs.declared.path.SegmentKind.TheVariants.{AsSequence}
 use Rattle.bgp_codec.specs.declared.rule.Rule.{Rule}
 use Rattle.bgp_codec.specs.declared.rule.Width.TheVariants.{Two}
@@ -15,7 +16,7 @@ use Rattle.link_epoch.specs.Ends as links
 use Rattle.session_fsm.specs.Table as sessions
 use Rattle.ranked_policy.specs.Plans.{Plan}
 use Rattle.rib_tables.specs.declared.word.Word.{Word}
-use Rattle.rib_tables.specs.Words.{nothing, announced_word, path_in, lists}
+use Rattle.rib_tables.specs.Words.{nothing, path_in, last_word}
 use Rattle.snap_marker.specs.Recordings.{Snapshots, no_snapshots}
 use Rattle.router_model.specs.Settings.{Setting, linked, peers, prefixes, identifier}
 use Rattle.router_model.specs.Sides.{Side, is_up}
@@ -32,27 +33,15 @@ pub record Router : Type 0 where
 abbrev pub open_of : Plan → ℕ → Message
 open_of net u = OpenMsg (record { asn = u; hold = net.settings.hold; id = identifier net.routers u; params = [] })
 
-abbrev pub no_attributes : Attrs
-no_attributes = record {
-  origin = None;
-  path = None;
-  next_hop = None;
-  med = None;
-  local_pref = None;
-  atomic = false;
-  aggregator = None;
-  other = [];
-}
-
 -- one withdrawn prefix, and no attributes (section 4.3)
 abbrev pub withdrawal : PrefixView → Update
-withdrawal q = record { withdrawn = q ∷ []; attrs = no_attributes; nlri = [] }
+withdrawal q = record { withdrawn = q ∷ []; attrs = no_attrs; nlri = [] }
 
 -- one prefix with ORIGIN IGP, the path as one AS_SEQUENCE, and the router's identifier as NEXT_HOP (section 5.1)
 abbrev pub announcement : ℕ → PrefixView → List ℕ → Update
 announcement id q path = record {
   withdrawn = [];
-  attrs = record no_attributes { origin = Some 0; path = Some (record { kind = AsSequence; numbers = path } ∷ []); next_hop = Some id };
+  attrs = record no_attrs { origin = Some IGP; path = Some (record { kind = AsSequence; numbers = path } ∷ []); next_hop = Some id };
   nlri = q ∷ [];
 }
 
@@ -66,14 +55,6 @@ abbrev pub rule_of : ℕ → Rule
 rule_of v = record { width = Two; peer = Some v }
 
 -- ---- words
-
--- the word on a prefix after an UPDATE, in which an announcement wins over a withdrawal (section 4.3)
-abbrev pub word_after : Word → Update → PrefixView → Word
-word_after word u q = cond (lists u.nlri q) (announced_word u.attrs) (cond (lists u.withdrawn q) nothing word)
-
-abbrev pub last_word : Word → List Update → PrefixView → Word
-last_word word [] q = word
-last_word word (u ∷ us) q = last_word (word_after word u q) us q
 
 -- the last word heard in the incarnation that a side is in (Adj-RIB-In), and the last told (Adj-RIB-Out, section 3.2)
 abbrev pub heard : Side → PrefixView → Word

@@ -3,7 +3,7 @@
 use Rattle.std.specs.Prelude.{ℕ, ◌≡◌, ◌≤◌, ◌==◌, nat_lt, Bool, true, false, ◌&&◌, not, cond, List, [], ◌∷◌, length, drop, slice_get, Option, None, Some, is_some}
 use Rattle.std.specs.List.{list_any}
 use mathlib.Core.List.{IsPrefix}
-use Rattle.prefix_lanes.specs.Bits.{PrefixView}
+use Rattle.prefix_lanes.specs.Bits.{PrefixView, is_prefix}
 use Rattle.bgp_codec.specs.declared.message.Message.{Message}
 use Rattle.bgp_codec.specs.declared.message.Message.TheVariants.{UpdateMsg}
 use Rattle.bgp_codec.specs.declared.update.Update.{Update}
@@ -12,7 +12,6 @@ use Rattle.link_epoch.specs.declared.link_end.Sign.{Sign}
 use Rattle.link_epoch.specs.declared.link_end.Sign.TheVariants as sign
 use Rattle.session_fsm.specs.declared.event.FsmEvent.{FsmEvent}
 use Rattle.session_fsm.specs.declared.event.FsmEvent.TheVariants.{ManualStart, ManualStop}
-use Rattle.rib_tables.specs.Words.{is_prefix}
 use Rattle.run_model.specs.Links.{Entry, Says, Mark}
 use Rattle.run_model.specs.Network.{Event, alone, puts, takes, offers}
 use Rattle.outbox.specs.Items.{passes}

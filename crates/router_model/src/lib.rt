@@ -15,7 +15,9 @@
 mod command;
 pub mod examples;
 pub mod laws;
+mod limits;
 mod refusal;
 
 pub use command::Command;
+pub use limits::OUTBOX_LIMIT;
 pub use refusal::{RouterError, Stepped};

@@ -8,6 +8,7 @@ use Rattle.std.proofs.lemmas.Cmp.{nat_eq_equiv}
 use Rattle.std.proofs.lemmas.List.{append-nil, length-take}
 use Rattle.std.proofs.lemmas.List.Elements.{All-contains, recursion_from_All}
 use Rattle.std.proofs.lemmas.Map.Views.{list_any-from_Contains}
+use Rattle.bgp_codec.specs.UpdateReading.{no_attrs}
 use Rattle.prefix_lanes.specs.Bits.{PrefixView, IsCanonical}
 use Rattle.bgp_codec.specs.declared.message.Message.{Message}
 use Rattle.bgp_codec.specs.declared.message.Message.TheVariants.{OpenMsg, UpdateMsg, NoticeMsg, AliveMsg}
@@ -17,18 +18,19 @@ use Rattle.bgp_codec.specs.declared.open.Open.{Open}
 use Rattle.bgp_codec.specs.declared.path.Segment.{Segment}
 use Rattle.bgp_codec.specs.declared.path.SegmentKind.TheVariants.{AsSequence}
 use Rattle.bgp_codec.specs.declared.update.Update.{Update}
-use Rattle.bgp_codec.specs.Opens.{OpenFits, is_hold_time, is_unicast}
-use Rattle.bgp_codec.specs.Updates.{UpdateFits, AttrsFit, attrs_octets, update_octets, prefix_octets, octet_count, long_string, segment_octets, is_from}
+use Rattle.bgp_codec.specs.Opens.{OpenFits}
+use Rattle.bgp_values.specs.Ranges.{is_hold_time, is_unicast, IsAsn, IsUnicast}
+use Rattle.bgp_codec.specs.Updates.{UpdateFits, AttrsFit, attrs_octets, update_octets, prefix_octets, octet_count, long_string, segment_octets, is_from, AreShort}
 use Rattle.bgp_codec.specs.Spelling.{IsWritable, written_body}
 use Rattle.bgp_codec.specs.Faults.{IsFrom}
 use Rattle.ranked_policy.specs.declared.network.Router as network
 use Rattle.ranked_policy.specs.declared.network.Origin.{Origin}
-use Rattle.ranked_policy.specs.Plans.{IsAsn, IsUnicast, IsRouter, IsNamed, numbers, identifiers}
+use Rattle.ranked_policy.specs.Plans.{IsRouter, IsNamed, numbers, identifiers}
 use Rattle.router_model.specs.Settings.{Setting, identifier}
-use Rattle.router_model.specs.State.{open_of, telling, withdrawal, announcement, no_attributes, rule_of}
+use Rattle.router_model.specs.State.{open_of, telling, withdrawal, announcement, rule_of}
 use Rattle.router_model.specs.Settings.{IsSetting}
 use Rattle.router_runs.specs.Kept.{IsGood}
-use Rattle.router_runs.specs.Said.{IsSmall, MayKeep, SaidIsGood}
+use Rattle.router_runs.specs.Said.{MayKeep, SaidIsGood}
 use Rattle.router_runs.proofs.Lower.{Laws}
 
 module _ (laws : Laws) where
@@ -119,7 +121,7 @@ module _ (laws : Laws) where
   same_test : (m n : ℕ) → m ≡ n → (m == n) ≡ true
   same_test m n h = grind (arith, nat_tests, h)
 
-  no_attrs_fit : AttrsFit no_attributes
+  no_attrs_fit : AttrsFit no_attrs
   no_attrs_fit = record { origin = tt; path = tt; next_hop = tt; med = tt; local_pref = tt; aggregator = tt; other = tt; rising = tt }
 
   withdrawal_fits : (q : PrefixView) → IsCanonical q → UpdateFits (withdrawal q)
@@ -144,7 +146,7 @@ module _ (laws : Laws) where
       let l = length-append (64 ∷ 2 ∷ length v ∷ v) (64 ∷ 3 ∷ 4 ∷ to_be_bytes w32 id) in
       rw few (omega (arith, l, size, short))
 
-  announcement_fits : (id u : ℕ) (q : PrefixView) (path : List ℕ) → IsCanonical q → IsUnicast id → 1 ≤ length path → length path ≤ 16 → IsSmall path → UpdateFits (announcement id q path)
+  announcement_fits : (id u : ℕ) (q : PrefixView) (path : List ℕ) → IsCanonical q → IsUnicast id → 1 ≤ length path → length path ≤ 16 → AreShort path → UpdateFits (announcement id q path)
   announcement_fits id u q path is unicast some short small = record {
     withdrawn = tt;
     attrs = record {

@@ -8,7 +8,8 @@ use Rattle.bgp_codec.specs.declared.message.Message.TheVariants.{OpenMsg, Update
 use Rattle.bgp_codec.specs.declared.open.Open.{Open}
 use Rattle.link_epoch.specs.declared.link_end.Phase.TheVariants as phase
 use Rattle.session_fsm.specs.Table as sessions
-use Rattle.session_fsm.specs.Table.{SessionView, machine_error}
+use Rattle.session_fsm.specs.Table.{SessionView}
+use Rattle.bgp_values.specs.declared.faults.TheConstants.{FSM_ERROR}
 use Rattle.session_fsm.specs.declared.state.State.{State}
 use Rattle.session_fsm.specs.declared.state.State.TheVariants as state
 use Rattle.session_fsm.specs.declared.event.FsmEvent.TheVariants as event
@@ -72,7 +73,7 @@ module _ (laws : Laws) where
   notice_hand c state.Connect o s m a b h j x next = absurd (cc j)
   notice_hand c state.Active o s m a b h j x next = absurd (cc j)
   notice_hand true state.OpenSent o s m a b h j x next = hung_hand (at state.OpenSent s) (sessions.closed (at state.OpenSent s).session) None m a b x next (λ p. cc p) (λ i. cc i) refl
-  notice_hand false state.OpenSent o s m a b h j x next = closed_hand (at state.OpenSent s) (sessions.closed (at state.OpenSent s).session) None machine_error m a b x next refl (λ i. cc i) refl
+  notice_hand false state.OpenSent o s m a b h j x next = closed_hand (at state.OpenSent s) (sessions.closed (at state.OpenSent s).session) None FSM_ERROR m a b x next refl (λ i. cc i) refl
   notice_hand true state.OpenConfirm o s m a b h j x next = hung_hand (at state.OpenConfirm s) (sessions.closed (at state.OpenConfirm s).session) None m a b x next (λ p. cc p) (λ i. cc i) refl
   notice_hand false state.OpenConfirm o s m a b h j x next = hung_hand (at state.OpenConfirm s) (sessions.closed (at state.OpenConfirm s).session) None m a b x next (λ p. cc p) (λ i. cc i) refl
   notice_hand true state.Established o s m a b h j x next = hung_hand (at state.Established s) (sessions.closed (at state.Established s).session) (Some s.link.epoch) m a b x next (λ p. cc p) (λ i. cc i) refl
@@ -94,11 +95,11 @@ module _ (laws : Laws) where
         joined = λ k. (refl, refl);
         apart = λ n. absurd (n refl);
       }
-  hand_row (UpdateMsg u) state.OpenSent o s a b j x next = closed_hand (at state.OpenSent s) (sessions.closed (at state.OpenSent s).session) None machine_error (UpdateMsg u) a b x next refl (λ i. cc i) refl
+  hand_row (UpdateMsg u) state.OpenSent o s a b j x next = closed_hand (at state.OpenSent s) (sessions.closed (at state.OpenSent s).session) None FSM_ERROR (UpdateMsg u) a b x next refl (λ i. cc i) refl
   hand_row (NoticeMsg n) state.OpenSent o s a b j x next = notice_hand ((n.code == 2) && (n.sub == 1)) state.OpenSent o s (NoticeMsg n) a b refl j x next
-  hand_row AliveMsg state.OpenSent o s a b j x next = closed_hand (at state.OpenSent s) (sessions.closed (at state.OpenSent s).session) None machine_error AliveMsg a b x next refl (λ i. cc i) refl
-  hand_row (OpenMsg p) state.OpenConfirm o s a b j x next = closed_hand (at state.OpenConfirm s) (sessions.closed (at state.OpenConfirm s).session) None machine_error (OpenMsg p) a b x next refl (λ i. cc i) refl
-  hand_row (UpdateMsg u) state.OpenConfirm o s a b j x next = closed_hand (at state.OpenConfirm s) (sessions.closed (at state.OpenConfirm s).session) None machine_error (UpdateMsg u) a b x next refl (λ i. cc i) refl
+  hand_row AliveMsg state.OpenSent o s a b j x next = closed_hand (at state.OpenSent s) (sessions.closed (at state.OpenSent s).session) None FSM_ERROR AliveMsg a b x next refl (λ i. cc i) refl
+  hand_row (OpenMsg p) state.OpenConfirm o s a b j x next = closed_hand (at state.OpenConfirm s) (sessions.closed (at state.OpenConfirm s).session) None FSM_ERROR (OpenMsg p) a b x next refl (λ i. cc i) refl
+  hand_row (UpdateMsg u) state.OpenConfirm o s a b j x next = closed_hand (at state.OpenConfirm s) (sessions.closed (at state.OpenConfirm s).session) None FSM_ERROR (UpdateMsg u) a b x next refl (λ i. cc i) refl
   hand_row (NoticeMsg n) state.OpenConfirm o s a b j x next = notice_hand ((n.code == 2) && (n.sub == 1)) state.OpenConfirm o s (NoticeMsg n) a b refl j x next
   hand_row AliveMsg state.OpenConfirm o s a b j x next =
       let hit : (s.link.epoch == s.link.epoch) ≡ true = grind (arith, nat_tests) in
@@ -109,7 +110,7 @@ module _ (laws : Laws) where
         joined = λ k. (refl, refl);
         apart = λ n. absurd (n refl);
       }
-  hand_row (OpenMsg p) state.Established o s a b j x next = closed_hand (at state.Established s) (sessions.closed (at state.Established s).session) (Some s.link.epoch) machine_error (OpenMsg p) a b x next refl (λ i. cc i) refl
+  hand_row (OpenMsg p) state.Established o s a b j x next = closed_hand (at state.Established s) (sessions.closed (at state.Established s).session) (Some s.link.epoch) FSM_ERROR (OpenMsg p) a b x next refl (λ i. cc i) refl
   hand_row (UpdateMsg u) state.Established o s a b j x next =
       let hit : (s.link.epoch == s.link.epoch) ≡ true = grind (arith, nat_tests) in
       let here : Side = at state.Established s in

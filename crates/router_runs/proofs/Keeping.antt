@@ -28,7 +28,8 @@ use Rattle.router_model.specs.Settings.{IsSetting}
 use Rattle.router_runs.specs.Runs.{side_of, log_of}
 use Rattle.router_runs.specs.Promises.{UpdatesPassInOrder}
 use Rattle.router_runs.specs.Kept.{IsGood, SideKept, AllAreGood}
-use Rattle.router_runs.specs.Said.{IsSmall, MayKeep, IsToldBy, IsSaid, Kept}
+use Rattle.router_runs.specs.Said.{MayKeep, IsToldBy, IsSaid, Kept}
+use Rattle.bgp_codec.specs.Updates.{AreShort}
 use Rattle.router_runs.proofs.Events.{front_reads, marked_side, keeps_sides}
 use Rattle.router_runs.proofs.Running.{before_of, taken_said, number_is, reached_next}
 use Rattle.router_runs.proofs.Passing.{passes_in_order}
@@ -99,7 +100,7 @@ module _ (laws : Laws) where
     all_good state k u v link = good_each laws (IsSaid g u) (IsGood u) (log_of state u v) (said_is_good laws g set u (linked_router g set.network u v link)) (k.said u v link)
 
     -- paths heard have small numbers
-    heard_small : (state : RunState) → Kept g state → (u v : ℕ) (q : PrefixView) → linked g.net u v ≡ true → IsSmall (path_in (heard (side_of state u v) q))
+    heard_small : (state : RunState) → Kept g state → (u v : ℕ) (q : PrefixView) → linked g.net u v ≡ true → AreShort (path_in (heard (side_of state u v) q))
     heard_small state k u v q link =
         let e : ℕ = (side_of state u v).link.epoch in
         let back = linked_both g set.network u v link in
@@ -107,10 +108,10 @@ module _ (laws : Laws) where
         let all : AllByRecursion (IsToldBy g v) ((side_of state v u).sent e) = subst (AllByRecursion (IsToldBy g v)) p.0.sent (updates_told laws g v e (log_of state v u) (k.said v u back)) in
         words_small laws g v ((side_of state u v).acted e) nothing q (told_front laws g v ((side_of state u v).acted e) p.1.0 (subst (AllByRecursion (IsToldBy g v)) (sym p.1.1) all)) tt
 
-    word_small : (state : RunState) → Kept g state → (u : ℕ) (q : PrefixView) (v : ℕ) → IsSmall (path_from g u (state.routers u).router q v)
+    word_small : (state : RunState) → Kept g state → (u : ℕ) (q : PrefixView) (v : ℕ) → AreShort (path_from g u (state.routers u).router q v)
     word_small state k u q v = at (linked g.net u v) (is_up (side_of state u v)) refl
       where
-        at : (l c : Bool) → linked g.net u v ≡ l → IsSmall (cond (l && c) (path_in (heard (side_of state u v) q)) [])
+        at : (l c : Bool) → linked g.net u v ≡ l → AreShort (cond (l && c) (path_in (heard (side_of state u v) q)) [])
         at true true h = heard_small state k u v q h
         at true false h = tt
         at false c h = tt

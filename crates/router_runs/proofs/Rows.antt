@@ -7,7 +7,8 @@ use Rattle.link_epoch.specs.Ends.{is_awaited, next_number, dialled, hung_up}
 use Rattle.link_epoch.specs.declared.link_end.Phase.{Phase}
 use Rattle.link_epoch.specs.declared.link_end.Phase.TheVariants as phase
 use Rattle.session_fsm.specs.Table as sessions
-use Rattle.session_fsm.specs.Table.{SessionView, machine_error, cease, hold_timer_expired}
+use Rattle.session_fsm.specs.Table.{SessionView}
+use Rattle.bgp_values.specs.declared.faults.TheConstants.{FSM_ERROR, CEASE, HOLD_TIMER_EXPIRED}
 use Rattle.session_fsm.specs.declared.state.State.{State}
 use Rattle.session_fsm.specs.declared.state.State.TheVariants as state
 use Rattle.session_fsm.specs.declared.event.FsmEvent.{FsmEvent}
@@ -256,9 +257,9 @@ module _ (laws : Laws) where
   own_row event.ManualStop own state.Idle o s a b x over = quiet_row (at state.Idle s) (record (at state.Idle s).session { restart_timer = 0 }) a b x refl
   own_row event.ManualStop own state.Connect o s a b x over = hung_row (at state.Connect s) (sessions.stopped (at state.Connect s).session) None a b x (λ p. cc p) (λ i. cc i) refl
   own_row event.ManualStop own state.Active o s a b x over = idling_row (at state.Active s) (sessions.stopped (at state.Active s).session) a b x refl (λ i. cc i) refl
-  own_row event.ManualStop own state.OpenSent o s a b x over = told_row NoMessage (at state.OpenSent s) (sessions.stopped (at state.OpenSent s).session) None cease a b x refl (λ i. cc i) refl
-  own_row event.ManualStop own state.OpenConfirm o s a b x over = told_row NoMessage (at state.OpenConfirm s) (sessions.stopped (at state.OpenConfirm s).session) None cease a b x refl (λ i. cc i) refl
-  own_row event.ManualStop own state.Established o s a b x over = told_row NoMessage (at state.Established s) (sessions.stopped (at state.Established s).session) (Some s.link.epoch) cease a b x refl (λ i. cc i) refl
+  own_row event.ManualStop own state.OpenSent o s a b x over = told_row NoMessage (at state.OpenSent s) (sessions.stopped (at state.OpenSent s).session) None CEASE a b x refl (λ i. cc i) refl
+  own_row event.ManualStop own state.OpenConfirm o s a b x over = told_row NoMessage (at state.OpenConfirm s) (sessions.stopped (at state.OpenConfirm s).session) None CEASE a b x refl (λ i. cc i) refl
+  own_row event.ManualStop own state.Established o s a b x over = told_row NoMessage (at state.Established s) (sessions.stopped (at state.Established s).session) (Some s.link.epoch) CEASE a b x refl (λ i. cc i) refl
   own_row event.ConnectRetryTimerExpires own state.Idle o s a b x over = quiet_row (at state.Idle s) (at state.Idle s).session a b x refl
   own_row event.ConnectRetryTimerExpires own state.Connect o s a b x over =
       subst (λ (d : Draft). Row (at state.Connect s) NoMessage d a b) (sym (retry_is (is_awaited s.link) (fits (next_number s.link)) o s refl refl over))
@@ -266,19 +267,19 @@ module _ (laws : Laws) where
   own_row event.ConnectRetryTimerExpires own state.Active o s a b x over =
       subst (λ (d : Draft). Row (at state.Active s) NoMessage d a b) (sym (dial_again (is_awaited s.link) (fits (next_number s.link)) o s refl refl over))
       (dialled_row (is_awaited s.link) o (at state.Active s) (sessions.dialling (at state.Active s).session) false a b refl x tt (λ j. cc j) refl)
-  own_row event.ConnectRetryTimerExpires own state.OpenSent o s a b x over = told_row NoMessage (at state.OpenSent s) (sessions.closed (at state.OpenSent s).session) None machine_error a b x refl (λ i. cc i) refl
-  own_row event.ConnectRetryTimerExpires own state.OpenConfirm o s a b x over = told_row NoMessage (at state.OpenConfirm s) (sessions.closed (at state.OpenConfirm s).session) None machine_error a b x refl (λ i. cc i) refl
-  own_row event.ConnectRetryTimerExpires own state.Established o s a b x over = told_row NoMessage (at state.Established s) (sessions.closed (at state.Established s).session) (Some s.link.epoch) machine_error a b x refl (λ i. cc i) refl
+  own_row event.ConnectRetryTimerExpires own state.OpenSent o s a b x over = told_row NoMessage (at state.OpenSent s) (sessions.closed (at state.OpenSent s).session) None FSM_ERROR a b x refl (λ i. cc i) refl
+  own_row event.ConnectRetryTimerExpires own state.OpenConfirm o s a b x over = told_row NoMessage (at state.OpenConfirm s) (sessions.closed (at state.OpenConfirm s).session) None FSM_ERROR a b x refl (λ i. cc i) refl
+  own_row event.ConnectRetryTimerExpires own state.Established o s a b x over = told_row NoMessage (at state.Established s) (sessions.closed (at state.Established s).session) (Some s.link.epoch) FSM_ERROR a b x refl (λ i. cc i) refl
   own_row event.HoldTimerExpires own state.Idle o s a b x over = quiet_row (at state.Idle s) (at state.Idle s).session a b x refl
   own_row event.HoldTimerExpires own state.Connect o s a b x over = hung_row (at state.Connect s) (sessions.closed (at state.Connect s).session) None a b x (λ p. cc p) (λ i. cc i) refl
   own_row event.HoldTimerExpires own state.Active o s a b x over = idling_row (at state.Active s) (sessions.closed (at state.Active s).session) a b x refl (λ i. cc i) refl
-  own_row event.HoldTimerExpires own state.OpenSent o s a b x over = told_row NoMessage (at state.OpenSent s) (sessions.closed (at state.OpenSent s).session) None hold_timer_expired a b x refl (λ i. cc i) refl
-  own_row event.HoldTimerExpires own state.OpenConfirm o s a b x over = told_row NoMessage (at state.OpenConfirm s) (sessions.closed (at state.OpenConfirm s).session) None hold_timer_expired a b x refl (λ i. cc i) refl
-  own_row event.HoldTimerExpires own state.Established o s a b x over = told_row NoMessage (at state.Established s) (sessions.closed (at state.Established s).session) (Some s.link.epoch) hold_timer_expired a b x refl (λ i. cc i) refl
+  own_row event.HoldTimerExpires own state.OpenSent o s a b x over = told_row NoMessage (at state.OpenSent s) (sessions.closed (at state.OpenSent s).session) None HOLD_TIMER_EXPIRED a b x refl (λ i. cc i) refl
+  own_row event.HoldTimerExpires own state.OpenConfirm o s a b x over = told_row NoMessage (at state.OpenConfirm s) (sessions.closed (at state.OpenConfirm s).session) None HOLD_TIMER_EXPIRED a b x refl (λ i. cc i) refl
+  own_row event.HoldTimerExpires own state.Established o s a b x over = told_row NoMessage (at state.Established s) (sessions.closed (at state.Established s).session) (Some s.link.epoch) HOLD_TIMER_EXPIRED a b x refl (λ i. cc i) refl
   own_row event.KeepaliveTimerExpires own state.Idle o s a b x over = quiet_row (at state.Idle s) (at state.Idle s).session a b x refl
   own_row event.KeepaliveTimerExpires own state.Connect o s a b x over = hung_row (at state.Connect s) (sessions.closed (at state.Connect s).session) None a b x (λ p. cc p) (λ i. cc i) refl
   own_row event.KeepaliveTimerExpires own state.Active o s a b x over = idling_row (at state.Active s) (sessions.closed (at state.Active s).session) a b x refl (λ i. cc i) refl
-  own_row event.KeepaliveTimerExpires own state.OpenSent o s a b x over = told_row NoMessage (at state.OpenSent s) (sessions.closed (at state.OpenSent s).session) None machine_error a b x refl (λ i. cc i) refl
+  own_row event.KeepaliveTimerExpires own state.OpenSent o s a b x over = told_row NoMessage (at state.OpenSent s) (sessions.closed (at state.OpenSent s).session) None FSM_ERROR a b x refl (λ i. cc i) refl
   own_row event.KeepaliveTimerExpires own state.OpenConfirm o s a b x over = alive_row (at state.OpenConfirm s) (sessions.kept_alive (at state.OpenConfirm s).session) a b x tt refl
   own_row event.KeepaliveTimerExpires own state.Established o s a b x over = alive_row (at state.Established s) (sessions.kept_alive (at state.Established s).session) a b x tt refl
   own_row event.TcpCrAcked own st o s a b x over = absurd own

@@ -2,7 +2,7 @@
 use Rattle.std.proofs.Common.{◌≡◌, ℕ, suc, ◌<◌, ◌==◌, Bool, true, false, ◌&&◌, cond, List, [], ◌∷◌, ◌++◌, refl, ap, sym, ◌∙◌, subst, arith, Option, None, Some, inl, inr}
 use Rattle.std.specs.Prelude.{Ok, map, ◌^◌, Result}
 use Rattle.std.specs.List.{AllByRecursion, find}
-use Rattle.prefix_lanes.specs.Bits.{PrefixView}
+use Rattle.prefix_lanes.specs.Bits.{PrefixView, is_prefix}
 use Rattle.bgp_codec.specs.declared.fault.Fault.{Fault}
 use Rattle.bgp_codec.specs.declared.message.Message.{Message}
 use Rattle.bgp_codec.specs.declared.message.Message.TheVariants.{OpenMsg, UpdateMsg, NoticeMsg, AliveMsg}
@@ -23,7 +23,7 @@ use Rattle.ranked_policy.specs.declared.network.Origin.{Origin}
 use Rattle.ranked_policy.specs.Plans.{IsNamed}
 use Rattle.ranked_policy.specs.Policies.{Table}
 use Rattle.rib_tables.specs.declared.word.Word.{Word}
-use Rattle.rib_tables.specs.Words.{announced_word, nothing, path_in, is_prefix, lists}
+use Rattle.rib_tables.specs.Words.{announced_word, nothing, path_in, lists, word_after, last_word}
 use Rattle.stable_paths.specs.Stable.{Problem, IsBest, own_path}
 use Rattle.run_model.specs.Links.{Entry, Dial, Says, Mark, Shut, said}
 use Rattle.run_model.specs.Octets.{AllGood}
@@ -34,11 +34,12 @@ use Rattle.outbox.specs.declared.item.What.TheVariants as item
 use Rattle.router_model.specs.Sides as sides
 use Rattle.router_model.specs.Sides.{Side, Draft, AtHand, NoMessage, HasFault, HasUpdate, at_hand, event_of, front, draft_of, notification, fits, does, does_all, obeys_all, joins, dials, shuts, met, reset, second, expires, signed, handled, is_connecting, is_up, comes, meets, obeys}
 use Rattle.router_model.specs.Settings.{peers, Setting, linked, prefixes, identifier}
-use Rattle.router_model.specs.State.{Router, rule_of, open_of, telling, word_after, last_word, route, undecided, untold, is_undecided, is_untold}
+use Rattle.router_model.specs.State.{Router, rule_of, open_of, telling, route, undecided, untold, is_undecided, is_untold}
 use Rattle.router_model.specs.Step.{RouterEvent, Obeys, Ticks, Handles, Decides, Advertises, after, says, says_where, says_by, says_update, says_markers, keeping, telling_to, telling_of, heeds, is_greater, records, meets_at, resets_at, second_at, signed_at, handled_at}
 use Rattle.snap_marker.specs.Recordings.{ends_channel}
 use Rattle.router_model.specs.Messages.{updates_in}
-use Rattle.router_runs.specs.Said.{IsSmall, MayKeep, IsToldBy, IsSaid}
+use Rattle.router_runs.specs.Said.{MayKeep, IsToldBy, IsSaid}
+use Rattle.bgp_codec.specs.Updates.{AreShort}
 use Rattle.router_runs.proofs.Lower.{Laws}
 
 module _ (laws : Laws) where
@@ -245,7 +246,7 @@ module _ (laws : Laws) where
   own_kept true u small = inr (record { begins = ([], refl); short = omega arith; small = (small, tt) })
   own_kept false u small = inl refl
 
-  pub best_kept : (p : Problem) (words : ℕ → List ℕ) (u : ℕ) (path : List ℕ) → u < 2 ^ 16 → ((v : ℕ) → IsSmall (words v)) → IsBest p words u path → MayKeep u path
+  pub best_kept : (p : Problem) (words : ℕ → List ℕ) (u : ℕ) (path : List ℕ) → u < 2 ^ 16 → ((v : ℕ) → AreShort (words v)) → IsBest p words u path → MayKeep u path
   best_kept p words u path small all best =
       let t : Table = best.0 in
       let number : t.router ≡ u = best.1.0 in
@@ -257,7 +258,7 @@ module _ (laws : Laws) where
             | inr route ↦ inr (record {
               begins = (words first.choice.peer, first.choice.goes_on ∙ ap (λ i. i ∷ words first.choice.peer) number);
               short = route.1.short;
-              small = subst IsSmall (sym (first.choice.goes_on ∙ ap (λ i. i ∷ words first.choice.peer) number)) (small, all first.choice.peer);
+              small = subst AreShort (sym (first.choice.goes_on ∙ ap (λ i. i ∷ words first.choice.peer) number)) (small, all first.choice.peer);
             })
           ]
           | inr none ↦ inl none.0
@@ -266,24 +267,24 @@ module _ (laws : Laws) where
 
   -- ---- words heard
 
-  keep_small : (v : ℕ) (path : List ℕ) → MayKeep v path → IsSmall path
-  keep_small v path (inl none) = subst IsSmall (sym none) tt
+  keep_small : (v : ℕ) (path : List ℕ) → MayKeep v path → AreShort path
+  keep_small v path (inl none) = subst AreShort (sym none) tt
   keep_small v path (inr fine) = fine.small
 
-  small_cond : (c : Bool) (a b : Word) → IsSmall (path_in a) → IsSmall (path_in b) → IsSmall (path_in (cond c a b))
+  small_cond : (c : Bool) (a b : Word) → AreShort (path_in a) → AreShort (path_in b) → AreShort (path_in (cond c a b))
   small_cond true a b p q = p
   small_cond false a b p q = q
 
-  told_small : (id : ℕ) (q p : PrefixView) (path : List ℕ) (w : Word) → IsSmall path → IsSmall (path_in w) → IsSmall (path_in (word_after w (telling id q path) p))
+  told_small : (id : ℕ) (q p : PrefixView) (path : List ℕ) (w : Word) → AreShort path → AreShort (path_in w) → AreShort (path_in (word_after w (telling id q path) p))
   told_small id q p [] w small was = small_cond (lists (q ∷ []) p) nothing w tt was
   told_small id q p (v ∷ path) w small was = small_cond (lists (q ∷ []) p) (announced_word (telling id q (v ∷ path)).attrs) w small was
 
-  pub words_small : (g : Setting) (v : ℕ) (us : List Update) (w : Word) (p : PrefixView) → AllByRecursion (IsToldBy g v) us → IsSmall (path_in w) → IsSmall (path_in (last_word w us p))
+  pub words_small : (g : Setting) (v : ℕ) (us : List Update) (w : Word) (p : PrefixView) → AllByRecursion (IsToldBy g v) us → AreShort (path_in w) → AreShort (path_in (last_word w us p))
   words_small g v [] w p all was = was
   words_small g v (u ∷ us) w p all was =
       let t = all.0 in
       words_small g v us (word_after w u p) p all.1
-      (subst (λ (i : Update). IsSmall (path_in (word_after w i p))) (sym t.4) (told_small (identifier g.net.routers v) t.0 p t.1 w (keep_small v t.1 t.3) was))
+      (subst (λ (i : Update). AreShort (path_in (word_after w i p))) (sym t.4) (told_small (identifier g.net.routers v) t.0 p t.1 w (keep_small v t.1 t.3) was))
 
   told_in : (c : Bool) (g : Setting) (u : ℕ) (m : Message) (ms : List Message) → IsSaid g u m → AllByRecursion (IsToldBy g u) (updates_in ms) → AllByRecursion (IsToldBy g u) (updates_in (cond c (m ∷ ms) ms))
   told_in false g u m ms s all = all

@@ -4,12 +4,11 @@ use Rattle.std.specs.Prelude.{◌↔◌}
 use Rattle.std.specs.List.{Any}
 use Rattle.std.proofs.lemmas.Bool.{or_cases, eqb-true, eq-eqb}
 use Rattle.std.proofs.lemmas.List.Folds.{Any-from_list_any, list_any-from_Any}
-use Rattle.prefix_lanes.specs.Bits.{PrefixView}
+use Rattle.prefix_lanes.specs.Bits.{PrefixView, is_prefix}
 use Rattle.ranked_policy.specs.declared.network.Link.{Link}
 use Rattle.ranked_policy.specs.declared.network.Origin.{Origin}
 use Rattle.ranked_policy.specs.Plans.{Plan, IsRouter, IsOrigin, IsNamed, Joins, Linked, numbers}
 use Rattle.ranked_policy.specs.Policies.{Table, IsTableOf}
-use Rattle.rib_tables.specs.Words.{is_prefix}
 use Rattle.stable_paths.specs.Stable.{Problem, IsBest, IsStable}
 use Rattle.stable_paths.specs.Promises.{Chooses}
 use Rattle.run_model.specs.Routes as routes

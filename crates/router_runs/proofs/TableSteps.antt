@@ -3,13 +3,13 @@ use Rattle.std.proofs.Common.{◌≡◌, ℕ, ◌==◌, Bool, true, false, ◌&&
 use Rattle.std.specs.Prelude.{is_some}
 use Rattle.std.specs.List.{find}
 use Rattle.std.proofs.lemmas.List.{append-nil}
-use Rattle.prefix_lanes.specs.Bits.{PrefixView}
+use Rattle.prefix_lanes.specs.Bits.{PrefixView, is_prefix}
 use Rattle.bgp_codec.specs.declared.message.Message.{Message}
 use Rattle.bgp_codec.specs.declared.message.Message.TheVariants.{UpdateMsg}
 use Rattle.bgp_codec.specs.declared.update.Update.{Update}
 use Rattle.ranked_policy.specs.Plans.{IsNetwork}
 use Rattle.ranked_policy.specs.declared.network.Origin.{Origin}
-use Rattle.rib_tables.specs.Words.{is_prefix, path_in}
+use Rattle.rib_tables.specs.Words.{path_in}
 use Rattle.run_model.specs.Sessions as model
 use Rattle.run_model.specs.Links.{Entry, End, Says, Tells, after}
 use Rattle.run_model.specs.Octets.{Passing}

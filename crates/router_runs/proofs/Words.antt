@@ -6,21 +6,21 @@ use Rattle.std.specs.Cmp.Lexicographic.{same_text, other_text}
 use Rattle.std.proofs.lemmas.List.{append-nil}
 use Rattle.std.proofs.Math.Path.{fun_ext}
 use Rattle.std.proofs.lemmas.Bool.Decides.{nat_tests}
-use Rattle.prefix_lanes.specs.Bits.{PrefixView}
+use Rattle.prefix_lanes.specs.Bits.{PrefixView, is_prefix}
 use Rattle.bgp_codec.specs.declared.message.Message.{Message}
 use Rattle.bgp_codec.specs.declared.message.Message.TheVariants.{OpenMsg, UpdateMsg, NoticeMsg, AliveMsg}
 use Rattle.bgp_codec.specs.declared.update.Update.{Update}
 use Rattle.ranked_policy.specs.Plans.{IsNetwork, numbers}
 use Rattle.ranked_policy.specs.declared.network.Origin.{Origin}
 use Rattle.rib_tables.specs.declared.word.Word.{Word}
-use Rattle.rib_tables.specs.Words.{nothing, announced_word, path_in, is_prefix, lists}
+use Rattle.rib_tables.specs.Words.{nothing, announced_word, path_in, lists, last_word, word_after}
 use Rattle.run_model.specs.Links as links
 use Rattle.run_model.specs.Links.{End, incarnation, said}
 use Rattle.run_model.specs.Routes as routes
 use Rattle.router_model.specs.Messages.{updates_in, is_update}
 use Rattle.router_model.specs.Settings.{Setting, linked, peers, names, prefixes}
 use Rattle.router_model.specs.Sides.{Side, is_up}
-use Rattle.router_model.specs.State.{Router, heard, last_told, last_word, word_after, same_path, route, is_undecided, is_untold, is_waiting_peer, is_pending}
+use Rattle.router_model.specs.State.{Router, heard, last_told, same_path, route, is_undecided, is_untold, is_waiting_peer, is_pending}
 use Rattle.router_runs.specs.Model.{announced_mentions, mentions, network_of}
 use Rattle.router_runs.specs.Reading.{Reads}
 use Rattle.router_runs.specs.Mirrors.{AreAlike}

@@ -1,10 +1,10 @@
 -- The network of the laws of runs that a network of routers is: its messages are those of BGP-4, and its routers choose as the
 -- setting says.
 use Rattle.std.specs.Prelude.{ℕ, List, [], ◌++◌, map}
-use Rattle.prefix_lanes.specs.Bits.{PrefixView}
+use Rattle.prefix_lanes.specs.Bits.{PrefixView, is_prefix}
 use Rattle.bgp_codec.specs.declared.message.Message.{Message}
 use Rattle.bgp_codec.specs.declared.message.Message.TheVariants.{OpenMsg, UpdateMsg, NoticeMsg, AliveMsg}
-use Rattle.rib_tables.specs.Words.{announced_word, path_in, is_prefix}
+use Rattle.rib_tables.specs.Words.{announced_word, path_in}
 use Rattle.run_model.specs.Routes as model
 use Rattle.router_model.specs.Messages.{is_update}
 use Rattle.router_model.specs.Settings.{Setting, is_router, linked, names}

@@ -2,6 +2,8 @@
 use Rattle.std.specs.Prelude.{ℕ, ◌≡◌, true, false, ◌≤◌, ◌<◌, ◌^◌, List, [], length}
 use Rattle.std.specs.List.{AllByRecursion}
 use mathlib.Core.Logic.{◌⊎◌}
+use Rattle.ranked_policy.specs.declared.limits.TheConstants.{LONGEST_PATH}
+use Rattle.bgp_codec.specs.Updates.{AreShort}
 use Rattle.prefix_lanes.specs.Bits.{PrefixView}
 use Rattle.bgp_codec.specs.declared.message.Message.{Message}
 use Rattle.bgp_codec.specs.declared.message.Message.TheVariants.{OpenMsg, UpdateMsg, NoticeMsg, AliveMsg}
@@ -17,14 +19,10 @@ use Rattle.router_model.specs.Settings.{IsSetting}
 use Rattle.router_runs.specs.Runs.{side_of, log_of}
 use Rattle.router_runs.specs.Kept.{IsGood, Reached}
 
--- the numbers of a path fit two octets
-abbrev pub IsSmall : List ℕ → Type 0
-IsSmall path = AllByRecursion (λ n. n < 2 ^ 16) path
-
 pub record IsFinePath (u : ℕ) (path : List ℕ) : Type 0 where
   pub begins : BeginsWith path u
-  pub short : length path ≤ 16
-  pub small : IsSmall path
+  pub short : length path ≤ LONGEST_PATH
+  pub small : AreShort path
 
 -- a path that router u may keep
 abbrev pub MayKeep : ℕ → List ℕ → Type 0

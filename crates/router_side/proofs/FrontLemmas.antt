@@ -16,7 +16,7 @@ use Rattle.bgp_codec.specs.Reading.{◌>>=◌}
 use Rattle.bgp_codec.specs.Spelling.{WrittenHasAHeader}
 use Rattle.bgp_codec.specs.Updates.{missing, is_from}
 use Rattle.bgp_codec.specs.UpdateReading.{update_fault, prefixes_reading, attrs_reading, announced_by, nlri_reading, withdrawn_len, attrs_len, update_of, parts_reading, update_reading}
-use Rattle.router_model.specs.Sides.{AtHand, HasUpdate, notification_of, at_hand, front, read_front}
+use Rattle.router_model.specs.Sides.{HasUpdate, notification_of, at_hand, front, read_front}
 use Rattle.router_model.specs.State.{rule_of}
 use Rattle.router_side.specs.Sayings.{nobody, IsSayable}
 

@@ -1,8 +1,7 @@
 -- What is said grows at its end.
-use Rattle.std.proofs.Common.{◌≡◌, ℕ, ◌==◌, Bool, true, false, cond, List, [], ◌∷◌, ◌++◌, append_assoc, refl, ap, sym, ◌∙◌}
+use Rattle.std.proofs.Common.{◌≡◌, ℕ, true, List, [], ◌∷◌, ◌++◌, append_assoc, refl, ap, sym, ◌∙◌}
 use Rattle.std.specs.Prelude.{Option}
 use Rattle.std.proofs.lemmas.List.{append-nil}
-use Rattle.std.proofs.Math.Path.{fun_ext}
 use Rattle.bgp_codec.specs.declared.update.Update.{Update}
 use Rattle.router_side.specs.SideOf.{told_by}
 use Rattle.bgp_codec.specs.declared.message.Message.{Message}
@@ -11,7 +10,7 @@ use Rattle.run_model.specs.Links.{Entry}
 use Rattle.run_model.specs.Octets.{Passing, octets_of}
 use Rattle.router_side.specs.declared.say.Say.{Say}
 use Rattle.session_fsm.specs.Table.{SessionView, kept_alive}
-use Rattle.router_model.specs.Sides.{Side, AtHand, NoMessage, HasFault, HasUpdate, Draft, tells_fault, with_update, acted_with}
+use Rattle.router_model.specs.Sides.{Side, AtHand, NoMessage, HasFault, HasUpdate, Draft, tells_fault}
 use Rattle.router_side.specs.Sayings.{entries_of, all_entries, said_where, told_of, update_in, acted_where}
 
 pub said_on : (own_open : Message) (told : Option Message) (xs : List Say) (x : Say) → all_entries own_open told (xs ++ x ∷ []) ≡ all_entries own_open told xs ++ entries_of own_open told x

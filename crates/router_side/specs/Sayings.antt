@@ -1,5 +1,6 @@
 -- What is said in short, as entries, and how many octets they have.
-use Rattle.std.specs.Prelude.{ℕ, ◌+◌, ◌≤◌, Bool, true, cond, List, [], ◌∷◌, ◌++◌, length, Option, None, Some}
+use Rattle.std.specs.Prelude.{ℕ, ◌+◌, ◌≤◌, Bool, cond, List, [], ◌∷◌, ◌++◌, length, Option, None, Some}
+use Rattle.bgp_values.specs.declared.messages.TheConstants.{MESSAGE_LIMIT, HEADER_LEN, LEAST_NOTIFICATION}
 use Rattle.bgp_codec.specs.declared.message.Message.{Message}
 use Rattle.bgp_codec.specs.declared.message.Message.TheVariants.{OpenMsg, UpdateMsg, NoticeMsg, AliveMsg}
 use Rattle.bgp_codec.specs.declared.update.Update.{Update}
@@ -42,8 +43,8 @@ abbrev pub size_of : ℕ → ℕ → Say → ℕ
 size_of own_open told (say.Dial e) = 0
 size_of own_open told (say.Shut e) = 0
 size_of own_open told (say.Open e) = own_open
-size_of own_open told (say.Alive e) = 19
-size_of own_open told (say.Notice e code) = 21
+size_of own_open told (say.Alive e) = HEADER_LEN
+size_of own_open told (say.Notice e code) = LEAST_NOTIFICATION
 size_of own_open told (say.Given e) = told
 
 abbrev pub all_sizes : ℕ → ℕ → List Say → ℕ
@@ -55,7 +56,7 @@ abbrev pub nobody : Rule
 nobody = record { width = Two; peer = None }
 
 abbrev pub IsSayable : Message → Type 0
-IsSayable m = IsWritable nobody m × (length (written m) ≤ 4096)
+IsSayable m = IsWritable nobody m × (length (written m) ≤ MESSAGE_LIMIT)
 
 abbrev pub IsSayableWhere : Option Message → Type 0
 IsSayableWhere None = Unit {0}

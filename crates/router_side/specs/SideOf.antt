@@ -1,7 +1,7 @@
 -- A side of the code as a side of the definitions, and the room that a change of it needs.
 use Rattle.std.specs.Prelude.{ℕ, ◌≡◌, ◌≤◌, true, List, [], length, Option}
+use Rattle.bgp_values.specs.declared.messages.TheConstants.{MESSAGE_LIMIT}
 use Rattle.bgp_codec.specs.declared.message.Message.{Message}
-use Rattle.bgp_codec.specs.declared.update.Update.{Update}
 use Rattle.bgp_codec.specs.Spelling.{written}
 use Rattle.link_epoch.specs.Ends as links
 use Rattle.session_fsm.specs.Table as sessions
@@ -37,7 +37,7 @@ IsInFront octets g = (peer : ℕ) × (g ≡ at_hand (front (rule_of peer) octets
 pub record HasRoom (own_open : Message) (told : Option Message) (a : Sketch) (s : SideEnd) : Type 0 where
   pub octets : all_sizes (length (written own_open)) (size_where told) a.says ≤ s.outbox.room
   pub places : length a.says ≤ s.outbox.places
-  pub acted : 4096 ≤ s.acted.room
+  pub acted : MESSAGE_LIMIT ≤ s.acted.room
   pub acted_places : 1 ≤ s.acted.places
 
 -- a side whose next item is put

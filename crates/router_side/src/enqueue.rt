@@ -1,6 +1,7 @@
 //! What is said in short is appended to an outbox, a message as its octets.
 
 ghost use Rattle.std.specs.Prelude.{◌≡◌, ◌≤◌, ◌<◌, ◌+◌, ◌*◌, ◌++◌, length};
+ghost use Rattle.bgp_values.specs.declared.messages.TheConstants.{MESSAGE_LIMIT};
 ghost use Rattle.bgp_codec.specs.Spelling.{written};
 ghost use Rattle.run_model.specs.Octets.{passing};
 ghost use Rattle.router_model.specs.Sides.{notification};
@@ -11,6 +12,7 @@ use crate::at_hand::Given;
 use crate::say::Say;
 use bgp_codec::laws::written_has_a_header;
 use bgp_codec::{Message, NOBODY, Notice, Octets};
+use bgp_values::{HEADER_LEN, LEAST_NOTIFICATION, UNSPECIFIC};
 use outbox::{Control, Outbox};
 use run_model::passing_appends;
 use std::alloc::Global;
@@ -22,8 +24,8 @@ fn size_of(say: Say, own_open: usize, told: usize) -> usize
     match say {
         Say::Dial(_) | Say::Shut(_) => 0,
         Say::Open(_) => own_open,
-        Say::Alive(_) => 19,
-        Say::Notice(_, _) => 21,
+        Say::Alive(_) => HEADER_LEN,
+        Say::Notice(_, _) => LEAST_NOTIFICATION,
         Say::Given(_) => told,
     }
 }
@@ -31,8 +33,8 @@ fn size_of(say: Say, own_open: usize, told: usize) -> usize
 #[tactic(auto, using(crate::proofs::Sizes::one_size))]
 // How many octets all entries have, where the OPEN and the message that tells of a fault have so many.
 pub(crate) fn size_of_all(says: &[Say], own_open: usize, told: usize) -> usize
-    requires own { own_open ≤ 4096 }
-    requires told { told ≤ 4096 }
+    requires own { own_open ≤ MESSAGE_LIMIT }
+    requires told { told ≤ MESSAGE_LIMIT }
     requires few { length says.now ≤ 40 }
     ensures { result ≡ all_sizes own_open told says.now }
 {
@@ -52,7 +54,7 @@ pub(crate) fn size_told(given: &Given) -> usize
     written_has_a_header();
     match given {
         Given::Nothing | Given::Update(_) => 0,
-        Given::Fault(notice) => 21 + notice.extra.len(),
+        Given::Fault(notice) => LEAST_NOTIFICATION + notice.extra.len(),
     }
 }
 
@@ -62,7 +64,7 @@ fn notice(alloc: Global, code: u8) -> Message
 {
     Message::NoticeMsg(Notice {
         code,
-        sub: 0,
+        sub: UNSPECIFIC,
         extra: Octets::short(alloc, &[]),
     })
 }

@@ -18,6 +18,7 @@ use bgp_codec::laws::{
 };
 use bgp_codec::{CodecError, Fault, Message, Notice, Rule, decode};
 use bgp_framing::{Framer, Next};
+use bgp_values::{MESSAGE_HEADER_ERROR, OPEN_MESSAGE_ERROR, UNSUPPORTED_VERSION_NUMBER};
 use session_fsm::FsmEvent;
 use std::alloc::{AllocError, Global};
 
@@ -75,8 +76,8 @@ fn fault_event(fault: &Fault) -> FsmEvent
     ensures { result ≡ event_of (Err fault.now) }
 {
     match fault.code {
-        1 => FsmEvent::BgpHeaderErr,
-        2 => FsmEvent::BgpOpenMsgErr,
+        MESSAGE_HEADER_ERROR => FsmEvent::BgpHeaderErr,
+        OPEN_MESSAGE_ERROR => FsmEvent::BgpOpenMsgErr,
         _ => FsmEvent::UpdateMsgErr,
     }
 }
@@ -84,7 +85,7 @@ fn fault_event(fault: &Fault) -> FsmEvent
 fn notice_event(notice: &Notice) -> FsmEvent
     ensures { result ≡ event_of (Ok (NoticeMsg notice.now)) }
 {
-    if notice.code == 2 && notice.sub == 1 {
+    if notice.code == OPEN_MESSAGE_ERROR && notice.sub == UNSUPPORTED_VERSION_NUMBER {
         FsmEvent::NotifMsgVerErr
     } else {
         FsmEvent::NotifMsg

@@ -26,6 +26,7 @@ pub mod quiet;
 pub mod recordings;
 pub mod routes;
 pub mod sessions;
+mod stamps;
 pub mod steps;
 pub mod streams;
 #[cfg(test)]
@@ -56,5 +57,6 @@ pub use quiet::{settled_stays, unfinished_snapshots_hold};
 pub use recordings::consistent_cut;
 pub use routes::{network_runs_go_on, settled_is_stable};
 pub use sessions::{session_events_lead_on, sessions_are_link_runs};
+pub use stamps::GREATEST_STAMP;
 pub use steps::{copies_are_a_cut, link_ends_keep_enough, markers_are_obeyed, states_of_runs};
 pub use streams::{no_octet_is_stale, octets_of_an_incarnation};

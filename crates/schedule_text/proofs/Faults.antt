@@ -7,7 +7,8 @@ use Rattle.ranked_policy.specs.declared.network.Origin.{Origin}
 use Rattle.net_text.specs.declared.code.Code.{Code}
 use Rattle.net_text.specs.declared.code.Code.TheVariants as codes
 use Rattle.net_text.specs.Lexing.{Text, is_skipped, is_ascii, words_of}
-use Rattle.net_text.specs.Words.{◌>>=◌, number_word, is_asn, is_router, asn_word, router_word, prefix_of, prefix_or_fault, is_named, origin_word}
+use Rattle.net_text.specs.Words.{◌>>=◌, number_word, is_router, asn_word, router_word, prefix_of, prefix_or_fault, is_named, origin_word}
+use Rattle.bgp_values.specs.Ranges.{is_asn}
 use Rattle.schedule_text.specs.declared.operands.TheConstants.{MOST_COUNT}
 use Rattle.schedule_text.specs.declared.keyword.Keyword.{Keyword}
 use Rattle.schedule_text.specs.declared.keyword.Keyword.TheVariants as keyword

@@ -8,7 +8,8 @@ use Rattle.session_fsm.specs.declared.event.FsmEvent.{FsmEvent}
 use Rattle.session_fsm.specs.declared.event.FsmEvent.TheVariants.{ManualStart, ManualStop, AutomaticStart, ConnectRetryTimerExpires, HoldTimerExpires, KeepaliveTimerExpires, BgpOpen, KeepAliveMsg, UpdateMsg}
 use Rattle.session_fsm.specs.declared.actions.Action.{Action}
 use Rattle.session_fsm.specs.declared.actions.Action.TheVariants.{HangUp, Act, Up, Down}
-use Rattle.session_fsm.specs.Table.{SessionView, on_event, large_hold_time}
+use Rattle.session_fsm.specs.Table.{SessionView, on_event}
+use Rattle.session_fsm.specs.declared.session.table.TheConstants.{LARGE_HOLD_TIME}
 use Rattle.session_fsm.specs.Timers.{ticked, runs_out}
 use Rattle.session_fsm.specs.Runs.{Input, Event, IsRun, session_after, actions_of, after, seconds}
 
@@ -72,7 +73,7 @@ HearsNothing (i ∷ is) = (i ≢ Event KeepAliveMsg) × (i ≢ Event UpdateMsg) 
 
 -- the time that the HoldTimer gives: until the OPEN is there, and from then on
 abbrev pub patience : State → ℕ → ℕ
-patience OpenSent hold_time = large_hold_time
+patience OpenSent hold_time = LARGE_HOLD_TIME
 patience _ hold_time = hold_time
 
 -- where the HoldTimer runs out in the next second, that many seconds have passed then without a

@@ -4,7 +4,8 @@ use Rattle.session_fsm.specs.declared.config.SessionConfig.{SessionConfig}
 use Rattle.session_fsm.specs.declared.state.State.TheVariants.{Established}
 use Rattle.session_fsm.specs.declared.event.FsmEvent.{FsmEvent}
 use Rattle.session_fsm.specs.declared.actions.Action.{Action}
-use Rattle.session_fsm.specs.Table.{SessionView, opening, on_event, kept_alive, IsHoldTime, IsGoodEvent}
+use Rattle.session_fsm.specs.Table.{SessionView, opening, on_event, kept_alive, IsGoodEvent}
+use Rattle.bgp_values.specs.Ranges.{IsHoldTime}
 use Rattle.session_fsm.specs.Timers.{ticked}
 
 -- what happens to a session: an event, a second, an UPDATE that its router sends

@@ -1,6 +1,9 @@
 -- The session table: what each event does in each state (RFC 4271 section 8.2.2).
 -- A timer is a number of seconds, 0 where it is stopped.
-use Rattle.std.specs.Prelude.{ℕ, ◌/◌, ◌≡◌, ◌≤◌, ◌⊎◌, min, List, [], ◌∷◌}
+use Rattle.std.specs.Prelude.{ℕ, ◌/◌, min, List, [], ◌∷◌}
+use Rattle.bgp_values.specs.declared.faults.TheConstants.{HOLD_TIMER_EXPIRED, FSM_ERROR, CEASE}
+use Rattle.bgp_values.specs.Ranges.{IsHoldTime}
+use Rattle.session_fsm.specs.declared.session.table.TheConstants.{CONNECT_RETRY_TIME, LARGE_HOLD_TIME}
 use Rattle.session_fsm.specs.declared.config.SessionConfig.{SessionConfig}
 use Rattle.session_fsm.specs.declared.state.State.{State}
 use Rattle.session_fsm.specs.declared.state.State.TheVariants.{Idle, Connect, Active, OpenSent, OpenConfirm, Established}
@@ -28,31 +31,10 @@ pub record Outcome : Type 0 where
 abbrev pub gives : SessionView → List Action → Outcome
 gives a actions = record { session = a; actions = actions }
 
--- a hold time that an OPEN may propose (RFC 4271 section 4.2)
-abbrev pub IsHoldTime : ℕ → Type 0
-IsHoldTime hold = (hold ≡ 0) ⊎ (3 ≤ hold)
-
 -- an event with the hold time of an OPEN without a fault
 abbrev pub IsGoodEvent : FsmEvent → Type 0
 IsGoodEvent (BgpOpen hold) = IsHoldTime hold
 IsGoodEvent _ = Unit {0}
-
--- ConnectRetryTime (RFC 4271 section 10), and the large hold time until the OPEN is there (section 8.2.2)
-abbrev pub connect_retry_time : ℕ
-connect_retry_time = 120
-
-abbrev pub large_hold_time : ℕ
-large_hold_time = 240
-
--- codes of NOTIFICATION (RFC 4271 section 4.5)
-abbrev pub hold_timer_expired : ℕ
-hold_timer_expired = 4
-
-abbrev pub machine_error : ℕ
-machine_error = 5
-
-abbrev pub cease : ℕ
-cease = 6
 
 abbrev pub opening : SessionConfig → SessionView
 opening config = record { config = config; state = Idle; hold_time = 0; connect_retry_timer = 0; hold_timer = 0; keepalive_timer = 0; restart_timer = 0 }
@@ -66,16 +48,16 @@ abbrev pub closed : SessionView → SessionView
 closed a = record (stopped a) { restart_timer = a.config.restart }
 
 abbrev pub dialling : SessionView → SessionView
-dialling a = record a { state = Connect; connect_retry_timer = connect_retry_time }
+dialling a = record a { state = Connect; connect_retry_timer = CONNECT_RETRY_TIME }
 
 abbrev pub starting : SessionView → SessionView
 starting a = record (dialling a) { restart_timer = 0 }
 
 abbrev pub retrying : SessionView → SessionView
-retrying a = record a { state = Active; connect_retry_timer = connect_retry_time; hold_timer = 0 }
+retrying a = record a { state = Active; connect_retry_timer = CONNECT_RETRY_TIME; hold_timer = 0 }
 
 abbrev pub sent_open : SessionView → SessionView
-sent_open a = record a { state = OpenSent; connect_retry_timer = 0; hold_timer = large_hold_time }
+sent_open a = record a { state = OpenSent; connect_retry_timer = 0; hold_timer = LARGE_HOLD_TIME }
 
 -- the HoldTimer is set to the hold time, the KeepaliveTimer to a third of it; 0 leaves them stopped
 abbrev pub held : SessionView → SessionView
@@ -122,8 +104,8 @@ on_active a _ = gives (closed a) (HangUp ∷ [])
 abbrev pub on_open_sent : SessionView → FsmEvent → Outcome
 on_open_sent a (BgpOpen hold) = gives (agreed a hold) (SendAlive ∷ [])
 on_open_sent a TcpConnectionFails = gives (retrying a) (HangUp ∷ [])
-on_open_sent a ManualStop = gives (stopped a) (SendNotice cease ∷ HangUp ∷ [])
-on_open_sent a HoldTimerExpires = gives (closed a) (SendNotice hold_timer_expired ∷ HangUp ∷ [])
+on_open_sent a ManualStop = gives (stopped a) (SendNotice CEASE ∷ HangUp ∷ [])
+on_open_sent a HoldTimerExpires = gives (closed a) (SendNotice HOLD_TIMER_EXPIRED ∷ HangUp ∷ [])
 on_open_sent a BgpHeaderErr = gives (closed a) (SendGiven ∷ HangUp ∷ [])
 on_open_sent a BgpOpenMsgErr = gives (closed a) (SendGiven ∷ HangUp ∷ [])
 on_open_sent a NotifMsgVerErr = gives (closed a) (HangUp ∷ [])
@@ -131,14 +113,14 @@ on_open_sent a ManualStart = gives a []
 on_open_sent a AutomaticStart = gives a []
 on_open_sent a TcpCrAcked = gives a []
 on_open_sent a TcpConnectionConfirmed = gives a []
-on_open_sent a _ = gives (closed a) (SendNotice machine_error ∷ HangUp ∷ [])
+on_open_sent a _ = gives (closed a) (SendNotice FSM_ERROR ∷ HangUp ∷ [])
 
 -- OpenConfirm
 abbrev pub on_open_confirm : SessionView → FsmEvent → Outcome
 on_open_confirm a KeepAliveMsg = gives (established a) (Up ∷ [])
 on_open_confirm a KeepaliveTimerExpires = gives (kept_alive a) (SendAlive ∷ [])
-on_open_confirm a ManualStop = gives (stopped a) (SendNotice cease ∷ HangUp ∷ [])
-on_open_confirm a HoldTimerExpires = gives (closed a) (SendNotice hold_timer_expired ∷ HangUp ∷ [])
+on_open_confirm a ManualStop = gives (stopped a) (SendNotice CEASE ∷ HangUp ∷ [])
+on_open_confirm a HoldTimerExpires = gives (closed a) (SendNotice HOLD_TIMER_EXPIRED ∷ HangUp ∷ [])
 on_open_confirm a BgpHeaderErr = gives (closed a) (SendGiven ∷ HangUp ∷ [])
 on_open_confirm a BgpOpenMsgErr = gives (closed a) (SendGiven ∷ HangUp ∷ [])
 on_open_confirm a TcpConnectionFails = gives (closed a) (HangUp ∷ [])
@@ -148,15 +130,15 @@ on_open_confirm a ManualStart = gives a []
 on_open_confirm a AutomaticStart = gives a []
 on_open_confirm a TcpCrAcked = gives a []
 on_open_confirm a TcpConnectionConfirmed = gives a []
-on_open_confirm a _ = gives (closed a) (SendNotice machine_error ∷ HangUp ∷ [])
+on_open_confirm a _ = gives (closed a) (SendNotice FSM_ERROR ∷ HangUp ∷ [])
 
 -- Established
 abbrev pub on_established : SessionView → FsmEvent → Outcome
 on_established a KeepAliveMsg = gives (held a) []
 on_established a UpdateMsg = gives (held a) (Act ∷ [])
 on_established a KeepaliveTimerExpires = gives (kept_alive a) (SendAlive ∷ [])
-on_established a ManualStop = gives (stopped a) (SendNotice cease ∷ Down ∷ HangUp ∷ [])
-on_established a HoldTimerExpires = gives (closed a) (SendNotice hold_timer_expired ∷ Down ∷ HangUp ∷ [])
+on_established a ManualStop = gives (stopped a) (SendNotice CEASE ∷ Down ∷ HangUp ∷ [])
+on_established a HoldTimerExpires = gives (closed a) (SendNotice HOLD_TIMER_EXPIRED ∷ Down ∷ HangUp ∷ [])
 on_established a BgpHeaderErr = gives (closed a) (SendGiven ∷ Down ∷ HangUp ∷ [])
 on_established a UpdateMsgErr = gives (closed a) (SendGiven ∷ Down ∷ HangUp ∷ [])
 on_established a TcpConnectionFails = gives (closed a) (Down ∷ HangUp ∷ [])
@@ -166,7 +148,7 @@ on_established a ManualStart = gives a []
 on_established a AutomaticStart = gives a []
 on_established a TcpCrAcked = gives a []
 on_established a TcpConnectionConfirmed = gives a []
-on_established a _ = gives (closed a) (SendNotice machine_error ∷ Down ∷ HangUp ∷ [])
+on_established a _ = gives (closed a) (SendNotice FSM_ERROR ∷ Down ∷ HangUp ∷ [])
 
 -- the table
 abbrev pub on_state : State → SessionView → FsmEvent → Outcome

@@ -22,7 +22,7 @@ mod session;
 mod state;
 
 pub use actions::{Action, Actions};
-pub use config::{SessionConfig, is_hold_time};
+pub use config::SessionConfig;
 pub use event::FsmEvent;
 pub use laws::{
     each_timer_runs_in_its_states, hold_time_zero_never_expires, hold_timer_expires_after_silence,

@@ -1,7 +1,8 @@
 //! One session: its attributes and its timers.
 
 ghost use Rattle.std.specs.Prelude.{◌≡◌};
-ghost use Rattle.session_fsm.specs.Table.{SessionView, opening, IsHoldTime, IsGoodEvent, on_event, kept_alive};
+ghost use Rattle.session_fsm.specs.Table.{SessionView, opening, IsGoodEvent, on_event, kept_alive};
+ghost use Rattle.bgp_values.specs.Ranges.{IsHoldTime};
 ghost use Rattle.session_fsm.specs.Timers.{ticked, runs_out};
 ghost use Rattle.session_fsm.specs.declared.state.State.TheVariants.{Established};
 
@@ -36,7 +37,7 @@ impl Model for Session {
 }
 
 impl Session {
-    /// A session in Idle, with all timers stopped. `is_hold_time` is the test of its condition.
+    /// A session in Idle, with all timers stopped. `bgp_values::is_hold_time` is the test of its condition.
     pub fn new(config: SessionConfig) -> Session
         requires { IsHoldTime config.hold }
         ensures { result ≡ opening config }

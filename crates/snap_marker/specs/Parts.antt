@@ -1,7 +1,7 @@
 -- Parts and offers as they are kept, read as what a router recorded and what it offers.
-use Rattle.std.specs.Prelude.{ℕ, zero, suc, ◌≡◌, ◌≢◌, ◌==◌, ◌&&◌, ◌-◌, ◌≤◌, Bool, true, false, cond, List, [], ◌∷◌, map, vec_len, vec_capacity, Option, None, Some}
+use Rattle.std.specs.Prelude.{ℕ, zero, suc, ◌≡◌, ◌≢◌, ◌==◌, ◌-◌, ◌≤◌, Bool, true, false, cond, List, [], ◌∷◌, map, vec_len, vec_capacity, Option, None, Some}
 use Rattle.std.specs.List.{list_any, AllByRecursion}
-use Rattle.prefix_lanes.specs.Bits.{PrefixView}
+use Rattle.prefix_lanes.specs.Bits.{PrefixView, is_prefix}
 use Rattle.bgp_codec.specs.declared.message.Message.{Message}
 use Rattle.bgp_codec.specs.declared.message.Message.TheVariants.{UpdateMsg}
 use Rattle.bgp_codec.specs.declared.update.Update.{Update}
@@ -15,16 +15,13 @@ use Rattle.snap_marker.specs.declared.part.Offer.{Offer}
 use Rattle.snap_marker.specs.declared.part.Offer.TheVariants as offer
 use Rattle.snap_marker.specs.Recordings.{RouterPart, RouterOffer, Recording, Snapshots}
 
-abbrev pub same_prefix : PrefixView → PrefixView → Bool
-same_prefix p q = (p.addr == q.addr) && (p.len == q.len)
-
 -- the path kept for a prefix: the empty one where the list has none
 abbrev pub kept_in : List KeptPath → PrefixView → List ℕ
 kept_in [] q = []
-kept_in (k ∷ ks) q = cond (same_prefix k.prefix q) k.path (kept_in ks q)
+kept_in (k ∷ ks) q = cond (is_prefix k.prefix q) k.path (kept_in ks q)
 
 abbrev pub originated_in : List PrefixView → PrefixView → Bool
-originated_in ps q = list_any (λ p. same_prefix p q) ps
+originated_in ps q = list_any (λ p. is_prefix p q) ps
 
 -- ---- the links of a part, by peer
 

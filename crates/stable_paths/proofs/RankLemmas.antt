@@ -6,12 +6,12 @@ use Rattle.std.specs.List.{Any, Contains, list_any}
 use Rattle.std.proofs.lemmas.Bool.Decides.{nat_tests}
 use Rattle.std.proofs.lemmas.Bool.{false≢true}
 use Rattle.std.proofs.lemmas.List.Folds.{Any-from_list_any, list_any-from_Any}
-use Rattle.prefix_lanes.specs.Bits.{PrefixView}
+use Rattle.prefix_lanes.specs.Bits.{PrefixView, is_prefix}
 use Rattle.ranked_policy.specs.declared.network.Router.{Router}
 use Rattle.ranked_policy.specs.declared.network.Link.{Link}
 use Rattle.ranked_policy.specs.Plans.{Plan, IsNetwork, IsRouter, IsOrigin, Linked, Joins, numbers}
 use Rattle.ranked_policy.specs.Policies.{Table, IsTableOf, Originates, IsPermitted}
-use Rattle.ranked_policy.specs.Tests.{same_prefix, originates, best_of, BestIsFirst, PermitsIsATest}
+use Rattle.ranked_policy.specs.Tests.{originates, best_of, BestIsFirst, PermitsIsATest}
 use Rattle.stable_paths.specs.Stable.{IsChoice, IsFirstOrNone, IsBestOf, IsBest}
 use Rattle.stable_paths.specs.ByRank.{rules_of, table_of, peers_over, with_choice, choices_of, best_by_rank, BestByRankIsBest, EachNetworkHasItsModel}
 use Rattle.stable_paths.proofs.TableLemmas.{table_stands, linked_is}
@@ -143,11 +143,11 @@ choice_to u (w ∷ vs) words v c some = at (words w) refl (λ k. choice_to u vs 
 
 origin_test : (t : Table) (q : PrefixView) (u : ℕ) → Decides (originates t q u) (Originates t q u)
 origin_test t q u = (
-  λ h. let a = Any-from_list_any (λ o. same_prefix o.prefix q && (o.router == u)) t.origins h in
-      let is = here (same_prefix a.1.prefix q) (a.1.router == u) a.4 in
+  λ h. let a = Any-from_list_any (λ o. is_prefix o.prefix q && (o.router == u)) t.origins h in
+      let is = here (is_prefix a.1.prefix q) (a.1.router == u) a.4 in
       (a.0, a.1, a.2, a.3, (prefix_is a.1.prefix q is.0, (let b = is.1 in grind (arith, nat_tests, b)))),
-  λ a. list_any-from_Any (λ o. same_prefix o.prefix q && (o.router == u)) t.origins
-      (a.0, a.1, a.2, a.3, there (same_prefix a.1.prefix q) (a.1.router == u) (is_prefix a.1.prefix q a.4.0) (let b = a.4.1 in grind (arith, nat_tests, b))),
+  λ a. list_any-from_Any (λ o. is_prefix o.prefix q && (o.router == u)) t.origins
+      (a.0, a.1, a.2, a.3, there (is_prefix a.1.prefix q) (a.1.router == u) (is_same a.1.prefix q a.4.0) (let b = a.4.1 in grind (arith, nat_tests, b))),
 )
   where
     here : (a b : Bool) → (a && b) ≡ true → (a ≡ true) × (b ≡ true)
@@ -159,15 +159,15 @@ origin_test t q u = (
     there true b x y = y
     there false b x y = absurd (false≢true x)
 
-    prefix_is : (p r : PrefixView) → same_prefix p r ≡ true → p ≡ r
+    prefix_is : (p r : PrefixView) → is_prefix p r ≡ true → p ≡ r
     prefix_is p r h =
         let k = here (p.addr == r.addr) (p.len == r.len) h in
         let a : p.addr ≡ r.addr = (let b = k.0 in grind (arith, nat_tests, b)) in
         let l : p.len ≡ r.len = (let b = k.1 in grind (arith, nat_tests, b)) in
         λ i. record { addr = a i; len = l i }
 
-    is_prefix : (p r : PrefixView) → p ≡ r → same_prefix p r ≡ true
-    is_prefix p r e =
+    is_same : (p r : PrefixView) → p ≡ r → is_prefix p r ≡ true
+    is_same p r e =
         let a : p.addr ≡ r.addr = ap (λ x. x.addr) e in
         let l : p.len ≡ r.len = ap (λ x. x.len) e in
         there (p.addr == r.addr) (p.len == r.len) (grind (arith, nat_tests, a)) (grind (arith, nat_tests, l))

@@ -2,13 +2,13 @@
 -- routers choose so.
 use Rattle.std.specs.Prelude.{ℕ, ◌≡◌, ◌==◌, Bool, List, [], ◌∷◌, if◌then◌else◌}
 use Rattle.std.specs.List.{list_any}
-use Rattle.prefix_lanes.specs.Bits.{PrefixView}
+use Rattle.prefix_lanes.specs.Bits.{PrefixView, is_prefix}
 use Rattle.ranked_policy.specs.declared.network.Router.{Router}
 use Rattle.ranked_policy.specs.declared.network.Rule.{Rule}
 use Rattle.ranked_policy.specs.declared.network.Link.{Link}
 use Rattle.ranked_policy.specs.Plans.{Plan, IsNetwork, IsRouter, IsOrigin, numbers}
 use Rattle.ranked_policy.specs.Policies.{Table}
-use Rattle.ranked_policy.specs.Tests.{same_prefix, originates, best_of}
+use Rattle.ranked_policy.specs.Tests.{originates, best_of}
 use Rattle.run_model.specs.Routes.{Network}
 use Rattle.run_model.specs.Routes as model
 use Rattle.stable_paths.specs.Stable.{Problem, IsProblem, IsBest}
@@ -57,8 +57,8 @@ abbrev pub model_of : {M : Type 0} → (M → Bool) → (M → List (PrefixView 
 model_of is_update mentions net = record {
   routers = λ u. list_any (λ v. v == u) (numbers net.routers);
   linked = λ u v. list_any (λ w. w == v) (peers_over net.links u);
-  named = λ q. list_any (λ origin. same_prefix origin.prefix q) net.origins;
-  same_prefix = same_prefix;
+  named = λ q. list_any (λ origin. is_prefix origin.prefix q) net.origins;
+  same_prefix = is_prefix;
   is_update = is_update;
   mentions = mentions;
   no_path = [];

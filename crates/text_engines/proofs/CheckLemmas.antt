@@ -4,14 +4,13 @@ use Rattle.std.specs.Prelude.{◌==◌, ◌&&◌, IsTrue, OnErr, ◌⊎◌}
 use Rattle.std.specs.List.{All}
 use Rattle.std.proofs.lemmas.Bool.{cases_order}
 use Rattle.std.proofs.lemmas.List.{take_more, drop_more, take_all, take-append-drop, length-take, get_or-take}
-use Rattle.prefix_lanes.specs.Bits.{PrefixView}
+use Rattle.prefix_lanes.specs.Bits.{PrefixView, is_prefix}
 use Rattle.ranked_policy.specs.Plans.{Plan}
 use Rattle.ranked_policy.specs.declared.network.Origin.{Origin}
 use Rattle.stable_paths.specs.Stable.{Problem}
 use Rattle.stable_paths.specs.Judging.{IsMoving, IsVerdict}
 use Rattle.stable_paths.specs.declared.verdict.Check.{Check}
 use Rattle.net_text.specs.declared.assignment.Entry.{Entry}
-use Rattle.net_text.specs.Words.{is_prefix}
 use Rattle.std.specs.Io.KnownBytes.{Appends}
 use Rattle.net_text.specs.Lexing.{Text, lines_of, before_section, behind_section}
 use Rattle.net_text.specs.declared.code.Code.TheVariants as kinds

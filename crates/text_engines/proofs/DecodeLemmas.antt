@@ -2,7 +2,7 @@
 use Rattle.std.proofs.Common.{◌≡◌, ℕ, List, Result, Ok, Err, MatchResult, sym, ap, ◌∙◌, inl, inr, arith}
 use Rattle.bgp_codec.specs.declared.rule.Rule.{Rule}
 use Rattle.bgp_framing.specs.Frames.{SplitsOnce}
-use Rattle.text_engines.specs.Decoding.{Output, StreamGives, DecodeGives, frames_output}
+use Rattle.text_engines.specs.Decoding.{Output, StreamGives, frames_output}
 use Rattle.text_engines.specs.Laws.{DecodesToOne}
 
 stream_one : SplitsOnce → (rule : Rule) (octets : List ℕ) (one other : Output) → StreamGives rule octets one → StreamGives rule octets other → one ≡ other

@@ -6,7 +6,7 @@ use Rattle.std.specs.List.Sorted.{IsPartitionedBy, IsPartitionPoint}
 use Rattle.std.proofs.lemmas.Bool.{cases_order, lt-ltb, eq-eqb, ne_eqb, or_left, or_right, and_from, and_left, and_right, and_parts}
 use Rattle.std.proofs.lemmas.Bool.Decides.{nat_tests}
 use Rattle.std.proofs.lemmas.List.{length-set, take_all}
-use Rattle.prefix_lanes.specs.Bits.{PrefixView}
+use Rattle.prefix_lanes.specs.Bits.{PrefixView, is_prefix}
 use Rattle.ranked_policy.specs.Plans.{Plan, IsBefore}
 use Rattle.ranked_policy.specs.declared.network.Origin.{Origin}
 use Rattle.stable_paths.specs.declared.assignment.Assigned.{Assigned}
@@ -14,7 +14,6 @@ use Rattle.stable_paths.specs.Stable.{path_of}
 use Rattle.stable_paths.specs.Judging.{IsVerdict}
 use Rattle.stable_paths.specs.declared.verdict.Check.{Check}
 use Rattle.net_text.specs.declared.assignment.Entry.{Entry}
-use Rattle.net_text.specs.Words.{is_prefix}
 use Rattle.text_engines.specs.Checking.{is_before, IsPlace, HasNoPlace, AssignNothing, Assign, paths_of, at_prefix}
 use Rattle.text_engines.proofs.CheckLemmas.{within, verdict_as, paths_on, paths_pass, paths_give}
 

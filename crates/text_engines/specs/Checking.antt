@@ -1,7 +1,7 @@
 -- What is printed for a network and an assignment.
 use Rattle.std.specs.Prelude.{◌≡◌, ◌≢◌, ℕ, ◌<◌, ◌==◌, ◌&&◌, ◌||◌, nat_lt, Bool, true, false, slice_index_or, List, [], ◌∷◌, ◌++◌, length, codes, Ok, if◌then◌else◌, ◌⊎◌}
 use Rattle.std.specs.List.{All}
-use Rattle.prefix_lanes.specs.Bits.{PrefixView}
+use Rattle.prefix_lanes.specs.Bits.{PrefixView, is_prefix}
 use Rattle.ranked_policy.specs.Plans.{Plan}
 use Rattle.ranked_policy.specs.declared.network.Origin.{Origin}
 use Rattle.stable_paths.specs.declared.assignment.Assigned.{Assigned}
@@ -12,7 +12,6 @@ use Rattle.net_text.specs.declared.code.Code.TheVariants as kinds
 use Rattle.net_text.specs.declared.assignment.Entry.{Entry}
 use Rattle.net_text.specs.Lexing.{Text}
 use Rattle.net_text.specs.Assignments.{assignment_reading, RefusesAssignment}
-use Rattle.net_text.specs.Words.{is_prefix}
 use Rattle.net_text.specs.Printing.{code_text, unstable_line, stable_line}
 use Rattle.text_engines.specs.declared.status.TheConstants.{DONE}
 use Rattle.text_engines.specs.Decoding.{Output, output, refused}

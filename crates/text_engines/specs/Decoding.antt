@@ -1,6 +1,7 @@
 -- What is printed for a stream of messages.
 use Rattle.std.specs.Prelude.{◌≡◌, ℕ, ◌<◌, ◌≤◌, nat_lt, ◌==◌, ◌||◌, not, Bool, List, [], ◌∷◌, ◌++◌, length, codes, filter, Option, Some, None, Result, Ok, Err, if◌then◌else◌, ◌⊎◌, MatchResult}
 use Rattle.hex.specs.Hex.{decode_of}
+use Rattle.bgp_values.specs.declared.messages.TheConstants.{HEADER_LEN}
 use Rattle.bgp_codec.specs.declared.fault.Fault.{Fault}
 use Rattle.bgp_codec.specs.declared.message.Message.{Message}
 use Rattle.bgp_codec.specs.declared.rule.Rule.{Rule}
@@ -41,7 +42,7 @@ fault_or_short None n = short_output n
 
 -- for a rest: the fault of its header where it has one
 unfoldable pub rest_output : List ℕ → Output
-rest_output rest = if nat_lt (length rest) 19 then short_output (length rest) else fault_or_short (header_fault rest) (length rest)
+rest_output rest = if nat_lt (length rest) HEADER_LEN then short_output (length rest) else fault_or_short (header_fault rest) (length rest)
 
 -- for what a frame reads as, and what comes after it: nothing comes after a fault
 abbrev pub read_output : Result Message Fault → Output → Output

@@ -5,7 +5,6 @@ ghost use Rattle.std.specs.List.{All, AllPairs};
 ghost use Rattle.ranked_policy.specs.Plans.{IsBefore, IsNamed};
 ghost use Rattle.stable_paths.specs.Stable.{path_of};
 ghost use Rattle.stable_paths.specs.Judging.{IsVerdict};
-ghost use Rattle.net_text.specs.Words.{is_prefix};
 ghost use Rattle.net_text.specs.Printing.{stable_line, unstable_line};
 ghost use Rattle.text_engines.specs.Decoding.{output};
 ghost use Rattle.text_engines.specs.declared.status.TheConstants.{DONE};
@@ -54,13 +53,6 @@ fn first_stray(network: &Network, entries: &[Entry]) -> Option<usize>
     None
 }
 
-// Whether the two are one prefix.
-fn is_prefix(one: &Prefix, other: &Prefix) -> bool
-    ensures { result ≡ is_prefix one.now other.now }
-{
-    one.addr() == other.addr() && one.len() == other.len()
-}
-
 // Whether the one comes before the other: by address, then by length.
 fn is_before(one: &Prefix, other: &Prefix) -> bool
     ensures { result ≡ is_before one.now other.now }
@@ -74,7 +66,7 @@ fn place_of(origins: &[Origin], prefix: &Prefix) -> Option<usize>
     ensures { MatchOption result (HasNoPlace origins.now prefix.now) (IsPlace origins.now prefix.now) }
 {
     let place = origins.partition_point(|origin| is_before(&origin.prefix, prefix));
-    if place < origins.len() && is_prefix(prefix, &origins[place].prefix) {
+    if place < origins.len() && prefix.equals(&origins[place].prefix) {
         Some(place)
     } else {
         None

@@ -1,8 +1,10 @@
 //! What every engine does: it reads all of its input, and writes a text.
 
-ghost use Rattle.std.specs.Prelude.{◌≡◌, ℕ, ◌+◌, ◌<◌, ◌≤◌, length, vec_len, IfOk, OnOk, OnErr, IsErrOf, true, codes};
+ghost use Rattle.std.specs.Prelude.{◌≡◌, ℕ, ◌+◌, ◌<◌, ◌≤◌, length, vec_len, IfOk, OnOk, OnErr, IsErrOf, true};
 ghost use Rattle.std.specs.Io.KnownBytes.{Appends};
 ghost use Rattle.text_engines.specs.Engine.{ReadsUpTo, AppendsFront};
+ghost use Rattle.text_engines.specs.Decoding.{memory_output};
+ghost use Rattle.text_engines.specs.declared.status.TheConstants.{MEMORY};
 
 use crate::channel::{IoStopped, Sink, Source};
 use crate::status::MEMORY;
@@ -72,8 +74,8 @@ pub fn read_input<S: Source>(alloc: Global, source: &mut S) -> Result<Vec<u8>, I
 
 /// Writes `memory` alone and answers its status, for want of memory.
 pub fn want_of_memory<T: Sink>(sink: &mut T) -> Result<u8, IoStopped>
-    ensures ok { IfOk result (λ status. (status ≡ 3) × Appends (T.contents sink.old) (T.contents sink.new) (codes "memory\n")) }
-    ensures stopped { OnErr result (AppendsFront (T.contents sink.old) (T.contents sink.new) (codes "memory\n")) }
+    ensures ok { IfOk result (λ status. (status ≡ MEMORY) × Appends (T.contents sink.old) (T.contents sink.new) memory_output.text) }
+    ensures stopped { OnErr result (AppendsFront (T.contents sink.old) (T.contents sink.new) memory_output.text) }
     ensures failed { OnErr result (T.failed sink.new ≡ true) }
     ensures unfailed { OnOk result (T.failed sink.new ≡ T.failed sink.old) }
 {

@@ -10,7 +10,8 @@ use Rattle.router_model.specs.declared.refusal.RouterError.TheVariants as error
 use Rattle.router_model.specs.declared.refusal.Stepped.TheVariants as stepped
 use Rattle.router_model.specs.Settings.{Setting, IsSetting}
 use Rattle.router_model.specs.Step.{Own, RouterEvent, Step, next_offer}
-use Rattle.router_model.specs.Calls.{Stamped, Call, Put, Take, Answer, Steps, Idle, Refuses, answer, stamp_of, Gives, judged, bars, overflows_at, event_of, greatest_stamp, offer_made, IsEventOf}
+use Rattle.router_model.specs.Calls.{Stamped, Call, Put, Take, Answer, Steps, Idle, Refuses, answer, stamp_of, Gives, judged, bars, overflows_at, event_of, offer_made, IsEventOf}
+use Rattle.run_model.specs.declared.stamps.TheConstants.{GREATEST_STAMP}
 use Rattle.router_model.specs.Laws.{AnswersAreSteps}
 use Rattle.router_core.specs.declared.router.judge.Call as core
 use Rattle.router_core.specs.declared.router.judge.Call.TheVariants as own
@@ -215,7 +216,7 @@ nothing_taken : (g : Setting) (u v stamp : ℕ) (x y : Stamped) (w : What) (r : 
     → Gives g u (Ok stepped.Nothing) r x (Take v stamp w) y → ⊥
 nothing_taken g u v stamp x y w (Steps e) is h = (let k = h.0 in cc)
 nothing_taken g u v stamp x y w Idle is h =
-    not_idle (bars g u x.router (Take v stamp w)) (takes v w) (nat_lt greatest_stamp (stamp_of g u x (Take v stamp w))) (overflows_at g u x.router (event_of g u x.router (Take v stamp w))) is
+    not_idle (bars g u x.router (Take v stamp w)) (takes v w) (nat_lt GREATEST_STAMP (stamp_of g u x (Take v stamp w))) (overflows_at g u x.router (event_of g u x.router (Take v stamp w))) is
 nothing_taken g u v stamp x y w (Refuses why) is h = (let k = h.0 in cc)
 
 pub take_never_idle : (g : Setting) (u v stamp : ℕ) (x y : Stamped) (w : What) → Gives g u (Ok stepped.Nothing) (answer g u x (Take v stamp w)) x (Take v stamp w) y → ⊥

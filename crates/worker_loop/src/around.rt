@@ -5,7 +5,7 @@ ghost use Rattle.outbox.specs.declared.item.Item.{Item};
 ghost use Rattle.run_model.specs.Stamps.{Collected};
 ghost use Rattle.snap_collector.specs.Collecting.{made_by};
 ghost use Rattle.snap_marker.specs.Recordings.{MadeOffer};
-ghost use Rattle.router_model.specs.Calls.{greatest_stamp};
+ghost use Rattle.run_model.specs.declared.stamps.TheConstants.{GREATEST_STAMP};
 ghost use Rattle.worker_loop.specs.declared.chore.Chore.{Chore};
 ghost use Rattle.worker_loop.specs.Acts.{grown, with_offer};
 
@@ -85,5 +85,5 @@ pub trait Desk {
     ) -> Result<u64, WorkerFault>
         ensures made { IfOk result (λ at. made self.new ≡ with_offer (made self.old) at (made_by offer)) }
         ensures later { IfOk result (λ at. stamp < at) }
-        ensures few { IfOk result (λ at. at ≤ greatest_stamp) };
+        ensures few { IfOk result (λ at. at ≤ GREATEST_STAMP) };
 }

@@ -16,7 +16,8 @@ use Rattle.router_model.specs.Settings.{Setting, is_router, peers}
 use Rattle.router_model.specs.Laws.{AnswersAreSteps}
 use Rattle.router_model.specs.Step as step
 use Rattle.router_model.specs.Step.{RouterEvent, next_offer}
-use Rattle.router_model.specs.Calls.{Stamped, Call, Obey, Tick, Put, Take, Handle, Decide, Advertise, answer, stamp_of, greatest_stamp}
+use Rattle.router_model.specs.Calls.{Stamped, Call, Obey, Tick, Put, Take, Handle, Decide, Advertise, answer, stamp_of}
+use Rattle.run_model.specs.declared.stamps.TheConstants.{GREATEST_STAMP}
 use Rattle.world_core.specs.declared.schedule.Event.{Event}
 use Rattle.world_core.specs.declared.schedule.Event.TheVariants as schedule
 use Rattle.world_core.specs.declared.schedule.StepFault.{StepFault}
@@ -50,7 +51,7 @@ late_offer false u stamp o h = absurd cc
 
 no_offer : (u stamp : ℕ) (o : Option RouterOffer) → of_offer u stamp o ≡ Nothing → o ≡ None
 no_offer u stamp None h = refl
-no_offer u stamp (Some o) h = absurd (late_offer (nat_lt greatest_stamp stamp) u stamp o h)
+no_offer u stamp (Some o) h = absurd (late_offer (nat_lt GREATEST_STAMP stamp) u stamp o h)
 
 offer_still : (there : Bool) (u m n : ℕ) (o : Option RouterOffer) → cond there (of_offer u m o) (Stops NoSuchRouter) ≡ Nothing → cond there (of_offer u n o) (Stops NoSuchRouter) ≡ Nothing
 offer_still true u m n o h = subst (λ (k : Option RouterOffer). of_offer u n k ≡ Nothing) (sym (no_offer u m o h)) refl

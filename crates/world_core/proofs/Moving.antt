@@ -13,7 +13,8 @@ use Rattle.router_model.specs.declared.refusal.Stepped.{Stepped}
 use Rattle.router_model.specs.Settings.{Setting, ChoosesByRank, peers}
 use Rattle.router_model.specs.Laws.{AnswersAreSteps}
 use Rattle.router_model.specs.Step.{after, next_offer}
-use Rattle.router_model.specs.Calls.{Stamped, Put, Take, answer, stamp_of, stamped_after, offer_made, greatest_stamp}
+use Rattle.router_model.specs.Calls.{Stamped, Put, Take, answer, stamp_of, stamped_after, offer_made}
+use Rattle.run_model.specs.declared.stamps.TheConstants.{GREATEST_STAMP}
 use Rattle.router_core.specs.Views.{RouterView, plain_of, IsSame}
 use Rattle.snap_collector.specs.Collector.{AreMembers, CollectorView}
 use Rattle.world_core.specs.declared.inbox.Pipe.{Pipe}
@@ -223,7 +224,7 @@ whole_pipe x b a u i to k y old new p q run whole at pipe e n =
 -- ---- an offer
 
 offered : (x : WorldView) (u i : ℕ) (xr y : RouterView) (kept : CollectorView) (board at : ℕ) (run : List Event) (r : Result Stepped StepFault) (o : Option RouterOffer) (b : Bool)
-    → IsWhole x → StandsAt x u i → xr ≡ get_or x.routers i xr → nat_lt greatest_stamp at ≡ b
+    → IsWhole x → StandsAt x u i → xr ≡ get_or x.routers i xr → nat_lt GREATEST_STAMP at ≡ b
     → OffersTo r xr x.run x.collector x.board (schedule.Offer u) y run kept board (of_offer u at o) → IsSame xr y → (g : Setting) → g.net ≡ x.net
     → Gives g r (of_offer u at o) (plain_world x) (schedule.Offer u) (plain_world (record x { routers = set x.routers i y; collector = kept; board = board; run = run }))
 offered x u i xr y kept board at run r None b whole stand is late enters same g e =
@@ -272,7 +273,7 @@ offer_steps x u i xr y kept board run r whole stand is enters same g e ranks =
     (subst (λ (n : ℕ). OffersTo r xr x.run x.collector x.board (schedule.Offer u) y run kept board (of_offer n (max xr.stamp x.board + 1) (next_offer (plain_of xr).router))) s.0 enters) in
     let at = max (routers_of x u).stamp x.board + 1 in
     subst (λ b. Gives g r b w (schedule.Offer u) z) (sym (by_router g u (of_offer u at (next_offer (routers_of x u).router)) (stand.known g e)))
-    (offered x u i xr y kept board at run r (next_offer (routers_of x u).router) (nat_lt greatest_stamp at) whole stand is refl h same g e)
+    (offered x u i xr y kept board at run r (next_offer (routers_of x u).router) (nat_lt GREATEST_STAMP at) whole stand is refl h same g e)
 
 pub whole_offer : (x : WorldView) (u i : ℕ) (y : RouterView) (kept : CollectorView) (board : ℕ) (run : List Event) → IsWhole x → StandsAt x u i → y.number ≡ u → y.net ≡ x.net → kept.members ≡ x.collector.members
     → IsWhole (record x { routers = set x.routers i y; collector = kept; board = board; run = run })

@@ -15,14 +15,16 @@ use Rattle.router_model.specs.declared.refusal.RouterError.TheVariants as error
 use Rattle.snap_marker.specs.Recordings.{RouterOffer}
 use Rattle.router_model.specs.Settings.{Setting, linked}
 use Rattle.router_model.specs.Step.{RouterEvent, Step, after, says}
-use Rattle.router_model.specs.Calls.{Stamped, Call, Obey, Tick, Put, Take, Handle, Decide, Advertise, Answer, Steps, Refuses, answer, stamp_of, greatest_stamp, IsEventOf}
+use Rattle.router_model.specs.Calls.{Stamped, Call, Obey, Tick, Put, Take, Handle, Decide, Advertise, Answer, Steps, Refuses, answer, stamp_of, IsEventOf}
+use Rattle.run_model.specs.declared.stamps.TheConstants.{GREATEST_STAMP}
 use Rattle.router_model.specs.Calls as calls
 use Rattle.router_runs.specs.Runs.{Logged, new_logged, logged_steps, RunOrder, RunState}
 use Rattle.router_model.specs.Settings.{is_router}
 use Rattle.world_core.specs.declared.schedule.Event.{Event}
 use Rattle.world_core.specs.declared.schedule.Event.TheVariants as schedule
 use Rattle.world_core.specs.declared.schedule.StepFault.TheVariants.{NoSuchRouter, NoSuchLink}
-use Rattle.world_core.specs.World.{World, new_world, WorldAnswer, Does, Nothing, Stops, refused_by, of_answer, of_offer, called, taking_of, world_answer, piped, is_for, world_after, world_of, onward, played, name_of, named, AgreesWith}
+use Rattle.world_core.specs.World.{World, new_world, WorldAnswer, Does, Nothing, Stops, refused_by, of_answer, of_offer, called, taking_of, world_answer, piped, world_after, world_of, onward, played, name_of, named, AgreesWith}
+use Rattle.snap_collector.specs.Collector.{is_for}
 use Rattle.world_core.specs.Keeping.{WhatIsPlayedIsARun}
 use Rattle.router_model.specs.Laws.{AnswersAreSteps}
 
@@ -76,7 +78,7 @@ module _ (answers_are_steps : AnswersAreSteps) where
       subst (λ j. Doing g w event j e) a.1 (record { known = there; does = s.1; name = n.0; next = n.1 })
 
   by_offer : (g : Setting) (w : World) (k at : ℕ) (o : Option RouterOffer) (b : Bool) (u : ℕ) (e : RouterEvent) (stamp : ℕ) → is_router g k ≡ true
-      → slice_get (w.routers k).router.snapshots.queue 0 ≡ o → nat_lt greatest_stamp at ≡ b → of_offer k at o ≡ Does u e stamp → Doing g w (schedule.Offer k) u e
+      → slice_get (w.routers k).router.snapshots.queue 0 ≡ o → nat_lt GREATEST_STAMP at ≡ b → of_offer k at o ≡ Does u e stamp → Doing g w (schedule.Offer k) u e
   by_offer g w k at None b u e stamp there is late h = absurd cc
   by_offer g w k at (Some o) true u e stamp there is late h = absurd (let x : Stops _ ≡ Does u e stamp = rw late at h in cc)
   by_offer g w k at (Some o) false u e stamp there is late h =
@@ -115,7 +117,7 @@ module _ (answers_are_steps : AnswersAreSteps) where
       by_call g net w (schedule.Advertise k) k Advertise u e stamp r.0 (λ d q. (ap (name_of k) q.1, subst (TakesNext w k) (sym q.1) tt)) r.1
   doing g net w (schedule.Offer k) u e stamp h =
       let r = router_there (is_router g k) (of_offer k (max (w.routers k).stamp w.board + 1) (slice_get (w.routers k).router.snapshots.queue 0)) u e stamp h in
-      by_offer g w k (max (w.routers k).stamp w.board + 1) (slice_get (w.routers k).router.snapshots.queue 0) (nat_lt greatest_stamp (max (w.routers k).stamp w.board + 1)) u e stamp r.0 refl refl r.1
+      by_offer g w k (max (w.routers k).stamp w.board + 1) (slice_get (w.routers k).router.snapshots.queue 0) (nat_lt GREATEST_STAMP (max (w.routers k).stamp w.board + 1)) u e stamp r.0 refl refl r.1
 
   -- ---- the state after it
 

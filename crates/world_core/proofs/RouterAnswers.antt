@@ -14,7 +14,8 @@ use Rattle.router_model.specs.declared.refusal.Stepped.{Stepped}
 use Rattle.router_model.specs.declared.refusal.Stepped.TheVariants as stepped
 use Rattle.router_model.specs.Settings.{Setting}
 use Rattle.router_model.specs.Step.{RouterEvent, next_offer}
-use Rattle.router_model.specs.Calls.{Stamped, Call, Put, Answer, Steps, Idle, Refuses, answer, stamped_after, Gives, judged, put_event, bars, event_of, overflows_at, greatest_stamp, offer_made}
+use Rattle.router_model.specs.Calls.{Stamped, Call, Put, Answer, Steps, Idle, Refuses, answer, stamped_after, Gives, judged, put_event, bars, event_of, overflows_at, offer_made}
+use Rattle.run_model.specs.declared.stamps.TheConstants.{GREATEST_STAMP}
 use Rattle.router_core.specs.Views.{RouterView, plain_of, Shows}
 use Rattle.router_core.specs.Judging.{judged_as}
 use Rattle.world_core.specs.declared.schedule.Event.{Event}
@@ -81,12 +82,12 @@ pub puts_in : (g : Setting) (u v stamp : ℕ) (x y : Stamped) (items items_after
 puts_in g u v stamp x y items items_after item R S h shows r is =
     rw is
     (put_by g u v stamp (answer g u x (Put v)) x y items item R S h shows
-    (put_is v (bars g u x.router (Put v)) (next_item g.net.settings.cut (x.router.sides v).outbox) (nat_lt greatest_stamp (x.stamp + 1)) (overflows_at g u x.router (event_of g u x.router (Put v)))) r)
+    (put_is v (bars g u x.router (Put v)) (next_item g.net.settings.cut (x.router.sides v).outbox) (nat_lt GREATEST_STAMP (x.stamp + 1)) (overflows_at g u x.router (event_of g u x.router (Put v)))) r)
 
 -- ---- an offer
 
 pub makes_offer : (x y : RouterView) (run run_after : List Event) (kept kept_after : CollectorView) (board stamp : ℕ) (event : Event) (o : RouterOffer)
-    → next_offer (plain_of x).router ≡ Some o → stamp ≡ max x.stamp board + 1 → nat_lt greatest_stamp stamp ≡ false → plain_of y ≡ offer_made (plain_of x) stamp
+    → next_offer (plain_of x).router ≡ Some o → stamp ≡ max x.stamp board + 1 → nat_lt GREATEST_STAMP stamp ≡ false → plain_of y ≡ offer_made (plain_of x) stamp
     → run_after ≡ run ++ event ∷ [] → made_for kept_after ≡ joined (made_for kept) (record { router = x.number; offer = o } ∷ [])
     → EntersOffer (Ok stepped.Did) x run kept board event y run_after kept_after stamp
 makes_offer x y run run_after kept kept_after board stamp event o is at late p q k =

@@ -18,7 +18,8 @@ use Rattle.router_model.specs.Settings.{Setting, linked, is_origin}
 use Rattle.router_model.specs.State.{Router}
 use Rattle.router_model.specs.Step.{Own, RouterEvent, May, is_greater}
 use Rattle.router_model.specs.Step as step
-use Rattle.router_model.specs.Calls.{Stamped, Call, Obey, Tick, Put, Take, Handle, Decide, Advertise, Answer, Steps, Refuses, judged, unless, first_of, bars, bars_command, event_of, overflows_at, answer, stamp_of, greatest_stamp, IsEventOf}
+use Rattle.router_model.specs.Calls.{Stamped, Call, Obey, Tick, Put, Take, Handle, Decide, Advertise, Answer, Steps, Refuses, judged, unless, first_of, bars, bars_command, event_of, overflows_at, answer, stamp_of, IsEventOf}
+use Rattle.run_model.specs.declared.stamps.TheConstants.{GREATEST_STAMP}
 use Rattle.router_model.specs.Calls as calls
 use Rattle.router_runs.specs.Runs.{logged_steps, RunState}
 use Rattle.router_model.specs.Settings.{is_router}
@@ -202,7 +203,7 @@ module _ (idle_where_nothing_may_come : IdleWhereNothingMayCome) where
       idle_where_nothing_may_come g net k (w.routers k) call h d.event i.1 (may_in g w state agrees d new k i.0 s)
 
   bar_of : (g : Setting) (k : ℕ) (x : Stamped) (call : Call) (r : RouterError) → answer g k x call ≡ Refuses r → r ≢ error.StampEnd → r ≢ error.EpochEnd → bars g k x.router call ≡ Some r
-  bar_of g k x call r h p q = barred (bars g k x.router call) (event_of g k x.router call) (nat_lt greatest_stamp (stamp_of g k x call)) (overflows_at g k x.router (event_of g k x.router call)) r h p q
+  bar_of g k x call r h p q = barred (bars g k x.router call) (event_of g k x.router call) (nat_lt GREATEST_STAMP (stamp_of g k x call)) (overflows_at g k x.router (event_of g k x.router call)) r h p q
 
   -- a call that neither a full outbox nor a message bars
   pub record NeverBarred (g : Setting) (k : ℕ) (x : Router) (call : Call) : Type 0 where
@@ -279,7 +280,7 @@ module _ (idle_where_nothing_may_come : IdleWhereNothingMayCome) where
   by_pipe g net w state agrees k v (p ∷ rest) is h =
       by_taking g net w state agrees k v p (quiet k (stamp_of g k (w.routers k) (Take v p.stamp p.what)) (answer g k (w.routers k) (Take v p.stamp p.what)) h)
 
-  by_queue : (g : Setting) (w : World) (state : RunState) → AgreesWith g w state → (k at : ℕ) (o : Option RouterOffer) (b : Bool) → slice_get (w.routers k).router.snapshots.queue 0 ≡ o → nat_lt greatest_stamp at ≡ b
+  by_queue : (g : Setting) (w : World) (state : RunState) → AgreesWith g w state → (k at : ℕ) (o : Option RouterOffer) (b : Bool) → slice_get (w.routers k).router.snapshots.queue 0 ≡ o → nat_lt GREATEST_STAMP at ≡ b
       → of_offer k at o ≡ Nothing → NoStep g state (schedule.Offer k)
   by_queue g w state agrees k at None b is late h = λ d new named s.
       let i = offers_ d.router d.event k named in
@@ -308,5 +309,5 @@ module _ (idle_where_nothing_may_come : IdleWhereNothingMayCome) where
   nothing_where_no_step_is g setting w order state run agrees (schedule.Advertise k) h =
       by_telling g setting.network w state agrees k (quiet_call g w k Advertise (router_nothing (is_router g k) (called g w k Advertise) h))
   nothing_where_no_step_is g setting w order state run agrees (schedule.Offer k) h =
-      inr (by_queue g w state agrees k (max (w.routers k).stamp w.board + 1) (slice_get (w.routers k).router.snapshots.queue 0) (nat_lt greatest_stamp (max (w.routers k).stamp w.board + 1)) refl refl
+      inr (by_queue g w state agrees k (max (w.routers k).stamp w.board + 1) (slice_get (w.routers k).router.snapshots.queue 0) (nat_lt GREATEST_STAMP (max (w.routers k).stamp w.board + 1)) refl refl
       (router_nothing (is_router g k) (of_offer k (max (w.routers k).stamp w.board + 1) (slice_get (w.routers k).router.snapshots.queue 0)) h))

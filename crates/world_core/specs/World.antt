@@ -1,10 +1,10 @@
 -- The routers of a network with the pipes between them and the offers that they made: what each event of a schedule answers and
 -- leaves, and what holds of every world that was played.
-use Rattle.std.specs.Prelude.{ℕ, ◌+◌, ◌≡◌, ◌==◌, max, nat_lt, Bool, ◌&&◌, cond, List, [], ◌∷◌, ◌++◌, map, drop, filter, Option, None, Some, Result, Ok, Err, MatchResult, slice_get}
+use Rattle.std.specs.Prelude.{ℕ, ◌+◌, ◌≡◌, ◌==◌, max, nat_lt, ◌&&◌, cond, List, [], ◌∷◌, ◌++◌, map, drop, filter, Option, None, Some, Result, Ok, Err, MatchResult, slice_get}
+use Rattle.snap_collector.specs.Collector.{is_for}
 use Rattle.ranked_policy.specs.Plans.{IsRouter}
 use Rattle.run_model.specs.Network as runs
 use Rattle.run_model.specs.Network.{NetworkEvent, alone, puts, takes, offers}
-use Rattle.run_model.specs.Offers.{number_of}
 use Rattle.outbox.specs.declared.item.Item.{Item}
 use Rattle.snap_marker.specs.Recordings.{RouterOffer, MadeOffer}
 use Rattle.router_model.specs.declared.refusal.RouterError.{RouterError}
@@ -15,7 +15,8 @@ use Rattle.router_model.specs.Settings.{Setting, linked, is_router}
 use Rattle.router_model.specs.State.{new_router}
 use Rattle.router_model.specs.Step.{Own, RouterEvent, after, next_offer}
 use Rattle.router_model.specs.Step as step
-use Rattle.router_model.specs.Calls.{Stamped, Call, Obey, Tick, Put, Take, Handle, Decide, Advertise, Answer, Steps, Refuses, answer, stamp_of, greatest_stamp}
+use Rattle.router_model.specs.Calls.{Stamped, Call, Obey, Tick, Put, Take, Handle, Decide, Advertise, Answer, Steps, Refuses, answer, stamp_of}
+use Rattle.run_model.specs.declared.stamps.TheConstants.{GREATEST_STAMP}
 use Rattle.router_model.specs.Calls as calls
 use Rattle.router_runs.specs.Runs.{RunOrder, RunState, IsRunTo}
 use Rattle.world_core.specs.declared.schedule.Event.{Event}
@@ -69,7 +70,7 @@ of_answer u stamp (Refuses why) = refused_by why
 abbrev pub of_offer : ℕ → ℕ → Option RouterOffer → WorldAnswer
 of_offer u stamp None = Nothing
 of_offer u stamp (Some o) =
-    cond (nat_lt greatest_stamp stamp) (Stops (Refused error.StampEnd)) (Does u (offers (record { router = u; offer = o })) stamp)
+    cond (nat_lt GREATEST_STAMP stamp) (Stops (Refused error.StampEnd)) (Does u (offers (record { router = u; offer = o })) stamp)
 
 -- the pipe from a to b after an event of router u
 abbrev pub piped : ℕ → ℕ → RouterEvent → ℕ → ℕ → List Item → List Item
@@ -79,9 +80,6 @@ piped u stamp (alone e) a b items = items
 piped u stamp (offers made) a b items = items
 
 -- offers join those for the same snapshot
-abbrev pub is_for : ℕ → MadeOffer → Bool
-is_for s m = number_of m.offer == s
-
 abbrev pub joined : (ℕ → List MadeOffer) → List MadeOffer → ℕ → List MadeOffer
 joined made more s = made s ++ filter (is_for s) more
 

@@ -2,30 +2,17 @@
 
 ghost use Rattle.std.specs.Prelude.{◌≡◌};
 ghost use Rattle.router_core.specs.Judging.{call_of};
-ghost use Rattle.router_core.specs.Views.{Answers, IsSame};
+ghost use Rattle.router_core.specs.Views.{IsSame};
 ghost use Rattle.world_core.specs.Views.{refusal, without_room, Enters, EntersPut, EntersTake, EntersOffer};
 
 use crate::schedule::{Event, StepFault, join};
 use outbox::Item;
 use ranked_policy::Asn;
-use router_core::{Call, GREATEST_STAMP, Router};
+use router_core::{Call, Router};
 use router_model::{RouterError, Stepped};
+use run_model::GREATEST_STAMP;
 use snap_collector::Collector;
 use std::collections::VecDeque;
-
-// Does what a router is asked to do.
-fn perform(router: &mut Router<'_>, call: &Call) -> Result<Stepped, RouterError>
-    ensures answers { Answers result router.old (call_of call.now) router.new }
-    ensures same { IsSame router.old router.new }
-{
-    match call {
-        Call::Obey(command) => router.command(*command),
-        Call::Tick => router.tick(),
-        Call::Handle(peer) => router.handle(*peer),
-        Call::Decide => router.decide(),
-        Call::Advertise => router.advertise(),
-    }
-}
 
 // What a refusal of a router is in a world: that its outboxes are full, or that a message waits to be
 // handled, is nothing to do.
@@ -67,7 +54,7 @@ pub(crate) fn enter(
     if run.reserve(1).is_err() {
         return without_room(router.judge(call));
     }
-    match perform(router, call) {
+    match router.perform(call) {
         Ok(Stepped::Did) => {
             join(run, event);
             Ok(Stepped::Did)

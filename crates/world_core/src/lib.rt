@@ -13,6 +13,7 @@ mod schedule;
 mod state;
 mod world;
 
+pub use opening::new_router;
 pub use player::play;
 pub use schedule::{Event, Order, PlayFault, StepFault};
 pub use world::World;

@@ -3,20 +3,20 @@
 ghost use Rattle.std.specs.Prelude.{◌≡◌, [], map, IfOk};
 ghost use Rattle.std.specs.List.{AllByRecursion};
 ghost use Rattle.ranked_policy.specs.Plans.{IsRouter, numbers};
-ghost use Rattle.router_model.specs.Settings.{linked, peers};
+ghost use Rattle.router_model.specs.Settings.{peers};
 ghost use Rattle.world_core.specs.Views.{IsWhole, Opens, IsNewRouter};
 ghost use Rattle.world_core.specs.Steps.{view_of};
 
 use crate::inbox::{Inbox, Pipe};
 use crate::state::State;
 use ranked_policy::{Asn, Network};
-use router_core::Router;
+use router_core::{Router, is_peer};
 use snap_collector::Collector;
 use std::alloc::{AllocError, Global};
 use std::collections::VecDeque;
 
-// A router of the network, as it starts.
-fn new_router<'a>(
+/// A router of the network, as it starts. It is refused only where memory was.
+pub fn new_router<'a>(
     alloc: Global,
     network: &'a Network,
     number: Asn,
@@ -41,13 +41,6 @@ fn new_routers<'a>(alloc: Global, network: &'a Network) -> Result<Vec<Router<'a>
         made.push(new_router(alloc, network, router.asn)?)?;
     }
     Ok(made)
-}
-
-// Whether a link joins two routers.
-fn is_peer(network: &Network, number: Asn, other: Asn) -> bool
-    ensures { result ≡ linked network.now number other }
-{
-    network.linked(number, other)
 }
 
 // The empty pipes that lead to a router.

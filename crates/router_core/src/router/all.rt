@@ -12,13 +12,14 @@ ghost use Rattle.router_core.specs.Views.{IsSame, Answers};
 ghost use Rattle.router_core.specs.Recorded.{Become};
 ghost use Rattle.router_core.specs.Whole.{draft_by, overflow_in, IsReady, AreReady, MovesSide, MovesAll};
 
+use super::Router;
 use super::carry::{carry, close};
-use super::{GREATEST_STAMP, Router};
 use crate::peers::Peer;
 use bgp_codec::Message;
 use router_model::{RouterError, Stepped};
 use router_side::laws::sessions_keep_fresh;
 use router_side::{Given, SideEnd, Sketch};
+use run_model::GREATEST_STAMP;
 use session_fsm::FsmEvent;
 use std::alloc::{AllocError, Global};
 

@@ -14,13 +14,14 @@ ghost use Rattle.router_side.specs.SideOf.{side, IsInFront, HasRoom};
 ghost use Rattle.router_core.specs.Views.{sides_of, IsFound, IsSame, Carries};
 ghost use Rattle.router_core.specs.Following.{standing, Followed};
 
-use super::{GREATEST_STAMP, Router};
+use super::Router;
 use crate::tables::follow;
 use bgp_codec::Message;
 use ranked_policy::Asn;
 use rib_tables::Rib;
 use router_model::{RouterError, Stepped};
 use router_side::{Given, SideEnd, Sketch};
+use run_model::GREATEST_STAMP;
 use snap_marker::MarkState;
 use std::alloc::Global;
 

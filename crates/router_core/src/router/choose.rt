@@ -4,17 +4,15 @@ ghost use Rattle.std.specs.Prelude.{ℕ};
 ghost use Rattle.router_model.specs.Calls.{Decide, Advertise};
 ghost use Rattle.router_core.specs.Views.{IsSame, Answers, IsAt, IsNext, MayTell, Tells};
 
-use super::{GREATEST_STAMP, Router};
+use super::Router;
 use crate::choices::the_best_is_the_route;
 use crate::peers::Peer;
 use crate::telling::telling;
 use bgp_codec::Message;
 use prefix_lanes::Prefix;
 use ranked_policy::Asn;
-use router_model::{RouterError, Stepped};
-
-/// At so many octets in its outbox a peer is told nothing more.
-const OUTBOX_LIMIT: usize = 65_536;
+use router_model::{OUTBOX_LIMIT, RouterError, Stepped};
+use run_model::GREATEST_STAMP;
 
 // Whom to tell next.
 pub(super) enum Next {

@@ -3,12 +3,14 @@
 ghost use Rattle.router_model.specs.Calls.{Obey};
 ghost use Rattle.router_model.specs.declared.command.Command.TheVariants.{Start, Stop, Reset, Originate, Withdraw};
 ghost use Rattle.router_core.specs.Views.{IsSame, Answers};
+ghost use Rattle.router_core.specs.Judging.{call_of};
 
-use super::{GREATEST_STAMP, Router};
+use super::{Call, Router};
 use prefix_lanes::Prefix;
 use ranked_policy::Asn;
 use router_model::{Command, RouterError, Stepped};
 use router_side::laws::sessions_keep_fresh;
+use run_model::GREATEST_STAMP;
 use session_fsm::FsmEvent;
 
 impl Router<'_> {
@@ -29,6 +31,21 @@ impl Router<'_> {
             Command::Withdraw(prefix) => self.withdraw(&prefix),
             Command::Snapshot(number) => self.snapshot(number),
             Command::Restart => self.restart(),
+        }
+    }
+
+    /// Does what the router is asked to do, but for putting and taking items: each call by its own name.
+    /// Refused as that call is; then all is as it was.
+    pub fn perform(&mut self, call: &Call) -> Result<Stepped, RouterError>
+        ensures answers { Answers result self.old (call_of call.now) self.new }
+        ensures same { IsSame self.old self.new }
+    {
+        match call {
+            Call::Obey(command) => self.command(*command),
+            Call::Tick => self.tick(),
+            Call::Handle(peer) => self.handle(*peer),
+            Call::Decide => self.decide(),
+            Call::Advertise => self.advertise(),
         }
     }
 

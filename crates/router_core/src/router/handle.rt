@@ -14,8 +14,8 @@ ghost use Rattle.router_side.specs.SideOf.{side};
 ghost use Rattle.router_core.specs.Views.{IsSame, Answers};
 ghost use Rattle.router_core.specs.Handling.{update_acted, copy_where, seen_where, Hears, HandlesFront};
 
+use super::Router;
 use super::carry::{carry_front, close};
-use super::{GREATEST_STAMP, Router};
 use bgp_codec::{Message, Rule, Update, Width};
 use ranked_policy::Asn;
 use rib_tables::Rib;
@@ -23,6 +23,7 @@ use rib_tables::laws::the_word_follows;
 use router_model::{RouterError, Stepped};
 use router_side::laws::what_comes_keeps_fresh;
 use router_side::{Given, SideEnd, opened};
+use run_model::GREATEST_STAMP;
 use snap_marker::MarkState;
 use std::alloc::{AllocError, Global};
 

@@ -2,19 +2,21 @@
 
 ghost use Rattle.std.specs.Prelude.{◌≡◌, nat_lt, false};
 ghost use Rattle.router_model.specs.declared.command.Command.TheVariants.{Start, Stop, Reset, Originate, Withdraw, Snapshot, Restart};
-ghost use Rattle.router_model.specs.Calls.{Obey, Tick, Handle, Decide, Advertise, greatest_stamp};
+ghost use Rattle.router_model.specs.Calls.{Obey, Tick, Handle, Decide, Advertise};
+ghost use Rattle.run_model.specs.declared.stamps.TheConstants.{GREATEST_STAMP};
 ghost use Rattle.router_core.specs.Views.{IsSame, plain_of};
 ghost use Rattle.router_core.specs.Judging.{verdict_of, JudgesAs, Judges, JudgesTake};
 
+use super::Router;
 use super::all::{Whole, overflows};
 use super::choose::Next;
-use super::{GREATEST_STAMP, Router};
 use crate::choices::the_best_is_the_route;
 use link_epoch::Sign;
 use outbox::{Item, What};
 use prefix_lanes::Prefix;
 use ranked_policy::Asn;
 use router_model::{Command, RouterError, Stepped};
+use run_model::GREATEST_STAMP;
 use session_fsm::FsmEvent;
 
 /// What a router is asked to do, but for putting and taking items.
@@ -35,7 +37,7 @@ pub enum Call {
 // The answer of a call that nothing bars, by the stamp that its event would have and by whether a dial
 // would pass the greatest incarnation.
 fn verdict(stamp: u64, overflows: bool) -> Result<Stepped, RouterError>
-    ensures { result ≡ verdict_of (nat_lt greatest_stamp stamp) overflows }
+    ensures { result ≡ verdict_of (nat_lt GREATEST_STAMP stamp) overflows }
 {
     if stamp > GREATEST_STAMP {
         return Err(RouterError::StampEnd);

@@ -2,7 +2,8 @@
 
 ghost use Rattle.std.specs.Prelude.{◌≡◌, ◌≤◌, ◌<◌, None, MatchOption};
 ghost use Rattle.router_model.specs.Step.{next_offer};
-ghost use Rattle.router_model.specs.Calls.{greatest_stamp, offer_made};
+ghost use Rattle.router_model.specs.Calls.{offer_made};
+ghost use Rattle.run_model.specs.declared.stamps.TheConstants.{GREATEST_STAMP};
 ghost use Rattle.router_core.specs.Views.{plain_of, IsOffered, HasOffer, IsSame};
 
 use super::Router;
@@ -21,7 +22,7 @@ impl Router<'_> {
     pub fn offer_made(&mut self, stamp: u64)
         requires waits { HasOffer self.old }
         requires later { self.old.stamp < stamp }
-        requires few { stamp ≤ greatest_stamp }
+        requires few { stamp ≤ GREATEST_STAMP }
         ensures made { plain_of self.new ≡ offer_made (plain_of self.old) stamp }
         ensures same { IsSame self.old self.new }
     {

@@ -5,10 +5,11 @@ ghost use Rattle.router_model.specs.declared.refusal.Stepped.TheVariants.{Did};
 ghost use Rattle.router_model.specs.Calls.{Put};
 ghost use Rattle.router_core.specs.Views.{IsSame, Answers, ShowsNext, HasNext};
 
-use super::{GREATEST_STAMP, Router};
+use super::Router;
 use outbox::Item;
 use ranked_policy::Asn;
 use router_model::RouterError;
+use run_model::GREATEST_STAMP;
 
 impl Router<'_> {
     /// A copy of the item that is put next towards a peer, with the stamp of its put: a control item,

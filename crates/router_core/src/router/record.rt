@@ -8,11 +8,12 @@ ghost use Rattle.router_model.specs.declared.command.Command.TheVariants.{Snapsh
 ghost use Rattle.router_model.specs.Sides.{is_up, uses};
 ghost use Rattle.router_side.specs.SideOf.{side};
 ghost use Rattle.router_model.specs.Step.{awaits};
-ghost use Rattle.router_model.specs.Calls.{Obey, greatest_stamp};
+ghost use Rattle.router_model.specs.Calls.{Obey};
+ghost use Rattle.run_model.specs.declared.stamps.TheConstants.{GREATEST_STAMP};
 ghost use Rattle.router_core.specs.Views.{plain_of, Answers, IsFound, IsSame, TakesMark};
 ghost use Rattle.router_core.specs.Recorded.{paths_of, own_of, channels_of, down_in, Become, HaveRoomToMark, marked_if_up, IsPart, IsPeer, IsStateOf, Records, RecordsAt};
 
-use super::{GREATEST_STAMP, Router};
+use super::Router;
 use crate::choices::the_best_is_the_route;
 use crate::peers::Peer;
 use prefix_lanes::Prefix;
@@ -21,6 +22,7 @@ use rib_tables::Rib;
 use router_model::laws::linked_routers_are_peers;
 use router_model::{RouterError, Stepped};
 use router_side::SideEnd;
+use run_model::GREATEST_STAMP;
 use snap_marker::{Channel, KeptPath, Part};
 use std::alloc::{AllocError, Global};
 
@@ -258,7 +260,7 @@ impl Router<'_> {
         stamp: u64,
     ) -> Result<Stepped, RouterError>
         requires first { IsPeer self.old.peers first }
-        requires few { stamp ≤ greatest_stamp }
+        requires few { stamp ≤ GREATEST_STAMP }
         ensures records { RecordsAt result self.old number first stamp self.new }
         ensures same { IsSame self.old self.new }
     {
@@ -298,7 +300,7 @@ impl Router<'_> {
         stamp: u64,
     ) -> Result<Stepped, RouterError>
         requires place { IsFound self.old.peers peer at }
-        requires stamp { stamp ≤ greatest_stamp }
+        requires stamp { stamp ≤ GREATEST_STAMP }
         ensures takes { TakesMark result self.old peer epoch number stamp self.new }
         ensures same { IsSame self.old self.new }
     {

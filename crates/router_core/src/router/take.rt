@@ -4,12 +4,13 @@ ghost use Rattle.std.specs.Prelude.{◌≡◌};
 ghost use Rattle.router_model.specs.Calls.{Take};
 ghost use Rattle.router_core.specs.Views.{IsSame, Answers};
 
-use super::{GREATEST_STAMP, Router};
+use super::Router;
 use link_epoch::Sign;
 use outbox::{Item, What};
 use ranked_policy::Asn;
 use router_model::{RouterError, Stepped};
 use router_side::laws::what_comes_keeps_fresh;
+use run_model::GREATEST_STAMP;
 
 impl Router<'_> {
     /// Takes the next item of a peer, whatever it is: a Dial or a Shut, a piece of octets, or a marker.

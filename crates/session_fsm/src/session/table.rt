@@ -16,21 +16,13 @@ use crate::event::FsmEvent::{
     UpdateMsgErr,
 };
 use crate::state::State;
+use bgp_values::{CEASE, FSM_ERROR, HOLD_TIMER_EXPIRED};
 
 /// Seconds until a dial is tried again (RFC 4271 section 10).
 const CONNECT_RETRY_TIME: u16 = 120;
 
 /// Seconds until the peer's OPEN has to be there (RFC 4271 section 8.2.2).
 const LARGE_HOLD_TIME: u16 = 240;
-
-/// NOTIFICATION code: Hold Timer Expired (RFC 4271 section 6.5).
-const HOLD_TIMER_EXPIRED: u8 = 4;
-
-/// NOTIFICATION code: Finite State Machine Error (RFC 4271 section 6.6).
-const FSM_ERROR: u8 = 5;
-
-/// NOTIFICATION code: Cease (RFC 4271 section 6.7).
-const CEASE: u8 = 6;
 
 impl Session {
     #[rattlefmt::skip]

@@ -1,11 +1,10 @@
-ghost use Rattle.session_fsm.specs.Table.{IsHoldTime};
+ghost use Rattle.bgp_values.specs.Ranges.{IsHoldTime};
 
 use super::*;
 use crate::actions::Action;
 use crate::actions::Action::{
     Act, Dial, Down, HangUp, SendAlive, SendGiven, SendNotice, SendOpen, Up,
 };
-use crate::config::is_hold_time;
 use crate::event::FsmEvent::{
     AutomaticStart, BgpHeaderErr, BgpOpen, BgpOpenMsgErr, ConnectRetryTimerExpires,
     HoldTimerExpires, KeepAliveMsg, KeepaliveTimerExpires, ManualStart, ManualStop, NotifMsg,
@@ -17,6 +16,7 @@ use crate::laws::{
     leaving_for_idle_hangs_up, nothing_is_acted_on_after_a_close, restart_waits_for_a_start,
     timers_run_out_in_their_last_second, up_and_down_take_turns, updates_act_in_established_alone,
 };
+use bgp_values::is_hold_time;
 use std::process::Abort;
 
 mod pairs;

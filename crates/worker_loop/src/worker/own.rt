@@ -1,28 +1,11 @@
 //! What the router of a worker does alone.
 
-ghost use Rattle.router_core.specs.Judging.{call_of};
-ghost use Rattle.router_core.specs.Views.{Answers, IsSame};
-
 use super::{Worker, WorkerFault, note, passed_over};
 use crate::around::{Desk, Gate, Lines};
-use router_core::{Call, Router};
+use router_core::Call;
+use router_model::Stepped;
 use router_model::laws::answers_are_steps;
-use router_model::{RouterError, Stepped};
 use world_core::Event;
-
-// Does what a router is asked to do.
-fn perform(router: &mut Router<'_>, call: &Call) -> Result<Stepped, RouterError>
-    ensures answers { Answers result router.old (call_of call.now) router.new }
-    ensures same { IsSame router.old router.new }
-{
-    match call {
-        Call::Obey(command) => router.command(*command),
-        Call::Tick => router.tick(),
-        Call::Handle(peer) => router.handle(*peer),
-        Call::Decide => router.decide(),
-        Call::Advertise => router.advertise(),
-    }
-}
 
 impl<'a, L: Lines, D: Desk, G: Gate> Worker<'a, L, D, G> {
     ghost use Rattle.std.specs.Prelude.{◌≡◌, IfOk};
@@ -39,7 +22,7 @@ impl<'a, L: Lines, D: Desk, G: Gate> Worker<'a, L, D, G> {
     {
         answers_are_steps();
         self.journal.events.reserve(1)?;
-        match perform(&mut self.router, call) {
+        match self.router.perform(call) {
             Ok(Stepped::Did) => {
                 note(&mut self.journal.events, self.router.stamp(), event);
                 Ok(())

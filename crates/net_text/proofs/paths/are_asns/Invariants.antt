@@ -1,7 +1,8 @@
 -- the answer is that of what is left
 use Rattle.std.proofs.Common.{◌≡◌, ◌+◌, cond, length, map}
 use Rattle.std.specs.List.{list_all}
-use Rattle.net_text.specs.Words.{value_of, is_asn, path_of}
+use Rattle.net_text.specs.Words.{value_of, path_of}
+use Rattle.bgp_values.specs.Ranges.{is_asn}
 use Rattle.net_text.specs.Taking.{parts_left}
 use Rattle.net_text.proofs.paths.are_asns.Given as goal
 

@@ -1,6 +1,7 @@
 -- the answer is that of what is left
 use Rattle.std.proofs.Common.{◌≡◌, ◌+◌, cond, length, map}
-use Rattle.net_text.specs.Words.{value_of, path_of, is_simple}
+use Rattle.net_text.specs.Words.{value_of, path_of}
+use Rattle.ranked_policy.specs.Tests.{is_simple}
 use Rattle.net_text.specs.Taking.{parts_left}
 use Rattle.net_text.proofs.paths.is_simple.Given as goal
 

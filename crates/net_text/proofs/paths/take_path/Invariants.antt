@@ -1,7 +1,8 @@
 -- the numbers passed are taken, and there is room for those that are left
 use Rattle.std.proofs.Common.{◌≡◌, ◌+◌, ◌++◌, true, cond, length, map, take}
 use Rattle.std.specs.List.{list_all}
-use Rattle.net_text.specs.Words.{value_of, is_asn, path_of}
+use Rattle.net_text.specs.Words.{value_of, path_of}
+use Rattle.bgp_values.specs.Ranges.{is_asn}
 use Rattle.net_text.specs.Taking.{parts_left}
 use Rattle.net_text.proofs.paths.take_path.Given as goal
 

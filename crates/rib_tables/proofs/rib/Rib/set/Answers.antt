@@ -9,7 +9,7 @@ use Rattle.rib_tables.specs.declared.row.Peer.{Peer}
 use Rattle.rib_tables.specs.declared.row.Row.{Row}
 use Rattle.rib_tables.specs.declared.word.Word.TheVariants.{Sequence}
 use Rattle.rib_tables.specs.Places.{has}
-use Rattle.rib_tables.specs.Words.{is_prefix}
+use Rattle.prefix_lanes.specs.Bits.{is_prefix}
 use Rattle.rib_tables.specs.Owners.{RibView, KeepsPath}
 use Rattle.rib_tables.specs.Rows.{keeping, view_of}
 use Rattle.rib_tables.proofs.WordLemmas.{is_prefix-true}

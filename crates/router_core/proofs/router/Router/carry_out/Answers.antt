@@ -5,7 +5,7 @@ use Rattle.router_model.specs.declared.refusal.RouterError.TheVariants.{Memory}
 use Rattle.router_model.specs.declared.refusal.Stepped.TheVariants.{Did}
 use Rattle.router_model.specs.Sides.{Side, NoMessage, carried}
 use Rattle.router_model.specs.Step.{moved}
-use Rattle.router_model.specs.Calls.{greatest_stamp}
+use Rattle.run_model.specs.declared.stamps.TheConstants.{GREATEST_STAMP}
 use Rattle.snap_marker.specs.Parts.{snapshots_of}
 use Rattle.router_side.specs.Drafts.{draft}
 use Rattle.router_side.specs.Freshness.{KeepsFresh}
@@ -39,9 +39,9 @@ returns-then-is_err-clause-carries c =
     let q : Peer = record { number = p.number; end = c.reserve.new.self } in
     let place = subst (λ (x : RouterView). IsFound x.peers v c.args.at) (sym c.self.view_is) c.requires.place in
     let ch : Changes r v c.args.at p q = record { place = place.2; here = c.index_mut.ensures.value; number = refl } in
-    let early : nat_lt greatest_stamp c.args.stamp ≡ false = grind (arith, nat_tests, c.if-stamp-gt-GREATEST_STAMP.false) in
+    let early : nat_lt GREATEST_STAMP c.args.stamp ≡ false = grind (arith, nat_tests, c.if-stamp-gt-GREATEST_STAMP.false) in
     subst (λ (x : RouterView). Carries (Err Memory) x v NoMessage (draft x.own_open NoMessage c.args.made.now) c.args.overflows c.args.stamp (with_peer r c.args.at q r.tables r.marks r.stamp)) c.self.view_is
-    (ends_memory (nat_lt greatest_stamp c.args.stamp) c.args.overflows (plain_of r) (record { router = moved (plain_of r).router v NoMessage (draft r.own_open NoMessage c.args.made.now); stamp = c.args.stamp })
+    (ends_memory (nat_lt GREATEST_STAMP c.args.stamp) c.args.overflows (plain_of r) (record { router = moved (plain_of r).router v NoMessage (draft r.own_open NoMessage c.args.made.now); stamp = c.args.stamp })
     (plain_of (with_peer r c.args.at q r.tables r.marks r.stamp)) early c.if-overflows.false (kept r v c.args.at p q ch r.marks c.reserve.ensures.side refl))
 
 -- it is carried out
@@ -65,7 +65,7 @@ invariant_of-self-2 c =
     let fresh = subst (λ (x : RouterView). KeepsFresh (sides_of x v) NoMessage (draft x.own_open NoMessage c.args.made.now)) (sym c.self.view_is) (c.requires.fresh c.if-overflows.false) in
     let is = c.carry.ensures.side ∙ ap (λ (s : Side). carried NoMessage s a) c.reserve.ensures.side in
     let on = subst (λ (s : Side). Followed r.tables c.carry.new.tables v (standing s) (standing (side c.carry.new.end))) c.reserve.ensures.side c.carry.ensures.tables in
-    let few : c.args.stamp ≤ greatest_stamp = omega (arith, c.if-stamp-gt-GREATEST_STAMP.false) in
+    let few : c.args.stamp ≤ GREATEST_STAMP = omega (arith, c.if-stamp-gt-GREATEST_STAMP.false) in
     stays r v c.args.at p q ch c.carry.new.tables c.close.new.marks c.args.stamp c.self.invariant few
     (tracks_moved r v c.args.at p q ch c.self.invariant a c.carry.new.tables fresh is on) (record { over = c.close.ensures.over; router = c.close.ensures.router })
 
@@ -80,8 +80,8 @@ returns-clause-carries c =
     let a = draft r.own_open NoMessage c.args.made.now in
     let is = c.carry.ensures.side ∙ ap (λ (s : Side). carried NoMessage s a) c.reserve.ensures.side in
     let on = leaves r.tables c.carry.new.tables v (standing (side c.reserve.new.self)) (standing (side c.carry.new.end)) c.carry.ensures.tables in
-    let early : nat_lt greatest_stamp c.args.stamp ≡ false = grind (arith, nat_tests, c.if-stamp-gt-GREATEST_STAMP.false) in
+    let early : nat_lt GREATEST_STAMP c.args.stamp ≡ false = grind (arith, nat_tests, c.if-stamp-gt-GREATEST_STAMP.false) in
     subst (λ (x : RouterView). Carries (Ok Did) x v NoMessage (draft x.own_open NoMessage c.args.made.now) c.args.overflows c.args.stamp (with_peer r c.args.at q c.carry.new.tables c.close.new.marks c.args.stamp)) c.self.view_is
-    (ends_did (nat_lt greatest_stamp c.args.stamp) c.args.overflows (plain_of r) (record { router = moved (plain_of r).router v NoMessage a; stamp = c.args.stamp })
+    (ends_did (nat_lt GREATEST_STAMP c.args.stamp) c.args.overflows (plain_of r) (record { router = moved (plain_of r).router v NoMessage a; stamp = c.args.stamp })
     (plain_of (with_peer r c.args.at q c.carry.new.tables c.close.new.marks c.args.stamp)) early c.if-overflows.false
     (moves r v c.args.at p q ch c.carry.new.tables c.close.new.marks c.args.stamp NoMessage a is on (nothing_seen a.acts v _ (snapshots_of c.close.new.marks) c.close.ensures.closed)))

@@ -4,7 +4,8 @@ use Rattle.std.proofs.lemmas.Bool.Decides.{nat_tests}
 use Rattle.bgp_framing.specs.Held.{is_waiting}
 use Rattle.router_model.specs.declared.refusal.RouterError.TheVariants as error
 use Rattle.router_model.specs.declared.refusal.Stepped.TheVariants as stepped
-use Rattle.router_model.specs.Calls.{Handle, greatest_stamp}
+use Rattle.router_model.specs.Calls.{Handle}
+use Rattle.run_model.specs.declared.stamps.TheConstants.{GREATEST_STAMP}
 use Rattle.router_side.specs.SideOf.{side}
 use Rattle.router_core.specs.declared.peers.Peer.{Peer}
 use Rattle.router_core.specs.Views.{RouterView, IsFound, Answers, plain_of}
@@ -33,7 +34,7 @@ pub returns-then-stamp-gt-GREATEST_STAMP-clause-answers : goal.returns-then-stam
 returns-then-stamp-gt-GREATEST_STAMP-clause-answers c =
     let r : RouterView = record { net = c.self.inside.network.now; number = c.self.inside.number; own_open = c.self.inside.own_open; peers = c.self.inside.peers.items; tables = c.self.inside.tables; marks = c.self.inside.marks; stamp = c.self.inside.stamp } in
     let found = subst (λ (x : RouterView). IsFound x.peers c.args.peer c.in-Some.at) (sym c.self.view_is) c.in-Some.ensures.place in
-    let late : nat_lt greatest_stamp (r.stamp + 1) ≡ true = grind (arith, nat_tests, c.if-stamp-gt-GREATEST_STAMP.true) in
+    let late : nat_lt GREATEST_STAMP (r.stamp + 1) ≡ true = grind (arith, nat_tests, c.if-stamp-gt-GREATEST_STAMP.true) in
     subst (λ (x : RouterView). Answers (Err error.StampEnd) x (Handle c.args.peer) x) c.self.view_is (λ g e ranks.
     hands_late g r c.args.peer c.in-Some.at c.index.result.now (of_sound g r c.self.invariant e) found.2 c.index.ensures found.1 (sym c.is_waiting.ensures ∙ c.if-not-is_waiting.false) late)
 
@@ -64,7 +65,7 @@ invariant_of-self c =
     let ch : Changes r v c.in-Some.at p q = record { place = found.2; here = c.index_mut.ensures.value; number = refl } in
     let t = c.handle_front.new.tables in
     let m = c.handle_front.new.marks in
-    let few : r.stamp + 1 ≤ greatest_stamp = omega (arith, c.if-stamp-gt-GREATEST_STAMP.false) in
+    let few : r.stamp + 1 ≤ GREATEST_STAMP = omega (arith, c.if-stamp-gt-GREATEST_STAMP.false) in
     let keeps = c.what_comes_keeps_fresh.ensures.messages r.own_open (front (rule_of v) (side p.end).held) (side p.end) (is_fresh r v c.in-Some.at p q ch c.self.invariant) in
     let tracks = tracks_handled c.the_word_follows.ensures r v c.in-Some.at p q ch c.self.invariant t (snapshots_of r.marks) (snapshots_of m) keeps c.in-Ok.ensures.ok in
     stays r v c.in-Some.at p q ch t m (r.stamp + 1) c.self.invariant few tracks (record { over = c.handle_front.ensures.over; router = c.handle_front.ensures.router })
@@ -81,7 +82,7 @@ returns-in-Ok-clause-answers c =
     let m = c.handle_front.new.marks in
     let same : p ≡ c.index.result.now = c.index_mut.ensures.value ∙ here_same r.peers v c.in-Some.at p c.index.result.now found.2 ∙ sym c.index.ensures in
     let waits = ap (λ (w : Peer). is_waiting (side w.end).held) same ∙ sym c.is_waiting.ensures ∙ c.if-not-is_waiting.false in
-    let late : nat_lt greatest_stamp (r.stamp + 1) ≡ false = grind (arith, nat_tests, c.if-stamp-gt-GREATEST_STAMP.false) in
+    let late : nat_lt GREATEST_STAMP (r.stamp + 1) ≡ false = grind (arith, nat_tests, c.if-stamp-gt-GREATEST_STAMP.false) in
     let h = c.in-Ok.ensures.ok in
     let leaves = leaves_handled c.the_word_follows.ensures r v c.in-Some.at p q ch c.self.invariant t (snapshots_of r.marks) (snapshots_of m) h in
     let sees = h.sees ∙ seen_is h.draft.acts h.hand v (closed (close_at v h.draft.left) (snapshots_of r.marks)) in
@@ -116,7 +117,7 @@ returns-in-Err-clause-answers c =
     let m = c.handle_front.new.marks in
     let same : p ≡ c.index.result.now = c.index_mut.ensures.value ∙ here_same r.peers v c.in-Some.at p c.index.result.now found.2 ∙ sym c.index.ensures in
     let waits = ap (λ (w : Peer). is_waiting (side w.end).held) same ∙ sym c.is_waiting.ensures ∙ c.if-not-is_waiting.false in
-    let late : nat_lt greatest_stamp (r.stamp + 1) ≡ false = grind (arith, nat_tests, c.if-stamp-gt-GREATEST_STAMP.false) in
+    let late : nat_lt GREATEST_STAMP (r.stamp + 1) ≡ false = grind (arith, nat_tests, c.if-stamp-gt-GREATEST_STAMP.false) in
     let as_it_was = subst (λ (w : RibView). plain_of (with_peer r c.in-Some.at q w m r.stamp) ≡ plain_of r) (sym c.in-Err.ensures.tables) (kept r v c.in-Some.at p q ch m c.in-Err.ensures.end c.in-Err.ensures.marks) in
     subst (λ (x : RouterView). Answers (Err error.Memory) x (Handle v) (with_peer r c.in-Some.at q t m r.stamp)) c.self.view_is (λ g e ranks.
     hands_refused g r v c.in-Some.at p (of_sound g r c.self.invariant e) found.2 c.index_mut.ensures.value found.1 (plain_of (with_peer r c.in-Some.at q t m r.stamp)) as_it_was waits late)

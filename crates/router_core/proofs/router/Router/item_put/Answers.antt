@@ -2,7 +2,8 @@ use Rattle.std.proofs.Common.{◌∙◌, ◌+◌, ◌≤◌, ap, sym, refl, subs
 use Rattle.std.specs.Prelude.{is_some, Ok}
 use Rattle.std.proofs.lemmas.Bool.Decides.{nat_tests}
 use Rattle.router_model.specs.declared.refusal.Stepped.TheVariants as stepped
-use Rattle.router_model.specs.Calls.{Put, greatest_stamp}
+use Rattle.router_model.specs.Calls.{Put}
+use Rattle.run_model.specs.declared.stamps.TheConstants.{GREATEST_STAMP}
 use Rattle.router_side.specs.SideOf.{side}
 use Rattle.router_core.specs.declared.peers.Peer.{Peer}
 use Rattle.router_core.specs.Views.{RouterView, listed, IsFound, Answers, HasNext}
@@ -29,7 +30,7 @@ invariant_of-self c =
     let p = c.index_mut.result.now in
     let q : Peer = record { number = p.number; end = c.item_put.new.self } in
     let ch : Changes r c.args.peer c.unwrap-at.result p q = record { place = found.2; here = c.index_mut.ensures.value; number = refl } in
-    let few : r.stamp + 1 ≤ greatest_stamp = grind (arith, nat_tests, has.2) in
+    let few : r.stamp + 1 ≤ GREATEST_STAMP = grind (arith, nat_tests, has.2) in
     let tracks = tracks_alike r c.args.peer c.unwrap-at.result p q ch c.self.invariant (ap (λ (z : Side). z.session) c.item_put.ensures) (ap (λ (z : Side). z.link) c.item_put.ensures)
     (ap (λ (z : Side). z.acted) c.item_put.ensures) (ap (λ (z : Side). z.sent) c.item_put.ensures) in
     stays r c.args.peer c.unwrap-at.result p q ch r.tables r.marks (r.stamp + 1) c.self.invariant few tracks (records_same r)

@@ -1,6 +1,5 @@
 use Rattle.std.specs.Prelude.{Err}
 use Rattle.router_model.specs.declared.refusal.RouterError.TheVariants as error
-use Rattle.router_model.specs.Calls.{greatest_stamp}
 use Rattle.router_model.specs.Calls as calls
 use Rattle.router_core.specs.Views.{plain_of}
 use Rattle.router_core.proofs.Advertising.{is_blocked}

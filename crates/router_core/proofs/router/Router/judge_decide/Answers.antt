@@ -1,7 +1,6 @@
 use Rattle.std.proofs.Common.{◌∙◌, subst}
 use Rattle.std.specs.Prelude.{Ok}
 use Rattle.router_model.specs.declared.refusal.Stepped.TheVariants as stepped
-use Rattle.router_model.specs.Calls.{greatest_stamp}
 use Rattle.router_model.specs.Calls as calls
 use Rattle.router_core.specs.Views.{RouterView, plain_of}
 use Rattle.router_core.specs.Judging.{JudgesAs}

@@ -1,5 +1,4 @@
 use Rattle.std.proofs.Common.{◌∙◌, sym, subst}
-use Rattle.router_model.specs.Calls.{greatest_stamp}
 use Rattle.router_model.specs.Calls as calls
 use Rattle.router_model.specs.declared.command.Command.TheVariants as command
 use Rattle.router_core.specs.Views.{RouterView, IsFound}

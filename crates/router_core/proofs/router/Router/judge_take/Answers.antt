@@ -2,7 +2,7 @@ use Rattle.std.proofs.Common.{◌≡◌, ◌∙◌, ◌+◌, Bool, false, ap, sy
 use Rattle.std.specs.Prelude.{nat_lt, max, Err}
 use Rattle.std.proofs.lemmas.Bool.Decides.{nat_tests}
 use Rattle.router_model.specs.declared.refusal.RouterError.TheVariants as error
-use Rattle.router_model.specs.Calls.{greatest_stamp}
+use Rattle.run_model.specs.declared.stamps.TheConstants.{GREATEST_STAMP}
 use Rattle.router_model.specs.Calls as calls
 use Rattle.router_core.specs.Views.{RouterView, IsFound, plain_of}
 use Rattle.router_core.specs.Judging.{verdict_of, JudgesAs}
@@ -30,7 +30,7 @@ returns-in-Dial c =
     let found = subst (λ (x : RouterView). IsFound x.peers c.args.peer c.in-Some.at) (sym c.self.view_is) c.in-Some.ensures.place in
     let p = c.index.result.now in
     let stamp = c.args.item.now.stamp in
-    let late : nat_lt greatest_stamp c.saturating_add-stamp.result ≡ nat_lt greatest_stamp (max r.stamp stamp + 1) = grind (arith, nat_tests, c.max.ensures, c.saturating_add-stamp.ensures) in
+    let late : nat_lt GREATEST_STAMP c.saturating_add-stamp.result ≡ nat_lt GREATEST_STAMP (max r.stamp stamp + 1) = grind (arith, nat_tests, c.max.ensures, c.saturating_add-stamp.ensures) in
     let free = sym c.is_waiting.ensures ∙ c.if-is_waiting.false in
     rw c.in-Dial.is
     (subst (λ (x : RouterView). JudgesAs c.verdict.result x (calls.Take c.args.peer stamp (item.Dial c.in-Dial.number))) c.self.view_is (λ g e ranks.
@@ -45,7 +45,7 @@ returns-in-Shut c =
     let p = c.index.result.now in
     let stamp = c.args.item.now.stamp in
     let what = c.args.item.now.what in
-    let late : nat_lt greatest_stamp c.saturating_add-stamp.result ≡ nat_lt greatest_stamp (max r.stamp stamp + 1) = grind (arith, nat_tests, c.max.ensures, c.saturating_add-stamp.ensures) in
+    let late : nat_lt GREATEST_STAMP c.saturating_add-stamp.result ≡ nat_lt GREATEST_STAMP (max r.stamp stamp + 1) = grind (arith, nat_tests, c.max.ensures, c.saturating_add-stamp.ensures) in
     let free = sym c.is_waiting.ensures ∙ c.if-is_waiting.false in
     subst (λ (x : RouterView). JudgesAs c.verdict-in-Shut.result x (calls.Take c.args.peer stamp what)) c.self.view_is (λ g e ranks.
     let none : overflows_taking g r.number (plain_of r).router c.args.peer what ≡ false = elim c.in-Shut.is [

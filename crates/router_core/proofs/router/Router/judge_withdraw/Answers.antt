@@ -2,7 +2,7 @@ use Rattle.std.proofs.Common.{◌∙◌, ◌+◌, subst, refl}
 use Rattle.std.specs.Prelude.{nat_lt, Ok, Err}
 use Rattle.router_model.specs.declared.refusal.RouterError.TheVariants as error
 use Rattle.router_model.specs.declared.refusal.Stepped.TheVariants as stepped
-use Rattle.router_model.specs.Calls.{greatest_stamp}
+use Rattle.run_model.specs.declared.stamps.TheConstants.{GREATEST_STAMP}
 use Rattle.router_model.specs.Calls as calls
 use Rattle.router_model.specs.declared.command.Command.TheVariants as command
 use Rattle.router_core.specs.Views.{RouterView, plain_of}
@@ -32,5 +32,5 @@ pub returns : goal.returns
 returns c =
     let r : RouterView = record { net = c.self.inside.network.now; number = c.self.inside.number; own_open = c.self.inside.own_open; peers = c.self.inside.peers.items; tables = c.self.inside.tables; marks = c.self.inside.marks; stamp = c.self.inside.stamp } in
     subst (λ (x : RouterView). JudgesAs c.verdict.result x (calls.Obey (command.Withdraw c.args.prefix.now))) c.self.view_is (λ g e ranks.
-    c.verdict.ensures ∙ origin_judged (calls.overflows_at g r.number (plain_of r).router) (is_origin g.net.origins r.number c.args.prefix.now) (lists r.tables.originated c.args.prefix.now) (nat_lt greatest_stamp (r.stamp + 1)) error.NotOrigin (alone (Obeys (command.Withdraw c.args.prefix.now)))
+    c.verdict.ensures ∙ origin_judged (calls.overflows_at g r.number (plain_of r).router) (is_origin g.net.origins r.number c.args.prefix.now) (lists r.tables.originated c.args.prefix.now) (nat_lt GREATEST_STAMP (r.stamp + 1)) error.NotOrigin (alone (Obeys (command.Withdraw c.args.prefix.now)))
     refl (origin g r e c.args.prefix.now c.is_origin.result c.is_origin.ensures c.if-not-is_origin.false c.is_originated.result c.is_originated.ensures) (listed g r e c.args.prefix.now c.is_origin.result c.is_origin.ensures c.if-not-is_origin.false c.is_originated.result c.is_originated.ensures ∙ c.if-not-is_originated.false))

@@ -2,7 +2,7 @@ use Rattle.std.proofs.Common.{◌≡◌, ◌<◌, true, false, length, arith, ru
 use Rattle.std.specs.Prelude.{nat_lt}
 use Rattle.std.proofs.lemmas.Bool.Decides.{nat_tests}
 use Rattle.outbox.specs.Items.{octets_waiting}
-use Rattle.router_model.specs.Calls.{outbox_limit}
+use Rattle.router_model.specs.declared.limits.TheConstants.{OUTBOX_LIMIT}
 use Rattle.router_side.specs.SideOf.{side}
 use Rattle.router_core.specs.declared.router.choose.Next.TheVariants as next
 use Rattle.router_core.specs.Views.{RouterView, IsNext}
@@ -26,7 +26,7 @@ loop-at-preserved c =
     let r : RouterView = record { net = c.self.inside.network.now; number = c.self.inside.number; own_open = c.self.inside.own_open; peers = c.self.inside.peers.items; tables = c.self.inside.tables; marks = c.self.inside.marks; stamp = c.self.inside.stamp } in
     let lt : c.loop-at.at < length r.peers = search rules in
     let p = c.index-peer.result.now in
-    let full : nat_lt (octets_waiting (side p.end).outbox) outbox_limit ≡ false = grind (arith, nat_tests, c.octets_waiting.ensures, c.if-octets_waiting-lt-OUTBOX_LIMIT.false) in
+    let full : nat_lt (octets_waiting (side p.end).outbox) OUTBOX_LIMIT ≡ false = grind (arith, nat_tests, c.octets_waiting.ensures, c.if-octets_waiting-lt-OUTBOX_LIMIT.false) in
     rw c.or-blocked.ensures (past_full r c.self.invariant c.loop-at.at p lt c.index-peer.ensures c.in-Some.prefix c.in-Some.ensures full c.loop-at.blocked c.loop-at.invariant)
 
 pub returns-then-octets_waiting-lt-OUTBOX_LIMIT : goal.returns-then-octets_waiting-lt-OUTBOX_LIMIT
@@ -34,7 +34,7 @@ returns-then-octets_waiting-lt-OUTBOX_LIMIT c =
     let r : RouterView = record { net = c.self.inside.network.now; number = c.self.inside.number; own_open = c.self.inside.own_open; peers = c.self.inside.peers.items; tables = c.self.inside.tables; marks = c.self.inside.marks; stamp = c.self.inside.stamp } in
     let lt : c.loop-at.at < length r.peers = search rules in
     let p = c.index-peer.result.now in
-    let free : nat_lt (octets_waiting (side p.end).outbox) outbox_limit ≡ true = grind (arith, nat_tests, c.octets_waiting.ensures, c.if-octets_waiting-lt-OUTBOX_LIMIT.true) in
+    let free : nat_lt (octets_waiting (side p.end).outbox) OUTBOX_LIMIT ≡ true = grind (arith, nat_tests, c.octets_waiting.ensures, c.if-octets_waiting-lt-OUTBOX_LIMIT.true) in
     let q = c.in-Some.prefix in
     subst (λ (x : RouterView). IsNext x (next.Peer c.loop-at.at q)) c.self.view_is
     (is_next r c.self.invariant c.loop-at.at p lt c.index-peer.ensures q c.in-Some.ensures free c.loop-at.blocked c.loop-at.invariant)

@@ -7,7 +7,8 @@ use Rattle.session_fsm.specs.declared.event.FsmEvent.TheVariants.{ManualStop}
 use Rattle.router_model.specs.declared.command.Command.TheVariants.{Restart}
 use Rattle.router_model.specs.Sides.{met}
 use Rattle.router_model.specs.Step.{forgetting}
-use Rattle.router_model.specs.Calls.{Stamped, Obey, greatest_stamp}
+use Rattle.router_model.specs.Calls.{Stamped, Obey}
+use Rattle.run_model.specs.declared.stamps.TheConstants.{GREATEST_STAMP}
 use Rattle.router_core.specs.Views.{RouterView, Answers, plain_of}
 use Rattle.router_core.proofs.Snapshots.{with_peers, same_plain}
 use Rattle.router_core.proofs.Carrying.{ends_did, ends_memory}
@@ -22,12 +23,12 @@ invariant_of-self c =
 pub returns-in_default-clause-answers : goal.returns-in_default-clause-answers
 returns-in_default-clause-answers c =
     let r : RouterView = record { net = c.self.inside.network.now; number = c.self.inside.number; own_open = c.self.inside.own_open; peers = c.self.inside.peers.items; tables = c.self.inside.tables; marks = c.self.inside.marks; stamp = c.self.inside.stamp } in
-    let early : nat_lt greatest_stamp (r.stamp + 1) ≡ false = grind (arith, nat_tests, c.if-stamp-gt-GREATEST_STAMP.false) in
+    let early : nat_lt GREATEST_STAMP (r.stamp + 1) ≡ false = grind (arith, nat_tests, c.if-stamp-gt-GREATEST_STAMP.false) in
     let qs = c.prepare.new.peers.items in
     let same = same_plain r qs r.marks c.prepare.ensures.same refl in
     subst (λ (x : RouterView). Answers (Err error.Memory) x (Obey Restart) (with_peers r qs r.marks r.stamp)) c.self.view_is (λ g e ranks.
     restarts g r e c.self.invariant (Err error.Memory) (plain_of (with_peers r qs r.marks r.stamp))
-    (ends_memory (nat_lt greatest_stamp (r.stamp + 1)) false (plain_of r) (restarted g r e c.self.invariant) (plain_of (with_peers r qs r.marks r.stamp)) early refl same))
+    (ends_memory (nat_lt GREATEST_STAMP (r.stamp + 1)) false (plain_of r) (restarted g r e c.self.invariant) (plain_of (with_peers r qs r.marks r.stamp)) early refl same))
 
 pub invariant_of-self-2 : goal.invariant_of-self-2
 invariant_of-self-2 c =
@@ -41,18 +42,18 @@ pub invariant_of-self-3 : goal.invariant_of-self-3
 invariant_of-self-3 c =
     let r : RouterView = record { net = c.self.inside.network.now; number = c.self.inside.number; own_open = c.self.inside.own_open; peers = c.self.inside.peers.items; tables = c.self.inside.tables; marks = c.self.inside.marks; stamp = c.self.inside.stamp } in
     let w : RouterView = record { net = c.self-2.inside.network.now; number = c.self-2.inside.number; own_open = c.self-2.inside.own_open; peers = c.self-2.inside.peers.items; tables = c.self-2.inside.tables; marks = c.self-2.inside.marks; stamp = c.self-2.inside.stamp } in
-    let few : r.stamp + 1 ≤ greatest_stamp = omega (arith, c.if-stamp-gt-GREATEST_STAMP.false) in
+    let few : r.stamp + 1 ≤ GREATEST_STAMP = omega (arith, c.if-stamp-gt-GREATEST_STAMP.false) in
     cleared_sound w c.clear.new.self (r.stamp + 1) c.self-2.invariant few c.clear.ensures
 
 pub returns-clause-answers : goal.returns-clause-answers
 returns-clause-answers c =
     let r : RouterView = record { net = c.self.inside.network.now; number = c.self.inside.number; own_open = c.self.inside.own_open; peers = c.self.inside.peers.items; tables = c.self.inside.tables; marks = c.self.inside.marks; stamp = c.self.inside.stamp } in
     let w : RouterView = record { net = c.self-2.inside.network.now; number = c.self-2.inside.number; own_open = c.self-2.inside.own_open; peers = c.self-2.inside.peers.items; tables = c.self-2.inside.tables; marks = c.self-2.inside.marks; stamp = c.self-2.inside.stamp } in
-    let early : nat_lt greatest_stamp (r.stamp + 1) ≡ false = grind (arith, nat_tests, c.if-stamp-gt-GREATEST_STAMP.false) in
+    let early : nat_lt GREATEST_STAMP (r.stamp + 1) ≡ false = grind (arith, nat_tests, c.if-stamp-gt-GREATEST_STAMP.false) in
     let y = at_stamp w c.clear.new.self (r.stamp + 1) in
     subst (λ (x : RouterView). Answers (Ok stepped.Did) x (Obey Restart) y) c.self.view_is (λ g e ranks.
     restarts g r e c.self.invariant (Ok stepped.Did) (plain_of y)
-    (ends_did (nat_lt greatest_stamp (r.stamp + 1)) false (plain_of r) (restarted g r e c.self.invariant) (plain_of y) early refl
+    (ends_did (nat_lt GREATEST_STAMP (r.stamp + 1)) false (plain_of r) (restarted g r e c.self.invariant) (plain_of y) early refl
     (cleared w c.clear.new.self (r.stamp + 1) c.clear.ensures
     ∙ ap (λ (k : RouterView). record { router = forgetting (plain_of k).router; stamp = r.stamp + 1 }) c.self-2.view_is
     ∙ ap (λ (k : Stamped). record { router = forgetting k.router; stamp = r.stamp + 1 })

@@ -6,7 +6,8 @@ use Rattle.outbox.specs.declared.item.What.TheVariants as item
 use Rattle.router_model.specs.declared.refusal.RouterError.TheVariants as error
 use Rattle.router_model.specs.declared.refusal.Stepped.TheVariants as stepped
 use Rattle.router_model.specs.Sides.{Side, Draft, NoMessage, fed, signed}
-use Rattle.router_model.specs.Calls.{Take, greatest_stamp}
+use Rattle.router_model.specs.Calls.{Take}
+use Rattle.run_model.specs.declared.stamps.TheConstants.{GREATEST_STAMP}
 use Rattle.router_side.specs.Drafts.{draft}
 use Rattle.link_epoch.specs.declared.link_end.Sign.TheVariants as sign
 use Rattle.router_side.specs.Freshness.{KeepsFresh}
@@ -30,7 +31,7 @@ pub returns-then-stamp-gt-GREATEST_STAMP-clause-answers : goal.returns-then-stam
 returns-then-stamp-gt-GREATEST_STAMP-clause-answers c =
     let r : RouterView = record { net = c.self.inside.network.now; number = c.self.inside.number; own_open = c.self.inside.own_open; peers = c.self.inside.peers.items; tables = c.self.inside.tables; marks = c.self.inside.marks; stamp = c.self.inside.stamp } in
     let found = subst (λ (x : RouterView). IsFound x.peers c.args.peer c.in-Some.at) (sym c.self.view_is) c.in-Some.ensures.place in
-    let late : nat_lt greatest_stamp (max r.stamp c.args.item.now.stamp + 1) ≡ true = grind (arith, nat_tests, c.if-stamp-gt-GREATEST_STAMP.true, c.max.ensures, c.saturating_add-stamp.ensures) in
+    let late : nat_lt GREATEST_STAMP (max r.stamp c.args.item.now.stamp + 1) ≡ true = grind (arith, nat_tests, c.if-stamp-gt-GREATEST_STAMP.true, c.max.ensures, c.saturating_add-stamp.ensures) in
     subst (λ (x : RouterView). Answers (Err error.StampEnd) x (Take c.args.peer c.args.item.now.stamp c.args.item.now.what) x) c.self.view_is (λ g e ranks.
     takes_late g r c.args.peer c.in-Some.at c.index.result.now (of_sound g r c.self.invariant e) found.2 c.index.ensures found.1 c.args.item.now.stamp c.args.item.now.what
     (sym c.is_waiting.ensures ∙ c.if-is_waiting.false) late)
@@ -42,7 +43,7 @@ invariant_of-self c =
     let p = c.index_mut.result.now in
     let q : Peer = record { number = p.number; end = c.take_piece.new.self } in
     let ch : Changes r c.args.peer c.in-Some.at p q = record { place = found.2; here = c.index_mut.ensures.value; number = refl } in
-    let few : c.saturating_add-stamp.result ≤ greatest_stamp = omega (arith, c.if-stamp-gt-GREATEST_STAMP.false) in
+    let few : c.saturating_add-stamp.result ≤ GREATEST_STAMP = omega (arith, c.if-stamp-gt-GREATEST_STAMP.false) in
     let on = c.take_piece.ensures ∙ fed_is (side p.end) c.in-Piece.epoch c.as_slice.result.now in
     let tracks = tracks_alike r c.args.peer c.in-Some.at p q ch c.self.invariant (ap (λ (z : Side). z.session) on) (ap (λ (z : Side). z.link) on) (ap (λ (z : Side). z.acted) on) (ap (λ (z : Side). z.sent) on) in
     stays r c.args.peer c.in-Some.at p q ch r.tables r.marks c.saturating_add-stamp.result c.self.invariant few tracks (records_same r)
@@ -91,7 +92,7 @@ returns-in-Piece-clause-answers c =
     let ch : Changes r c.args.peer c.in-Some.at p q = record { place = found.2; here = c.index_mut.ensures.value; number = refl } in
     let same : p ≡ c.index.result.now = c.index_mut.ensures.value ∙ here_same r.peers c.args.peer c.in-Some.at p c.index.result.now found.2 ∙ sym c.index.ensures in
     let free = ap (λ (w : Peer). is_waiting (side w.end).held) same ∙ sym c.is_waiting.ensures ∙ c.if-is_waiting.false in
-    let late : nat_lt greatest_stamp (max r.stamp c.args.item.now.stamp + 1) ≡ false = grind (arith, nat_tests, c.if-stamp-gt-GREATEST_STAMP.false, next) in
+    let late : nat_lt GREATEST_STAMP (max r.stamp c.args.item.now.stamp + 1) ≡ false = grind (arith, nat_tests, c.if-stamp-gt-GREATEST_STAMP.false, next) in
     let is = c.take_piece.ensures ∙ ap (fed (side p.end) c.in-Piece.epoch) c.as_slice.ensures.value in
     rw (c.in-Piece.is, next)
     (subst (λ (x : RouterView). Answers (Ok stepped.Did) x (Take c.args.peer c.args.item.now.stamp (item.Piece c.in-Piece.epoch c.in-Piece.octets)) (with_peer r c.in-Some.at q r.tables r.marks (max r.stamp c.args.item.now.stamp + 1))) c.self.view_is (λ g e ranks.
@@ -120,7 +121,7 @@ returns-in-Mark-clause-answers c =
     let r : RouterView = record { net = c.self.inside.network.now; number = c.self.inside.number; own_open = c.self.inside.own_open; peers = c.self.inside.peers.items; tables = c.self.inside.tables; marks = c.self.inside.marks; stamp = c.self.inside.stamp } in
     let found = subst (λ (x : RouterView). IsFound x.peers c.args.peer c.in-Some.at) (sym c.self.view_is) c.in-Some.ensures.place in
     let next : c.saturating_add-stamp.result ≡ max r.stamp c.args.item.now.stamp + 1 = omega (arith, c.if-stamp-gt-GREATEST_STAMP.false, c.max.ensures, c.saturating_add-stamp.ensures) in
-    let late : nat_lt greatest_stamp (max r.stamp c.args.item.now.stamp + 1) ≡ false = grind (arith, nat_tests, c.if-stamp-gt-GREATEST_STAMP.false, next) in
+    let late : nat_lt GREATEST_STAMP (max r.stamp c.args.item.now.stamp + 1) ≡ false = grind (arith, nat_tests, c.if-stamp-gt-GREATEST_STAMP.false, next) in
     let takes = subst (λ n. TakesMark c.take_mark.result r c.args.peer c.in-Mark.epoch c.in-Mark.number n c.take_mark.new.self) next
     (subst (λ (x : RouterView). TakesMark c.take_mark.result x c.args.peer c.in-Mark.epoch c.in-Mark.number c.saturating_add-stamp.result c.take_mark.new.self) (sym c.self.view_is) c.take_mark.ensures.takes) in
     rw c.in-Mark.is

@@ -7,7 +7,7 @@ use Rattle.router_model.specs.declared.refusal.Stepped.TheVariants as stepped
 use Rattle.router_model.specs.Settings.{identifier}
 use Rattle.router_model.specs.Sides.{Side, is_up, told}
 use Rattle.router_model.specs.State.{telling}
-use Rattle.router_model.specs.Calls.{greatest_stamp}
+use Rattle.run_model.specs.declared.stamps.TheConstants.{GREATEST_STAMP}
 use Rattle.router_side.specs.SideOf.{side}
 use Rattle.router_core.specs.declared.peers.Peer.{Peer}
 use Rattle.router_core.specs.Views.{RouterView, IsAt, MayTell, Tells, sides_of}
@@ -50,7 +50,7 @@ returns-in_default-reserve_telling-clause-tells c =
     let is = c.index_mut.ensures.value in
     let kept : Peer = record { number = p.number; end = c.reserve_telling.new.self } in
     let still : side kept.end ≡ sides_of r p.number = c.reserve_telling.ensures.side ∙ here r c.self.invariant c.args.at q may p is in
-    let early : nat_lt greatest_stamp (r.stamp + 1) ≡ false = grind (arith, nat_tests, c.if-stamp-gt-GREATEST_STAMP.false) in
+    let early : nat_lt GREATEST_STAMP (r.stamp + 1) ≡ false = grind (arith, nat_tests, c.if-stamp-gt-GREATEST_STAMP.false) in
     subst (λ (x : RouterView). (v : ℕ) → IsAt x.peers v c.args.at → Tells (Err error.Memory) x v q (with_peer_and_tables r c.args.at kept r.tables r.stamp)) c.self.view_is (λ v at.
     rw early (refl, plain_still r c.self.invariant p.number c.args.at (place r c.self.invariant c.args.at q may p is) kept refl still))
 
@@ -90,7 +90,7 @@ returns-in_default-tell-clause-tells c =
     let is = c.index_mut.ensures.value in
     let kept : Peer = record { number = p.number; end = c.reserve_telling.new.self } in
     let still : side kept.end ≡ sides_of r p.number = c.reserve_telling.ensures.side ∙ here r c.self.invariant c.args.at q may p is in
-    let early : nat_lt greatest_stamp (r.stamp + 1) ≡ false = grind (arith, nat_tests, c.if-stamp-gt-GREATEST_STAMP.false) in
+    let early : nat_lt GREATEST_STAMP (r.stamp + 1) ≡ false = grind (arith, nat_tests, c.if-stamp-gt-GREATEST_STAMP.false) in
     rw c.in_default-tell.ensures.err
     (subst (λ (x : RouterView). (v : ℕ) → IsAt x.peers v c.args.at → Tells (Err error.Memory) x v q (with_peer_and_tables r c.args.at kept r.tables r.stamp)) c.self.view_is (λ v at.
     rw early (refl, plain_still r c.self.invariant p.number c.args.at (place r c.self.invariant c.args.at q may p is) kept refl still)))
@@ -119,7 +119,7 @@ invariant_of-self-2 c =
     let before : side c.reserve_telling.new.self ≡ sides_of r p.number = c.reserve_telling.ensures.side ∙ here r c.self.invariant c.args.at q may p is in
     let says : side told_peer.end ≡ told (sides_of r p.number) (telling (identifier r.net.routers r.number) q (path_of r.tables.kept q)) =
     c.tell-2.ensures ∙ ap (λ (s : Side). told s c.in-Ok.update) before ∙ ap (told (sides_of r p.number)) update in
-    let few : r.stamp + 1 ≤ greatest_stamp = omega (arith, c.if-stamp-gt-GREATEST_STAMP.false) in
+    let few : r.stamp + 1 ≤ GREATEST_STAMP = omega (arith, c.if-stamp-gt-GREATEST_STAMP.false) in
     sound_told r c.self.invariant p.number c.args.at (place r c.self.invariant c.args.at q may p is) told_peer refl q (up r c.self.invariant c.args.at q may p is) c.tell.new.self c.in-Ok-tell.ensures.ok says (r.stamp + 1) few
 
 pub returns-clause-tells : goal.returns-clause-tells
@@ -135,7 +135,7 @@ returns-clause-tells c =
     let before : side c.reserve_telling.new.self ≡ sides_of r p.number = c.reserve_telling.ensures.side ∙ here r c.self.invariant c.args.at q may p is in
     let says : side told_peer.end ≡ told (sides_of r p.number) (telling (identifier r.net.routers r.number) q (path_of r.tables.kept q)) =
     c.tell-2.ensures ∙ ap (λ (s : Side). told s c.in-Ok.update) before ∙ ap (told (sides_of r p.number)) update in
-    let early : nat_lt greatest_stamp (r.stamp + 1) ≡ false = grind (arith, nat_tests, c.if-stamp-gt-GREATEST_STAMP.false) in
+    let early : nat_lt GREATEST_STAMP (r.stamp + 1) ≡ false = grind (arith, nat_tests, c.if-stamp-gt-GREATEST_STAMP.false) in
     let all : Tells (Ok stepped.Did) r p.number q (with_peer_and_tables r c.args.at told_peer c.tell.new.self (r.stamp + 1)) =
     rw early (refl, plain_told r c.self.invariant p.number c.args.at (place r c.self.invariant c.args.at q may p is) told_peer refl q (up r c.self.invariant c.args.at q may p is) c.tell.new.self c.in-Ok-tell.ensures.ok says (r.stamp + 1) refl) in
     subst (λ (x : RouterView). (v : ℕ) → IsAt x.peers v c.args.at → Tells (Ok stepped.Did) x v q (with_peer_and_tables r c.args.at told_peer c.tell.new.self (r.stamp + 1))) c.self.view_is (λ v at.

@@ -4,7 +4,8 @@ use Rattle.std.proofs.lemmas.Bool.Decides.{nat_tests}
 use Rattle.router_model.specs.declared.command.Command.TheVariants.{Withdraw}
 use Rattle.router_model.specs.declared.refusal.RouterError.TheVariants as error
 use Rattle.router_model.specs.declared.refusal.Stepped.TheVariants as stepped
-use Rattle.router_model.specs.Calls.{Obey, greatest_stamp}
+use Rattle.router_model.specs.Calls.{Obey}
+use Rattle.run_model.specs.declared.stamps.TheConstants.{GREATEST_STAMP}
 use Rattle.router_core.specs.Views.{RouterView, Answers}
 use Rattle.router_core.proofs.Originations.{with_tables, sound_withdrawing, no_origin_to_withdraw, withdrawn_already, late_to_withdraw, withdraws}
 use Rattle.router_core.proofs.router.Router.withdraw.Goals as goal
@@ -26,20 +27,20 @@ pub returns-then-stamp-gt-GREATEST_STAMP-clause-answers : goal.returns-then-stam
 returns-then-stamp-gt-GREATEST_STAMP-clause-answers c =
     let r : RouterView = record { net = c.self.inside.network.now; number = c.self.inside.number; own_open = c.self.inside.own_open; peers = c.self.inside.peers.items; tables = c.self.inside.tables; marks = c.self.inside.marks; stamp = c.self.inside.stamp } in
     let q = c.args.prefix.now in
-    let late : nat_lt greatest_stamp (r.stamp + 1) ≡ true = grind (arith, nat_tests, c.if-stamp-gt-GREATEST_STAMP.true) in
+    let late : nat_lt GREATEST_STAMP (r.stamp + 1) ≡ true = grind (arith, nat_tests, c.if-stamp-gt-GREATEST_STAMP.true) in
     subst (λ (x : RouterView). Answers (Err error.StampEnd) x (Obey (Withdraw q)) x) c.self.view_is (λ g e ranks.
     late_to_withdraw g r e q c.is_origin.result c.is_origin.ensures c.if-not-is_origin.false c.is_originated.result c.is_originated.ensures c.if-not-is_originated.false late)
 
 pub invariant_of-self : goal.invariant_of-self
 invariant_of-self c =
     let r : RouterView = record { net = c.self.inside.network.now; number = c.self.inside.number; own_open = c.self.inside.own_open; peers = c.self.inside.peers.items; tables = c.self.inside.tables; marks = c.self.inside.marks; stamp = c.self.inside.stamp } in
-    let few : r.stamp + 1 ≤ greatest_stamp = omega (arith, c.if-stamp-gt-GREATEST_STAMP.false) in
+    let few : r.stamp + 1 ≤ GREATEST_STAMP = omega (arith, c.if-stamp-gt-GREATEST_STAMP.false) in
     sound_withdrawing r (r.stamp + 1) c.self.invariant few c.withdraw.new.self c.args.prefix.now c.withdraw.ensures
 
 pub returns-clause-answers : goal.returns-clause-answers
 returns-clause-answers c =
     let r : RouterView = record { net = c.self.inside.network.now; number = c.self.inside.number; own_open = c.self.inside.own_open; peers = c.self.inside.peers.items; tables = c.self.inside.tables; marks = c.self.inside.marks; stamp = c.self.inside.stamp } in
     let q = c.args.prefix.now in
-    let early : nat_lt greatest_stamp (r.stamp + 1) ≡ false = grind (arith, nat_tests, c.if-stamp-gt-GREATEST_STAMP.false) in
+    let early : nat_lt GREATEST_STAMP (r.stamp + 1) ≡ false = grind (arith, nat_tests, c.if-stamp-gt-GREATEST_STAMP.false) in
     subst (λ (x : RouterView). Answers (Ok stepped.Did) x (Obey (Withdraw q)) (with_tables r c.withdraw.new.self (r.stamp + 1))) c.self.view_is (λ g e ranks.
     withdraws g r e q c.is_origin.result c.is_origin.ensures c.if-not-is_origin.false c.is_originated.result c.is_originated.ensures c.withdraw.new.self c.withdraw.ensures c.if-not-is_originated.false early)

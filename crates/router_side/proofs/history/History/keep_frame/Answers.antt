@@ -1,5 +1,5 @@
-use Rattle.std.proofs.Common.{◌≡◌, ◌++◌, ◌∷◌, ◌∙◌, ℕ, List, [], length, sym, ap, subst, refl}
-use Rattle.std.specs.Prelude.{Result, is_ok, if◌then◌else◌}
+use Rattle.std.proofs.Common.{◌++◌, ◌∷◌, ◌∙◌, ℕ, List, [], length, sym, ap, subst, refl}
+use Rattle.std.specs.Prelude.{is_ok, if◌then◌else◌}
 use Rattle.bgp_codec.specs.declared.update.Update.{Update}
 use Rattle.router_model.specs.Sides.{with_update}
 use Rattle.router_side.specs.declared.history.Place.{Place}

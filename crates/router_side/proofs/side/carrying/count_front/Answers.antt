@@ -1,6 +1,4 @@
-use Rattle.std.proofs.Common.{◌≡◌, ◌≤◌, ◌∙◌, ℕ, List, true, length, take, ap, sym, subst, arith}
-use Rattle.bgp_codec.specs.declared.message.Message.TheVariants.{UpdateMsg}
-use Rattle.bgp_codec.specs.declared.update.Update.{Update}
+use Rattle.std.proofs.Common.{◌∙◌, length, take, ap, sym, subst, arith}
 use Rattle.bgp_codec.specs.Header.{IsFrame}
 use Rattle.bgp_codec.specs.Faults.{reading}
 use Rattle.router_model.specs.Sides.{AtHand, HasUpdate, acted_with}
@@ -8,7 +6,7 @@ use Rattle.router_side.specs.Drafts.{hand}
 use Rattle.router_side.specs.Histories.{history}
 use Rattle.router_side.specs.Sayings.{nobody}
 use Rattle.router_side.proofs.FrontLemmas.{front_reads, frame_fits}
-use Rattle.router_side.proofs.side.count_front.Goals as goal
+use Rattle.router_side.proofs.side.carrying.count_front.Goals as goal
 
 -- the frame in front reads as the UPDATE at hand
 pub keep_frame-requires-clause-kept : goal.keep_frame-requires-clause-kept

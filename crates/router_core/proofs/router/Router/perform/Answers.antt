@@ -1,4 +1,4 @@
-use Rattle.world_core.proofs.entering.perform.Goals as goal
+use Rattle.router_core.proofs.router.Router.perform.Goals as goal
 
 pub returns-in-Obey-clause-answers : goal.returns-in-Obey-clause-answers
 returns-in-Obey-clause-answers c = rw c.in-Obey.is c.command.ensures.answers

@@ -1,0 +1,28 @@
+-- What a speaker may say of itself in an OPEN (RFC 4271 section 4.2), each range as a test and as what it means.
+use Rattle.std.specs.Prelude.{ℕ, ◌≡◌, ◌≤◌, ◌/◌, nat_le, ◌==◌, ◌||◌, ◌&&◌, Bool}
+use mathlib.Core.Logic.{◌⊎◌}
+use Rattle.bgp_values.specs.declared.ranges.TheConstants.{GREATEST_ASN, LEAST_HOLD, FIRST_UNICAST, LAST_UNICAST}
+
+-- an AS number of two octets that a speaker may have (RFC 4271 section 4.2, RFC 7607)
+abbrev pub IsAsn : ℕ → Type 0
+IsAsn asn = (1 ≤ asn) × (asn ≤ GREATEST_ASN)
+
+abbrev pub is_asn : ℕ → Bool
+is_asn asn = nat_le 1 asn && nat_le asn GREATEST_ASN
+
+-- a hold time that an OPEN may propose, in seconds: none, or no less than the least
+abbrev pub IsHoldTime : ℕ → Type 0
+IsHoldTime hold = (hold ≡ 0) ⊎ (LEAST_HOLD ≤ hold)
+
+abbrev pub is_hold_time : ℕ → Bool
+is_hold_time hold = (hold == 0) || nat_le LEAST_HOLD hold
+
+-- an address of one host, which an identifier and a next hop are: the first of its four octets tells
+abbrev pub first_octet : ℕ → ℕ
+first_octet address = address / 16777216
+
+abbrev pub IsUnicast : ℕ → Type 0
+IsUnicast address = (FIRST_UNICAST ≤ first_octet address) × (first_octet address ≤ LAST_UNICAST)
+
+abbrev pub is_unicast : ℕ → Bool
+is_unicast address = nat_le FIRST_UNICAST (first_octet address) && nat_le (first_octet address) LAST_UNICAST

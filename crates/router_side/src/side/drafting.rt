@@ -1,0 +1,70 @@
+//! What each event will make of a side, drafted by value: nothing is changed.
+
+ghost use Rattle.std.specs.Prelude.{◌≡◌};
+ghost use Rattle.session_fsm.specs.Table.{IsGoodEvent};
+ghost use Rattle.router_model.specs.Sides.{met, reset, second, signed, comes, draft_of, NoMessage};
+ghost use Rattle.router_side.specs.Drafts.{draft, hand};
+ghost use Rattle.router_side.specs.SideOf.{side};
+
+use super::SideEnd;
+use crate::at_hand::Given;
+use crate::draft::Sketch;
+use bgp_codec::Message;
+use link_epoch::Sign;
+use session_fsm::FsmEvent;
+
+impl SideEnd {
+    /// What an event that brings nothing will make of it: a start, a stop.
+    pub fn meet(&self, own_open: &Message, event: FsmEvent) -> Sketch
+        requires { IsGoodEvent event }
+        ensures { draft own_open.now NoMessage result ≡ met own_open.now (side self.now) event }
+    {
+        let mut made = Sketch::new(self.session, self.link);
+        made.comes(own_open, &Given::Nothing, event);
+        made
+    }
+
+    /// What a stop and a start will make of it.
+    pub fn reset(&self, own_open: &Message) -> Sketch
+        ensures { draft own_open.now NoMessage result ≡ reset own_open.now (side self.now) }
+    {
+        let mut made = Sketch::new(self.session, self.link);
+        made.comes(own_open, &Given::Nothing, FsmEvent::ManualStop);
+        made.comes(own_open, &Given::Nothing, FsmEvent::ManualStart);
+        made
+    }
+
+    /// What a second will make of it.
+    pub fn second(&self, own_open: &Message) -> Sketch
+        ensures { draft own_open.now NoMessage result ≡ second own_open.now (side self.now) }
+    {
+        let mut session = self.session;
+        let event = session.tick();
+        let mut made = Sketch::new(session, self.link);
+        if let Some(event) = event {
+            made.comes(own_open, &Given::Nothing, event);
+        }
+        made
+    }
+
+    /// What a sign of the peer will make of it.
+    pub fn sign(&self, own_open: &Message, sign: Sign) -> Sketch
+        ensures { draft own_open.now NoMessage result ≡ signed own_open.now (side self.now) sign }
+    {
+        let mut link = self.link;
+        let heard = link.hear(sign);
+        let mut made = Sketch::new(self.session, link);
+        made.answers(own_open, heard);
+        made
+    }
+
+    /// What the message or fault in front will make of it, by the event that it brings.
+    pub fn handle(&self, own_open: &Message, given: &Given, event: FsmEvent) -> Sketch
+        requires { IsGoodEvent event }
+        ensures { draft own_open.now (hand given.now) result ≡ comes own_open.now (hand given.now) (draft_of (side self.now).session (side self.now).link) event }
+    {
+        let mut made = Sketch::new(self.session, self.link);
+        made.comes(own_open, given, event);
+        made
+    }
+}

@@ -1,0 +1,40 @@
+//! Octets of the peer are taken and read.
+
+ghost use Rattle.std.specs.Prelude.{◌≡◌, ◌≤◌, true, false, length, IfOk};
+ghost use Rattle.bgp_values.specs.declared.messages.TheConstants.{MESSAGE_LIMIT};
+ghost use Rattle.bgp_codec.specs.Spelling.{IsWritable};
+ghost use Rattle.bgp_framing.specs.Held.{is_waiting};
+ghost use Rattle.session_fsm.specs.Table.{IsGoodEvent};
+ghost use Rattle.router_model.specs.Sides.{uses, fed, front, event_of, at_hand};
+ghost use Rattle.router_side.specs.Sayings.{told_of, IsSayableWhere};
+ghost use Rattle.router_side.specs.SideOf.{side};
+
+use super::SideEnd;
+use crate::reading::read_front;
+use bgp_codec::{Fault, Message, Rule};
+use std::alloc::{AllocError, Global};
+
+impl SideEnd {
+    /// Octets of the peer are taken, and used where their incarnation is. It takes no memory.
+    pub fn take_piece(&mut self, epoch: u32, octets: &[u8])
+        requires piece { length octets.now ≤ MESSAGE_LIMIT }
+        requires none { is_waiting (side self.old).held ≡ false }
+        ensures { side self.new ≡ fed (side self.old) epoch octets.now }
+    {
+        if self.uses(epoch) {
+            self.framer.feed(octets);
+        }
+    }
+
+    /// What stands in front of the octets held, as a message or a fault. It is refused only where
+    /// memory was.
+    pub fn front(&self, alloc: Global, rule: &Rule) -> Result<Result<Message, Fault>, AllocError>
+        requires { is_waiting (side self.now).held ≡ true }
+        ensures read { IfOk result (λ read. read ≡ front rule.now (side self.now).held) }
+        ensures good { IfOk result (λ read. IsGoodEvent (event_of read)) }
+        ensures told { IfOk result (λ read. IsSayableWhere (told_of (at_hand read))) }
+        ensures writable { IfOk result (λ read. IfOk read (IsWritable rule.now)) }
+    {
+        read_front(alloc, &self.framer, rule)
+    }
+}

@@ -1,0 +1,71 @@
+//! UPDATEs and markers that a router says of itself, beside the drafts of its events.
+
+ghost use Rattle.std.specs.Prelude.{◌≡◌, true, OnOk};
+ghost use Rattle.router_model.specs.Sides.{is_up, marked};
+ghost use Rattle.router_side.specs.Sayings.{IsSayable};
+ghost use Rattle.router_side.specs.SideOf.{side, told_by, HasRoomToTell, HasRoomToMark};
+
+use super::SideEnd;
+use bgp_codec::laws::written_has_a_header;
+use bgp_codec::{Message, NOBODY, written_len};
+use outbox::Control;
+use std::alloc::AllocError;
+
+impl SideEnd {
+    /// Makes room for an UPDATE to be told. It is refused only where memory was, and the side stays as
+    /// it was.
+    pub fn reserve_telling(&mut self, message: &Message) -> Result<(), AllocError>
+        requires { IsSayable message.now }
+        ensures side { side self.new ≡ side self.old }
+        ensures room { OnOk result (HasRoomToTell message.now self.new) }
+    {
+        let len = written_len(message);
+        self.outbox.reserve(len, 1)?;
+        self.sent.reserve(len)?;
+        Ok(())
+    }
+
+    /// An UPDATE is told, for which there is room: it is appended, joins those that were sent, and sets the
+    /// KeepaliveTimer again (RFC 4271 section 8.2.2). It takes no memory.
+    #[tactic(auto, using(crate::proofs::Said::told_is))]
+    pub fn tell(&mut self, message: &Message)
+        requires up { is_up (side self.old) ≡ true }
+        requires sayable { IsSayable message.now }
+        requires room { HasRoomToTell message.now self.old }
+        ensures { side self.new ≡ told_by (side self.old) message.now }
+    {
+        written_has_a_header();
+        let epoch = self.link.epoch();
+        match message {
+            Message::UpdateMsg(_) => {
+                let before = self.sent.octets().len();
+                self.sent.keep(epoch, message);
+                let (_, octets) = self.sent.octets().split_at(before);
+                self.outbox.push_octets(epoch, octets);
+            }
+            Message::OpenMsg(_) | Message::NoticeMsg(_) | Message::AliveMsg => {
+                self.outbox.push_message(epoch, message, &NOBODY);
+            }
+        }
+        self.session.update_sent();
+    }
+
+    /// Makes room for a marker. It is refused only where memory was, and the side stays as it was.
+    pub fn reserve_marker(&mut self) -> Result<(), AllocError>
+        ensures side { side self.new ≡ side self.old }
+        ensures room { OnOk result (HasRoomToMark self.new) }
+    {
+        self.outbox.reserve(0, 1)?;
+        Ok(())
+    }
+
+    /// The marker of a snapshot is appended behind all that waits, where there is room for it (Chandy
+    /// and Lamport 1985). It takes no memory.
+    pub fn mark(&mut self, number: u32)
+        requires { HasRoomToMark self.old }
+        ensures { side self.new ≡ marked number (side self.old) }
+    {
+        let epoch = self.link.epoch();
+        self.outbox.push_control(Control::Mark(epoch, number));
+    }
+}
