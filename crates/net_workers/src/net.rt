@@ -184,7 +184,7 @@ where
     requires fresh { AllByRecursion (λ gate. G.given gate ≡ []) gates.items }
     ensures limits { OnOk result (AreLimits network.now limits.turns (length gates.items)) }
     ensures refused { IfErr result (λ why. why ≡ RunFault.BadLimits ↔ (AreLimits network.now limits.turns (length gates.items) → ⊥)) }
-    // Router by router the gates are those given.
+    // Router by router, what the gate that comes back was told is what the one given was told.
     ensures told { IfOk result (λ r. map (λ w. G.told w.gate) r.workers.items ≡ map G.told gates.items) }
     ensures ways { IfOk result (λ r. AreWays network.now r.ways.items) }
     ensures recorded { IfOk result (λ r. IsRecord G.given network.now limits.turns (passed_in r.ways.items) r.workers.items r.collector r.gathered.items) }
