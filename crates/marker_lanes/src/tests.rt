@@ -1,5 +1,23 @@
 use super::*;
 
+// The bodies before the lanes: one octet at a time.
+fn plain_run(octets: &[u8]) -> usize {
+    for (i, octet) in octets.iter().enumerate() {
+        if *octet != 0xff {
+            return i;
+        }
+    }
+    octets.len()
+}
+
+fn is_plain_marker(octets: &[u8; 16]) -> bool {
+    let mut are_ones = true;
+    for octet in octets {
+        are_ones = are_ones & (*octet == 0xff);
+    }
+    are_ones
+}
+
 // A run of ones that may be cut short by one octet.
 fn ones_with(octet: u8, at: usize) -> [u8; 100] {
     let mut octets = [0xff; 100];
@@ -16,6 +34,7 @@ fn runs_of_ones(rt: HostRuntime) {
     assert_eq!(rt; ones_run(&[0xff, 0xff, 0, 0xff]), 2);
 }
 
+/// Each length 0 to 100, with one other octet at each place.
 #[test]
 fn a_run_ends_at_the_first_other_octet(rt: HostRuntime) {
     for len in 0..=100usize {
@@ -24,6 +43,7 @@ fn a_run_ends_at_the_first_other_octet(rt: HostRuntime) {
         for at in 0..len {
             let octets = ones_with(0x7f, at);
             assert_eq!(rt; ones_run(&octets[..len]), at);
+            assert_eq!(rt; plain_run(&octets[..len]), at);
         }
     }
 }
@@ -31,9 +51,11 @@ fn a_run_ends_at_the_first_other_octet(rt: HostRuntime) {
 #[test]
 fn sixteen_ones_are_a_marker(rt: HostRuntime) {
     assert!(rt; is_marker(&[0xff; 16]));
+    assert!(rt; is_plain_marker(&[0xff; 16]));
     for at in 0..16usize {
         let mut octets = [0xff; 16];
         octets[at] = 0xfe;
         assert!(rt; !is_marker(&octets), "octet {at}");
+        assert!(rt; !is_plain_marker(&octets), "octet {at}");
     }
 }
