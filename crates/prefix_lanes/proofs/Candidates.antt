@@ -1,21 +1,13 @@
 -- The longest prefix so far that covers, entry by entry.
 use Rattle.std.proofs.Common.{◌≡◌, ℕ, ◌+◌, ◌<◌, ◌≤◌, List, [], ◌∷◌, ◌++◌, length, Option, Some, None, refl, sym, ap, subst, ◌∙◌, arith, append_assoc, take, get_or}
 use Rattle.std.specs.List.{All}
-use Rattle.std.specs.Option.{option_map, MatchOption}
+use Rattle.std.specs.Option.{option_map}
 use Rattle.std.proofs.lemmas.List.{take_more, take_all}
 use Rattle.std.proofs.lemmas.List.Elements.{All-push, All-weaker, All-append, All-cons, All-nil}
 use Rattle.prefix_lanes.specs.declared.cover_table.Candidate.{Candidate}
 use Rattle.prefix_lanes.specs.Bits.{PrefixView, Covers}
-use Rattle.prefix_lanes.specs.Covering.{StandsAt, IsLongest}
-
--- a length is above that of the candidate, if there is one
-abbrev pub IsLonger : ℕ → Option Candidate → Type 0
-IsLonger len best = MatchOption best (Unit {0}) (λ candidate. candidate.len < len)
-
--- of these entries the candidate is the longest that covers, the first among equals
-abbrev pub IsBest : List PrefixView → PrefixView → Option Candidate → Type 0
-IsBest xs q None = All (λ e. Covers e q → ⊥) xs
-IsBest xs q (Some best) = (p : PrefixView) × StandsAt xs q best.place p × (p.len ≡ best.len)
+use Rattle.prefix_lanes.specs.Best.{IsLonger, IsBest}
+use Rattle.prefix_lanes.specs.Covering.{IsLongest}
 
 pub best_none : (q : PrefixView) → IsBest [] q None
 best_none q = All-nil (λ e. Covers e q → ⊥)

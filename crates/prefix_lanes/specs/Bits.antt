@@ -37,3 +37,7 @@ Covers p q = IsPrefix (bits p) (bits q)
 -- one and the same
 abbrev pub is_prefix : PrefixView → PrefixView → Bool
 is_prefix p q = (p.addr == q.addr) && (p.len == q.len)
+
+-- the word whose first bits alone are set
+abbrev pub leading_mask : ℕ → ℕ
+leading_mask len = 2 ^ 32 - 2 ^ (32 - len)

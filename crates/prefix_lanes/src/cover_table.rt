@@ -1,12 +1,20 @@
 //! A table of prefixes.
 
-ghost use Rattle.std.specs.Prelude.{◌≡◌, ◌<◌, ◌≤◌, ◌↔◌, ◌++◌, [], ◌∷◌, length, OnOk, OnErr, IsTrue, MatchOption};
+ghost use Rattle.std.specs.Prelude.{◌≡◌, ◌<◌, ◌≤◌, ◌↔◌, ◌+◌, ◌==◌, ◌++◌, [], ◌∷◌, length, take, map, OnOk, OnErr, IsTrue, MatchOption};
+ghost use Rattle.std.specs.Int.Bits.{bit_and};
+ghost use Rattle.std.specs.List.{All, HoldsAt};
+ghost use Rattle.std.specs.Simd.Lanes.{chunk, mask_l, zip2};
+ghost use Rattle.prefix_lanes.specs.Best.{IsBest};
+ghost use Rattle.prefix_lanes.specs.Bits.{IsCanonical};
+ghost use Rattle.prefix_lanes.specs.Columns.{AreColumns, is_alike};
 ghost use Rattle.prefix_lanes.specs.Covering.{IsLongest};
 ghost use Rattle.prefix_lanes.specs.declared.cover_table.TheConstants.{CAPACITY};
 
+use crate::mask::mask_word;
 use crate::prefix::Prefix;
 use std::alloc::Global;
 use std::marker::Model;
+use std::simd::prelude::*;
 use thiserror::Error;
 
 /// How many prefixes a table holds at most.
@@ -21,23 +29,27 @@ pub enum CoverError {
 }
 
 /// Prefixes in the order in which they were pushed. It has a place for each of them in itself.
-#[derive(Drop)]
+#[derive(Debug, Drop)]
 pub struct CoverTable {
     // The places past the count have a prefix that no call shows.
     places: [Prefix; CAPACITY],
+    // The address and the mask of each, which lanes read.
+    addrs: [u32; CAPACITY],
+    masks: [u32; CAPACITY],
     count: usize,
 }
 
 impl Model for CoverTable {
     ghost use Rattle.std.specs.Prelude.{List, take, ◌≤◌};
     ghost use Rattle.prefix_lanes.specs.Bits.{PrefixView};
+    ghost use Rattle.prefix_lanes.specs.Columns.{AreColumns};
     ghost use Rattle.prefix_lanes.specs.declared.cover_table.TheConstants.{CAPACITY};
 
     ghost Value = { List PrefixView };
 
     ghost view = { λ a. take a.count a.places };
 
-    ghost invariant = { λ a. a.count ≤ CAPACITY };
+    ghost invariant = { λ a. (a.count ≤ CAPACITY) × AreColumns a.places a.addrs a.masks };
 }
 
 impl CoverTable {
@@ -47,6 +59,8 @@ impl CoverTable {
     {
         CoverTable {
             places: [Prefix::new(0, 0).unwrap(); CAPACITY],
+            addrs: [0; CAPACITY],
+            masks: [0; CAPACITY],
             count: 0,
         }
     }
@@ -70,6 +84,8 @@ impl CoverTable {
             return Err(CoverError::TableFull);
         }
         self.places[self.count] = prefix;
+        self.addrs[self.count] = prefix.addr();
+        self.masks[self.count] = mask_word(prefix.len());
         self.count += 1;
         Ok(())
     }
@@ -79,7 +95,12 @@ impl CoverTable {
     pub fn longest(&self, prefix: &Prefix) -> Option<usize>
         ensures { IsLongest self.now prefix.now result }
     {
-        longest_in(self.as_slice(), prefix)
+        longest_in(
+            self.as_slice(),
+            &self.addrs[..self.count],
+            &self.masks[..self.count],
+            prefix,
+        )
     }
 }
 
@@ -87,21 +108,29 @@ impl CoverTable {
 #[derive(Clone, Copy)]
 struct Candidate {
     place: usize,
-    len: u8,
+    // As wide as the place: octets that fill a struct up are copied through memory with it.
+    len: usize,
 }
 
 /// The place of the longest of these that covers the prefix, the first of those of one length.
-fn longest_in(entries: &[Prefix], prefix: &Prefix) -> Option<usize>
+fn longest_in(entries: &[Prefix], addrs: &[u32], masks: &[u32], prefix: &Prefix) -> Option<usize>
+    requires { AreColumns entries.now addrs.now masks.now }
     ensures { IsLongest entries.now prefix.now result }
 {
+    let addr = prefix.addr();
     let mut best: Option<Candidate> = None;
-    for (place, entry) in entries.iter().enumerate() {
-        if entry.covers(prefix) && is_longer(entry.len(), &best) {
-            best = Some(Candidate {
-                place,
-                len: entry.len(),
-            });
-        }
+    let mut from = 0;
+    while entries.len() - from >= 8 {
+        let found = alike(
+            u32x8::from_slice(&addrs[from..]),
+            u32x8::from_slice(&masks[from..]),
+            addr,
+        );
+        best = best_of_found(entries, prefix, from, found, best);
+        from += 8;
+    }
+    for place in from..entries.len() {
+        best = better(entries, prefix, place, best);
     }
     match best {
         Some(candidate) => Some(candidate.place),
@@ -109,12 +138,91 @@ fn longest_in(entries: &[Prefix], prefix: &Prefix) -> Option<usize>
     }
 }
 
+/// Which of eight entries begin as the address does, the first in the lowest bit.
+fn alike(addrs: u32x8, masks: u32x8, addr: u32) -> u64
+    ensures { result ≡ mask_l (zip2 (λ mask start. bit_and addr mask == start) masks addrs) }
+{
+    (u32x8::splat(addr) & masks).simd_eq(addrs).to_bitmask()
+}
+
+/// The best once eight entries more were seen, of which these begin as the prefix does.
+fn best_of_found(
+    entries: &[Prefix],
+    prefix: &Prefix,
+    from: usize,
+    found: u64,
+    best: Option<Candidate>,
+) -> Option<Candidate>
+    requires room { from + 8 ≤ length entries.now }
+    requires canonical { All IsCanonical entries.now × IsCanonical prefix.now }
+    requires found { found ≡ mask_l (map (is_alike prefix.now) (chunk from 8 entries.now)) }
+    requires best { IsBest (take from entries.now) prefix.now best }
+    ensures { IsBest (take (from + 8) entries.now) prefix.now result }
+{
+    let mut best = best;
+    let mut left = found;
+    let mut at = from;
+    while left != 0 {
+        let skipped = left.trailing_zeros();
+        let place = at + skipped as usize;
+        best = better_alike(entries, prefix, place, best);
+        left = left >> skipped >> 1;
+        at = place + 1;
+    }
+    best
+}
+
+/// The best once the entry at the place was seen, which begins as the prefix does: its length decides.
+fn better_alike(
+    entries: &[Prefix],
+    prefix: &Prefix,
+    place: usize,
+    best: Option<Candidate>,
+) -> Option<Candidate>
+    requires inside { place < length entries.now }
+    requires alike { HoldsAt (λ entry. IsTrue (is_alike prefix.now entry)) entries.now place }
+    requires best { IsBest (take place entries.now) prefix.now best }
+    ensures { IsBest (take (place + 1) entries.now) prefix.now result }
+{
+    let entry = entries[place];
+    let len = entry.len();
+    let most = prefix.len();
+    if len <= most && is_longer(len, &best) {
+        return Some(Candidate {
+            place,
+            len: len as usize,
+        });
+    }
+    best
+}
+
+/// The best once the entry at the place was seen.
+fn better(
+    entries: &[Prefix],
+    prefix: &Prefix,
+    place: usize,
+    best: Option<Candidate>,
+) -> Option<Candidate>
+    requires inside { place < length entries.now }
+    requires best { IsBest (take place entries.now) prefix.now best }
+    ensures { IsBest (take (place + 1) entries.now) prefix.now result }
+{
+    let entry = entries[place];
+    if entry.covers(prefix) && is_longer(entry.len(), &best) {
+        return Some(Candidate {
+            place,
+            len: entry.len() as usize,
+        });
+    }
+    best
+}
+
 /// Whether an entry of this length is longer than the best so far, if there is one.
 fn is_longer(len: u8, best: &Option<Candidate>) -> bool
     ensures { IsTrue result ↔ MatchOption best.now (Unit {0}) (λ candidate. candidate.len < len) }
 {
     match best {
-        Some(candidate) => candidate.len < len,
+        Some(candidate) => candidate.len < len as usize,
         None => true,
     }
 }

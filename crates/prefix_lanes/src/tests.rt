@@ -1,5 +1,6 @@
 use super::*;
 use std::alloc::Global;
+use std::process::Abort;
 use std::test::Fail;
 
 /// The mask of each length, as network masks are usually written.
@@ -111,6 +112,45 @@ fn masks(rt: HostRuntime) {
     mask_all(&mut [], &[]);
 }
 
+// The body before the lanes: one address at a time.
+fn plain_mask_all(words: &mut [u32], lens: &[u8]) {
+    for (word, len) in words.iter_mut().zip(lens) {
+        if let Some(prefix) = Prefix::new(*word, *len) {
+            *word = prefix.addr();
+        }
+    }
+}
+
+// Eight at a time leaves what one at a time leaves.
+fn masks_alike(rt: &impl Abort, words: &mut [u32], others: &mut [u32], lens: &[u8]) {
+    assert_eq!(rt; words.len(), lens.len());
+    assert!(rt; lens.iter().all(|len| *len <= 32));
+    mask_all(words, lens);
+    plain_mask_all(others, lens);
+    assert!(rt; *words == *others, "{} addresses", lens.len());
+}
+
+/// Each count of addresses 0 to 40, with lengths that begin at each of 0 to 32.
+#[test]
+fn masks_of_each_count(rt: HostRuntime) {
+    for count in 0..=40usize {
+        for first in 0..33usize {
+            let mut words = [0xa5a5_a5a5; 40];
+            let mut others = [0xa5a5_a5a5; 40];
+            let mut lens = [0; 40];
+            for i in 0..40usize {
+                lens[i] = ((first + 7 * i) % 33) as u8;
+            }
+            masks_alike(
+                &rt,
+                &mut words[..count],
+                &mut others[..count],
+                &lens[..count],
+            );
+        }
+    }
+}
+
 fn table(alloc: Global, entries: &[(u32, u8)]) -> Result<CoverTable, Fail> {
     let mut table = CoverTable::new(alloc);
     for (addr, len) in entries {
@@ -140,6 +180,54 @@ fn longest(rt: HostRuntime) -> Result<(), Fail> {
     assert_eq!(rt; same.longest(&prefix(0x0a01_0000, 16)?), Some(1));
     assert_eq!(rt; same.longest(&prefix(0x0b00_0000, 8)?), Some(0));
     assert_eq!(rt; CoverTable::new(rt.alloc()).longest(&prefix(0, 0)?), None);
+    Ok(())
+}
+
+// The body before the lanes: one entry at a time.
+fn plain_longest(entries: &[Prefix], prefix: &Prefix) -> Option<usize> {
+    let mut best = None;
+    let mut len = 0;
+    for (place, entry) in entries.iter().enumerate() {
+        if entry.covers(prefix) && (best.is_none() || len < entry.len()) {
+            best = Some(place);
+            len = entry.len();
+        }
+    }
+    best
+}
+
+// What the table answers for some prefixes is what one entry at a time answers.
+fn answers_alike(rt: &impl Abort, table: &CoverTable) {
+    let count = table.as_slice().len();
+    for len in 0..33u8 {
+        for addr in [
+            0x0a01_0203,
+            0x0a01_8000,
+            0x0a02_0000,
+            0x0b00_0000,
+            0,
+            u32::MAX,
+        ] {
+            if let Some(asked) = Prefix::new(addr, len) {
+                let want = plain_longest(table.as_slice(), &asked);
+                assert_eq!(rt; table.longest(&asked), want, "{addr:x}/{len} of {count}");
+            }
+        }
+    }
+}
+
+/// Each count of entries 0 to 64: the lengths repeat, so that the first among equals stands before,
+/// in and behind the eight of a longer one.
+#[test]
+fn longest_of_each_count(rt: HostRuntime) -> Result<(), Fail> {
+    let mut table = CoverTable::new(rt.alloc());
+    answers_alike(&rt, &table);
+    for i in 0..64u32 {
+        let addr = if i % 5 == 3 { 0x0a02_0000 } else { 0x0a01_0203 };
+        let len = (i * 13 % 33) as u8;
+        assert_eq!(rt; table.push(prefix(addr, len)?), Ok(()), "at {i}");
+        answers_alike(&rt, &table);
+    }
     Ok(())
 }
 

@@ -1,11 +1,13 @@
-use Rattle.std.proofs.Common.{◌≡◌, ℕ, ◌<◌, ◌≤◌, List, slice_index}
-use Rattle.prefix_lanes.specs.Bits.{masked}
+use Rattle.std.proofs.Common.{◌-◌, ◌≤◌, length}
+use Rattle.prefix_lanes.proofs.MaskedSoFar.{Masked}
 use Rattle.prefix_lanes.proofs.mask.mask_all.Given as goal
 
-pub record Masked (before now lens : List ℕ) (i : ℕ) : Type 0 where
-  pub done : (k : ℕ) → k < i → slice_index now k ≡ masked (slice_index before k) (slice_index lens k)
-  pub left : (k : ℕ) → i ≤ k → slice_index now k ≡ slice_index before k
+-- those below the place are masked, the others as they were
+abbrev pub invariant-loop-at : goal.invariant-loop-at
+invariant-loop-at l = Masked l.initial.words l.words l.lens l.at × (l.at ≤ length l.lens)
 
--- those below the index are masked, the others as they were
+abbrev pub decreases-loop-at : goal.decreases-loop-at
+decreases-loop-at l = length l.lens - l.at
+
 abbrev pub invariant-loop-i : goal.invariant-loop-i
-invariant-loop-i l = Masked l.initial.words l.words l.lens l.i
+invariant-loop-i l = Masked l.fn.words l.words l.lens l.i
