@@ -1,53 +1,48 @@
--- The longest rule so far that covers a prefix, rule by rule.
-use Rattle.std.proofs.Common.{◌≡◌, ℕ, ◌+◌, ◌<◌, ◌≤◌, List, [], ◌∷◌, ◌++◌, length, Option, Some, None, sym, ap, subst, ◌∙◌, arith, take, get_or, Bor}
-use Rattle.std.specs.Option.{MatchOption}
-use Rattle.std.proofs.lemmas.List.{take_more, take_all}
-use Rattle.std.proofs.lemmas.List.Elements.{All-push, All-weaker, Contains-append_left, Contains-push}
+-- The longest rule that covers a prefix, by the place of its prefix among those of the rules.
+use Rattle.std.proofs.Common.{◌≡◌, ℕ, suc, ◌+◌, ◌<◌, ◌≤◌, List, [], ◌∷◌, ◌++◌, length, Some, None, sym, ap, subst, ◌∙◌, arith, take, get_or, map, length-append}
+use Rattle.std.specs.List.{All}
+use Rattle.std.proofs.Math.Seq.{get_or-append_seam}
+use Rattle.std.proofs.lemmas.List.{get_or-map, length-map, map-append, take_all, take_more, get_or_default}
+use Rattle.std.proofs.lemmas.List.Elements.{All-append, All-cons, All-weaker}
 use Rattle.prefix_lanes.specs.Bits.{PrefixView, Covers}
+use Rattle.prefix_lanes.specs.Covering.{StandsAt, IsLongest}
 use Rattle.ranked_policy.specs.declared.network.Rule.{Rule}
 use Rattle.ranked_policy.specs.Policies.{IsRuleFor, NoRuleFor}
 
-abbrev pub IsBest : List Rule → PrefixView → Option (Bor Rule) → Type 0
-IsBest rules q best = MatchOption best (NoRuleFor rules q) (λ rule. IsRuleFor rules q rule.now)
+abbrev pub prefixes : List Rule → List PrefixView
+prefixes rules = map (λ rule. rule.prefix) rules
 
-abbrev pub IsLonger : Rule → Option (Bor Rule) → Type 0
-IsLonger rule best = MatchOption best (Unit {0}) (λ other. other.now.prefix.len < rule.prefix.len)
+-- what holds of the prefix of each rule
+of_rules : (P : PrefixView → Type 0) (rules : List Rule) → All P (prefixes rules) → All (λ rule. P rule.prefix) rules
+of_rules P rules all k d l = subst P (get_or-map (λ rule. rule.prefix) rules k d d.prefix l) (all k d.prefix (omega (arith, l, length-map rules (λ rule. rule.prefix))))
 
-best_push : (rules : List Rule) (q : PrefixView) (best : Option (Bor Rule)) (rule : Rule) → (Covers rule.prefix q → IsLonger rule best → ⊥) → IsBest rules q best → IsBest (rules ++ rule ∷ []) q best
-best_push rules q None rule fails h = All-push (λ r. Covers r.prefix q → ⊥) rules rule h (λ covers. fails covers tt)
-best_push rules q (Some best) rule fails h = record {
-  listed = Contains-append_left rules (rule ∷ []) best.now h.listed;
-  covers = h.covers;
-  longest = All-push (λ other. Covers other.prefix q → other.prefix.len ≤ best.now.prefix.len) rules rule h.longest (λ covers. omega (arith, fails covers));
-}
+pub no_rule : (rules : List Rule) (q : PrefixView) → IsLongest (prefixes rules) q None → NoRuleFor rules q
+no_rule rules q none = of_rules (λ p. Covers p q → ⊥) rules none
 
-better_push : (rules : List Rule) (q : PrefixView) (best : Option (Bor Rule)) (rule : Rule) → Covers rule.prefix q → IsLonger rule best → IsBest rules q best → IsRuleFor (rules ++ rule ∷ []) q rule
-better_push rules q None rule covers longer h = record {
-  listed = Contains-push rules rule;
-  covers = covers;
-  longest = All-push (λ other. Covers other.prefix q → other.prefix.len ≤ rule.prefix.len) rules rule
-      (All-weaker (λ r. Covers r.prefix q → ⊥) (λ other. Covers other.prefix q → other.prefix.len ≤ rule.prefix.len) (λ r none c. absurd (none c)) rules h) (λ c. omega arith);
-}
-better_push rules q (Some best) rule covers longer h = record {
-  listed = Contains-push rules rule;
-  covers = covers;
-  longest = All-push (λ other. Covers other.prefix q → other.prefix.len ≤ rule.prefix.len) rules rule
-      (All-weaker (λ r. Covers r.prefix q → r.prefix.len ≤ best.now.prefix.len) (λ other. Covers other.prefix q → other.prefix.len ≤ rule.prefix.len) (λ r short c. omega (arith, short c, longer)) rules h.longest)
-      (λ c. omega arith);
-}
+pub within : (rules : List Rule) (q : PrefixView) (at : ℕ) → IsLongest (prefixes rules) q (Some at) → at < length rules
+within rules q at h =
+    let s = h.1 in
+    omega (arith, s.place, ap length s.whole, length-append s.before (h.0 ∷ s.behind), length-map rules (λ rule. rule.prefix))
 
-more : (rules : List Rule) (i : ℕ) (rule : Rule) → i < length rules → rule ≡ get_or rules i rule → take (i + 1) rules ≡ take i rules ++ rule ∷ []
-more rules i rule l read = take_more rules i rule l ∙ ap (λ r. take i rules ++ r ∷ []) (sym read)
+pub rule_at : (rules : List Rule) (q : PrefixView) (at : ℕ) (rule : Rule) → rule ≡ get_or rules at rule → IsLongest (prefixes rules) q (Some at) → IsRuleFor rules q rule
+rule_at rules q at rule read h =
+    let p = h.0 in
+    let s = h.1 in
+    let inside : at < length rules = within rules q at h in
+    let is : rule.prefix ≡ p =
+    ap (λ r. r.prefix) read ∙ sym (get_or-map (λ r. r.prefix) rules at rule p inside) ∙ ap (λ xs. get_or xs at p) s.whole
+    ∙ ap (λ k. get_or (s.before ++ p ∷ s.behind) k p) (sym s.place) ∙ get_or-append_seam s.before p s.behind p in
+    let NoLonger : PrefixView → Type 0 = λ e. Covers e q → e.len ≤ p.len in
+    let front : All NoLonger s.before = All-weaker (λ e. Covers e q → e.len < p.len) NoLonger (λ e l c. omega (arith, l c)) s.before s.shorter in
+    let all : All NoLonger (prefixes rules) = subst (All NoLonger) (sym s.whole) (All-append NoLonger s.before (p ∷ s.behind) front (All-cons NoLonger p s.behind (λ c. omega arith) s.no_longer)) in
+    record {
+      listed = (at, inside, sym read);
+      covers = subst (λ e. Covers e q) (sym is) s.covers;
+      longest = subst (λ e. All (λ other. Covers other.prefix q → other.prefix.len ≤ e.len) rules) (sym is) (of_rules NoLonger rules all);
+    }
 
--- a rule that doesn't cover, or is no longer
-pub best_stays : (rules : List Rule) (q : PrefixView) (best : Option (Bor Rule)) (i : ℕ) (rule : Rule) → i < length rules → rule ≡ get_or rules i rule
-    → (Covers rule.prefix q → IsLonger rule best → ⊥) → IsBest (take i rules) q best → IsBest (take (i + 1) rules) q best
-best_stays rules q best i rule l read fails h = subst (λ rs. IsBest rs q best) (sym (more rules i rule l read)) (best_push (take i rules) q best rule fails h)
-
--- a rule that covers and is longer
-pub best_changes : (rules : List Rule) (q : PrefixView) (best : Option (Bor Rule)) (i : ℕ) (rule : Rule) → i < length rules → rule ≡ get_or rules i rule
-    → Covers rule.prefix q → IsLonger rule best → IsBest (take i rules) q best → IsRuleFor (take (i + 1) rules) q rule
-best_changes rules q best i rule l read covers longer h = subst (λ rs. IsRuleFor rs q rule) (sym (more rules i rule l read)) (better_push (take i rules) q best rule covers longer h)
-
-pub best_of_all : (rules : List Rule) (q : PrefixView) (best : Option (Bor Rule)) (i : ℕ) → length rules ≤ i → IsBest (take i rules) q best → IsBest rules q best
-best_of_all rules q best i l h = subst (λ rs. IsBest rs q best) (take_all i rules l) h
+-- the prefixes of the rules so far
+pub prefixes_more : (rules : List Rule) (i : ℕ) (rule : Rule) (ps : List PrefixView) → i < length rules → rule ≡ get_or rules i rule → ps ≡ prefixes (take i rules) → ps ++ rule.prefix ∷ [] ≡ prefixes (take (i + 1) rules)
+prefixes_more rules i rule ps l read e =
+    ap (λ xs. xs ++ rule.prefix ∷ []) e ∙ sym (map-append (λ r. r.prefix) (take i rules) (rule ∷ []))
+    ∙ ap (λ r. prefixes (take i rules ++ r ∷ [])) read ∙ ap prefixes (sym (take_more rules i rule l))

@@ -208,6 +208,11 @@ impl NetBuilder {
         self.origins.as_slice()
     }
 
+    /// The allocator that it takes memory from.
+    pub(crate) fn allocator(&self) -> Global {
+        *self.routers.allocator()
+    }
+
     /// Whether a router has the number.
     pub fn has_router(&self, asn: Asn) -> bool
         ensures { IsTrue result ↔ IsRouter self.now.routers asn }

@@ -210,7 +210,12 @@ impl Network {
         ensures table { IfSome result IsTable }
     {
         match self.router(asn) {
-            Some(router) => Some(PolicyTable::new(asn, router.rules.as_slice(), self.origins())),
+            Some(router) => Some(PolicyTable::new(
+                self.built.allocator(),
+                asn,
+                router.rules.as_slice(),
+                self.origins(),
+            )),
             None => None,
         }
     }

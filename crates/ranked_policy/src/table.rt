@@ -1,16 +1,18 @@
 //! The policies of a router.
 
-ghost use Rattle.std.specs.Prelude.{◌≡◌, ◌<◌, ◌↔◌, ℕ, List, [], IsTrue, MatchOption};
+ghost use Rattle.std.specs.Prelude.{◌≡◌, ◌≤◌, ◌↔◌, ℕ, List, IsTrue, MatchOption, length, map};
 ghost use Rattle.std.specs.List.{All, Any, Contains};
 ghost use Rattle.ranked_policy.specs.Plans.{IsNamed};
 ghost use Rattle.ranked_policy.specs.Policies.{IsTable, IsPermitted, IsPreferred, IsRuleFor, NoRuleFor, IsOriginOf};
 ghost use Rattle.ranked_policy.specs.Choosing.{chosen_permits, chosen_prefers};
+ghost use Rattle.ranked_policy.specs.declared.limits.TheConstants.{MOST_RULES};
 
 use crate::network::{Origin, Rule};
 use crate::path::Asn;
 use crate::places::origin_of;
 use crate::policy::{Chosen, Only, Ranked, Shortest};
-use prefix_lanes::{Prefix, a_prefix_is_its_bits};
+use prefix_lanes::{CoverTable, Prefix, a_prefix_is_its_bits};
+use std::alloc::Global;
 use std::marker::Model;
 
 /// The policies of one router, for each prefix.
@@ -19,21 +21,29 @@ pub struct PolicyTable<'a> {
     router: Asn,
     rules: &'a [Rule],
     origins: &'a [Origin],
+    // The prefixes of the rules, in their order.
+    prefixes: CoverTable,
 }
 
 impl<'a> Model for PolicyTable<'a> {
+    ghost use Rattle.std.specs.Prelude.{◌≡◌, map};
     ghost use Rattle.ranked_policy.specs.Policies.{Table, IsTable};
 
     ghost Value = { Table };
 
     ghost view = { λ t. record { router = t.router; rules = t.rules.now; origins = t.origins.now } };
 
-    ghost invariant = { λ t. IsTable (record { router = t.router; rules = t.rules.now; origins = t.origins.now }) };
+    ghost invariant = { λ t. IsTable (record { router = t.router; rules = t.rules.now; origins = t.origins.now }) × (t.prefixes ≡ map (λ rule. rule.prefix) t.rules.now) };
 }
 
 impl<'a> PolicyTable<'a> {
-    /// The table of a router with these rules, where these prefixes are originated.
-    pub(crate) fn new(router: Asn, rules: &'a [Rule], origins: &'a [Origin]) -> PolicyTable<'a>
+    /// The table of a router with these rules, where these prefixes are originated. Takes no memory.
+    pub(crate) fn new(
+        alloc: Global,
+        router: Asn,
+        rules: &'a [Rule],
+        origins: &'a [Origin],
+    ) -> PolicyTable<'a>
         requires { IsTable (record { router = router; rules = rules.now; origins = origins.now }) }
         ensures { result ≡ record { router = router; rules = rules.now; origins = origins.now } }
     {
@@ -41,6 +51,7 @@ impl<'a> PolicyTable<'a> {
             router,
             rules,
             origins,
+            prefixes: prefixes_of(alloc, rules),
         }
     }
 
@@ -66,7 +77,7 @@ impl<'a> PolicyTable<'a> {
                 router: self.router,
             });
         }
-        match longest_rule(self.rules, prefix) {
+        match longest_rule(self.rules, &self.prefixes, prefix) {
             Some(rule) => Chosen::Ranked(Ranked {
                 paths: rule.paths.as_slice(),
                 origin,
@@ -89,25 +100,27 @@ fn is_at(origin: Option<Asn>, router: Asn) -> bool
     }
 }
 
-// The longest rule that covers the prefix.
-fn longest_rule<'a>(rules: &'a [Rule], prefix: &Prefix) -> Option<&'a Rule>
-    ensures { MatchOption result (NoRuleFor rules.now prefix.now) (λ rule. IsRuleFor rules.now prefix.now rule.now) }
+// The prefixes of the rules, which are no more than a table takes.
+fn prefixes_of(alloc: Global, rules: &[Rule]) -> CoverTable
+    requires { length rules.now ≤ MOST_RULES }
+    ensures { result ≡ map (λ rule. rule.prefix) rules.now }
 {
-    let mut best: Option<&Rule> = None;
+    let mut prefixes = CoverTable::new(alloc);
     for rule in rules {
-        if rule.prefix.covers(prefix) && is_longer(rule, best) {
-            best = Some(rule);
+        if let Err(_) = prefixes.push(rule.prefix) {
+            unreachable!();
         }
     }
-    best
+    prefixes
 }
 
-// Whether the rule is longer than the best so far, if there is one.
-fn is_longer(rule: &Rule, best: Option<&Rule>) -> bool
-    ensures { IsTrue result ↔ MatchOption best.entry (Unit {0}) (λ other. other.now.prefix.len < rule.now.prefix.len) }
+// The longest rule that covers the prefix.
+fn longest_rule<'a>(rules: &'a [Rule], prefixes: &CoverTable, prefix: &Prefix) -> Option<&'a Rule>
+    requires { prefixes.now ≡ map (λ rule. rule.prefix) rules.now }
+    ensures { MatchOption result (NoRuleFor rules.now prefix.now) (λ rule. IsRuleFor rules.now prefix.now rule.now) }
 {
-    match best {
-        Some(other) => other.prefix.len() < rule.prefix.len(),
-        None => true,
+    match prefixes.longest(prefix) {
+        Some(place) => Some(&rules[place]),
+        None => None,
     }
 }

@@ -11,6 +11,9 @@ use std::test::Fail;
 // Prefixes by address and length: the last is one that no router originates.
 type At = (u32, u8);
 
+// Whether the router may use the path for the prefix.
+type Permitted = (Asn, At, &'static [Asn], bool);
+
 const SIXTEEN: At = (0x0a01_0000, 16);
 
 const TWENTY_FOUR: At = (0x0a01_0200, 24);
@@ -21,7 +24,7 @@ const STRAY: At = (0x0c00_0000, 8);
 
 /// The origin has its own path alone, whatever its rules say; the longest covering rule names the
 /// paths of the others, as far as they end at the origin; without one every route is permitted.
-const PERMITTED: [(Asn, At, &[Asn], bool); 17] = [
+const PERMITTED: [Permitted; 17] = [
     (1, SIXTEEN, &[1], true),
     (1, SIXTEEN, &[1, 2], false),
     (2, SIXTEEN, &[2, 3, 1], true),
@@ -74,9 +77,9 @@ fn is_permitted(
     }
 }
 
-fn permitted_in(rt: &impl Abort, alloc: Global, net: &Network) {
-    for (router, at, numbers, want) in PERMITTED {
-        let is_so = is_permitted(alloc, net, router, at, numbers, want);
+fn permitted_in(rt: &impl Abort, alloc: Global, net: &Network, cases: &[Permitted]) {
+    for (router, at, numbers, want) in cases {
+        let is_so = is_permitted(alloc, net, *router, *at, numbers, *want);
         assert!(rt; is_so, "{router}: {numbers:?}");
     }
 }
@@ -85,7 +88,39 @@ fn permitted_in(rt: &impl Abort, alloc: Global, net: &Network) {
 fn permitted(rt: HostRuntime) -> Result<(), Fail> {
     let alloc = rt.alloc();
     let net = finished(disagree(alloc)?)?;
-    permitted_in(&rt, alloc, &net);
+    permitted_in(&rt, alloc, &net, &PERMITTED);
+    Ok(())
+}
+
+/// Of the rules for 10.0.0.0/8 and 10.1.0.0/16 the second speaks for 10.1.2.0/24, the first for
+/// 10.2.0.0/16.
+const BY_LONGEST_RULE: [Permitted; 4] = [
+    (2, TWENTY_FOUR, &[2, 3, 1], true),
+    (2, TWENTY_FOUR, &[2, 1], false),
+    (2, (0x0a02_0000, 16), &[2, 1], true),
+    (2, (0x0a02_0000, 16), &[2, 3, 1], false),
+];
+
+fn push_two_rules(alloc: Global, net: &mut NetBuilder) -> Result<(), NetError> {
+    push_line(net, 3)?;
+    adds_link(net, 1, 3)?;
+    adds_origin_at(net, 1, 0x0a01_0200, 24)?;
+    adds_origin_at(net, 1, 0x0a02_0000, 16)?;
+    push_rule(alloc, net, 2, TEN, 8, &[&[2, 1]])?;
+    push_rule(alloc, net, 2, 0x0a01_0000, 16, &[&[2, 3, 1]])
+}
+
+fn two_rules(alloc: Global) -> Result<NetBuilder, NetError> {
+    let mut net = NetBuilder::new(alloc, SETTINGS)?;
+    push_two_rules(alloc, &mut net)?;
+    Ok(net)
+}
+
+#[test]
+fn the_longest_rule_speaks(rt: HostRuntime) -> Result<(), Fail> {
+    let alloc = rt.alloc();
+    let net = finished(two_rules(alloc)?)?;
+    permitted_in(&rt, alloc, &net, &BY_LONGEST_RULE);
     Ok(())
 }
 
