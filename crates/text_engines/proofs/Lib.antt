@@ -1,8 +1,9 @@
+pub mod BlankLemmas
+pub mod CheckLemmas
+pub mod DecodeLemmas
 pub mod DigitLemmas
+pub mod HexInputLemmas
+mod HexLanes
+pub mod PlaceLemmas
 pub mod PrintingLemmas
 pub mod WritingLemmas
-pub mod CheckLemmas
-pub mod PlaceLemmas
-pub mod BlankLemmas
-pub mod HexInputLemmas
-pub mod DecodeLemmas

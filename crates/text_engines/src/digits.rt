@@ -1,7 +1,6 @@
 //! Hex digits as octets, many at a time and piece by piece.
 //!
-//! The definition is that of the crate `hex`; the loops over a block test no digit by itself, so
-//! that a compiler can do many of them in one instruction.
+//! The definition is that of the crate `hex`; a block of 32 digits is read by lanes.
 
 ghost use Rattle.std.specs.Prelude.{◌≡◌, ℕ, List, ◌+◌, ◌++◌, ◌*◌, ◌%◌, ◌<◌, nat_lt, length, map, slice_index, unwrap_or, IfOk, OnOk, IsErr, ◌∷◌, [], MatchOption, Ok, Some, None};
 ghost use Rattle.std.specs.List.{list_all};
@@ -10,6 +9,7 @@ ghost use Rattle.text_engines.specs.Digits.{Adds, HasRead, without_blanks};
 
 use crate::blanks::pack;
 use std::alloc::{AllocError, Global};
+use std::simd::prelude::*;
 
 /// A text in hex that is read piece by piece.
 #[derive(Debug, Drop)]
@@ -39,23 +39,19 @@ fn value(digit: u8) -> u8
 fn values_of(digits: &[u8; 32]) -> [u8; 32]
     ensures { result ≡ map (λ digit. unwrap_or (hex_digit_value digit) 255) digits.now }
 {
-    let mut values = [0u8; 32];
-    'digits: for i in 0..32usize {
-        values[i] = value(digits[i]);
-    }
-    values
+    lanes_of(u8x32::from_array(*digits)).to_array()
 }
 
-// The greatest value of a block.
+// A value that is below 16 exactly where all those of a block are.
 #[inline(always)]
 fn greatest_of(values: &[u8; 32]) -> u8
     ensures { nat_lt result 16 ≡ list_all (λ value. nat_lt value 16) values.now }
 {
-    let mut greatest = 0u8;
-    for value in values {
-        greatest = greatest.max(*value);
+    if are_values(u8x32::from_array(*values)) {
+        15
+    } else {
+        255
     }
-    greatest
 }
 
 // The octets of a block, each of two values.
@@ -63,11 +59,35 @@ fn greatest_of(values: &[u8; 32]) -> u8
 fn pairs_of(values: &[u8; 32]) -> [u8; 16]
     ensures { (i : ℕ) → i < 16 → slice_index result i ≡ slice_index values.now (2 * i) % 16 * 16 + slice_index values.now (2 * i + 1) % 16 }
 {
-    let mut octets = [0u8; 16];
-    'octets: for i in 0..16usize {
-        octets[i] = values[2 * i] % 16 * 16 + values[2 * i + 1] % 16;
-    }
-    octets
+    pair_lanes(u8x32::from_array(*values)).to_array()
+}
+
+#[inline(always)]
+fn lanes_of(digits: u8x32) -> u8x32
+    ensures { result ≡ map (λ digit. unwrap_or (hex_digit_value digit) 255) digits }
+{
+    let numbers = digits - u8x32::splat(b'0');
+    let letters = (digits | u8x32::splat(0x20)) - u8x32::splat(b'a');
+    let others = letters
+        .simd_lt(u8x32::splat(6))
+        .select(letters + u8x32::splat(10), u8x32::splat(255));
+    numbers.simd_lt(u8x32::splat(10)).select(numbers, others)
+}
+
+#[inline(always)]
+fn are_values(values: u8x32) -> bool
+    ensures { result ≡ list_all (λ value. nat_lt value 16) values }
+{
+    values.simd_ge(u8x32::splat(16)).to_bitmask() == 0
+}
+
+#[inline(always)]
+fn pair_lanes(values: u8x32) -> u8x16
+    ensures { (i : ℕ) → i < 16 → slice_index result i ≡ slice_index values (2 * i) % 16 * 16 + slice_index values (2 * i + 1) % 16 }
+{
+    let few = values & u8x32::splat(15);
+    let (high, low) = few.extract::<0, 16>().deinterleave(few.extract::<16, 16>());
+    high * u8x16::splat(16) + low
 }
 
 // Writes the octets of pairs of digits, and answers the greatest value that a digit had.
