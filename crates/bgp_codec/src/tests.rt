@@ -37,13 +37,13 @@ fn header_faults(rt: HostRuntime) -> Result<(), Fail> {
         (b"\x00\x14\x03", 2, b"\x00\x14"),
     ] {
         let octets = marked(rt.alloc(), tail)?;
-        assert_eq!(rt; octets.len(), 19);
+        assert!(rt; octets.len() == 19);
         match header(rt.alloc(), &first_nineteen(&octets)) {
             Ok(_) => assert!(rt; false, "{tail:?} has a fault"),
             Err(fault) => {
-                assert_eq!(rt; fault.code, 1);
-                assert_eq!(rt; fault.sub, sub);
-                assert_eq!(rt; fault.extra.as_slice(), extra);
+                assert!(rt; fault.code == 1);
+                assert!(rt; fault.sub == sub);
+                assert!(rt; fault.extra.as_slice() == extra);
             }
         }
     }
@@ -61,9 +61,9 @@ fn good_headers(rt: HostRuntime) -> Result<(), Fail> {
         (b"\x10\x00\x01", 4096, 1),
     ] {
         let octets = marked(rt.alloc(), tail)?;
-        assert_eq!(rt; octets.len(), 19);
+        assert!(rt; octets.len() == 19);
         let read = header(rt.alloc(), &first_nineteen(&octets)).ok();
-        assert_eq!(rt; read, Some(Header { len, kind }));
+        assert!(rt; read == Some(Header { len, kind }));
     }
     Ok(())
 }
@@ -76,7 +76,7 @@ fn a_marker_with_another_octet(rt: HostRuntime) -> Result<(), Fail> {
         match header(rt.alloc(), &octets) {
             Ok(_) => assert!(rt; false, "octet {at}"),
             Err(fault) => {
-                assert_eq!(rt; (fault.code, fault.sub), (1, 1));
+                assert!(rt; (fault.code, fault.sub) == (1, 1));
                 assert!(rt; fault.extra.is_empty());
             }
         }
@@ -108,7 +108,7 @@ fn written_behind_one(
     match encode(message, &NOBODY, &mut out) {
         Ok(()) => Ok(Some(out.len() - 1)),
         Err(CodecError::TooLong) => {
-            assert_eq!(rt; (out.as_slice(), out.capacity()), ([7u8].as_slice(), room));
+            assert!(rt; (out.as_slice(), out.capacity()) == ([7u8].as_slice(), room));
             Ok(None)
         }
         Err(_) => Err("memory".into()),
@@ -142,7 +142,7 @@ fn notice_with(alloc: Global, len: usize) -> Result<Message, AllocError> {
 fn the_longest_message(rt: HostRuntime) -> Result<(), Fail> {
     for (len, wanted) in [(4075usize, Some(4096)), (4076, None)] {
         let message = notice_with(rt.alloc(), len)?;
-        assert_eq!(rt; written_behind_one(&rt, rt.alloc(), &message)?, wanted);
+        assert!(rt; written_behind_one(&rt, rt.alloc(), &message)? == wanted);
     }
     Ok(())
 }
@@ -152,8 +152,8 @@ fn octets_in_place_and_in_memory(rt: HostRuntime) -> Result<(), Fail> {
     let alloc = rt.alloc();
     let long = [9u8; 17];
     let octets = Octets::from_slice(alloc, &long)?;
-    assert_eq!(rt; octets.as_slice(), long.as_slice());
-    assert_eq!(rt; octets.into_small_vec().as_slice(), long.as_slice());
+    assert!(rt; octets.as_slice() == long.as_slice());
+    assert!(rt; octets.into_small_vec().as_slice() == long.as_slice());
     Ok(())
 }
 
@@ -228,9 +228,8 @@ fn opens_that_are_not_writable(rt: HostRuntime) -> Result<(), Fail> {
         (90, 0x0a00_0001, 256, false),
     ] {
         let message = open_with(rt.alloc(), hold, id, value_len)?;
-        assert_eq!(rt;
-            is_writable(&message, &NOBODY),
-            wanted,
+        assert!(rt;
+            is_writable(&message, &NOBODY) == wanted,
             "{hold} {id} {value_len}"
         );
     }
@@ -239,9 +238,9 @@ fn opens_that_are_not_writable(rt: HostRuntime) -> Result<(), Fail> {
 
 #[test]
 fn items_stand_alone_or_in_a_block(rt: HostRuntime) -> Result<(), Fail> {
-    assert_eq!(rt; Items::one(7u8).as_slice(), [7u8].as_slice());
+    assert!(rt; Items::one(7u8).as_slice() == [7u8].as_slice());
     let items = Items::from_vec(vec![in rt.alloc(); 1u8, 2]?);
-    assert_eq!(rt; items.as_slice(), [1u8, 2].as_slice());
+    assert!(rt; items.as_slice() == [1u8, 2].as_slice());
     Ok(())
 }
 
@@ -358,7 +357,7 @@ fn updates_that_are_not_writable(rt: HostRuntime) -> Result<(), Fail> {
         (&many[..1], [7, 8], false),
     ] {
         let is_good = is_writable_with(alloc, numbers, &codes)?;
-        assert_eq!(rt; is_good, wanted, "{codes:?}");
+        assert!(rt; is_good == wanted, "{codes:?}");
     }
     let mut message = update(alloc, Vec::new(alloc), Vec::new(alloc), &[(0, 0)])?;
     message.attrs.path = None;
@@ -385,7 +384,7 @@ fn update_with(alloc: Global, len: usize) -> Result<Message, AllocError> {
 fn the_longest_update(rt: HostRuntime) -> Result<(), Fail> {
     for (len, wanted) in [(4032usize, Some(4096)), (4033, None)] {
         let message = update_with(rt.alloc(), len)?;
-        assert_eq!(rt; written_behind_one(&rt, rt.alloc(), &message)?, wanted);
+        assert!(rt; written_behind_one(&rt, rt.alloc(), &message)? == wanted);
     }
     Ok(())
 }

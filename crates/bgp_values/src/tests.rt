@@ -10,7 +10,7 @@ fn numbers_have_two_octets(rt: HostRuntime) {
         (65_536, false),
         (4_294_967_296, false),
     ] {
-        assert_eq!(rt; is_asn(asn), can, "{asn}");
+        assert!(rt; is_asn(asn) == can, "{asn}");
     }
 }
 
@@ -24,7 +24,7 @@ fn a_hold_time_is_none_or_three_seconds(rt: HostRuntime) {
         (90, true),
         (65_535, true),
     ] {
-        assert_eq!(rt; is_hold_time(hold), can, "{hold}");
+        assert!(rt; is_hold_time(hold) == can, "{hold}");
     }
 }
 
@@ -37,7 +37,7 @@ fn a_host_is_between_networks_and_groups(rt: HostRuntime) {
         (0xdfff_ffff, true),
         (0xe000_0000, false),
     ] {
-        assert_eq!(rt; is_unicast(address), can, "{address}");
+        assert!(rt; is_unicast(address) == can, "{address}");
     }
 }
 
@@ -52,5 +52,5 @@ fn error_codes_are_numbered_in_order(rt: HostRuntime) {
         FSM_ERROR,
         CEASE,
     ];
-    assert_eq!(rt; codes, [1, 2, 3, 4, 5, 6]);
+    assert!(rt; codes == [1, 2, 3, 4, 5, 6]);
 }

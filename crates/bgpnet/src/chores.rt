@@ -13,7 +13,7 @@ use router_model::Command;
 use std::alloc::{AllocError, Global};
 
 /// How long the routers of a network run, and the snapshots that are taken.
-#[derive(Clone, Copy, Debug, PartialEq, Eq)]
+#[derive(Clone, Copy, PartialEq, Eq)]
 pub struct RunOptions {
     /// The chores of each router, 1 to [`MOST_TURNS`].
     pub turns: u32,

@@ -19,7 +19,7 @@ use text_engines::{
 };
 
 // What the words ask for.
-#[derive(Debug, Drop)]
+#[derive(Drop)]
 enum Asked {
     // Decode, with the speaker's number where `--peer` names it.
     Decode(Option<u16>),

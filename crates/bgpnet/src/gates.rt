@@ -10,7 +10,7 @@ use std::sync::Wait;
 
 /// Gives the chores of an opening and then Turns; but each so many chores behind the opening the
 /// snapshot of the next number, from 1 to the last.
-#[derive(Debug, Drop)]
+#[derive(Drop)]
 pub struct RunGate {
     opening: Vec<Chore>,
     spacing: u32,

@@ -35,7 +35,7 @@ use std::{env, io};
 use text_engines::{IoStopped, Sink, Source, Watched, status, want_of_memory, write_out};
 
 // Why the words behind the program's name were not read.
-#[derive(Debug, Drop)]
+#[derive(Drop)]
 enum WordsError {
     Memory,
     NotText,

@@ -17,7 +17,7 @@ use text_engines::status::{DONE, REFUSED};
 use world_core::{StepFault, World};
 
 /// An order that was refused.
-#[derive(Clone, Copy, Debug, PartialEq, Eq)]
+#[derive(Clone, Copy, PartialEq, Eq)]
 pub struct Stop {
     /// The line that it stands on.
     pub line: usize,

@@ -17,7 +17,7 @@ use std::alloc::{AllocError, Global};
 use text_engines::status::DONE;
 
 /// What is asked of the parts of a settled snapshot before its routes are printed.
-#[derive(Clone, Copy, Debug, PartialEq, Eq)]
+#[derive(Clone, Copy, PartialEq, Eq)]
 pub enum Demand {
     /// Nothing more.
     AsRecorded,

@@ -338,7 +338,7 @@ path 4 10.1.0.0/16 4-1\n\
 };
 
 /// Each example.
-pub const EXAMPLES: [Example; 13] = [
+pub static EXAMPLES: [Example; 13] = [
     DISAGREE_NEITHER,
     DISAGREE_OTHER,
     DISAGREE,
@@ -1015,7 +1015,7 @@ route 2 10.1.0.0/16 none\n\
 };
 
 /// Each example of `play`.
-pub const PLAYED: [Played; 22] = [
+pub static PLAYED: [Played; 22] = [
     PLAY_DISAGREE_OTHER,
     PLAY_DISAGREE,
     PLAY_GOOD_GADGET,
@@ -1470,7 +1470,7 @@ pub const DECODE_UPDATE: Decoded = Decoded {
 };
 
 /// Each example of `decode`.
-pub const DECODED: [Decoded; 24] = [
+pub static DECODED: [Decoded; 24] = [
     DECODE_1_1_NOT_SYNCHRONIZED,
     DECODE_1_2_BAD_LENGTH,
     DECODE_1_3_BAD_TYPE,

@@ -14,7 +14,7 @@ use ranked_policy::{Asn, NetBuilder, NetError, Network, Path};
 use std::alloc::Global;
 
 /// A network so far, and which settings lines have named.
-#[derive(Debug, Drop)]
+#[derive(Drop)]
 pub(crate) struct Draft {
     /// The settings that lines have named.
     pub(crate) named: Named,

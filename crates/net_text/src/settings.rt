@@ -26,7 +26,7 @@ pub(crate) const USUAL_RESTART: u16 = 0;
 pub(crate) const USUAL_PIPE: usize = 64;
 
 /// What a line may set.
-#[derive(Clone, Copy, Debug, PartialEq, Eq)]
+#[derive(Clone, Copy, PartialEq, Eq)]
 pub(crate) enum Setting {
     /// The hold time, in seconds.
     Hold,
@@ -39,7 +39,7 @@ pub(crate) enum Setting {
 }
 
 /// Which settings lines have named.
-#[derive(Clone, Copy, Debug, PartialEq, Eq)]
+#[derive(Clone, Copy, PartialEq, Eq)]
 pub(crate) struct Named {
     /// The hold time.
     pub(crate) hold: bool,

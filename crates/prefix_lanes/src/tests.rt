@@ -5,7 +5,7 @@ use std::test::Fail;
 
 /// The mask of each length, as network masks are usually written.
 #[rattlefmt::skip]
-const MASKS: [u32; 33] = [
+static MASKS: [u32; 33] = [
     0x0000_0000,
     0x8000_0000, 0xc000_0000, 0xe000_0000, 0xf000_0000, 0xf800_0000, 0xfc00_0000, 0xfe00_0000, 0xff00_0000,
     0xff80_0000, 0xffc0_0000, 0xffe0_0000, 0xfff0_0000, 0xfff8_0000, 0xfffc_0000, 0xfffe_0000, 0xffff_0000,
@@ -22,27 +22,26 @@ fn prefix(addr: u32, len: u8) -> Result<Prefix, &'static str> {
 fn lengths(rt: HostRuntime) -> Result<(), Fail> {
     for len in 0..33u8 {
         let all = prefix(u32::MAX, len)?;
-        assert_eq!(rt; all.addr(), MASKS[usize::from(len)], "at {len}");
-        assert_eq!(rt; all.len(), len);
-        assert_eq!(rt; all.is_empty(), len == 0);
-        assert_eq!(rt; prefix(0, len)?.addr(), 0, "at {len}");
+        assert!(rt; all.addr() == MASKS[usize::from(len)], "at {len}");
+        assert!(rt; all.len() == len);
+        assert!(rt; all.is_empty() == (len == 0));
+        assert!(rt; prefix(0, len)?.addr() == 0, "at {len}");
         let some = prefix(0xa5a5_a5a5, len)?;
-        assert_eq!(rt;
-            some.addr(),
-            0xa5a5_a5a5 & MASKS[usize::from(len)],
+        assert!(rt;
+            some.addr() == 0xa5a5_a5a5 & MASKS[usize::from(len)],
             "at {len}"
         );
-        assert_eq!(rt; prefix(some.addr(), len)?, some, "at {len}");
+        assert!(rt; prefix(some.addr(), len)? == some, "at {len}");
     }
-    assert_eq!(rt; Prefix::new(0, 33), None);
-    assert_eq!(rt; Prefix::new(u32::MAX, 255), None);
+    assert!(rt; Prefix::new(0, 33) == None);
+    assert!(rt; Prefix::new(u32::MAX, 255) == None);
     Ok(())
 }
 
 /// 10.1.255.0/17 is 10.1.128.0/17.
 #[test]
 fn trailing_bits(rt: HostRuntime) -> Result<(), Fail> {
-    assert_eq!(rt; prefix(0x0a01_ff00, 17)?, prefix(0x0a01_8000, 17)?);
+    assert!(rt; prefix(0x0a01_ff00, 17)? == prefix(0x0a01_8000, 17)?);
     assert!(rt; prefix(0x0a01_8000, 17)? != prefix(0x0a01_8000, 18)?);
     assert!(rt; prefix(0x0a00_0000, 16)? < prefix(0x0a01_0000, 8 + 8)?);
     assert!(rt; prefix(0x0a00_0000, 8)? < prefix(0x0a00_0000, 16)?);
@@ -92,7 +91,7 @@ fn covers(rt: HostRuntime) -> Result<(), Fail> {
     ];
     for (name, addr, len, other, other_len, want) in cases {
         let covers = prefix(addr, len)?.covers(&prefix(other, other_len)?);
-        assert_eq!(rt; covers, want, "{name}");
+        assert!(rt; covers == want, "{name}");
     }
     Ok(())
 }
@@ -108,7 +107,7 @@ fn masks(rt: HostRuntime) {
     }
     assert!(rt; lens.iter().all(|len| *len <= 32));
     mask_all(&mut words, &lens);
-    assert_eq!(rt; words, want);
+    assert!(rt; words == want);
     mask_all(&mut [], &[]);
 }
 
@@ -123,7 +122,7 @@ fn plain_mask_all(words: &mut [u32], lens: &[u8]) {
 
 // Eight at a time leaves what one at a time leaves.
 fn masks_alike(rt: &impl Abort, words: &mut [u32], others: &mut [u32], lens: &[u8]) {
-    assert_eq!(rt; words.len(), lens.len());
+    assert!(rt; words.len() == lens.len());
     assert!(rt; lens.iter().all(|len| *len <= 32));
     mask_all(words, lens);
     plain_mask_all(others, lens);
@@ -163,11 +162,11 @@ fn table(alloc: Global, entries: &[(u32, u8)]) -> Result<CoverTable, Fail> {
 #[test]
 fn longest(rt: HostRuntime) -> Result<(), Fail> {
     let two = table(rt.alloc(), &[(0x0a00_0000, 8), (0x0a01_0000, 16)])?;
-    assert_eq!(rt; two.longest(&prefix(0x0a01_0200, 24)?), Some(1));
-    assert_eq!(rt; two.longest(&prefix(0x0a02_0000, 16)?), Some(0));
-    assert_eq!(rt; two.longest(&prefix(0x0a00_0000, 7)?), None);
-    assert_eq!(rt; two.longest(&prefix(0x0b00_0000, 8)?), None);
-    assert_eq!(rt; two.as_slice().len(), 2);
+    assert!(rt; two.longest(&prefix(0x0a01_0200, 24)?) == Some(1));
+    assert!(rt; two.longest(&prefix(0x0a02_0000, 16)?) == Some(0));
+    assert!(rt; two.longest(&prefix(0x0a00_0000, 7)?) == None);
+    assert!(rt; two.longest(&prefix(0x0b00_0000, 8)?) == None);
+    assert!(rt; two.as_slice().len() == 2);
 
     let same = [
         (0, 0),
@@ -177,9 +176,9 @@ fn longest(rt: HostRuntime) -> Result<(), Fail> {
         (0x0a02_0000, 16),
     ];
     let same = table(rt.alloc(), &same)?;
-    assert_eq!(rt; same.longest(&prefix(0x0a01_0000, 16)?), Some(1));
-    assert_eq!(rt; same.longest(&prefix(0x0b00_0000, 8)?), Some(0));
-    assert_eq!(rt; CoverTable::new(rt.alloc()).longest(&prefix(0, 0)?), None);
+    assert!(rt; same.longest(&prefix(0x0a01_0000, 16)?) == Some(1));
+    assert!(rt; same.longest(&prefix(0x0b00_0000, 8)?) == Some(0));
+    assert!(rt; CoverTable::new(rt.alloc()).longest(&prefix(0, 0)?) == None);
     Ok(())
 }
 
@@ -210,7 +209,7 @@ fn answers_alike(rt: &impl Abort, table: &CoverTable) {
         ] {
             if let Some(asked) = Prefix::new(addr, len) {
                 let want = plain_longest(table.as_slice(), &asked);
-                assert_eq!(rt; table.longest(&asked), want, "{addr:x}/{len} of {count}");
+                assert!(rt; table.longest(&asked) == want, "{addr:x}/{len} of {count}");
             }
         }
     }
@@ -225,7 +224,7 @@ fn longest_of_each_count(rt: HostRuntime) -> Result<(), Fail> {
     for i in 0..64u32 {
         let addr = if i % 5 == 3 { 0x0a02_0000 } else { 0x0a01_0203 };
         let len = (i * 13 % 33) as u8;
-        assert_eq!(rt; table.push(prefix(addr, len)?), Ok(()), "at {i}");
+        assert!(rt; table.push(prefix(addr, len)?) == Ok(()), "at {i}");
         answers_alike(&rt, &table);
     }
     Ok(())
@@ -236,12 +235,12 @@ fn longest_of_each_count(rt: HostRuntime) -> Result<(), Fail> {
 fn full(rt: HostRuntime) -> Result<(), Fail> {
     let mut table = CoverTable::new(rt.alloc());
     for i in 0..64u32 {
-        assert_eq!(rt; table.push(prefix(i << 8, 24)?), Ok(()), "at {i}");
+        assert!(rt; table.push(prefix(i << 8, 24)?) == Ok(()), "at {i}");
     }
-    assert_eq!(rt; table.push(prefix(0, 0)?), Err(CoverError::TableFull));
-    assert_eq!(rt; table.as_slice().len(), CAPACITY);
-    assert_eq!(rt; table.longest(&prefix(63 << 8, 32)?), Some(63));
-    assert_eq!(rt; table.longest(&prefix(64 << 8, 24)?), None);
+    assert!(rt; table.push(prefix(0, 0)?) == Err(CoverError::TableFull));
+    assert!(rt; table.as_slice().len() == CAPACITY);
+    assert!(rt; table.longest(&prefix(63 << 8, 32)?) == Some(63));
+    assert!(rt; table.longest(&prefix(64 << 8, 24)?) == None);
     Ok(())
 }
 

@@ -79,11 +79,11 @@ fn a_side_opens_in(
     requires { IsSayable own_open.now }
 {
     meets(alloc, side, own_open, FsmEvent::ManualStart)?;
-    assert_eq!(rt; side.state(), State::Connect);
+    assert!(rt; side.state() == State::Connect);
     is_given(alloc, side, own_open, Sign::Dial(1))?;
-    assert_eq!(rt; side.state(), State::OpenSent);
-    assert_eq!(rt; side.epoch(), 1);
-    assert_eq!(rt; side.octets_waiting(), 19);
+    assert!(rt; side.state() == State::OpenSent);
+    assert!(rt; side.epoch() == 1);
+    assert!(rt; side.octets_waiting() == 19);
     side.reserve_marker()?;
     side.mark(7);
     assert!(rt; matches!(put(side)?, Some(What::Dial(1))));
@@ -91,7 +91,7 @@ fn a_side_opens_in(
     assert!(rt; matches!(put(side)?, Some(What::Mark(1, 7))));
     assert!(rt; !side.has_item());
     assert!(rt; !side.is_up());
-    assert_eq!(rt; told(alloc, side.acted())?, 0);
-    assert_eq!(rt; told(alloc, side.sent())?, 0);
+    assert!(rt; told(alloc, side.acted())? == 0);
+    assert!(rt; told(alloc, side.sent())? == 0);
     Ok(())
 }

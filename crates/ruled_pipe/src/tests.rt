@@ -25,14 +25,14 @@ fn pipe<T: Drop>(alloc: Global, capacity: usize) -> Result<(PutEnd<T>, TakeEnd<T
 #[test]
 fn a_pipe_of_one_item(rt: HostRuntime) -> Result<(), Fail> {
     let (mut put, mut take) = pipe(rt.alloc(), 1)?;
-    assert_eq!(rt; put.put(&rt, 7u8), Ok(()));
-    assert_eq!(rt; put.put(&rt, 8), Err(8));
-    assert_eq!(rt; take.take(&rt), Some(7));
-    assert_eq!(rt; take.take(&rt), None);
-    assert_eq!(rt; put.put(&rt, 9), Ok(()));
+    assert!(rt; put.put(&rt, 7u8) == Ok(()));
+    assert!(rt; put.put(&rt, 8) == Err(8));
+    assert!(rt; take.take(&rt) == Some(7));
+    assert!(rt; take.take(&rt) == None);
+    assert!(rt; put.put(&rt, 9) == Ok(()));
     let mut tail = close(&rt, put, take);
-    assert_eq!(rt; tail.next(&rt), Some(9));
-    assert_eq!(rt; tail.next(&rt), None);
+    assert!(rt; tail.next(&rt) == Some(9));
+    assert!(rt; tail.next(&rt) == None);
     Ok(())
 }
 
@@ -41,14 +41,14 @@ fn a_pipe_of_one_item(rt: HostRuntime) -> Result<(), Fail> {
 fn a_pipe_takes_as_many_as_it_holds(rt: HostRuntime) -> Result<(), Fail> {
     let (mut put, take) = pipe(rt.alloc(), 3)?;
     for item in 1..4u8 {
-        assert_eq!(rt; put.put(&rt, item), Ok(()));
+        assert!(rt; put.put(&rt, item) == Ok(()));
     }
-    assert_eq!(rt; put.put(&rt, 4), Err(4));
+    assert!(rt; put.put(&rt, 4) == Err(4));
     let mut tail = close(&rt, put, take);
     for item in 1..4u8 {
-        assert_eq!(rt; tail.next(&rt), Some(item));
+        assert!(rt; tail.next(&rt) == Some(item));
     }
-    assert_eq!(rt; tail.next(&rt), None);
+    assert!(rt; tail.next(&rt) == None);
     Ok(())
 }
 
@@ -169,7 +169,7 @@ fn two_threads<R: Threads + Wait + Sync>(
 fn items_pass_between_threads_in_order(rt: HostRuntime) -> Result<(), Fail> {
     for capacity in [1, MOST_ITEMS] {
         let (done, found) = two_threads(&rt, rt.alloc(), capacity)?;
-        assert_eq!(rt; found, Some(done));
+        assert!(rt; found == Some(done));
     }
     Ok(())
 }

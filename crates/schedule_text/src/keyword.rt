@@ -6,7 +6,7 @@ ghost use Rattle.schedule_text.specs.Schedules.{keyword_of, step_of};
 use net_text::lexing::same;
 
 /// What a line of a schedule begins with.
-#[derive(Clone, Copy, Debug, PartialEq, Eq)]
+#[derive(Clone, Copy, PartialEq, Eq)]
 pub(crate) enum Keyword {
     /// `start U V`
     Start,

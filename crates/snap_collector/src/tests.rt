@@ -92,14 +92,14 @@ fn a_snapshot_waits_for_every_part(rt: HostRuntime) -> Result<(), Fail> {
     let alloc = rt.alloc();
     let members = members(alloc)?;
     let mut offers = Vec::new(alloc);
-    assert_eq!(rt; verdict(&members, &offers), Outcome::Waiting);
+    assert!(rt; verdict(&members, &offers) == Outcome::Waiting);
     offers.push(part(alloc, 2, false, 7, 0)?)?;
-    assert_eq!(rt; verdict(&members, &offers), Outcome::Waiting);
+    assert!(rt; verdict(&members, &offers) == Outcome::Waiting);
     assert!(rt; !decides(&members, &offers));
     assert!(rt; has_offered(&offers, 2) && !has_offered(&offers, 1));
     offers.push(part(alloc, 1, false, 7, 0)?)?;
     assert!(rt; decides(&members, &offers));
-    assert_eq!(rt; verdict(&members, &offers), Outcome::Settled);
+    assert!(rt; verdict(&members, &offers) == Outcome::Settled);
     Ok(())
 }
 
@@ -108,9 +108,9 @@ fn a_snapshot_waits_for_every_part(rt: HostRuntime) -> Result<(), Fail> {
 fn a_loss_abandons(rt: HostRuntime) -> Result<(), Fail> {
     let alloc = rt.alloc();
     let first = verdict_on(alloc, Offer::Lost(lost(2)), Offer::Lost(lost(1)))?;
-    assert_eq!(rt; first, Outcome::Abandoned(lost(2)));
+    assert!(rt; first == Outcome::Abandoned(lost(2)));
     let behind = verdict_on(alloc, part(alloc, 1, true, 7, 1)?, Offer::Lost(lost(2)))?;
-    assert_eq!(rt; behind, Outcome::Abandoned(lost(2)));
+    assert!(rt; behind == Outcome::Abandoned(lost(2)));
     Ok(())
 }
 
@@ -130,7 +130,7 @@ fn the_first_fault_is_named(rt: HostRuntime) -> Result<(), Fail> {
         let first = part(alloc, 1, one.0, one.1, one.2)?;
         let second = part(alloc, 2, other.0, other.1, other.2)?;
         let found = verdict_on(alloc, second, first)?;
-        assert_eq!(rt; found, Outcome::Moving { router, why });
+        assert!(rt; found == Outcome::Moving { router, why });
     }
     Ok(())
 }

@@ -149,19 +149,16 @@ fn a_recording_ends_with_the_last_marker_in(
     marks: &mut MarkState,
 ) -> Result<(), Fail> {
     assert!(rt; begin(alloc, marks, 4, &[2, 3], Some(2), None)?);
-    assert_eq!(rt; marks.last(), 4);
+    assert!(rt; marks.last() == 4);
     for peer in [2, 3, 3] {
-        assert_eq!(rt; hear(alloc, marks, peer)?, peer == 3);
+        assert!(rt; hear(alloc, marks, peer)? == (peer == 3));
     }
     mark(marks, 3, 3);
     assert!(rt; marks.next_offer().is_none());
     assert!(rt; marks.unfinished().is_some());
     mark(marks, 3, 4);
     assert!(rt; marks.unfinished().is_none());
-    assert_eq!(rt;
-        updates_of(alloc, marks.next_offer())?.as_slice(),
-        [0usize, 2].as_slice()
-    );
+    assert!(rt; updates_of(alloc, marks.next_offer())?.as_slice() == [0usize, 2].as_slice());
     make(marks);
     assert!(rt; marks.next_offer().is_none());
     Ok(())
@@ -181,10 +178,10 @@ fn nothing_to_wait_for_in(
 ) -> Result<(), Fail> {
     assert!(rt; begin(alloc, marks, 1, &[], None, None)?);
     assert!(rt; begin(alloc, marks, 2, &[2], Some(2), None)?);
-    assert_eq!(rt; marks.next_offer().map(|offer| offer.number()), Some(1));
+    assert!(rt; marks.next_offer().map(|offer| offer.number()) == Some(1));
     make(marks);
-    assert_eq!(rt; marks.next_offer().map(|offer| offer.number()), Some(2));
-    assert_eq!(rt; marks.next_offer().map(|offer| offer.router()), Some(1));
+    assert!(rt; marks.next_offer().map(|offer| offer.number()) == Some(2));
+    assert!(rt; marks.next_offer().map(|offer| offer.router()) == Some(1));
     Ok(())
 }
 
@@ -203,18 +200,18 @@ fn recordings_are_lost_in(
 ) -> Result<(), Fail> {
     assert!(rt; begin(alloc, marks, 1, &[2, 3], None, None)?);
     marks.on_close(3, 7);
-    assert_eq!(rt; lost_of(marks.next_offer()), lost(1, 3, Cause::Closed));
+    assert!(rt; lost_of(marks.next_offer()) == lost(1, 3, Cause::Closed));
     marks.on_close(2, 7);
     make(marks);
     assert!(rt; marks.next_offer().is_none());
     assert!(rt; begin(alloc, marks, 2, &[2, 3], None, Some(2))?);
-    assert_eq!(rt; lost_of(marks.next_offer()), lost(2, 2, Cause::NotUp));
+    assert!(rt; lost_of(marks.next_offer()) == lost(2, 2, Cause::NotUp));
     make(marks);
     assert!(rt; begin(alloc, marks, 3, &[2, 3], Some(2), None)?);
     assert!(rt; begin(alloc, marks, 5, &[2, 3], None, Some(3))?);
-    assert_eq!(rt; lost_of(marks.next_offer()), lost(3, 3, Cause::Superseded));
+    assert!(rt; lost_of(marks.next_offer()) == lost(3, 3, Cause::Superseded));
     make(marks);
-    assert_eq!(rt; lost_of(marks.next_offer()), lost(5, 3, Cause::NotUp));
+    assert!(rt; lost_of(marks.next_offer()) == lost(5, 3, Cause::NotUp));
     Ok(())
 }
 
@@ -233,22 +230,16 @@ fn offers_are_copied_in(rt: &impl Abort, alloc: Global, marks: &mut MarkState) -
         return Err(Fail::new("no offer"));
     };
     let copy = offer.copied(alloc)?;
-    assert_eq!(rt;
-        updates_of(alloc, Some(&copy))?.as_slice(),
-        [1usize].as_slice()
-    );
+    assert!(rt; updates_of(alloc, Some(&copy))?.as_slice() == [1usize].as_slice());
     let Offer::Part(part) = &copy else {
         return Err(Fail::new("no part"));
     };
     assert!(rt; part.pending);
-    assert_eq!(rt;
-        part.originated.as_slice(),
-        [prefix(0x0a01_0000)].as_slice()
-    );
+    assert!(rt; part.originated.as_slice() == [prefix(0x0a01_0000)].as_slice());
     let kept = part
         .kept
         .first()
         .map(|one| one.path.as_slice() == [1u32].as_slice());
-    assert_eq!(rt; kept, Some(true));
+    assert!(rt; kept == Some(true));
     Ok(())
 }

@@ -123,7 +123,7 @@ fn push_rule(
     }
 }
 
-const DISAGREEING: [(Asn, u32, u8, &[&[Asn]]); 5] = [
+static DISAGREEING: [(Asn, u32, u8, &[&[Asn]]); 5] = [
     (1, 0x0a01_0000, 16, &[&[1, 2], &[1]]),
     (2, 0x0a01_0000, 16, &[&[2, 3, 1], &[2, 1], &[2]]),
     (3, 0x0a01_0000, 16, &[&[3, 2, 1], &[3, 1]]),
@@ -132,7 +132,7 @@ const DISAGREEING: [(Asn, u32, u8, &[&[Asn]]); 5] = [
 ];
 
 fn push_rules(alloc: Global, net: &mut NetBuilder) -> Result<(), NetError> {
-    for (router, addr, len, lists) in DISAGREEING {
+    for &(router, addr, len, lists) in &DISAGREEING {
         push_rule(alloc, net, router, addr, len, lists)?;
     }
     Ok(())

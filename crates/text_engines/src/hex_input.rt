@@ -9,7 +9,7 @@ use crate::transfer::{INPUT_LIMIT, InputError, new_chunk};
 use std::alloc::Global;
 
 /// What an input in hex is.
-#[derive(Debug, Drop)]
+#[derive(Drop)]
 pub enum HexInput {
     /// It is longer than the limit.
     TooLong,

@@ -80,10 +80,7 @@ fn verdicts(rt: HostRuntime) -> Result<(), Fail> {
         },
     ] {
         let (text, status) = says(&rt, alloc, &example)?;
-        assert_eq!(rt;
-            (text.as_slice(), status),
-            (example.answer.as_bytes(), Some(0))
-        );
+        assert!(rt; (text.as_slice(), status) == (example.answer.as_bytes(), Some(0)));
     }
     Ok(())
 }
@@ -149,10 +146,7 @@ fn refusals(rt: HostRuntime) -> Result<(), Fail> {
         },
     ] {
         let (text, status) = says(&rt, alloc, &example)?;
-        assert_eq!(rt;
-            (text.as_slice(), status),
-            (example.answer.as_bytes(), Some(1))
-        );
+        assert!(rt; (text.as_slice(), status) == (example.answer.as_bytes(), Some(1)));
     }
     Ok(())
 }
@@ -174,6 +168,6 @@ fn the_example_of_the_help(rt: HostRuntime) -> Result<(), Fail> {
         }
     }
     let (text, status) = answer(&rt, alloc, &["check"], input.as_bytes())?;
-    assert_eq!(rt; (text.as_slice(), status), (wanted.as_bytes(), Some(0)));
+    assert!(rt; (text.as_slice(), status) == (wanted.as_bytes(), Some(0)));
     Ok(())
 }

@@ -13,19 +13,19 @@ fn dialled(epoch: u32, joined: bool) -> Result<Dialled, LinkError> {
 #[test]
 fn one_incarnation(rt: HostRuntime) {
     let mut end = LinkEnd::new();
-    assert_eq!(rt; end, LinkEnd::default());
-    assert_eq!(rt; (end.epoch(), end.phase()), (0, Phase::Shut));
-    assert_eq!(rt; end.hang_up(), None);
-    assert_eq!(rt; end.dial(), dialled(1, false));
-    assert_eq!(rt; (end.epoch(), end.phase()), (1, Phase::Offered));
-    assert_eq!(rt; end.hear(Sign::Dial(1)), Heard::Joined);
-    assert_eq!(rt; (end.epoch(), end.phase()), (1, Phase::Joined));
-    assert_eq!(rt; end.hear(Sign::Dial(1)), Heard::Quiet);
-    assert_eq!(rt; end.hear(Sign::Shut(1)), Heard::Closed);
-    assert_eq!(rt; end.hang_up(), Some(1));
-    assert_eq!(rt; end.hang_up(), None);
-    assert_eq!(rt; end.phase(), Phase::Shut);
-    assert_eq!(rt; end.dial(), dialled(2, false));
+    assert!(rt; end == LinkEnd::default());
+    assert!(rt; (end.epoch(), end.phase()) == (0, Phase::Shut));
+    assert!(rt; end.hang_up() == None);
+    assert!(rt; end.dial() == dialled(1, false));
+    assert!(rt; (end.epoch(), end.phase()) == (1, Phase::Offered));
+    assert!(rt; end.hear(Sign::Dial(1)) == Heard::Joined);
+    assert!(rt; (end.epoch(), end.phase()) == (1, Phase::Joined));
+    assert!(rt; end.hear(Sign::Dial(1)) == Heard::Quiet);
+    assert!(rt; end.hear(Sign::Shut(1)) == Heard::Closed);
+    assert!(rt; end.hang_up() == Some(1));
+    assert!(rt; end.hang_up() == None);
+    assert!(rt; end.phase() == Phase::Shut);
+    assert!(rt; end.dial() == dialled(2, false));
 }
 
 /// The number of a dial: the peer's where it waits there, else a new one, as long as there is one.
@@ -68,13 +68,13 @@ fn numbers(rt: HostRuntime) {
         };
         let before = end;
         let joins = end.is_awaited();
-        assert_eq!(rt; end.dial(), want, "{name}");
+        assert!(rt; end.dial() == want, "{name}");
         match want {
             Ok(dialled) => {
-                assert_eq!(rt; end.epoch(), dialled.epoch, "{name}");
-                assert_eq!(rt; joins, dialled.joined, "{name}");
+                assert!(rt; end.epoch() == dialled.epoch, "{name}");
+                assert!(rt; joins == dialled.joined, "{name}");
             }
-            Err(LinkError::EpochEnd) => assert_eq!(rt; end, before, "{name}"),
+            Err(LinkError::EpochEnd) => assert!(rt; end == before, "{name}"),
         }
     }
 }
@@ -154,8 +154,8 @@ fn meanings(rt: HostRuntime) {
             heard_is_shut: false,
             phase,
         };
-        assert_eq!(rt; end.hear(sign), want, "{name}");
-        assert_eq!(rt; end.phase(), then, "{name}");
+        assert!(rt; end.hear(sign) == want, "{name}");
+        assert!(rt; end.phase() == then, "{name}");
     }
 }
 
@@ -164,13 +164,13 @@ fn meanings(rt: HostRuntime) {
 fn used_up(rt: HostRuntime) -> Result<(), Fail> {
     let mut end = LinkEnd::new();
     let _first = end.dial()?;
-    assert_eq!(rt; end.hear(Sign::Dial(u32::MAX)), Heard::Offered(u32::MAX));
-    assert_eq!(rt; end.hang_up(), Some(1));
-    assert_eq!(rt; end.dial(), dialled(u32::MAX, true));
-    assert_eq!(rt; end.hear(Sign::Shut(u32::MAX)), Heard::Closed);
-    assert_eq!(rt; end.hang_up(), Some(u32::MAX));
-    assert_eq!(rt; end.dial(), Err(LinkError::EpochEnd));
-    assert_eq!(rt; (end.epoch(), end.phase()), (u32::MAX, Phase::Shut));
+    assert!(rt; end.hear(Sign::Dial(u32::MAX)) == Heard::Offered(u32::MAX));
+    assert!(rt; end.hang_up() == Some(1));
+    assert!(rt; end.dial() == dialled(u32::MAX, true));
+    assert!(rt; end.hear(Sign::Shut(u32::MAX)) == Heard::Closed);
+    assert!(rt; end.hang_up() == Some(u32::MAX));
+    assert!(rt; end.dial() == Err(LinkError::EpochEnd));
+    assert!(rt; (end.epoch(), end.phase()) == (u32::MAX, Phase::Shut));
     Ok(())
 }
 

@@ -278,6 +278,6 @@ fn walk_all(alloc: Global, seeds: u64) -> Result<Option<u64>, Fail> {
 
 #[test]
 fn random_items_are_answered_as_judged(rt: HostRuntime) -> Result<(), Fail> {
-    assert_eq!(rt; walk_all(rt.alloc(), 32)?, None);
+    assert!(rt; walk_all(rt.alloc(), 32)? == None);
     Ok(())
 }

@@ -45,8 +45,8 @@ fn given(alloc: Global, collector: &mut Collector, router: u32) -> Result<Taken,
 fn a_stranger_is_refused(rt: HostRuntime) -> Result<(), Fail> {
     let mut collector = collector(rt.alloc())?;
     let answer = collector.offer(Offer::Lost(lost(3)));
-    assert_eq!(rt; answer, Err(CollectError::Stranger { router: 3 }));
-    assert_eq!(rt; collector.outcome(5), Outcome::Waiting);
+    assert!(rt; answer == Err(CollectError::Stranger { router: 3 }));
+    assert!(rt; collector.outcome(5) == Outcome::Waiting);
     Ok(())
 }
 
@@ -54,9 +54,9 @@ fn a_stranger_is_refused(rt: HostRuntime) -> Result<(), Fail> {
 #[test]
 fn a_second_offer_is_refused(rt: HostRuntime) -> Result<(), Fail> {
     let mut collector = collector(rt.alloc())?;
-    assert_eq!(rt; given(rt.alloc(), &mut collector, 1)?, Taken::Kept);
+    assert!(rt; given(rt.alloc(), &mut collector, 1)? == Taken::Kept);
     let answer = collector.offer(Offer::Lost(lost(1)));
-    assert_eq!(rt; answer, Err(CollectError::Twice { router: 1 }));
+    assert!(rt; answer == Err(CollectError::Twice { router: 1 }));
     assert!(rt; collector.decided().is_empty());
     Ok(())
 }
@@ -66,11 +66,11 @@ fn a_second_offer_is_refused(rt: HostRuntime) -> Result<(), Fail> {
 fn a_refusal_can_be_asked(rt: HostRuntime) -> Result<(), Fail> {
     let mut collector = collector(rt.alloc())?;
     let stranger = Some(CollectError::Stranger { router: 3 });
-    assert_eq!(rt; collector.refusal(&Offer::Lost(lost(3))), stranger);
-    assert_eq!(rt; collector.refusal(&Offer::Lost(lost(1))), None);
-    assert_eq!(rt; given(rt.alloc(), &mut collector, 1)?, Taken::Kept);
+    assert!(rt; collector.refusal(&Offer::Lost(lost(3))) == stranger);
+    assert!(rt; collector.refusal(&Offer::Lost(lost(1))) == None);
+    assert!(rt; given(rt.alloc(), &mut collector, 1)? == Taken::Kept);
     let second = Some(CollectError::Twice { router: 1 });
-    assert_eq!(rt; collector.refusal(&Offer::Lost(lost(1))), second);
+    assert!(rt; collector.refusal(&Offer::Lost(lost(1))) == second);
     Ok(())
 }
 
@@ -78,8 +78,8 @@ fn a_refusal_can_be_asked(rt: HostRuntime) -> Result<(), Fail> {
 #[test]
 fn a_late_offer_is_not_refused(rt: HostRuntime) -> Result<(), Fail> {
     let mut collector = collector(rt.alloc())?;
-    assert_eq!(rt; collector.offer(Offer::Lost(lost(2)))?, Taken::Decided);
-    assert_eq!(rt; collector.refusal(&Offer::Lost(lost(2))), None);
+    assert!(rt; collector.offer(Offer::Lost(lost(2)))? == Taken::Decided);
+    assert!(rt; collector.refusal(&Offer::Lost(lost(2))) == None);
     Ok(())
 }
 
@@ -87,10 +87,10 @@ fn a_late_offer_is_not_refused(rt: HostRuntime) -> Result<(), Fail> {
 #[test]
 fn the_last_part_decides(rt: HostRuntime) -> Result<(), Fail> {
     let mut collector = collector(rt.alloc())?;
-    assert_eq!(rt; given(rt.alloc(), &mut collector, 2)?, Taken::Kept);
-    assert_eq!(rt; given(rt.alloc(), &mut collector, 1)?, Taken::Decided);
-    assert_eq!(rt; collector.outcome(5), Outcome::Settled);
-    assert_eq!(rt; collector.decided(), [5].as_slice());
+    assert!(rt; given(rt.alloc(), &mut collector, 2)? == Taken::Kept);
+    assert!(rt; given(rt.alloc(), &mut collector, 1)? == Taken::Decided);
+    assert!(rt; collector.outcome(5) == Outcome::Settled);
+    assert!(rt; collector.decided() == [5].as_slice());
     assert!(rt; collector.part(5, 2).is_some() && collector.part(5, 3).is_none());
     Ok(())
 }
@@ -99,9 +99,9 @@ fn the_last_part_decides(rt: HostRuntime) -> Result<(), Fail> {
 #[test]
 fn the_first_loss_decides(rt: HostRuntime) -> Result<(), Fail> {
     let mut collector = collector(rt.alloc())?;
-    assert_eq!(rt; collector.offer(Offer::Lost(lost(2)))?, Taken::Decided);
-    assert_eq!(rt; given(rt.alloc(), &mut collector, 1)?, Taken::Late);
-    assert_eq!(rt; collector.outcome(5), Outcome::Abandoned(lost(2)));
+    assert!(rt; collector.offer(Offer::Lost(lost(2)))? == Taken::Decided);
+    assert!(rt; given(rt.alloc(), &mut collector, 1)? == Taken::Late);
+    assert!(rt; collector.outcome(5) == Outcome::Abandoned(lost(2)));
     assert!(rt; collector.part(5, 1).is_none());
     Ok(())
 }
@@ -114,8 +114,8 @@ fn what_is_recorded_late_is_not_heard(rt: HostRuntime) -> Result<(), Fail> {
     collector.record(Offer::Lost(lost(2)))?;
     collector.record(Offer::Lost(lost(1)))?;
     collector.record(part(alloc, 1, false, 7, 0)?)?;
-    assert_eq!(rt; collector.outcome(5), Outcome::Abandoned(lost(2)));
-    assert_eq!(rt; collector.decided(), [5].as_slice());
+    assert!(rt; collector.outcome(5) == Outcome::Abandoned(lost(2)));
+    assert!(rt; collector.decided() == [5].as_slice());
     assert!(rt; collector.part(5, 1).is_none());
     Ok(())
 }
@@ -133,7 +133,7 @@ fn decided_numbers_rise(rt: HostRuntime) -> Result<(), Fail> {
     let mut collector = collector(rt.alloc())?;
     let decided = loses(&mut collector, 9) && loses(&mut collector, 4) && loses(&mut collector, 7);
     assert!(rt; decided);
-    assert_eq!(rt; collector.decided(), [4, 7, 9].as_slice());
+    assert!(rt; collector.decided() == [4, 7, 9].as_slice());
     Ok(())
 }
 
@@ -146,6 +146,6 @@ fn two_incarnations_are_moving(rt: HostRuntime) -> Result<(), Fail> {
     let two = collector.offer(part(alloc, 2, false, 8, 0)?)?;
     assert!(rt; one == Taken::Kept && two == Taken::Decided);
     let why = Why::Mismatch(2);
-    assert_eq!(rt; collector.outcome(5), Outcome::Moving { router: 1, why });
+    assert!(rt; collector.outcome(5) == Outcome::Moving { router: 1, why });
     Ok(())
 }

@@ -22,7 +22,7 @@ fn is(answer: Answer, want: Answer) -> bool {
     answer == want
 }
 
-const CASES: [(u16, usize, usize, bool); 8] = [
+static CASES: [(u16, usize, usize, bool); 8] = [
     (0, 1, 1, true),
     (3, 4096, 1024, true),
     (65535, 4096, 64, true),
@@ -43,7 +43,7 @@ fn are_judged(alloc: Global, settings: Settings, good: bool) -> bool {
 
 #[test]
 fn settings(rt: HostRuntime) {
-    for (hold, cut, pipe, good) in CASES {
+    for &(hold, cut, pipe, good) in &CASES {
         let settings = Settings {
             hold,
             restart: 7,
@@ -57,7 +57,7 @@ fn settings(rt: HostRuntime) {
     }
 }
 
-const ROUTERS: [(Asn, u32, Answer); 9] = [
+static ROUTERS: [(Asn, u32, Answer); 9] = [
     (1, TEN | 9, REPEATED),
     (9, TEN | 1, REPEATED),
     (0, TEN | 1, REPEATED),
@@ -82,7 +82,7 @@ fn rise_to(routers: &[Router], greatest: Asn) -> bool {
 }
 
 fn router_refusals_in(rt: &impl Abort, net: &mut NetBuilder) {
-    for (asn, id, want) in ROUTERS {
+    for &(asn, id, want) in &ROUTERS {
         assert!(rt; is(adds_router(net, asn, id), want), "{asn} {id:x}");
     }
     assert!(rt; rise_to(net.routers(), 65535));
@@ -111,11 +111,11 @@ fn routers_of(net: NetBuilder) -> Result<usize, NetError> {
 fn router_limit(rt: HostRuntime) -> Result<(), Fail> {
     let mut net = line(rt.alloc(), 64)?;
     router_limit_in(&rt, &mut net);
-    assert_eq!(rt; routers_of(net)?, 64);
+    assert!(rt; routers_of(net)? == 64);
     Ok(())
 }
 
-const LINKS: [(Asn, Asn, Answer); 6] = [
+static LINKS: [(Asn, Asn, Answer); 6] = [
     (1, 2, REPEATED),
     (2, 1, REPEATED),
     (3, 3, REPEATED),
@@ -125,7 +125,7 @@ const LINKS: [(Asn, Asn, Answer); 6] = [
 ];
 
 fn refused_links(rt: &impl Abort, net: &mut NetBuilder) {
-    for (a, b, want) in LINKS {
+    for &(a, b, want) in &LINKS {
         assert!(rt; is(adds_link(net, a, b), want), "{a} {b}");
     }
 }
@@ -155,7 +155,7 @@ fn link_refusals(rt: HostRuntime) -> Result<(), Fail> {
     Ok(())
 }
 
-const ORIGINS: [(Asn, Answer); 5] = [
+static ORIGINS: [(Asn, Answer); 5] = [
     (9, UNKNOWN),
     (2, Ok(())),
     (2, REPEATED),
@@ -169,7 +169,7 @@ fn origin_is(net: &mut NetBuilder, router: Asn, addr: u32, len: u8, want: Answer
 }
 
 fn refused_origins(rt: &impl Abort, net: &mut NetBuilder) {
-    for (asn, want) in ORIGINS {
+    for &(asn, want) in &ORIGINS {
         assert!(rt; origin_is(net, asn, TEN, 8, want), "{asn}");
     }
 }
@@ -210,7 +210,7 @@ fn origin_refusals(rt: HostRuntime) -> Result<(), Fail> {
     Ok(())
 }
 
-const RULES: [(Asn, &[&[Asn]], Answer); 9] = [
+static RULES: [(Asn, &[&[Asn]], Answer); 9] = [
     (2, &[&[2, 3, 2]], NOT_SIMPLE),
     (2, &[&[3, 1]], NOT_SIMPLE),
     (9, &[&[9, 9]], NOT_SIMPLE),
@@ -235,7 +235,7 @@ fn rule_is(
 }
 
 fn rule_refusals_in(rt: &impl Abort, alloc: Global, net: &mut NetBuilder) {
-    for (router, lists, want) in RULES {
+    for &(router, lists, want) in &RULES {
         assert!(rt;
             rule_is(alloc, net, router, 9, lists, want),
             "{router} {lists:?}"
@@ -251,7 +251,7 @@ fn rule_refusals(rt: HostRuntime) -> Result<(), Fail> {
     Ok(())
 }
 
-const LENGTHS: [(u8, &[&[Asn]], Answer); 2] = [
+static LENGTHS: [(u8, &[&[Asn]], Answer); 2] = [
     (
         1,
         &[&[1, 2, 3, 4, 5, 6, 7, 8, 9, 10, 11, 12, 13, 14, 15, 16]],
@@ -265,7 +265,7 @@ const LENGTHS: [(u8, &[&[Asn]], Answer); 2] = [
 ];
 
 fn lengths_of_paths(rt: &impl Abort, alloc: Global, net: &mut NetBuilder) {
-    for (len, lists, want) in LENGTHS {
+    for &(len, lists, want) in &LENGTHS {
         assert!(rt; rule_is(alloc, net, 1, len, lists, want), "{len}");
     }
 }

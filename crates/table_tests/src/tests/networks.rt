@@ -107,7 +107,7 @@ fn has_links(net: &Network, router: Asn, links: &[Link]) -> bool {
     net.links_of(router) == links
 }
 
-const LINKS: [Link; 3] = [
+static LINKS: [Link; 3] = [
     Link { one: 2, other: 1 },
     Link { one: 2, other: 3 },
     Link { one: 2, other: 4 },
@@ -141,7 +141,7 @@ fn is_named(net: &Network, prefix: &Prefix) -> bool {
     net.names(prefix)
 }
 
-const QUESTIONS: [(Asn, bool, bool, bool); 3] = [
+static QUESTIONS: [(Asn, bool, bool, bool); 3] = [
     (1, true, true, true),
     (4, true, true, false),
     (5, false, false, false),
@@ -156,7 +156,7 @@ fn is_origin_as(net: &Network, asn: Asn, prefix: &Prefix, origin: bool) -> bool 
 }
 
 fn routers_are_known(rt: &impl Abort, net: &Network, prefix: &Prefix) {
-    for (asn, known, linked, origin) in QUESTIONS {
+    for &(asn, known, linked, origin) in &QUESTIONS {
         assert!(rt; is_as_known(net, asn, known, linked), "{asn}");
         assert!(rt; is_origin_as(net, asn, prefix, origin), "{asn}");
     }

@@ -5,7 +5,7 @@ use std::process::Abort;
 use std::test::Fail;
 
 fn path_lists_in(rt: &impl Abort, long: &Path) {
-    assert_eq!(rt; long.len(), 9);
+    assert!(rt; long.len() == 9);
     assert!(rt; !long.is_empty());
 }
 
@@ -18,7 +18,7 @@ fn path_lists(rt: HostRuntime) -> Result<(), Fail> {
 }
 
 fn path_equality_in(rt: &impl Abort, on: &Path, same: &Path, other: &Path) {
-    assert_eq!(rt; on.as_slice(), [2, 3, 1].as_slice());
+    assert!(rt; on.as_slice() == [2, 3, 1].as_slice());
     assert!(rt; on == same);
     assert!(rt; on != other);
 }

@@ -24,7 +24,7 @@ const STRAY: At = (0x0c00_0000, 8);
 
 /// The origin has its own path alone, whatever its rules say; the longest covering rule names the
 /// paths of the others, as far as they end at the origin; without one every route is permitted.
-const PERMITTED: [Permitted; 17] = [
+static PERMITTED: [Permitted; 17] = [
     (1, SIXTEEN, &[1], true),
     (1, SIXTEEN, &[1, 2], false),
     (2, SIXTEEN, &[2, 3, 1], true),
@@ -94,7 +94,7 @@ fn permitted(rt: HostRuntime) -> Result<(), Fail> {
 
 /// Of the rules for 10.0.0.0/8 and 10.1.0.0/16 the second speaks for 10.1.2.0/24, the first for
 /// 10.2.0.0/16.
-const BY_LONGEST_RULE: [Permitted; 4] = [
+static BY_LONGEST_RULE: [Permitted; 4] = [
     (2, TWENTY_FOUR, &[2, 3, 1], true),
     (2, TWENTY_FOUR, &[2, 1], false),
     (2, (0x0a02_0000, 16), &[2, 1], true),
@@ -125,7 +125,7 @@ fn the_longest_rule_speaks(rt: HostRuntime) -> Result<(), Fail> {
 }
 
 /// By rank, then by length, then by the numbers.
-const PREFERRED: [(Asn, At, &[Asn], &[Asn], bool); 9] = [
+static PREFERRED: [(Asn, At, &[Asn], &[Asn], bool); 9] = [
     (1, SIXTEEN, &[1], &[1], false),
     (2, SIXTEEN, &[2, 3, 1], &[2, 1], true),
     (2, SIXTEEN, &[2, 1], &[2, 3, 1], false),
@@ -172,7 +172,7 @@ fn is_preferred(
 }
 
 fn preferred_in(rt: &impl Abort, alloc: Global, net: &Network) {
-    for (router, at, a, b, want) in PREFERRED {
+    for &(router, at, a, b, want) in &PREFERRED {
         let is_so = is_preferred(alloc, net, router, at, a, b, want);
         assert!(rt; is_so, "{router}: {a:?} {b:?}");
     }

@@ -507,7 +507,7 @@ fn tries(rt: &impl Abort, alloc: Global, router: Asn, rows: &[Row]) -> Result<()
 }
 
 // The words of a peer follow its UPDATEs: the last of three mentions stays.
-const THE_LAST_OF_THREE: [Row; 9] = [
+static THE_LAST_OF_THREE: [Row; 9] = [
     Row::Hears(2, Along::Path(&[2, 1]), &[SHORT, LONG], &[]),
     Row::Hears(2, Along::Nothing, &[], &[SHORT]),
     Row::At(SHORT, Of::Unheard(2)),
@@ -527,7 +527,7 @@ fn the_last_of_three(rt: HostRuntime) -> Result<(), Fail> {
 const TEN_LONG: [Asn; 10] = [2, 4, 3, 5, 6, 7, 8, 9, 10, 1];
 
 // A path of more than eight numbers takes memory of its own.
-const A_LONG_PATH: [Row; 7] = [
+static A_LONG_PATH: [Row; 7] = [
     Row::Hears(2, Along::Path(&TEN_LONG), &[FAR, SHORT], &[]),
     Row::At(FAR, Of::Heard(2, &TEN_LONG)),
     Row::At(SHORT, Of::Heard(2, &TEN_LONG)),
@@ -543,7 +543,7 @@ fn a_long_path(rt: HostRuntime) -> Result<(), Fail> {
 }
 
 // Within one UPDATE the announcement wins.
-const ANNOUNCED_AND_WITHDRAWN: [Row; 4] = [
+static ANNOUNCED_AND_WITHDRAWN: [Row; 4] = [
     Row::Hears(3, Along::Path(&[3, 4, 2, 1]), &[SHORT, LONG], &[]),
     Row::Hears(3, Along::Path(&[3, 1]), &[SHORT], &[SHORT, LONG]),
     Row::At(SHORT, Of::Heard(3, &[3, 1])),
@@ -556,7 +556,7 @@ fn announced_and_withdrawn(rt: HostRuntime) -> Result<(), Fail> {
 }
 
 // A set is a word that gives no path, and no choice.
-const A_SET: [Row; 6] = [
+static A_SET: [Row; 6] = [
     Row::ComesUp(2),
     Row::ComesUp(3),
     Row::Hears(2, Along::Set(&[2, 1]), &[SHORT], &[]),
@@ -571,7 +571,7 @@ fn a_set(rt: HostRuntime) -> Result<(), Fail> {
 }
 
 // So are several segments, and no AS_PATH.
-const SEVERAL_SEGMENTS_AND_NONE: [Row; 4] = [
+static SEVERAL_SEGMENTS_AND_NONE: [Row; 4] = [
     Row::Hears(2, Along::Two(&[2], &[1]), &[LONG], &[]),
     Row::Hears(3, Along::Nothing, &[LONG], &[]),
     Row::At(LONG, Of::HeardOther(2)),
@@ -584,7 +584,7 @@ fn several_segments_and_none(rt: HostRuntime) -> Result<(), Fail> {
 }
 
 // A prefix that nobody originates changes nothing.
-const A_PREFIX_OF_NOBODY: [Row; 5] = [
+static A_PREFIX_OF_NOBODY: [Row; 5] = [
     Row::Hears(2, Along::Path(&[2, 1]), &[STRAY, SHORT], &[]),
     Row::At(STRAY, Of::Unheard(2)),
     Row::At(STRAY, Of::Kept(&[])),
@@ -598,7 +598,7 @@ fn a_prefix_of_nobody(rt: HostRuntime) -> Result<(), Fail> {
 }
 
 // One of two peers is forgotten: what it said, what it was told, and that it was Established.
-const FORGETS_ONE_OF_TWO: [Row; 17] = [
+static FORGETS_ONE_OF_TWO: [Row; 17] = [
     Row::ComesUp(2),
     Row::ComesUp(3),
     Row::Hears(2, Along::Path(&[2, 1]), &[SHORT, LONG], &[]),
@@ -624,7 +624,7 @@ fn forgets_one_of_two(rt: HostRuntime) -> Result<(), Fail> {
 }
 
 // The best is over Established peers alone: the shorter path first, then the lesser number.
-const THE_BEST_OF_TWO_PEERS: [Row; 9] = [
+static THE_BEST_OF_TWO_PEERS: [Row; 9] = [
     Row::Hears(2, Along::Path(&[2, 1]), &[SHORT], &[]),
     Row::Hears(3, Along::Path(&[3, 1]), &[SHORT], &[]),
     Row::Hears(2, Along::Path(&[2, 4, 3, 1]), &[LONG], &[]),
@@ -642,7 +642,7 @@ fn the_best_of_two_peers(rt: HostRuntime) -> Result<(), Fail> {
 }
 
 // An origin has itself alone while it originates the prefix, whatever is heard.
-const AN_ORIGIN: [Row; 10] = [
+static AN_ORIGIN: [Row; 10] = [
     Row::ComesUp(2),
     Row::ComesUp(3),
     Row::Hears(2, Along::Path(&[2, 1]), &[SHORT, LONG], &[]),
@@ -661,7 +661,7 @@ fn an_origin(rt: HostRuntime) -> Result<(), Fail> {
 }
 
 // The least prefix is decided first, by address and then by length.
-const DECIDED_IN_ORDER: [Row; 16] = [
+static DECIDED_IN_ORDER: [Row; 16] = [
     Row::ComesUp(2),
     Row::Decides(None),
     Row::Hears(2, Along::Path(&[2, 1]), &[FAR, LONG, SHORT], &[]),
@@ -686,7 +686,7 @@ fn decided_in_order(rt: HostRuntime) -> Result<(), Fail> {
 }
 
 // A path that is kept in place of the best.
-const ANOTHER_PATH_IS_KEPT: [Row; 5] = [
+static ANOTHER_PATH_IS_KEPT: [Row; 5] = [
     Row::ComesUp(2),
     Row::Hears(2, Along::Path(&[2, 1]), &[SHORT], &[]),
     Row::At(SHORT, Of::Keeps(&[4, 3, 1])),
@@ -700,7 +700,7 @@ fn another_path_is_kept(rt: HostRuntime) -> Result<(), Fail> {
 }
 
 // A peer waits for the least prefix whose last word is not the kept path, while it is Established.
-const WAITING_IN_ORDER: [Row; 14] = [
+static WAITING_IN_ORDER: [Row; 14] = [
     Row::ComesUp(2),
     Row::Waits(2, None),
     Row::Awaited(false),
@@ -723,7 +723,7 @@ fn waiting_in_order(rt: HostRuntime) -> Result<(), Fail> {
 }
 
 // A peer waits where it was told another path, or a path where none is kept now.
-const WAITING_FOR_A_WITHDRAWAL: [Row; 11] = [
+static WAITING_FOR_A_WITHDRAWAL: [Row; 11] = [
     Row::ComesUp(2),
     Row::At(FAR, Of::Keeps(&[4, 2, 1])),
     Row::At(FAR, Of::Tells(2)),

@@ -673,8 +673,8 @@ fn the_first_number_of_the_path(rt: HostRuntime) -> Result<(), Fail> {
     ] {
         let input = update(alloc, "", attributes, nlri)?;
         let (out, got) = decoded_of(alloc, Some(peer), input.as_bytes());
-        assert_eq!(rt; out.as_slice(), text.as_bytes(), "{sentence}");
-        assert_eq!(rt; got, Some(status), "{sentence}");
+        assert!(rt; out.as_slice() == text.as_bytes(), "{sentence}");
+        assert!(rt; got == Some(status), "{sentence}");
     }
     Ok(())
 }
@@ -744,9 +744,8 @@ fn each_octet_replaced(rt: HostRuntime) -> Result<(), Fail> {
             text.push_str("\n")?;
         }
         let (out, _) = decoded(alloc, input.as_bytes());
-        assert_eq!(rt;
-            out.as_slice(),
-            text.as_bytes(),
+        assert!(rt;
+            out.as_slice() == text.as_bytes(),
             "octet {i} behind the Marker"
         );
     }

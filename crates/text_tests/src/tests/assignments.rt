@@ -36,7 +36,7 @@ fn is_wanted(refused: Option<Refused>, code: Option<Code>) -> bool {
     }
 }
 
-const ENTRIES: [(&[u8], Option<Code>); 17] = [
+static ENTRIES: [(&[u8], Option<Code>); 17] = [
     (b"path 1 10.1.0.0/16 1", None),
     (b"path 1 10.1.2.3/16 none", None),
     (b"path 1 10.1.0.0/16 2-1-2", None),
@@ -63,7 +63,7 @@ const ENTRIES: [(&[u8], Option<Code>); 17] = [
 ];
 
 fn assignments_in(rt: &impl Abort, alloc: Global, network: &Network) -> Result<(), Fail> {
-    for (line, code) in ENTRIES {
+    for &(line, code) in &ENTRIES {
         assert!(rt;
             is_refused_behind_an_entry(alloc, network, line, code)?,
             "{line:?}"
@@ -83,11 +83,11 @@ fn assignments(rt: HostRuntime) -> Result<(), Fail> {
 #[test]
 fn sections(rt: HostRuntime) -> Result<(), Fail> {
     let split = split_at_section(b"a\r\n schedule \nb\nschedule", b"schedule");
-    assert_eq!(rt; split.front, b"a\r\n".as_slice());
-    assert_eq!(rt; split.behind, b"b\nschedule".as_slice());
-    assert_eq!(rt; split.before, 2);
+    assert!(rt; split.front == b"a\r\n".as_slice());
+    assert!(rt; split.behind == b"b\nschedule".as_slice());
+    assert!(rt; split.before == 2);
     let split = split_at_section(b"a\nschedule x\n", b"schedule");
-    assert_eq!(rt; split.behind, b"".as_slice());
-    assert_eq!(rt; split.before, 2);
+    assert!(rt; split.behind == b"".as_slice());
+    assert!(rt; split.before == 2);
     Ok(())
 }

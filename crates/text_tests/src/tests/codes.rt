@@ -17,7 +17,7 @@ fn expect_codes(rt: &impl Abort, alloc: Global, rows: &[(&[u8], Code)]) -> Resul
     Ok(())
 }
 
-const EACH: [(&[u8], Code); 51] = [
+static EACH: [(&[u8], Code); 51] = [
     (b"routers 3 10.0.0.3", Code::BadForm),
     (b"schedule", Code::BadForm),
     (b"assignment", Code::BadForm),
@@ -82,7 +82,7 @@ fn each_code_of_a_line(rt: HostRuntime) -> Result<(), Fail> {
     expect_codes(&rt, rt.alloc(), &EACH)
 }
 
-const FIRST_OF_TWO: [(&[u8], Code); 32] = [
+static FIRST_OF_TWO: [(&[u8], Code); 32] = [
     // A wrong form stands before all.
     (b"router x", Code::BadForm),
     (b"link 9", Code::BadForm),

@@ -45,7 +45,7 @@ fn has_code_behind_routers(
     has_code_behind(alloc, text.as_slice(), line, wanted)
 }
 
-const COUNTS: [(u32, &[u8], Option<Code>); 5] = [
+static COUNTS: [(u32, &[u8], Option<Code>); 5] = [
     (64, b"", None),
     (64, b"router 65 10.0.0.65", Some(Code::OutOfLimit)),
     (64, b"router 65 10.0.0.64", Some(Code::Repeated)),
@@ -63,7 +63,7 @@ const COUNTS: [(u32, &[u8], Option<Code>); 5] = [
 
 #[test]
 fn limits_on_counts(rt: HostRuntime) -> Result<(), Fail> {
-    for (count, line, code) in COUNTS {
+    for &(count, line, code) in &COUNTS {
         assert!(rt;
             has_code_behind_routers(rt.alloc(), count, line, code)?,
             "{line:?}"

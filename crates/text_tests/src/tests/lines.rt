@@ -11,9 +11,9 @@ use std::test::Fail;
 fn lines_stand_behind_what_was_there(rt: HostRuntime) -> Result<(), Fail> {
     let mut out = b"front\n".to_vec(rt.alloc())?;
     put_lines(rt.alloc(), &mut out)?;
-    assert_eq!(rt;
-        out.as_slice(),
-        b"front\nkeepalive\nnotification 1 2 0014\nfault 1 2\nffffffffffffffffffffffffffffffff00170301021001\ntruncated 18\nrefused 7 N1\nunstable 2 has none best 2-65535\nstable\n".as_slice()
+    assert!(rt;
+        out.as_slice()
+            == b"front\nkeepalive\nnotification 1 2 0014\nfault 1 2\nffffffffffffffffffffffffffffffff00170301021001\ntruncated 18\nrefused 7 N1\nunstable 2 has none best 2-65535\nstable\n".as_slice()
     );
     Ok(())
 }
@@ -52,8 +52,8 @@ fn a_refused_line_leaves_nothing(rt: HostRuntime) -> Result<(), Fail> {
     let alloc = rt.alloc();
     let mut out = vec![in alloc; 7u8; 3]?;
     match unstable_line(1, &[1, 2], &[1, 3], &mut out) {
-        Ok(()) => assert_eq!(rt; out.len(), 3 + b"unstable 1 has 1-2 best 1-3\n".len()),
-        Err(_) => assert_eq!(rt; out.as_slice(), [7, 7, 7].as_slice()),
+        Ok(()) => assert!(rt; out.len() == 3 + b"unstable 1 has 1-2 best 1-3\n".len()),
+        Err(_) => assert!(rt; out.as_slice() == [7, 7, 7].as_slice()),
     }
     Ok(())
 }

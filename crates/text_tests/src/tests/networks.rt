@@ -5,7 +5,7 @@ use ranked_policy::Network;
 use std::process::Abort;
 use std::test::Fail;
 
-const TEXTS: [(&[u8], Option<(usize, Code)>); 9] = [
+static TEXTS: [(&[u8], Option<(usize, Code)>); 9] = [
     (b"", Some((0, Code::OutOfLimit))),
     (b"\n\n  \t \n# \xff\xfe\n", Some((0, Code::OutOfLimit))),
     (b"hold 0\r\n\n#", Some((1, Code::OutOfLimit))),
@@ -30,7 +30,7 @@ fn is_refused_at(alloc: Global, text: &[u8], wanted: Option<(usize, Code)>) -> b
 
 #[test]
 fn lines_and_words(rt: HostRuntime) {
-    for (text, wanted) in TEXTS {
+    for &(text, wanted) in &TEXTS {
         assert!(rt; is_refused_at(rt.alloc(), text, wanted), "{text:?}");
     }
 }

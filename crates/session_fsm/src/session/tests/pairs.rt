@@ -14,11 +14,11 @@ struct Row {
 
 /// All events, in the order of their numbers.
 #[rattlefmt::skip]
-const EVENTS: [FsmEvent; 17] = [
+static EVENTS: [FsmEvent; 17] = [
     ManualStart, ManualStop, AutomaticStart, ConnectRetryTimerExpires, HoldTimerExpires, KeepaliveTimerExpires, TcpCrAcked, TcpConnectionConfirmed, TcpConnectionFails, BgpOpen { hold: 30 }, BgpHeaderErr, BgpOpenMsgErr, NotifMsgVerErr, NotifMsg, KeepAliveMsg, UpdateMsg, UpdateMsgErr,
 ];
 
-const STATES: [State; 6] = [
+static STATES: [State; 6] = [
     State::Idle,
     State::Connect,
     State::Active,
@@ -31,7 +31,7 @@ const STATES: [State; 6] = [
 /// peer's 30, its restart time is 5, and Idle was entered by a close. The timers are the
 /// ConnectRetryTimer, the HoldTimer, the KeepaliveTimer and the RestartTimer.
 #[rattlefmt::skip]
-const ROWS: [Row; 38] = [
+static ROWS: [Row; 38] = [
     Row { name: "Idle starts", state: State::Idle, events: &[ManualStart, AutomaticStart], actions: &[Dial], next: State::Connect, timers: [120, 0, 0, 0] },
     Row { name: "Idle is stopped", state: State::Idle, events: &[ManualStop], actions: &[], next: State::Idle, timers: [0, 0, 0, 0] },
     Row { name: "Idle ignores the others", state: State::Idle, events: &[ConnectRetryTimerExpires, HoldTimerExpires, KeepaliveTimerExpires, TcpCrAcked, TcpConnectionConfirmed, TcpConnectionFails, BgpOpen { hold: 30 }, BgpHeaderErr, BgpOpenMsgErr, NotifMsgVerErr, NotifMsg, KeepAliveMsg, UpdateMsg, UpdateMsgErr], actions: &[], next: State::Idle, timers: [0, 0, 0, 4] },
@@ -90,23 +90,18 @@ fn every_pair(rt: HostRuntime) {
         for event in row.events {
             let mut session = session(90, 5);
             give_all(&rt, &mut session, way_to(row.state));
-            assert_eq!(rt; session.tick(), None, "{}", row.name);
-            assert_eq!(rt; session.state(), row.state, "{}", row.name);
+            assert!(rt; session.tick() == None, "{}", row.name);
+            assert!(rt; session.state() == row.state, "{}", row.name);
             let actions = give(&rt, &mut session, *event);
-            assert_eq!(rt;
-                actions.as_slice(),
-                row.actions,
-                "{} on {event:?}",
-                row.name
-            );
-            assert_eq!(rt; session.state(), row.next, "{} on {event:?}", row.name);
+            assert!(rt; actions.as_slice() == row.actions, "{}", row.name);
+            assert!(rt; session.state() == row.next, "{}", row.name);
             let timers = [
                 session.connect_retry_timer,
                 session.hold_timer,
                 session.keepalive_timer,
                 session.restart_timer,
             ];
-            assert_eq!(rt; timers, row.timers, "{} on {event:?}", row.name);
+            assert!(rt; timers == row.timers, "{}", row.name);
         }
     }
 }
@@ -114,13 +109,13 @@ fn every_pair(rt: HostRuntime) {
 /// Each pair of state and event stands in exactly one row.
 #[test]
 fn every_pair_has_a_row(rt: HostRuntime) {
-    for state in STATES {
-        for event in EVENTS {
+    for &state in &STATES {
+        for &event in &EVENTS {
             let rows = ROWS
                 .iter()
                 .filter(|row| row.state == state && row.events.contains(&event))
                 .count();
-            assert_eq!(rt; rows, 1, "{state:?} on {event:?}");
+            assert!(rt; rows == 1);
         }
     }
 }

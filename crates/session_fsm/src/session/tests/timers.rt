@@ -2,55 +2,54 @@
 
 use super::*;
 
+/// A step of a run: an event and what it asks for, ticks in which no timer runs out, or a tick in
+/// which this one does.
+enum Step {
+    On(FsmEvent, &'static [Action]),
+    Quiet(usize),
+    Out(FsmEvent),
+}
+
 /// Hold time 90 against 30: a KEEPALIVE every 10 seconds, and in the 40th second, the 30th without
 /// word of the peer, the HoldTimer alone.
+static A_LIFE: [Step; 17] = [
+    Step::On(ManualStart, &[Dial]),
+    Step::On(TcpCrAcked, &[SendOpen]),
+    Step::On(BgpOpen { hold: 30 }, &[SendAlive]),
+    Step::Quiet(9),
+    Step::Out(KeepaliveTimerExpires),
+    Step::On(KeepaliveTimerExpires, &[SendAlive]),
+    Step::On(KeepAliveMsg, &[Up]),
+    Step::Quiet(9),
+    Step::Out(KeepaliveTimerExpires),
+    Step::On(KeepaliveTimerExpires, &[SendAlive]),
+    Step::Quiet(9),
+    Step::Out(KeepaliveTimerExpires),
+    Step::On(KeepaliveTimerExpires, &[SendAlive]),
+    Step::Quiet(9),
+    Step::Out(HoldTimerExpires),
+    Step::On(HoldTimerExpires, &[SendNotice(4), Down, HangUp]),
+    Step::Quiet(1000),
+];
+
+fn asks(rt: &impl Abort, session: &mut Session, event: FsmEvent, actions: &[Action]) {
+    assert!(rt; give(rt, session, event).as_slice() == actions);
+}
+
+fn take(rt: &impl Abort, session: &mut Session, step: &Step) {
+    match step {
+        Step::On(event, actions) => asks(rt, session, *event, actions),
+        Step::Quiet(ticks) => stay_quiet(rt, session, *ticks, "before a timer runs out"),
+        Step::Out(event) => assert!(rt; session.tick() == Some(*event)),
+    }
+}
+
 #[test]
 fn keepalive_and_hold(rt: HostRuntime) {
     let mut session = session(90, 0);
-    assert_eq!(rt;
-        session.config(),
-        SessionConfig {
-            hold: 90,
-            restart: 0
-        }
-    );
-    assert_eq!(rt;
-        give(&rt, &mut session, ManualStart).as_slice(),
-        [Dial].as_slice()
-    );
-    assert_eq!(rt;
-        give(&rt, &mut session, TcpCrAcked).as_slice(),
-        [SendOpen].as_slice()
-    );
-    assert_eq!(rt;
-        give(&rt, &mut session, BgpOpen { hold: 30 }).as_slice(),
-        [SendAlive].as_slice()
-    );
-    stay_quiet(&rt, &mut session, 9, "before the first KEEPALIVE");
-    assert_eq!(rt; session.tick(), Some(KeepaliveTimerExpires));
-    assert_eq!(rt;
-        give(&rt, &mut session, KeepaliveTimerExpires).as_slice(),
-        [SendAlive].as_slice()
-    );
-    assert_eq!(rt;
-        give(&rt, &mut session, KeepAliveMsg).as_slice(),
-        [Up].as_slice()
-    );
-    for name in ["before tick 20", "before tick 30"] {
-        stay_quiet(&rt, &mut session, 9, name);
-        assert_eq!(rt; session.tick(), Some(KeepaliveTimerExpires));
-        assert_eq!(rt;
-            give(&rt, &mut session, KeepaliveTimerExpires).as_slice(),
-            [SendAlive].as_slice()
-        );
+    for step in &A_LIFE {
+        take(&rt, &mut session, step);
     }
-    stay_quiet(&rt, &mut session, 9, "before tick 40");
-    assert_eq!(rt; session.tick(), Some(HoldTimerExpires));
-    assert_eq!(rt;
-        give(&rt, &mut session, HoldTimerExpires).as_slice(),
-        [SendNotice(4), Down, HangUp].as_slice()
-    );
-    stay_quiet(&rt, &mut session, 1000, "closed, with restart 0");
 }
 
 /// Each timer runs out in the last of its ticks, and in none before.
@@ -105,7 +104,7 @@ fn last_ticks(rt: HostRuntime) {
         let mut session = session(90, 5);
         give_all(&rt, &mut session, events);
         stay_quiet(&rt, &mut session, ticks - 1, name);
-        assert_eq!(rt; session.tick(), Some(want), "{name}");
+        assert!(rt; session.tick() == Some(want), "{name}");
     }
 }
 
@@ -150,7 +149,7 @@ fn set_again(rt: HostRuntime) {
         assert!(rt; session.state() == State::Established);
         session.update_sent();
     }
-    assert_eq!(rt; session.tick(), Some(HoldTimerExpires));
+    assert!(rt; session.tick() == Some(HoldTimerExpires));
 }
 
 /// After a stop by hand, in Established or after a close, nothing starts by itself.
@@ -166,6 +165,6 @@ fn stopped_by_hand(rt: HostRuntime) {
         give_all(&rt, &mut session, &up);
         give_all(&rt, &mut session, last);
         stay_quiet(&rt, &mut session, 1000, "stopped");
-        assert_eq!(rt; session.state(), State::Idle);
+        assert!(rt; session.state() == State::Idle);
     }
 }

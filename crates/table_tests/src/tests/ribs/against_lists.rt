@@ -81,7 +81,7 @@ impl Dice {
     }
 }
 
-const CHORDED: [(Asn, Asn); 6] = [(1, 2), (2, 4), (4, 3), (3, 1), (4, 5), (5, 1)];
+static CHORDED: [(Asn, Asn); 6] = [(1, 2), (2, 4), (4, 3), (3, 1), (4, 5), (5, 1)];
 
 // A ring with a chord, prefixes of three origins, and a rule that ranks two paths for one of them.
 fn push_mesh(alloc: Global, net: &mut NetBuilder) -> Result<(), NetError> {
