@@ -8,7 +8,7 @@ use std::marker::Model;
 use std::{mem, slice};
 
 // Where the items of a list lie.
-#[derive(Drop)]
+#[derive(Debug, Drop)]
 enum Room<T> {
     // One item, in the list itself.
     One([T; 1]),

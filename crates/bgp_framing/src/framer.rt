@@ -27,7 +27,7 @@ pub enum Next {
 }
 
 // What stands in front, as it was found when octets were last added or taken away.
-#[derive(Clone, Copy)]
+#[derive(Clone, Copy, Debug)]
 enum Front {
     // A whole message of so many octets.
     Message(usize),

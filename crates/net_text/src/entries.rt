@@ -12,7 +12,7 @@ use std::collections::BTreeSet;
 use std::marker::Model;
 
 /// A router and a prefix that a line gives it a path for.
-#[derive(Clone, Copy, PartialEq, Eq, PartialOrd, Ord)]
+#[derive(Clone, Copy, Debug, PartialEq, Eq, PartialOrd, Ord)]
 pub(crate) struct Key {
     /// The router.
     pub(crate) router: Asn,

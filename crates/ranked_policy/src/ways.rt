@@ -11,7 +11,7 @@ use std::alloc::{AllocError, Global};
 use std::marker::Model;
 
 /// Each link twice, from each of its ends to the other: by the end it is from, then by the other.
-#[derive(Drop)]
+#[derive(Debug, Drop)]
 pub(crate) struct Ways {
     ways: Vec<Link>,
 }
