@@ -1,10 +1,11 @@
-//! The first fault of a frame, with and without memory for what stands before it.
+//! The first fault of a frame.
 
-use crate::fault_search::{judge_open, judge_update};
-use crate::rule::NOBODY;
-use crate::*;
+use super::is_fault;
+use bgp_codec::{Asn, CodecError, Message, NOBODY, Rule, Width, decode, header, laws};
 use std::alloc::{AllocError, Global};
-use std::test::Fail;
+
+// A fault: its code, its subcode and its data.
+type FirstFault = (u8, u8, &'static [u8]);
 
 // A body of a type, read from a speaker that may be named, and its first fault, or none.
 struct Case {
@@ -12,7 +13,7 @@ struct Case {
     kind: u8,
     peer: Option<Asn>,
     body: &'static [u8],
-    fault: Option<(u8, u8, &'static [u8])>,
+    fault: Option<FirstFault>,
 }
 
 // The frame of a body.
@@ -20,66 +21,35 @@ fn framed(alloc: Global, kind: u8, body: &[u8]) -> Result<Vec<u8>, AllocError> {
     let mut octets = vec![in alloc; 0xff; 16]?;
     let len = u16::try_from(body.len().saturating_add(19)).unwrap_or(0);
     let [high, low] = len.to_be_bytes();
-    octets.push(high)?;
-    octets.push(low)?;
-    octets.push(kind)?;
+    octets.extend_from_slice(&[high, low, kind])?;
     octets.extend_from_slice(body)?;
     Ok(octets)
 }
 
-// What is answered for a frame: by the reader, and by the pass that takes no memory.
-#[derive(Drop)]
-struct Answered {
-    read: Result<Message, CodecError>,
-    judged: Result<(), CodecError>,
-}
-
-// The pass over the body of a frame, where its type has checks of its own.
-fn judge(alloc: Global, kind: u8, frame: &[u8], rule: &Rule) -> Result<(), CodecError> {
-    match kind {
-        1 if frame.len() >= 29 => judge_open(alloc, &frame[19..], rule),
-        2 if frame.len() >= 23 => judge_update(alloc, &frame[19..], rule.peer),
-        _ => Ok(()),
-    }
-}
-
-// None where the octets are no frame.
-fn ask_both(alloc: Global, octets: &[u8], rule: &Rule) -> Option<Answered> {
-    laws::header_is_its_front();
-    let Some(first) = octets.first_chunk::<19>() else {
-        return None;
-    };
-    let Ok(header) = header(alloc, first) else {
-        return None;
-    };
-    if octets.len() != header.len as usize {
-        return None;
-    }
-    Some(Answered {
-        read: decode(alloc, octets, rule),
-        judged: judge(alloc, header.kind, octets, rule),
-    })
-}
-
-// Whether an error is this fault.
-fn is_fault(error: &CodecError, code: u8, sub: u8, extra: &[u8]) -> bool {
-    match error {
-        CodecError::Fault(fault) => {
-            fault.code == code && fault.sub == sub && fault.extra.as_slice() == extra
-        }
-        CodecError::TooLong | CodecError::Memory => false,
-    }
-}
-
-// Whether both answers are the fault, or that there is none.
-fn is_as_wanted(answered: &Answered, fault: Option<(u8, u8, &[u8])>) -> bool {
-    match (&answered.read, &answered.judged, fault) {
-        (Ok(_), Ok(_), None) => true,
-        (Err(read), Err(judged), Some((code, sub, extra))) => {
-            is_fault(read, code, sub, extra) && is_fault(judged, code, sub, extra)
+// Whether the answer is this fault, or a message where none is named.
+fn is_as_wanted(answer: &Result<Message, CodecError>, wanted: Option<FirstFault>) -> bool {
+    match (answer, wanted) {
+        (Ok(_), None) => true,
+        (Err(CodecError::Fault(fault)), Some((code, sub, extra))) => {
+            is_fault(fault, code, sub, extra)
         }
         _ => false,
     }
+}
+
+// Whether the octets are a frame for which that is answered.
+fn answers(alloc: Global, octets: &[u8], rule: &Rule, wanted: Option<FirstFault>) -> bool {
+    laws::header_is_its_front();
+    let Some(first) = octets.first_chunk::<19>() else {
+        return false;
+    };
+    let Ok(header) = header(alloc, first) else {
+        return false;
+    };
+    if octets.len() != header.len as usize {
+        return false;
+    }
+    is_as_wanted(&decode(alloc, octets, rule), wanted)
 }
 
 // Bodies with their first faults, by RFC 4271 sections 6.2 and 6.3.
@@ -293,39 +263,35 @@ static CASES: [Case; 29] = [
     },
 ];
 
-// The cases, behind a call that promises nothing of them.
-fn cases() -> &'static [Case] {
-    &CASES
+// Whether the frame of a case has its first fault.
+fn has_its_fault(alloc: Global, case: &Case) -> bool {
+    let rule = Rule {
+        width: Width::Two,
+        peer: case.peer,
+    };
+    match framed(alloc, case.kind, case.body) {
+        Ok(octets) => answers(alloc, octets.as_slice(), &rule, case.fault),
+        Err(_) => false,
+    }
 }
 
-// The reader and the pass without memory find the same fault.
 #[test]
-fn first_faults(rt: HostRuntime) -> Result<(), Fail> {
-    let alloc = rt.alloc();
-    for case in cases() {
-        let octets = framed(alloc, case.kind, case.body)?;
-        let rule = Rule {
-            width: Width::Two,
-            peer: case.peer,
-        };
-        match ask_both(alloc, octets.as_slice(), &rule) {
-            None => assert!(rt; false, "{} is a frame", case.sentence),
-            Some(answered) => assert!(rt; is_as_wanted(&answered, case.fault), "{}", case.sentence),
-        }
+fn first_faults(rt: HostRuntime) {
+    for case in &CASES {
+        assert!(rt; has_its_fault(rt.alloc(), case), "{}", case.sentence);
     }
-    Ok(())
 }
+
+#[rattlefmt::skip]
+static A_WITHDRAWN_PREFIX: [u8; 27] = [
+    0xff, 0xff, 0xff, 0xff, 0xff, 0xff, 0xff, 0xff, 0xff, 0xff, 0xff, 0xff, 0xff, 0xff, 0xff, 0xff,
+    0x00, 0x1b, 0x02, 0x00, 0x02, 0x08, 0x0a, 0x00, 0x00, 0x08, 0x0a,
+];
 
 // An announcement without attributes behind a withdrawn prefix: its fault is answered also where
 // the first growth, which the withdrawn prefix needs, is refused.
 #[test]
 fn a_fault_though_a_growth_is_refused(rt: HostRuntime) {
-    let octets = [
-        0xff, 0xff, 0xff, 0xff, 0xff, 0xff, 0xff, 0xff, 0xff, 0xff, 0xff, 0xff, 0xff, 0xff, 0xff,
-        0xff, 0x00, 0x1b, 0x02, 0x00, 0x02, 0x08, 0x0a, 0x00, 0x00, 0x08, 0x0a,
-    ];
-    match ask_both(rt.alloc(), &octets, &NOBODY) {
-        None => assert!(rt; false, "it is a frame"),
-        Some(answered) => assert!(rt; is_as_wanted(&answered, Some((3, 3, b"\x01")))),
-    }
+    let fault = (3, 3, b"\x01".as_slice());
+    assert!(rt; answers(rt.alloc(), &A_WITHDRAWN_PREFIX, &NOBODY, Some(fault)));
 }
