@@ -1,11 +1,14 @@
+//! One side of a router (`router_side`).
+
 ghost use Rattle.session_fsm.specs.Table.{IsGoodEvent};
 ghost use Rattle.router_side.specs.Sayings.{IsSayable};
 
-use super::*;
+use super::items::numbers;
 use bgp_codec::Message;
 use bgp_codec::laws::written_has_a_header;
 use link_epoch::Sign;
-use outbox::What;
+use router_core::What;
+use router_side::{Given, History, SideEnd};
 use session_fsm::{FsmEvent, SessionConfig, State};
 use std::alloc::{AllocError, Global};
 use std::process::Abort;
@@ -49,6 +52,13 @@ fn is_given(
     Ok(())
 }
 
+// A marker is appended.
+fn marks(side: &mut SideEnd, number: u32) -> Result<(), AllocError> {
+    side.reserve_marker()?;
+    side.mark(number);
+    Ok(())
+}
+
 // The item that is put next, once it is put.
 fn put(side: &mut SideEnd) -> Result<Option<What>, AllocError> {
     let next = side.next_item(4096)?;
@@ -56,9 +66,36 @@ fn put(side: &mut SideEnd) -> Result<Option<What>, AllocError> {
     Ok(next)
 }
 
-// How many UPDATEs a history tells.
-fn told(alloc: Global, history: &History) -> Result<usize, AllocError> {
-    Ok(history.told(alloc)?.len())
+// Whether the next item has this kind, this incarnation and this number of a marker.
+fn puts(side: &mut SideEnd, wanted: (u8, u32, u32)) -> bool {
+    match put(side) {
+        Ok(Some(what)) => numbers(&what) == wanted,
+        Ok(None) | Err(_) => false,
+    }
+}
+
+fn is_in(side: &SideEnd, state: State, epoch: u32) -> bool {
+    side.state() == state && side.epoch() == epoch
+}
+
+fn has_octets(side: &SideEnd, count: usize) -> bool {
+    side.octets_waiting() == count
+}
+
+// Whether a history tells of no UPDATE.
+fn tells_nothing(alloc: Global, history: &History) -> bool {
+    match history.told(alloc) {
+        Ok(told) => told.is_empty(),
+        Err(_) => false,
+    }
+}
+
+// Whether nothing waits, the session is not Established, and no UPDATE was acted on or sent.
+fn is_quiet(alloc: Global, side: &SideEnd) -> bool {
+    !side.has_item()
+        && !side.is_up()
+        && tells_nothing(alloc, side.acted())
+        && tells_nothing(alloc, side.sent())
 }
 
 // A start dials. The peer's Dial of the same number joins, so that the router's OPEN is said; here a
@@ -67,7 +104,8 @@ fn told(alloc: Global, history: &History) -> Result<usize, AllocError> {
 fn a_side_opens(rt: HostRuntime) -> Result<(), Fail> {
     written_has_a_header();
     let mut side = SideEnd::new(rt.alloc(), SESSION)?;
-    a_side_opens_in(&rt, rt.alloc(), &Message::AliveMsg, &mut side)
+    a_side_opens_in(&rt, rt.alloc(), &Message::AliveMsg, &mut side)?;
+    Ok(())
 }
 
 fn a_side_opens_in(
@@ -75,23 +113,23 @@ fn a_side_opens_in(
     alloc: Global,
     own_open: &Message,
     side: &mut SideEnd,
-) -> Result<(), Fail>
+) -> Result<(), AllocError>
     requires { IsSayable own_open.now }
 {
     meets(alloc, side, own_open, FsmEvent::ManualStart)?;
-    assert!(rt; side.state() == State::Connect);
+    assert!(rt; is_in(side, State::Connect, 1));
     is_given(alloc, side, own_open, Sign::Dial(1))?;
-    assert!(rt; side.state() == State::OpenSent);
-    assert!(rt; side.epoch() == 1);
-    assert!(rt; side.octets_waiting() == 19);
-    side.reserve_marker()?;
-    side.mark(7);
-    assert!(rt; matches!(put(side)?, Some(What::Dial(1))));
-    assert!(rt; matches!(put(side)?, Some(What::Piece(1, _))));
-    assert!(rt; matches!(put(side)?, Some(What::Mark(1, 7))));
-    assert!(rt; !side.has_item());
-    assert!(rt; !side.is_up());
-    assert!(rt; told(alloc, side.acted())? == 0);
-    assert!(rt; told(alloc, side.sent())? == 0);
+    assert!(rt; is_in(side, State::OpenSent, 1));
+    assert!(rt; has_octets(side, 19));
+    marks(side, 7)?;
+    says_in_order(rt, side);
+    assert!(rt; is_quiet(alloc, side));
     Ok(())
+}
+
+// Its Dial, octets, and the marker.
+fn says_in_order(rt: &impl Abort, side: &mut SideEnd) {
+    assert!(rt; puts(side, (0, 1, 0)));
+    assert!(rt; puts(side, (1, 1, 0)));
+    assert!(rt; puts(side, (2, 1, 7)));
 }
