@@ -1,32 +1,15 @@
 //! `bgpnet`: decodes BGP-4 messages, says whether paths are a stable assignment, plays schedules of a
 //! network, and runs a network in threads.
 //!
-//! The program reads its words, standard input and nothing else, and writes standard output.
-//! [`command_line`] reads the words and hands them to an engine of [`engines`]: a function over a
-//! reader and a writer that says exactly what it writes for what it reads. `main` runs it over the
-//! standard input and output and ends with its status.
+//! The program reads its words, standard input and nothing else, and writes standard output. `main` hands
+//! them to [`command_line::run_with`] and ends with its status.
 //!
-//! The contracts of `bgpnet decode` and `bgpnet check` are those of `text_engines::decode_stream` and
-//! `text_engines::check_stream`, that of `bgpnet play` that of `engines::play::play_stream`, that of
-//! `bgpnet run` that of `engines::run::run_stream`; the definitions stand in `specs/`: `Playing` (the text
-//! of a schedule), `Reporting` (that of routes and snapshots), `Running` (that of a network in threads),
-//! `Gates` (what its routers are told), and in those of `text_engines`. The lines themselves are
-//! `net_text`'s and `schedule_text`'s.
+//! Its one contract is that of the engine that the words ask for: `text_engines::decode_stream` for
+//! `bgpnet decode`, `text_engines::check_stream` for `bgpnet check`, `play_engine::play_stream` for
+//! `bgpnet play`, `run_engine::run_stream` for `bgpnet run`. The definitions stand in their `specs/`.
 #![tactic(auto)]
 
-ghost use Rattle.std.specs.Prelude.{◌≡◌, IfOk, IsErr};
-ghost use Rattle.text_engines.specs.declared.status.TheConstants.{STOPPED};
-
-mod chores;
-mod command_line;
-mod engines;
-mod gates;
-mod schedules;
-mod settled;
-mod snapshots;
-mod threads;
-
-use command_line::run_with;
+use command_line::{run_with, status_of};
 use std::alloc::Global;
 use std::process::ExitCode;
 use std::sync::Wait;
@@ -81,23 +64,9 @@ where
     }
 }
 
-// The status that the program ends with: that of the run, or 4 where a read or a write failed.
-fn status_of(ended: Result<u8, IoStopped>) -> u8
-    ensures done { IfOk ended (λ status. result ≡ status) }
-    ensures stopped { IsErr ended → result ≡ STOPPED }
-{
-    match ended {
-        Ok(status) => status,
-        Err(IoStopped) => status::STOPPED,
-    }
-}
-
 fn main(rt: HostRuntime) -> ExitCode {
     let mut reader = Watched::new(rt.stdin());
     let mut writer = Watched::new(io::writer(&rt));
     let ended = run(&rt, rt.alloc(), words_of(&rt), &mut reader, &mut writer);
     ExitCode::from(status_of(ended))
 }
-
-#[cfg(test)]
-mod tests;

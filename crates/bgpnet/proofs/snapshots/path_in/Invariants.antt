@@ -1,7 +1,0 @@
--- what is left has the path
-use Rattle.std.proofs.Common.{◌≡◌, drop}
-use Rattle.snap_marker.specs.Parts.{kept_in}
-use Rattle.bgpnet.proofs.snapshots.path_in.Given as goal
-
-abbrev pub invariant-loop-one : goal.invariant-loop-one
-invariant-loop-one l = kept_in (drop l.one-index l.kept) l.prefix ≡ kept_in l.kept l.prefix

@@ -1,0 +1,118 @@
+//! What the helps of the subcommands say below their options.
+
+/// What the help of `decode` says below its options: an example, and the statuses.
+pub const DECODE_HELP: &str = "\
+The input is octets in hex, of one direction of one session. Blanks and line ends are skipped:
+
+    ffffffffffffffff ffffffffffffffff 001d 01 04 0001 005a 0a000001 00
+    ffffffffffffffff ffffffffffffffff 0013 04
+    ffffffffffffffff ffffffffffffffff 0013 05
+
+An OPEN, a KEEPALIVE, and a message of a type that there is not, so the output is
+
+    open as 1 hold 90 id 10.0.0.1
+    keepalive
+    fault 1 3
+    ffffffffffffffffffffffffffffffff001603010305
+
+Each message is a line, up to the first fault: its code and subcode (RFC 4271 section 6), and in hex
+the NOTIFICATION that tells of it. 'truncated N': the stream ends with N octets of a message. Alone
+stand 'bad hex', where the input has more than digits and blanks or half an octet, and 'refused 0 N6',
+where it has more than 16777216 octets. An UPDATE's other attributes than AS_PATH and NEXT_HOP are
+checked, and not printed. AS numbers have two octets: where both OPENs print 'cap 65' they have
+four, and an UPDATE with a path mostly reads as 'fault 3 11'.
+
+With --peer the number of an OPEN, and the first one in the path of an UPDATE that announces, has to
+be AS, else they read as 'fault 2 2' and 'fault 3 11'.
+
+Status 0: all was read. 1: a fault, a truncated end, or a refused input. 2: other words than these.
+3: memory was refused ('memory'). 4: a read or a write failed.";
+
+/// What the help of `check` says below its options: an example, and the codes of refused lines.
+pub const CHECK_HELP: &str = "\
+The input is a network, a line 'assignment', and the path of each router and prefix:
+
+    router 1 10.0.0.1
+    router 2 10.0.0.2
+    router 3 10.0.0.3
+    link 1 2
+    link 1 3
+    link 2 3
+    origin 1 10.1.0.0/16
+    rank 2 10.1.0.0/16 2-3-1 2-1
+    assignment
+    path 1 10.1.0.0/16 1
+    path 2 10.1.0.0/16 2-1
+    path 3 10.1.0.0/16 3-1
+
+Router 2 would rather go through 3, whose path is there, so the output is
+
+    unstable 2 has 2-1 best 2-3-1
+
+A path is its routers, the router itself first and the origin last, or 'none'. A router without a
+'rank' line prefers the shortest path, then the smaller numbers. Where no router would move the
+output is 'stable'. 'refused LINE CODE' names the first line that is refused, and why:
+
+  N1  an unknown first word, a wrong number of words, or an octet past ASCII
+  N2  a number, an address or a path that can't be read
+  N3  a router that no earlier line names
+  N4  what came before
+  N5  the network isn't connected
+  N6  a number or a count outside its limit
+  N7  a path of a rule that isn't simple, or doesn't begin with its router
+  N8  a prefix that can't be read, or that no router originates
+  S1  a path of the assignment that its router doesn't permit";
+
+/// What the help of `play` says below its options: an example, and the codes of refused orders.
+pub const PLAY_HELP: &str = "\
+The input is a network, a line 'schedule', and the orders of the schedule:
+
+    router 1 10.0.0.1
+    router 2 10.0.0.2
+    link 1 2
+    origin 1 10.1.0.0/16
+    schedule
+    start 1 2
+    start 2 1
+    originate 1 10.1.0.0/16
+    rounds 40
+
+Both routers start their session and router 1 originates the prefix, so the output is
+
+    now
+    route 1 10.1.0.0/16 1
+    route 2 10.1.0.0/16 2-1
+
+An order is 'start U V', 'stop U V' or 'reset U V' for U's session with V, 'originate U PREFIX',
+'withdraw U PREFIX', 'snapshot U S', 'restart U'; one step of U: 'tick U', 'put U V', 'take U V',
+'handle U V', 'decide U', 'advertise U', 'offer U'; or 'rounds N', N turns of each router, or
+'ticks N', N seconds. 'refused LINE CODE' names the first line that can't be read, with a code that
+'check --help' explains, else the first order that is refused:
+
+  E1  the two routers are no peers
+  E2  the router is not the prefix's origin
+  E3  the snapshot's number is not above the router's last
+  E6  the router has no stamp left
+  E8  the link has no incarnation left
+  V2  the two routers have no link";
+
+/// What the help of `run` says below its options: an example.
+pub const RUN_HELP: &str = "\
+The input is a network:
+
+    router 1 10.0.0.1
+    router 2 10.0.0.2
+    link 1 2
+    origin 1 10.1.0.0/16
+
+Each router runs in a thread of its own: it starts its sessions, originates its prefixes, and then
+takes turns, N chores in all. The least router takes the snapshots 1 to K, evenly spaced. Where one
+of them found the network at rest, every prefix originated, the output is the routes of the first
+that did
+
+    route 1 10.1.0.0/16 1
+    route 2 10.1.0.0/16 2-1
+
+and 'unsettled' where none did, which says nothing about the network. 'refused LINE CODE' names the
+first line that can't be read, with a code that 'check --help' explains; 'refused 0 G3' says that N
+leaves no room for the snapshots, or is not 1 to 1000000.";

@@ -1,0 +1,73 @@
+//! The words behind the program's name, and the engines that they ask for.
+//!
+//! [`run_with`] reads the words and hands them to an engine of `text_engines`, `play_engine` or `run_engine`,
+//! a function over a reader and a writer that says exactly what it writes for what it reads; or it writes a
+//! help, or what is wrong with the words. Its one contract: a status is answered where no read and no write
+//! failed, and only there. [`status_of`] is the status that the program ends with.
+#![tactic(auto)]
+
+ghost use Rattle.std.specs.Prelude.{◌≡◌, true, false, ◌⊎◌, IfOk, IsErr, OnOk, OnErr};
+ghost use Rattle.text_engines.specs.declared.status.TheConstants.{STOPPED};
+
+mod helps;
+mod words;
+
+use bgp_codec::{Rule, Width};
+pub use helps::{CHECK_HELP, DECODE_HELP, PLAY_HELP, RUN_HELP};
+use play_engine::play_stream;
+use run_engine::run_stream;
+use std::alloc::{AllocError, Global};
+use std::sync::Wait;
+use std::thread::Threads;
+use text_engines::status::STOPPED;
+use text_engines::{
+    IoStopped, Sink, Source, check_stream, decode_stream, want_of_memory, write_out,
+};
+use words::{Asked, read_words};
+
+/// Runs the program on the words behind its name, and answers its status.
+pub fn run_with<R, S, T>(
+    rt: &R,
+    alloc: Global,
+    words: &[&str],
+    reader: &mut S,
+    writer: &mut T,
+) -> Result<u8, IoStopped>
+where
+    R: Threads + Wait + Sync,
+    S: Source,
+    T: Sink,
+    ensures unfailed { OnOk result ((S.failed reader.new ≡ S.failed reader.old) × (T.failed writer.new ≡ T.failed writer.old)) }
+    ensures failed { OnErr result ((S.failed reader.new ≡ true) ⊎ (T.failed writer.new ≡ true)) }
+    // Where a read failed nothing is written.
+    ensures silent { S.failed reader.old ≡ false → S.failed reader.new ≡ true → T.contents writer.new ≡ T.contents writer.old }
+{
+    match read_words(alloc, words) {
+        Ok(Asked::Decode(peer)) => {
+            let rule = Rule {
+                width: Width::Two,
+                peer: peer.map(u32::from),
+            };
+            decode_stream(alloc, &rule, reader, writer)
+        }
+        Ok(Asked::Check) => check_stream(alloc, reader, writer),
+        Ok(Asked::Play) => play_stream(alloc, reader, writer),
+        Ok(Asked::Run(options)) => run_stream(rt, alloc, &options, reader, writer),
+        Ok(Asked::Text(text, status)) => {
+            write_out(writer, text.as_bytes())?;
+            Ok(status)
+        }
+        Err(AllocError) => want_of_memory(writer),
+    }
+}
+
+/// The status that the program ends with: that of the run, or 4 where a read or a write failed.
+pub fn status_of(ended: Result<u8, IoStopped>) -> u8
+    ensures done { IfOk ended (λ status. result ≡ status) }
+    ensures stopped { IsErr ended → result ≡ STOPPED }
+{
+    match ended {
+        Ok(status) => status,
+        Err(IoStopped) => STOPPED,
+    }
+}

@@ -1,0 +1,165 @@
+//! What the words behind the program's name ask for.
+
+ghost use Rattle.std.specs.Prelude.{◌≡◌};
+ghost use Rattle.std.specs.List.{list_all};
+ghost use Rattle.net_text.specs.Words.{is_digit};
+
+use crate::helps::{CHECK_HELP, DECODE_HELP, PLAY_HELP, RUN_HELP};
+use clap::error::ErrorKind;
+use clap::{Arg, ArgMatches, Command, Error};
+use run_engine::RunOptions;
+use std::alloc::{AllocError, Global};
+use text_engines::status::{DONE, USAGE};
+
+/// What the words ask for.
+#[derive(Drop)]
+pub enum Asked {
+    /// Decode, with the speaker's number where `--peer` names it.
+    Decode(Option<u16>),
+    /// Check an assignment.
+    Check,
+    /// Play a schedule.
+    Play,
+    /// Run a network in threads.
+    Run(RunOptions),
+    /// A text to write, and the status to end with.
+    Text(String, u8),
+}
+
+// The most snapshots that `--snapshots` takes.
+const MOST_SNAPSHOTS: u32 = 1_000;
+
+// The chores of each router where `--turns` does not say them.
+const TURNS: u32 = 20_000;
+
+// The snapshots where `--snapshots` does not say them.
+const SNAPSHOTS: u32 = 20;
+
+// Whether all octets are decimal digits.
+fn are_digits(text: &[u8]) -> bool
+    ensures { result ≡ list_all is_digit text.now }
+{
+    let mut are_digits = true;
+    for octet in text {
+        are_digits = are_digits & (b'0' <= *octet) & (*octet <= b'9');
+    }
+    are_digits
+}
+
+// What is said of a sign before the number of an option, where it has one.
+fn sign_of(
+    alloc: Global,
+    found: &ArgMatches,
+    id: &str,
+    shown: &str,
+) -> Result<Option<String>, AllocError> {
+    match found.get_str(id) {
+        Some(number) if !are_digits(number.as_bytes()) => {
+            let text = format!(in alloc;
+                "error: invalid value for '{shown}': a number is decimal digits alone\n\n\
+                For more information, try '--help'.\n"
+            )?;
+            Ok(Some(text))
+        }
+        Some(_) | None => Ok(None),
+    }
+}
+
+fn asked_decode(alloc: Global, found: &ArgMatches) -> Result<Asked, AllocError> {
+    match sign_of(alloc, found, "peer", "--peer <AS>")? {
+        Some(text) => Ok(Asked::Text(text, USAGE)),
+        None => Ok(Asked::Decode(found.get_one::<u16>("peer"))),
+    }
+}
+
+fn asked_run(alloc: Global, found: &ArgMatches) -> Result<Asked, AllocError> {
+    if let Some(text) = sign_of(alloc, found, "turns", "--turns <N>")? {
+        return Ok(Asked::Text(text, USAGE));
+    }
+    if let Some(text) = sign_of(alloc, found, "snapshots", "--snapshots <K>")? {
+        return Ok(Asked::Text(text, USAGE));
+    }
+    Ok(Asked::Run(RunOptions {
+        turns: found.get_one::<u32>("turns").unwrap_or(TURNS),
+        snapshots: found.get_one::<u32>("snapshots").unwrap_or(SNAPSHOTS),
+    }))
+}
+
+fn decode_command<'a>(alloc: Global) -> Result<Command<'a>, AllocError> {
+    let peer = Arg::new(alloc, "peer")
+        .long("peer")
+        .value_name("AS")
+        .value_parser(clap::value_parser!(u16).range(1..))
+        .help("The speaker's number, 1 to 65535, that its messages are checked against");
+    Command::new(alloc, "decode")
+        .about("Prints the messages of a stream in hex")
+        .after_help(DECODE_HELP)
+        .arg(peer)
+}
+
+fn run_command<'a>(alloc: Global) -> Result<Command<'a>, AllocError> {
+    let turns = Arg::new(alloc, "turns")
+        .long("turns")
+        .value_name("N")
+        .value_parser(clap::value_parser!(u32))
+        .help("The chores of each router, 1 to 1000000 [default: 20000]");
+    let snapshots = Arg::new(alloc, "snapshots")
+        .long("snapshots")
+        .value_name("K")
+        .value_parser(clap::value_parser!(u32).range(1..=i64::from(MOST_SNAPSHOTS)))
+        .help("The snapshots that are taken, 1 to 1000 [default: 20]");
+    Command::new(alloc, "run")
+        .about("Runs a network in threads")
+        .after_help(RUN_HELP)
+        .arg(turns)?
+        .arg(snapshots)
+}
+
+fn parse(alloc: Global, words: &[&str]) -> Result<Asked, Error> {
+    let check = Command::new(alloc, "check")
+        .about("Says whether an assignment of paths is stable")
+        .after_help(CHECK_HELP);
+    let play = Command::new(alloc, "play")
+        .about("Plays a schedule of a network's routers")
+        .after_help(PLAY_HELP);
+    let command = Command::new(alloc, "bgpnet")
+        .about(
+            "Decodes BGP-4 messages, says whether paths are a stable assignment, plays schedules, \
+            runs networks",
+        )
+        .subcommand_required(true)
+        .subcommand(decode_command(alloc)?)?
+        .subcommand(check)?
+        .subcommand(play)?
+        .subcommand(run_command(alloc)?)?;
+    let matches = command.try_get_matches_from(words)?;
+    if matches.subcommand_matches("play").is_some() {
+        return Ok(Asked::Play);
+    }
+    if matches.subcommand_matches("check").is_some() {
+        return Ok(Asked::Check);
+    }
+    if let Some(found) = matches.subcommand_matches("run") {
+        return Ok(asked_run(alloc, found)?);
+    }
+    match matches.subcommand_matches("decode") {
+        Some(found) => Ok(asked_decode(alloc, found)?),
+        None => Ok(Asked::Decode(None)),
+    }
+}
+
+/// What the words behind the program's name ask for.
+pub fn read_words(alloc: Global, words: &[&str]) -> Result<Asked, AllocError> {
+    let mut all = vec![in alloc; "bgpnet"]?;
+    all.extend_from_slice(words)?;
+    match parse(alloc, all.as_slice()) {
+        Ok(asked) => Ok(asked),
+        Err(error) => {
+            if error.kind() == ErrorKind::OutOfMemory {
+                return Err(AllocError);
+            }
+            let status = if error.use_stderr() { USAGE } else { DONE };
+            Ok(Asked::Text(error.to_string(alloc)?, status))
+        }
+    }
+}

@@ -1,0 +1,110 @@
+-- What is printed for a network and a schedule.
+use Rattle.std.specs.Prelude.{◌≡◌, ◌≢◌, ℕ, true, List, ◌∷◌, ◌++◌, Some, Result, Ok, codes, MatchResult, ◌⊎◌}
+use Rattle.std.specs.List.{flat_map}
+use Rattle.ranked_policy.specs.Plans.{Plan}
+use Rattle.run_model.specs.Network.{Run}
+use Rattle.run_model.specs.Offers.{HasOutcome, Settled}
+use Rattle.snap_marker.specs.Recordings.{RouterPart}
+use Rattle.router_model.specs.Settings.{Setting, IsSetting, ChoosesByRank, is_router}
+use Rattle.router_runs.specs.Model.{network_of}
+use Rattle.router_runs.specs.Runs.{RunOrder, RunState, IsRunTo, logged_steps}
+use Rattle.router_runs.specs.Snapshots.{AreStable, IsBelievable}
+use Rattle.world_core.specs.declared.schedule.Event.{Event}
+use Rattle.world_core.specs.declared.schedule.StepFault.TheVariants.{Memory}
+use Rattle.world_core.specs.World.{World, AgreesWith, new_world, played}
+use Rattle.world_core.specs.Keeping.{KeepsItsPromises}
+use Rattle.world_core.specs.Orders.{events_of, StopsAt}
+use Rattle.world_core.specs.Views.{WorldView, plain_world}
+use Rattle.world_core.specs.Verdicts.{members_of}
+use Rattle.net_text.specs.declared.code.Code.{Code}
+use Rattle.net_text.specs.declared.code.Code.TheVariants as kinds
+use Rattle.net_text.specs.Lexing.{Text}
+use Rattle.net_text.specs.Printing.{code_text}
+use Rattle.schedule_text.specs.declared.schedule.ScheduledOrder.{ScheduledOrder}
+use Rattle.schedule_text.specs.Schedules.{SpellsSchedule, RefusesSchedule}
+use Rattle.schedule_text.specs.Reports.{stop_line}
+use Rattle.play_engine.specs.declared.schedules.Stop.{Stop}
+use Rattle.text_engines.specs.declared.status.TheConstants.{DONE, REFUSED}
+use Rattle.text_engines.specs.Decoding.{Output, output, refused}
+use Rattle.play_engine.specs.Reporting.{AreDecided, deciding, outcome, recorded, snapshots_text, now_text}
+use Rattle.text_engines.specs.Inputs.{InputGives, Prints}
+
+-- ---- what is printed of a world
+
+-- the routes that are printed of a settled snapshot: every router recorded them, they are a stable path assignment for each prefix,
+-- and they are what a consistent cut leaves of every run that the world stands at the end of, and stay while that is quiet
+pub record CanBeBelieved (g : Setting) (w : World) (s : ℕ) : Type 0 where
+  pub parts : ℕ → RouterPart
+  pub printed : (u : ℕ) → is_router g u ≡ true → recorded (deciding g.net w.made s) u ≡ Some (parts u)
+  pub stable : AreStable g parts
+  pub believed : (before later : RunOrder) (at last : RunState) → IsRunTo g before at → Run (logged_steps g) at later last → AgreesWith g w last
+      → IsBelievable g before later at last s parts
+
+-- the lines of the snapshots that are decided, by rising number, then the routes now; and what a line says of a snapshot is how it
+-- comes out in every run that the world stands at the end of
+pub record IsReport (g : Setting) (w : World) (out : Output) : Type 0 where
+  pub decided : List ℕ
+  pub are_decided : AreDecided (members_of g.net) w.made decided
+  pub outcomes : (state : RunState) → AgreesWith g w state → (s : ℕ) → HasOutcome (network_of g) s state.offered (outcome g.net w.made s)
+  pub settled : IsSetting g → (s : ℕ) → outcome g.net w.made s ≡ Settled → CanBeBelieved g w s
+  pub printed : out ≡ output (snapshots_text g.net (members_of g.net) w.made decided ++ now_text g.net w) DONE
+
+-- what is printed of the world of the code, in every setting of its network
+abbrev pub Reports : WorldView → Output → Type 0
+Reports x out = (g : Setting) → g.net ≡ x.net → IsReport g (plain_world x) out
+
+-- ---- what orders lead to
+
+-- the events that they stand for, one after the other
+abbrev pub all_events : Plan → List ScheduledOrder → List Event
+all_events net orders = flat_map (λ o. events_of net o.order) orders
+
+-- all are done, from one world to the other
+abbrev pub LeadTo : Setting → World → List ScheduledOrder → World → Type 0
+LeadTo g w orders y = played g w 0 (all_events g.net orders) ≡ Ok y
+
+-- the first order that is refused, an event that it stands for being so; all before it are done
+pub record IsFirstRefused (g : Setting) (w : World) (orders : List ScheduledOrder) (stop : Stop) : Type 0 where
+  pub before : List ScheduledOrder
+  pub order : ScheduledOrder
+  pub behind : List ScheduledOrder
+  pub reached : World
+  pub left : World
+  pub at : ℕ
+  pub parts : orders ≡ before ++ order ∷ behind
+  pub stands : order.line ≡ stop.line
+  pub done : LeadTo g w before reached
+  pub stops : StopsAt g reached (events_of g.net order.order) at stop.why left
+
+-- what a call that obeys orders is to answer and to leave, in every setting of the network that chooses by rank
+abbrev pub Obeyed : Result (Unit {0}) Stop → WorldView → List ScheduledOrder → WorldView → Type 0
+Obeyed r x orders y =
+    (g : Setting) → g.net ≡ x.net → ChoosesByRank g
+    → MatchResult r (λ _. LeadTo g (plain_world x) orders (plain_world y)) (λ stop. IsFirstRefused g (plain_world x) orders stop)
+
+-- ---- what is printed
+
+abbrev pub stopped : Stop → Output
+stopped stop = output (stop_line stop.line stop.why) REFUSED
+
+-- for the orders of a schedule, in every setting of the network that chooses by rank: a report of the world that they lead to, in
+-- which UPDATEs passed in order; or the first that is refused
+abbrev pub OrdersGive : Plan → List ScheduledOrder → Output → Type 0
+OrdersGive net orders out =
+    (g : Setting) → g.net ≡ net → ChoosesByRank g
+    → ((w : World) × LeadTo g (new_world g) orders w × (IsSetting g → KeepsItsPromises g w) × IsReport g w out)
+    ⊎ ((stop : Stop) × (stop.why ≢ Memory) × IsFirstRefused g (new_world g) orders stop × (out ≡ stopped stop))
+
+-- for the lines of a schedule, so many lines standing before them
+abbrev pub ScheduleGives : Plan → ℕ → List Text → Output → Type 0
+ScheduleGives net before lines out =
+    ((at : ℕ) × (code : Code) × (code ≢ kinds.Memory) × RefusesSchedule net before lines at code × (out ≡ refused at (code_text code)))
+    ⊎ ((orders : List ScheduledOrder) × SpellsSchedule net before lines orders × OrdersGive net orders out)
+
+-- for an input of a network and a schedule
+abbrev pub PlayGives : List ℕ → Output → Type 0
+PlayGives input out = InputGives ScheduleGives (codes "schedule") input out
+
+-- what the program prints: that, or that memory ran out
+abbrev pub Plays : List ℕ → Output → Type 0
+Plays input out = Prints ScheduleGives (codes "schedule") input out

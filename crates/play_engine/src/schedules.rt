@@ -1,0 +1,140 @@
+//! What `bgpnet play` prints for a network and the orders of a schedule.
+
+ghost use Rattle.std.specs.Prelude.{◌≡◌, ◌≢◌, ◌++◌, IfOk, OnOk, MatchResult};
+ghost use Rattle.router_core.specs.Views.{plain_of};
+ghost use Rattle.world_core.specs.Views.{plain_world, Opens, KeepsPromises};
+ghost use Rattle.text_engines.specs.Decoding.{output};
+ghost use Rattle.play_engine.specs.Reporting.{router_text, routes_text};
+ghost use Rattle.play_engine.specs.Playing.{Obeyed, Reports, stopped, OrdersGive};
+
+use crate::snapshots::put_snapshots;
+use ranked_policy::{Asn, Network, Origin};
+use router_core::Router;
+use schedule_text::{ScheduledOrder, now_line, route_line, stop_line};
+use std::alloc::{AllocError, Global};
+use std::mem::forget;
+use text_engines::status::{DONE, REFUSED};
+use world_core::{StepFault, World};
+
+/// An order that was refused.
+#[derive(Clone, Copy, PartialEq, Eq)]
+pub struct Stop {
+    /// The line that it stands on.
+    pub line: usize,
+    /// Why.
+    pub why: StepFault,
+}
+
+// Appends the path that a router keeps for the prefix of each origin.
+fn put_router(
+    number: Asn,
+    router: &Router<'_>,
+    origins: &[Origin],
+    out: &mut Vec<u8>,
+) -> Result<(), AllocError>
+    ensures { OnOk result (out.new.items ≡ out.old.items ++ router_text (plain_of router.now).router.kept number origins.now) }
+{
+    for origin in origins {
+        let prefix = &origin.prefix;
+        route_line(number, prefix, router.kept(prefix), out)?;
+    }
+    Ok(())
+}
+
+// Appends the path that each router keeps for the prefix of each origin.
+fn put_routes(network: &Network, world: &World<'_>, out: &mut Vec<u8>) -> Result<(), AllocError>
+    requires { world.now.net ≡ network.now }
+    ensures { OnOk result (out.new.items ≡ out.old.items ++ routes_text network.now (plain_world world.now)) }
+{
+    for member in network.routers() {
+        match world.router(member.asn) {
+            Some(router) => put_router(member.asn, router, network.origins(), out)?,
+            // The world has every router of its network.
+            None => unreachable!(),
+        }
+    }
+    Ok(())
+}
+
+// What is printed of a world, and the status.
+fn report_output(
+    alloc: Global,
+    network: &Network,
+    world: &World<'_>,
+) -> Result<(Vec<u8>, u8), AllocError>
+    requires same { world.now.net ≡ network.now }
+    requires promises { KeepsPromises world.now }
+    ensures { IfOk result (λ printed. Reports world.now (output printed.0.items printed.1)) }
+{
+    let mut out = Vec::new(alloc);
+    let collector = world.collector();
+    put_snapshots(network, collector, collector.decided(), &mut out)?;
+    now_line(&mut out)?;
+    put_routes(network, world, &mut out)?;
+    Ok((out, DONE))
+}
+
+// Obeys the orders up to the first that is refused.
+fn obey_all(world: &mut World<'_>, orders: &[ScheduledOrder]) -> Result<(), Stop>
+    requires { KeepsPromises world.old }
+    ensures obeyed { Obeyed result world.old orders.now world.new }
+    ensures same { world.new.net ≡ world.old.net }
+    ensures promises { KeepsPromises world.new }
+{
+    for scheduled in orders {
+        if let Err(why) = world.obey(&scheduled.order) {
+            return Err(Stop {
+                line: scheduled.line,
+                why,
+            });
+        }
+    }
+    Ok(())
+}
+
+// What is printed for an order that is refused, and the status; want of memory is no such refusal.
+fn stop_output(alloc: Global, stop: Stop) -> Result<(Vec<u8>, u8), AllocError>
+    ensures kind { IfOk result (λ printed. stop.why ≢ StepFault.Memory) }
+    ensures output { IfOk result (λ printed. output printed.0.items printed.1 ≡ stopped stop) }
+{
+    if stop.why == StepFault::Memory {
+        return Err(AllocError);
+    }
+    let mut out = Vec::new(alloc);
+    stop_line(stop.line, stop.why, &mut out)?;
+    Ok((out, REFUSED))
+}
+
+// What is printed for orders in a world in which nothing was done.
+fn world_output(
+    alloc: Global,
+    network: &Network,
+    world: &mut World<'_>,
+    orders: &[ScheduledOrder],
+) -> Result<(Vec<u8>, u8), AllocError>
+    requires opens { Opens network.now world.old }
+    requires promises { KeepsPromises world.old }
+    ensures { IfOk result (λ printed. OrdersGive network.now orders.now (output printed.0.items printed.1)) }
+{
+    match obey_all(world, orders) {
+        Ok(()) => report_output(alloc, network, world),
+        Err(stop) => stop_output(alloc, stop),
+    }
+}
+
+/// What is printed for the orders of a schedule, and the status.
+pub fn orders_output(
+    alloc: Global,
+    network: &Network,
+    orders: &[ScheduledOrder],
+) -> Result<(Vec<u8>, u8), AllocError>
+    ensures { IfOk result (λ printed. OrdersGive network.now orders.now (output printed.0.items printed.1)) }
+{
+    let Ok(mut world) = World::new(alloc, network) else {
+        return Err(AllocError);
+    };
+    let printed = world_output(alloc, network, &mut world, orders);
+    // What the world holds is many small blocks, and goes with the process, which ends behind this.
+    forget(world);
+    printed
+}

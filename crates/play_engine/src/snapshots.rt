@@ -1,0 +1,110 @@
+//! How snapshots came out, and their routes.
+
+ghost use Rattle.std.specs.Prelude.{◌≡◌, ◌++◌, OnOk, map};
+ghost use Rattle.snap_marker.specs.Parts.{kept_in};
+ghost use Rattle.snap_collector.specs.Collecting.{member_of};
+ghost use Rattle.snap_collector.specs.Collector.{made_for, kept_of};
+ghost use Rattle.play_engine.specs.Reporting.{router_text, recorded, part_text, parts_text, snapshot_text, snapshots_text};
+
+use prefix_lanes::Prefix;
+use ranked_policy::{Asn, Network, Origin};
+use schedule_text::{route_line, snapshot_line};
+use snap_collector::{Collector, Outcome};
+use snap_marker::{KeptPath, Part};
+use std::alloc::AllocError;
+
+// The path kept for a prefix: empty where none is.
+fn path_in<'k>(kept: &'k [KeptPath], prefix: &Prefix) -> &'k [Asn]
+    ensures { result.now ≡ kept_in kept.now prefix.now }
+{
+    for one in kept {
+        if one.prefix.equals(prefix) {
+            return one.path.as_slice();
+        }
+    }
+    &[]
+}
+
+// Appends the path that a part has for the prefix of each origin.
+fn put_part(
+    number: Asn,
+    part: &Part,
+    origins: &[Origin],
+    out: &mut Vec<u8>,
+) -> Result<(), AllocError>
+    ensures { OnOk result (out.new.items ≡ out.old.items ++ router_text (kept_in part.now.kept.items) number origins.now) }
+{
+    for origin in origins {
+        let path = path_in(part.kept.as_slice(), &origin.prefix);
+        route_line(number, &origin.prefix, path, out)?;
+    }
+    Ok(())
+}
+
+// Appends the routes of the part that a router has in a snapshot, where it has one.
+fn put_recorded(
+    collector: &Collector,
+    number: u32,
+    router: Asn,
+    origins: &[Origin],
+    out: &mut Vec<u8>,
+) -> Result<(), AllocError>
+    ensures { OnOk result (out.new.items ≡ out.old.items ++ part_text origins.now router (recorded (kept_of (map member_of collector.now.members) (made_for collector.now number)) router)) }
+{
+    match collector.part(number, router) {
+        Some(part) => put_part(router, part, origins, out),
+        None => Ok(()),
+    }
+}
+
+/// Appends the routes that routers recorded in the snapshot of this number: a line for each router that has a
+/// part of it, routers rising, and each prefix that the network originates, with the path that the part keeps
+/// for the prefix, or `none`. A router without a part has no line.
+///
+/// Where memory is refused, some of the lines stand behind what the buffer had.
+pub fn put_parts(
+    network: &Network,
+    collector: &Collector,
+    number: u32,
+    out: &mut Vec<u8>,
+) -> Result<(), AllocError>
+    ensures { OnOk result (out.new.items ≡ out.old.items ++ parts_text network.now (kept_of (map member_of collector.now.members) (made_for collector.now number))) }
+{
+    for member in network.routers() {
+        put_recorded(collector, number, member.asn, network.origins(), out)?;
+    }
+    Ok(())
+}
+
+// Appends how a snapshot came out, and its routes where it is settled.
+fn put_snapshot(
+    network: &Network,
+    collector: &Collector,
+    number: u32,
+    out: &mut Vec<u8>,
+) -> Result<(), AllocError>
+    ensures { OnOk result (out.new.items ≡ out.old.items ++ snapshot_text network.now (map member_of collector.now.members) (made_for collector.now) number) }
+{
+    let outcome = collector.outcome(number);
+    snapshot_line(number, &outcome, out)?;
+    match outcome {
+        Outcome::Settled => put_parts(network, collector, number, out),
+        Outcome::Waiting | Outcome::Abandoned(_) | Outcome::Moving { .. } => Ok(()),
+    }
+}
+
+/// Appends how the snapshots of these numbers came out, in their order, with the routes of each that
+/// is settled.
+pub fn put_snapshots(
+    network: &Network,
+    collector: &Collector,
+    numbers: &[u32],
+    out: &mut Vec<u8>,
+) -> Result<(), AllocError>
+    ensures { OnOk result (out.new.items ≡ out.old.items ++ snapshots_text network.now (map member_of collector.now.members) (made_for collector.now) numbers.now) }
+{
+    for number in numbers {
+        put_snapshot(network, collector, *number, out)?;
+    }
+    Ok(())
+}

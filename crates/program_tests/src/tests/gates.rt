@@ -1,0 +1,199 @@
+//! Gates of two routers that hold each other's chores back, and what they show of threads.
+
+ghost use Rattle.std.specs.Prelude.{◌≡◌, ◌++◌, [], replicate, IfOk};
+ghost use Rattle.std.specs.List.{AllByRecursion};
+ghost use Rattle.worker_loop.specs.declared.chore.Chore.TheVariants.{Stop};
+ghost use Rattle.worker_loop.specs.Script.{given_by};
+
+use net_text::read_network;
+use net_workers::{Chore, Gate, Limits, ScriptGate, run_net};
+use prefix_lanes::Prefix;
+use ranked_policy::{Asn, Network};
+use router_model::Command;
+use run_engine::run_gated;
+use std::alloc::{AllocError, Global};
+use std::sync::Wait;
+use std::sync::atomic::{AtomicU64, Ordering};
+use std::test::Fail;
+use std::thread;
+use std::thread::Threads;
+use text_engines::Watched;
+
+// Two routers and a link; router 1 originates 10.1.0.0/16. Pipes of one item, and of many.
+const NARROW: &str =
+    "router 1 10.0.0.1\nrouter 2 10.0.0.2\nlink 1 2\norigin 1 10.1.0.0/16\npipe 1\n";
+
+const WIDE: &str = "router 1 10.0.0.1\nrouter 2 10.0.0.2\nlink 1 2\norigin 1 10.1.0.0/16\n";
+
+// The routes of both.
+const BOTH: &str = "route 1 10.1.0.0/16 1\nroute 2 10.1.0.0/16 2-1\n";
+
+// How often a gate looks for the other before it gives up.
+const LOOKS: u32 = 1_000_000;
+
+// Which chores a gate holds back until the other has been asked.
+#[derive(Clone, Copy, PartialEq, Eq)]
+enum Holds {
+    // The first, until the other has been asked for its first.
+    First,
+    // Each, until the other has been asked for the one before.
+    Each,
+}
+
+// How many chores each of two gates was asked for.
+#[derive(Drop)]
+struct Asked {
+    one: AtomicU64,
+    other: AtomicU64,
+}
+
+// A gate that holds the chores of a script back until the other gate has been asked, and gives Stop
+// from there on where it is not asked in time.
+#[derive(Drop)]
+struct HeldGate<'a> {
+    own: &'a AtomicU64,
+    other: &'a AtomicU64,
+    holds: Holds,
+    script: ScriptGate,
+    stops: u64,
+}
+
+impl HeldGate<'_> {
+    // Whether the other gate is asked in time.
+    fn is_met(&self, turn: u32) -> bool {
+        let wanted = match self.holds {
+            Holds::First => u64::from(turn == 0),
+            Holds::Each => u64::from(turn),
+        };
+        for _ in 0..LOOKS {
+            if self.other.load(Ordering::SeqCst) >= wanted {
+                return true;
+            }
+            thread::yield_now();
+        }
+        false
+    }
+}
+
+impl Gate for HeldGate<'_> {
+    ghost use Rattle.std.specs.Prelude.{List, ℕ};
+    ghost use Rattle.worker_loop.specs.declared.chore.Chore.{Chore};
+
+    ghost Told = { List (ℕ × Chore) };
+
+    ghost told = { λ g. g.script.script.items };
+
+    ghost given = { λ g. given_by g.script ++ replicate g.stops Stop };
+
+    fn next<R: Wait>(&mut self, rt: &R, router: Asn, turn: u32) -> Chore {
+        self.own.store(u64::from(turn) + 1, Ordering::SeqCst);
+        if self.stops > 0 || !self.is_met(turn) {
+            self.stops += 1;
+            return Chore::Stop;
+        }
+        self.script.next(rt, router, turn)
+    }
+}
+
+// The gates of both routers. They start, router 1 originates and takes a snapshot at turn 200, and both
+// stop at turn 400.
+fn two_gates<'a>(
+    alloc: Global,
+    asked: &'a Asked,
+    holds: Holds,
+    prefix: Prefix,
+) -> Result<Vec<HeldGate<'a>>, AllocError>
+    ensures { IfOk result (λ gates. AllByRecursion (λ gate. given_by gate.script ++ replicate gate.stops Stop ≡ []) gates.items) }
+{
+    let one = ScriptGate::new(vec![in alloc;
+        (0, Chore::Command(Command::Start(2))),
+        (1, Chore::Command(Command::Originate(prefix))),
+        (200, Chore::Command(Command::Snapshot(1))),
+        (400, Chore::Stop),
+    ]?);
+    let other = ScriptGate::new(vec![in alloc;
+        (0, Chore::Command(Command::Start(1))),
+        (400, Chore::Stop),
+    ]?);
+    let mut gates = Vec::new(alloc);
+    gates.push(HeldGate {
+        own: &asked.one,
+        other: &asked.other,
+        holds,
+        script: one,
+        stops: 0,
+    })?;
+    gates.push(HeldGate {
+        own: &asked.other,
+        other: &asked.one,
+        holds,
+        script: other,
+        stops: 0,
+    })?;
+    Ok(gates)
+}
+
+fn new_asked() -> Asked {
+    Asked {
+        one: AtomicU64::new(0),
+        other: AtomicU64::new(0),
+    }
+}
+
+fn read_pair(alloc: Global, text: &str) -> Result<Network, Fail> {
+    match read_network(alloc, text.as_bytes()) {
+        Ok(network) => Ok(network),
+        Err(_) => Err("a network")?,
+    }
+}
+
+// Whether each of two gates saw the other be asked before it gave its first chore.
+fn meet<R: Threads + Wait + Sync>(
+    rt: &R,
+    alloc: Global,
+    network: &Network,
+    prefix: Prefix,
+) -> Result<bool, AllocError> {
+    let asked = new_asked();
+    let gates = two_gates(alloc, &asked, Holds::First, prefix)?;
+    match run_net(rt, alloc, network, gates, Limits { turns: 10 }) {
+        Ok(record) => Ok(record.workers.iter().all(|worked| worked.gate.stops == 0)),
+        Err(_) => Ok(false),
+    }
+}
+
+// So two threads ran at once.
+#[test]
+fn gate_meeting(rt: HostRuntime) -> Result<(), Fail> {
+    let prefix = Prefix::new(0x0a01_0000, 16).ok_or("a prefix")?;
+    let network = read_pair(rt.alloc(), WIDE)?;
+    assert!(rt; meet(&rt, rt.alloc(), &network, prefix)?);
+    Ok(())
+}
+
+// What a run in lockstep writes, and its status.
+fn in_lockstep<R: Threads + Wait + Sync>(
+    rt: &R,
+    alloc: Global,
+    network: &Network,
+    prefix: Prefix,
+) -> Result<(Vec<u8>, Option<u8>), AllocError> {
+    let asked = new_asked();
+    let gates = two_gates(alloc, &asked, Holds::Each, prefix)?;
+    let mut writer = Watched::new(Vec::new(alloc));
+    let limits = Limits { turns: 1000 };
+    let status = run_gated(rt, alloc, network, gates, limits, 1, &mut writer).ok();
+    Ok((writer.into_inner(), status))
+}
+
+// So workers take what their peers put, and a snapshot settles.
+#[test]
+fn gate_lockstep(rt: HostRuntime) -> Result<(), Fail> {
+    let prefix = Prefix::new(0x0a01_0000, 16).ok_or("a prefix")?;
+    for text in [WIDE, NARROW] {
+        let network = read_pair(rt.alloc(), text)?;
+        let (text, status) = in_lockstep(&rt, rt.alloc(), &network, prefix)?;
+        assert!(rt; (text.as_slice(), status) == (BOTH.as_bytes(), Some(0)));
+    }
+    Ok(())
+}

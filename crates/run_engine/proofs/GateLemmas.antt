@@ -1,0 +1,164 @@
+-- The chores of a gate.
+use Rattle.std.proofs.Common.{◌≡◌, ◌≢◌, ℕ, zero, suc, ◌+◌, ◌-◌, ◌*◌, ◌/◌, ◌%◌, ◌<◌, ◌≤◌, Bool, true, false, cond, List, [], ◌∷◌, ◌++◌, length, refl, sym, ap, subst, ◌∙◌, inl, inr, add-one, arith, length-append, get_or, map, filter, drop, append_assoc}
+use Rattle.std.specs.Prelude.{◌==◌, ◌||◌, nat_lt}
+use Rattle.std.proofs.lemmas.Bool.{ne_eqb, eqb-false, ltb-false, le-ltb, cases_lt}
+use Rattle.std.specs.List.{count_by}
+use Rattle.std.proofs.lemmas.List.{get_or_past, append-nil, drop_more, drop_all, length-map}
+use Rattle.std.proofs.lemmas.List.Sums.{length-filter}
+use Rattle.std.proofs.Math.Nat.{mul-mod_left, mul-div_cancel}
+use Rattle.std.proofs.lemmas.Nat.{div-add-mod'}
+use Rattle.ranked_policy.specs.Plans.{Plan, numbers}
+use Rattle.ranked_policy.specs.declared.network.Router.{Router}
+use Rattle.ranked_policy.specs.declared.network.Origin.{Origin}
+use Rattle.router_model.specs.Settings.{linked}
+use Rattle.router_model.specs.declared.command.Command.TheVariants.{Start, Originate, Snapshot}
+use Rattle.worker_loop.specs.declared.chore.Chore.{Chore}
+use Rattle.worker_loop.specs.declared.chore.Chore.TheVariants.{Turn, Command}
+use Rattle.run_engine.specs.Gates.{opening, first_router, Told, AreChores, numbered_or_turn, later_chore, chore_at, first_chores, told_each}
+use Rattle.text_engines.proofs.CheckLemmas.{within}
+
+-- ---- one more chore is given
+
+counted : (chore : ℕ → Chore) (n : ℕ) → length (first_chores chore n) ≡ n
+counted chore zero = refl
+counted chore (suc n) =
+    let h = counted chore n in
+    length-append (first_chores chore n) (chore n ∷ []) ∙ (let e : length (first_chores chore n) + 1 ≡ suc n = omega arith in e)
+
+pub next_is : (chore : ℕ → Chore) (count turn m : ℕ) (c : Chore) → turn ≡ length (first_chores chore count) → m ≡ turn → c ≡ chore turn
+    → first_chores chore (m + 1) ≡ first_chores chore count ++ c ∷ []
+next_is chore count turn m c t e is =
+    let same : turn ≡ count = t ∙ counted chore count in
+    ap (first_chores chore) (ap (λ (k : ℕ). k + 1) (e ∙ same) ∙ add-one count) ∙ ap (λ (x : Chore). first_chores chore count ++ x ∷ []) (ap chore (sym same) ∙ sym is)
+
+-- ---- by computing
+
+not_zero : (n : ℕ) → 0 < n → (n == 0) ≡ false
+not_zero n some = ne_eqb n 0 (λ is. absurd (omega (arith, some, is)))
+
+numbered_is : (q k s : ℕ) → 0 < q → 0 < s → s ≤ k → later_chore q k (s * q) ≡ Command (Snapshot s)
+numbered_is q k s apart some few =
+    let none : nat_lt 0 (s * q % q) ≡ false = ap (nat_lt 0) (mul-mod_left s q) in
+    let number : s * q / q ≡ s = mul-div_cancel s apart in
+    let above : nat_lt k s ≡ false = le-ltb k s few in
+    rw (not_zero q apart, none, number, not_zero s some, above) refl
+
+turn_or : (k s : ℕ) (b c : Bool) → (s == 0) ≡ b → nat_lt k s ≡ c → (0 < s → s ≤ k → ⊥) → cond (b || c) Turn (Command (Snapshot s)) ≡ Turn
+turn_or k s true c zero_is above never = refl
+turn_or k s false true zero_is above never = refl
+turn_or k s false false zero_is above never =
+    let few = ltb-false k s above in
+    let some : 0 < s = elim (cases_lt 0 s) [ inl more ↦ more | inr none ↦ absurd (eqb-false s 0 zero_is (omega (arith, none))) ] in
+    absurd (never some few)
+
+later_turn : (q k b : ℕ) (c d : Bool) → (q == 0) ≡ c → nat_lt 0 (b % q) ≡ d → ((s : ℕ) → 0 < s → s ≤ k → b ≡ s * q → ⊥)
+    → cond (c || d) Turn (numbered_or_turn k (b / q)) ≡ Turn
+later_turn q k b true d zero_is part never = refl
+later_turn q k b false true zero_is part never = refl
+later_turn q k b false false zero_is part never =
+    let rest : b % q ≤ 0 = ltb-false 0 (b % q) part in
+    let split : b / q * q + b % q ≡ b = div-add-mod' b q in
+    let whole : b ≡ b / q * q = omega (arith, rest, split) in
+    turn_or k (b / q) (b / q == 0) (nat_lt k (b / q)) refl refl (λ some few. never (b / q) some few whole)
+
+module _ (told : Told) (apart : 0 < told.spacing) where
+  numbered : (s : ℕ) → 0 < s → s ≤ told.snapshots → chore_at told (length told.opening + s * told.spacing) ≡ Command (Snapshot s)
+  numbered s some few =
+      let i = length told.opening + s * told.spacing in
+      let behind : i - length told.opening ≡ s * told.spacing = omega arith in
+      get_or_past told.opening i (later_chore told.spacing told.snapshots (i - length told.opening)) (omega arith)
+      ∙ ap (later_chore told.spacing told.snapshots) behind ∙ numbered_is told.spacing told.snapshots s apart some few
+
+  turns : (i : ℕ) → length told.opening ≤ i → ((s : ℕ) → 0 < s → s ≤ told.snapshots → i ≡ length told.opening + s * told.spacing → ⊥) → chore_at told i ≡ Turn
+  turns i far never =
+      let b = i - length told.opening in
+      get_or_past told.opening i (later_chore told.spacing told.snapshots b) far
+      ∙ later_turn told.spacing told.snapshots b (told.spacing == 0) (nat_lt 0 (b % told.spacing)) refl refl
+      (λ s some few is. never s some few (let e : i ≡ length told.opening + s * told.spacing = omega (arith, far, is) in e))
+
+  pub are_chores : AreChores told (chore_at told)
+  are_chores = record {
+    first = λ i d below. within told.opening i (later_chore told.spacing told.snapshots (i - length told.opening)) d below;
+    numbered = numbered;
+    turns = turns;
+  }
+
+-- ---- the chores of an opening, one by one
+
+module _ {X : Type 0} (f : X → Chore) (p : X → Bool) where
+  abbrev pub chosen : List X → List Chore
+  chosen xs = map f (filter p xs)
+
+  one_chosen : (x : X) (xs : List X) (old new all : List Chore) (b : Bool) → p x ≡ b → new ≡ old ++ cond b (f x ∷ []) [] → old ++ map f (cond b (x ∷ filter p xs) (filter p xs)) ≡ all
+      → new ++ chosen xs ≡ all
+  one_chosen x xs old new all true is put h = ap (λ (t : List Chore). t ++ chosen xs) put ∙ append_assoc old (f x ∷ []) (chosen xs) ∙ h
+  one_chosen x xs old new all false is put h = ap (λ (t : List Chore). t ++ chosen xs) (put ∙ append-nil old) ∙ h
+
+  pub chosen_on : (xs : List X) (i : ℕ) (x : X) (old new all : List Chore) (b : Bool) → i < length xs → x ≡ get_or xs i x → p x ≡ b → new ≡ old ++ cond b (f x ∷ []) []
+      → old ++ chosen (drop i xs) ≡ all → new ++ chosen (drop (i + 1) xs) ≡ all
+  chosen_on xs i x old new all b below at is put h =
+      let left : drop i xs ≡ x ∷ drop (i + 1) xs = drop_more xs i x below ∙ ap (λ (y : X). y ∷ drop (i + 1) xs) (sym at) in
+      one_chosen x (drop (i + 1) xs) old new all b is put
+      (ap (λ (c : Bool). old ++ map f (cond c (x ∷ filter p (drop (i + 1) xs)) (filter p (drop (i + 1) xs)))) (sym is)
+      ∙ ap (λ (ys : List X). old ++ chosen ys) (sym left) ∙ h)
+
+  pub all_chosen : (xs : List X) (i : ℕ) (old all : List Chore) → length xs ≤ i → old ++ chosen (drop i xs) ≡ all → old ≡ all
+  all_chosen xs i old all far h = sym (append-nil old) ∙ ap (λ (ys : List X). old ++ chosen ys) (sym (drop_all i xs far)) ∙ h
+
+abbrev pub start : Router → Chore
+start r = Command (Start r.asn)
+
+abbrev pub is_peer : Plan → ℕ → Router → Bool
+is_peer net u r = linked net u r.asn
+
+abbrev pub originate : Origin → Chore
+originate o = Command (Originate o.prefix)
+
+abbrev pub is_of : ℕ → Origin → Bool
+is_of u o = o.router == u
+
+started : (net : Plan) (u : ℕ) (r : Router) (rs : List Router) (b : Bool) → map (λ v. Command (Start v)) (filter (linked net u) (numbers rs)) ≡ chosen start (is_peer net u) rs
+    → map (λ v. Command (Start v)) (cond b (r.asn ∷ filter (linked net u) (numbers rs)) (filter (linked net u) (numbers rs))) ≡ map start (cond b (r ∷ filter (is_peer net u) rs) (filter (is_peer net u) rs))
+started net u r rs true h = ap (λ (cs : List Chore). start r ∷ cs) h
+started net u r rs false h = h
+
+starts_are : (net : Plan) (u : ℕ) (rs : List Router) → map (λ v. Command (Start v)) (filter (linked net u) (numbers rs)) ≡ chosen start (is_peer net u) rs
+starts_are net u [] = refl
+starts_are net u (r ∷ rs) = started net u r rs (linked net u r.asn) (starts_are net u rs)
+
+-- the opening, by routers and origins
+pub opening_is : (net : Plan) (u : ℕ) → opening net u ≡ chosen start (is_peer net u) net.routers ++ chosen originate (is_of u) net.origins
+opening_is net u = ap (λ (cs : List Chore). cs ++ chosen originate (is_of u) net.origins) (starts_are net u net.routers)
+
+chosen_len : {X : Type 0} (f : X → Chore) (p : X → Bool) (xs : List X) → length (chosen f p xs) ≡ count_by p xs
+chosen_len f p xs = length-map (filter p xs) f ∙ length-filter p xs
+
+pub opening_len : (net : Plan) (u : ℕ) → length (opening net u) ≡ count_by (is_peer net u) net.routers + count_by (is_of u) net.origins
+opening_len net u =
+    let starts = chosen_len start (is_peer net u) net.routers in
+    let origins = chosen_len originate (is_of u) net.origins in
+    ap length (opening_is net u) ∙ length-append (chosen start (is_peer net u) net.routers) (chosen originate (is_of u) net.origins)
+    ∙ ap (λ (n : ℕ). n + length (chosen originate (is_of u) net.origins)) starts ∙ ap (λ (n : ℕ). count_by (is_peer net u) net.routers + n) origins
+
+-- ---- what each router is told, one by one
+
+pub told_on : (net : Plan) (spacing left : ℕ) (rs : List Router) (i : ℕ) (r : Router) (old new all : List Told) → i < length rs → r ≡ get_or rs i r
+    → new ≡ old ++ record { opening = opening net r.asn; spacing = spacing; snapshots = left } ∷ [] → old ++ told_each net spacing left (drop i rs) ≡ all
+    → new ++ told_each net spacing 0 (drop (i + 1) rs) ≡ all
+told_on net spacing left rs i r old new all below at put h =
+    let one : Told = record { opening = opening net r.asn; spacing = spacing; snapshots = left } in
+    let rest = told_each net spacing 0 (drop (i + 1) rs) in
+    let left_is : drop i rs ≡ r ∷ drop (i + 1) rs = drop_more rs i r below ∙ ap (λ (y : Router). y ∷ drop (i + 1) rs) (sym at) in
+    ap (λ (t : List Told). t ++ rest) put ∙ append_assoc old (one ∷ []) rest ∙ ap (λ (ys : List Router). old ++ told_each net spacing left ys) (sym left_is) ∙ h
+
+pub all_told : (net : Plan) (spacing left : ℕ) (rs : List Router) (i : ℕ) (old all : List Told) → length rs ≤ i → old ++ told_each net spacing left (drop i rs) ≡ all → old ≡ all
+all_told net spacing left rs i old all far h =
+    sym (append-nil old) ∙ ap (λ (ys : List Router). old ++ told_each net spacing left ys) (sym (drop_all i rs far)) ∙ h
+
+pub told_len : (net : Plan) (spacing left : ℕ) (rs : List Router) → length (told_each net spacing left rs) ≡ length rs
+told_len net spacing left [] = refl
+told_len net spacing left (r ∷ rs) = ap suc (told_len net spacing 0 rs)
+
+pub first_is : (rs : List Router) (d : Router) → 0 < length rs → first_router rs ≡ (get_or rs 0 d).asn
+first_is [] d some = absurd (omega (arith, some))
+first_is (r ∷ rs) d some = refl

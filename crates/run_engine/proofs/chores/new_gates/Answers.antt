@@ -1,0 +1,12 @@
+use Rattle.std.proofs.Common.{◌∙◌, ap, sym, length}
+use Rattle.std.proofs.lemmas.List.{length-map}
+use Rattle.run_engine.specs.Gates.{told_of}
+use Rattle.run_engine.proofs.GateLemmas.{all_told, told_len}
+use Rattle.run_engine.proofs.chores.new_gates.Goals as goal
+
+pub returns-clause-many : goal.returns-clause-many
+returns-clause-many c =
+    let l = c.loop-router in
+    sym (length-map l.gates.items told_of)
+    ∙ ap length (all_told c.args.network.now c.args.spacing l.left c.routers-router-items.result.now l.router-index _ _ c.loop-router-test.false l.invariant.told)
+    ∙ told_len c.args.network.now c.args.spacing c.args.snapshots c.args.network.now.routers

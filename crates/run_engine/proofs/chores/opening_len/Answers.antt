@@ -1,0 +1,19 @@
+use Rattle.std.proofs.Common.{arith, length, ◌+◌, ◌≡◌}
+use Rattle.std.proofs.lemmas.List.Sums.{count_by-le-length}
+use Rattle.run_engine.proofs.GateLemmas.{opening_len, is_peer, is_of}
+use Rattle.run_engine.proofs.chores.opening_len.Goals as goal
+
+pub overflow_add-result : goal.overflow_add-result
+overflow_add-result c =
+    let n = c.args.network.now in
+    let p = c.built.ensures.network.plan in
+    let routers = p.few in
+    let origins = p.origins.few in
+    let one = count_by-le-length (is_peer n c.args.number) n.routers in
+    let other = count_by-le-length (is_of c.args.number) n.origins in
+    omega (arith, routers, origins, one, other, c.count_peers.ensures, c.count_prefixes.ensures)
+
+pub returns : goal.returns
+returns c =
+    let all = opening_len c.args.network.now c.args.number in
+    omega (arith, all, c.count_peers.ensures, c.count_prefixes.ensures)

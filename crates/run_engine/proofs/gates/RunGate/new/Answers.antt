@@ -1,0 +1,6 @@
+use Rattle.run_engine.specs.Gates.{told_of}
+use Rattle.run_engine.proofs.GateLemmas.{are_chores}
+use Rattle.run_engine.proofs.gates.RunGate.new.Goals as goal
+
+pub returns-clause-chores : goal.returns-clause-chores
+returns-clause-chores c = are_chores (record { opening = c.args.opening.items; spacing = c.args.spacing; snapshots = c.args.snapshots }) c.requires

@@ -1,0 +1,32 @@
+use Rattle.std.proofs.Common.{inr, inl, sym, ap, subst}
+use Rattle.text_engines.specs.Decoding.{Output, output}
+use Rattle.run_engine.specs.Running.{ThreadsGive}
+use Rattle.text_engines.proofs.CheckLemmas.{if_ok, both_ok}
+use Rattle.run_engine.proofs.RunLemmas.{snapshots_give, fault_gives}
+use Rattle.run_engine.proofs.threads.threads_output.Goals as goal
+
+pub returns-in-Ok : goal.returns-in-Ok
+returns-in-Ok g c =
+    let r = c.in-Ok.record in
+    if_ok _ _ c.settled_output.result
+    (λ printed gives. inr (
+      c.in-Ok.ensures.limits,
+      inr (snapshots_give c.outcome_is_one.ensures c.members_are_the_routers.ensures c.args.demand c.args.network.now c.built.ensures.network
+          (record {
+            workers = r.workers.items;
+            ways = r.ways.items;
+            collector = r.collector;
+            gathered = r.gathered.items;
+            recorded = c.in-Ok.ensures.recorded;
+            pipes = c.in-Ok.ensures.ways;
+            gates = c.in-Ok.ensures.told;
+          })
+          c.in-Ok.ensures.promises c.args.last (output printed.0.items printed.1) gives),
+    ))
+    c.settled_output.ensures
+
+pub returns-in-Err : goal.returns-in-Err
+returns-in-Err g c =
+    both_ok _ _ _ c.fault_output.result
+    (λ printed kind is. fault_gives g.G.Gate.given g.G.Gate.told c.args.demand c.args.network.now c.args.limits.turns c.args.gates.items c.args.last (output printed.0.items printed.1) c.in-Err.fault kind c.in-Err.ensures.refused is)
+    c.fault_output.ensures.kind c.fault_output.ensures.output

@@ -1,0 +1,216 @@
+-- What is printed for a network that runs in threads.
+use Rattle.std.specs.Prelude.{◌≡◌, ◌≢◌, ℕ, ◌<◌, ◌≤◌, ◌⊎◌, Bool, true, false, ◌&&◌, List, [], ◌∷◌, ◌++◌, length, map, codes, Option, None, Some}
+use Rattle.std.specs.List.{flat_map, list_all}
+use Rattle.prefix_lanes.specs.Bits.{PrefixView}
+use Rattle.ranked_policy.specs.Plans.{Plan, IsOrigin}
+use Rattle.ranked_policy.specs.declared.network.Origin.{Origin}
+use Rattle.stable_paths.specs.Stable.{IsStable}
+use Rattle.run_model.specs.Network.{Run}
+use Rattle.run_model.specs.Offers.{Outcome, Waiting, Abandoned, Moving, Settled}
+use Rattle.snap_marker.specs.Recordings.{RouterPart, MadeOffer}
+use Rattle.snap_collector.specs.Collecting.{member_of}
+use Rattle.snap_collector.specs.Collector.{CollectorView, made_for, kept_of}
+use Rattle.router_model.specs.Settings.{Setting, IsSetting, names}
+use Rattle.router_runs.specs.Runs.{RunOrder, RunState, IsRunTo, logged_steps}
+use Rattle.router_runs.specs.Snapshots.{ComesOut, HaveMade, AreStable, IsBelievable}
+use Rattle.world_core.specs.Verdicts.{judged}
+use Rattle.net_text.specs.declared.code.Code.{Code}
+use Rattle.net_text.specs.declared.code.Code.TheVariants as kinds
+use Rattle.net_text.specs.Lexing.{Text, lines_of}
+use Rattle.net_text.specs.Networks.{SpellsNetwork, RefusesNetwork}
+use Rattle.net_text.specs.Printing.{code_text}
+use Rattle.net_workers.specs.declared.record.RunFault.{RunFault}
+use Rattle.net_workers.specs.declared.record.RunFault.TheVariants as fault
+use Rattle.worker_loop.specs.declared.chore.Chore.{Chore}
+use Rattle.worker_loop.specs.declared.journal.Entry.{Entry}
+use Rattle.net_workers.specs.declared.record.Worked.{Worked}
+use Rattle.net_workers.specs.declared.record.Way.{Way}
+use Rattle.net_workers.specs.Ran.{AreLimits, IsRecord}
+use Rattle.net_workers.specs.Runs.{IsRunOfThreads}
+use Rattle.net_workers.specs.Ways.{AreWays, passed_in}
+use Rattle.run_engine.specs.declared.chores.RunOptions.{RunOptions}
+use Rattle.run_engine.specs.declared.settled.Demand.{Demand}
+use Rattle.run_engine.specs.declared.settled.Demand.TheVariants.{AsRecorded, EveryOrigin}
+use Rattle.text_engines.specs.declared.status.TheConstants.{DONE}
+use Rattle.text_engines.specs.Decoding.{Output, output, refused, memory_output}
+use Rattle.text_engines.specs.declared.transfer.TheConstants.{INPUT_LIMIT}
+use Rattle.text_engines.specs.Checking.{at_prefix}
+use Rattle.play_engine.specs.Reporting.{router_text, recorded, parts_text}
+use Rattle.run_engine.specs.Gates.{HasRoom, given_by, told_of, told_each, spacing_of}
+
+-- what is printed where no snapshot is wanted
+abbrev pub unsettled_output : Output
+unsettled_output = output (codes "unsettled\n") DONE
+
+-- ---- the routes of a settled snapshot
+
+-- the paths that these parts have for the prefix of each origin, routers rising
+abbrev pub parts_routes : Plan → (ℕ → RouterPart) → List ℕ
+parts_routes net parts = flat_map (λ r. router_text (parts r.asn).kept r.asn net.origins) net.routers
+
+-- every origin originates its prefix in these parts
+abbrev pub EveryOriginOriginates : Plan → (ℕ → RouterPart) → Type 0
+EveryOriginOriginates net parts = (u : ℕ) (q : PrefixView) → IsOrigin net.origins u q → (parts u).originated q ≡ true
+
+abbrev pub Meets : Demand → Plan → (ℕ → RouterPart) → Type 0
+Meets AsRecorded net parts = Unit {0}
+Meets EveryOrigin net parts = EveryOriginOriginates net parts
+
+-- ---- what the threads did
+
+-- a record of threads that ran so many chores each, and of their pipes: what they did is one run of the network; and each router
+-- was told what stands for it here, routers rising
+pub record ThreadsRecord {G T : Type 0} (given : G → List Chore) (told : G → T) (net : Plan) (turns : ℕ) (tellings : List T) : Type 0 where
+  pub workers : List (Worked G)
+  pub ways : List Way
+  pub collector : CollectorView
+  pub gathered : List Entry
+  pub recorded : IsRecord given net turns (passed_in ways) workers collector gathered
+  pub pipes : AreWays net ways
+  pub gates : map (λ w. told w.gate) workers ≡ tellings
+
+-- ---- how its snapshots came out
+
+-- in a run the snapshot is not settled, or the parts that all routers made of it are not as they are demanded
+abbrev pub IsPassedOver : Setting → RunState → Demand → ℕ → Type 0
+IsPassedOver g state demand s =
+    (ComesOut g state s Settled → ⊥)
+    ⊎ ((parts : ℕ → RouterPart) × HaveMade g state s parts × (Meets demand g.net parts → ⊥))
+
+module _ {G T : Type 0} {given : G → List Chore} {told : G → T} {net : Plan} {turns : ℕ} {tellings : List T} (r : ThreadsRecord given told net turns tellings) where
+  -- what the threads did, as a run of the network
+  abbrev pub RunOfRecord : Setting → Type 0
+  RunOfRecord g = IsRunOfThreads g (passed_in r.ways) r.workers r.gathered
+
+  -- the snapshot is settled in the run, and all routers made these parts of it: they are a stable path assignment for each prefix,
+  -- and what a consistent cut leaves of the run, and stay while the run is quiet; each number before it is passed over
+  pub record SettlesOn (g : Setting) (demand : Demand) (s : ℕ) (parts : ℕ → RouterPart) : Type 0 where
+    pub run : RunOfRecord g
+    pub settled : ComesOut g run.state s Settled
+    pub made : HaveMade g run.state s parts
+    pub stable : AreStable g parts
+    pub believed : (before later : RunOrder) (at : RunState) → run.order ≡ before ++ later → IsRunTo g before at → Run (logged_steps g) at later run.state
+        → IsBelievable g before later at run.state s parts
+    pub least : (t : ℕ) → 0 < t → t < s → IsPassedOver g run.state demand t
+
+  -- each number up to the last is passed over
+  pub record SettlesOnNone (g : Setting) (demand : Demand) (last : ℕ) : Type 0 where
+    pub run : RunOfRecord g
+    pub none : (s : ℕ) → 0 < s → s ≤ last → IsPassedOver g run.state demand s
+
+  -- the routes of a snapshot with one of the numbers from 1 to the last, settled in the run, in every setting of the network that
+  -- chooses by rank
+  pub record PrintsRoutes (demand : Demand) (last : ℕ) (out : Output) : Type 0 where
+    pub number : ℕ
+    pub some : 0 < number
+    pub few : number ≤ last
+    pub parts : ℕ → RouterPart
+    pub meets : Meets demand net parts
+    pub settled : (g : Setting) → g.net ≡ net → IsSetting g → SettlesOn g demand number parts
+    pub printed : out ≡ output (parts_routes net parts) DONE
+
+  pub record PrintsUnsettled (demand : Demand) (last : ℕ) (out : Output) : Type 0 where
+    pub unsettled : (g : Setting) → g.net ≡ net → IsSetting g → SettlesOnNone g demand last
+    pub printed : out ≡ unsettled_output
+
+  -- where every origin originates the routes are stable, as `bgpnet check` says of them
+  pub record PrintsStableRoutes (last : ℕ) (out : Output) : Type 0 where
+    pub routes : PrintsRoutes EveryOrigin last out
+    pub stable : (q : PrefixView) → names net.origins q ≡ true → IsStable (at_prefix net q) (λ u. (routes.parts u).kept q)
+
+-- ---- what is printed of a run
+
+abbrev pub SnapshotsGive : {G T : Type 0} → (G → List Chore) → (G → T) → Demand → Plan → (turns : ℕ) → List T → (last : ℕ) → Output → Type 0
+SnapshotsGive given told demand net turns tellings last out =
+    (r : ThreadsRecord given told net turns tellings) × (PrintsRoutes r demand last out ⊎ PrintsUnsettled r demand last out)
+
+-- for a fault of a run
+abbrev pub faulty : RunFault → Output
+faulty (fault.WorkerRefused u) = refused 0 (codes "G2")
+faulty fault.BadLimits = refused 0 (codes "G3")
+faulty fault.BoardDiffers = refused 0 (codes "G4")
+faulty fault.Memory = memory_output
+
+-- a worker was refused, or the board and the journals differ
+abbrev pub IsRefusedInside : Output → Type 0
+IsRefusedInside out = ((u : ℕ) × (out ≡ faulty (fault.WorkerRefused u))) ⊎ (out ≡ faulty fault.BoardDiffers)
+
+-- for so many chores of each worker, at the word of these gates
+abbrev pub ThreadsGive : {G T : Type 0} → (G → List Chore) → (G → T) → Demand → Plan → (turns : ℕ) → List G → (last : ℕ) → Output → Type 0
+ThreadsGive given told demand net turns gates last out =
+    ((AreLimits net turns (length gates) → ⊥) × (out ≡ faulty fault.BadLimits))
+    ⊎ (AreLimits net turns (length gates) × (IsRefusedInside out ⊎ SnapshotsGive given told demand net turns (map told gates) last out))
+
+-- what a run at the word of any gates prints: that, or that memory ran out
+abbrev pub Gated : {G T : Type 0} → (G → List Chore) → (G → T) → Plan → (turns : ℕ) → List G → (last : ℕ) → Output → Type 0
+Gated given told net turns gates last out = ThreadsGive given told AsRecorded net turns gates last out ⊎ (out ≡ memory_output)
+
+-- ---- what is printed for a network
+
+-- there is a setting of the network that chooses by rank
+abbrev pub HasSetting : Plan → Type 0
+HasSetting net = (g : Setting) × (g.net ≡ net) × IsSetting g
+
+-- a record of threads in which each router started its sessions, originated its prefixes and went on in turns, and the least took
+-- the snapshots
+abbrev pub RunRecord : RunOptions → Plan → Type 0
+RunRecord options net = ThreadsRecord given_by told_of net options.turns (told_each net (spacing_of net options) options.snapshots net.routers)
+
+abbrev pub RunGives : RunOptions → Plan → Output → Type 0
+RunGives options net out =
+    ((HasRoom net options → ⊥) × (out ≡ faulty fault.BadLimits))
+    ⊎ (HasRoom net options
+    × (IsRefusedInside out ⊎ ((r : RunRecord options net) × (PrintsStableRoutes r options.snapshots out ⊎ PrintsUnsettled r EveryOrigin options.snapshots out))))
+
+-- for its lines
+abbrev pub LinesRun : RunOptions → List Text → Output → Type 0
+LinesRun options lines out =
+    ((at : ℕ) × (code : Code) × (code ≢ kinds.Memory) × RefusesNetwork lines at code × (out ≡ refused at (code_text code)))
+    ⊎ ((net : Plan) × SpellsNetwork lines net × RunGives options net out)
+
+-- for an input, which may be too long
+abbrev pub InputRuns : RunOptions → List ℕ → Output → Type 0
+InputRuns options input out =
+    (INPUT_LIMIT < length input × (out ≡ refused 0 (code_text kinds.OutOfLimit))) ⊎ ((length input ≤ INPUT_LIMIT) × LinesRun options (lines_of input) out)
+
+-- what the program prints: that, or that memory ran out
+abbrev pub Runs : RunOptions → List ℕ → Output → Type 0
+Runs options input out = InputRuns options input out ⊎ (out ≡ memory_output)
+
+-- ---- the same, by the collector
+
+abbrev pub is_settled : Outcome → Bool
+is_settled Settled = true
+is_settled Waiting = false
+is_settled (Moving u why) = false
+is_settled (Abandoned u v e cause) = false
+
+-- the offers that decide a snapshot
+abbrev pub decided_by : CollectorView → ℕ → List MadeOffer
+decided_by c s = kept_of (map member_of c.members) (made_for c s)
+
+abbrev pub says : Option RouterPart → PrefixView → Bool
+says None q = false
+says (Some part) q = part.originated q
+
+abbrev pub all_originate : List Origin → List MadeOffer → Bool
+all_originate origins offers = list_all (λ o. says (recorded offers o.router) o.prefix) origins
+
+abbrev pub meets : Demand → List Origin → List MadeOffer → Bool
+meets AsRecorded origins offers = true
+meets EveryOrigin origins offers = all_originate origins offers
+
+abbrev pub is_wanted : Demand → Plan → CollectorView → ℕ → Bool
+is_wanted demand net c s = is_settled (judged c s) && meets demand net.origins (decided_by c s)
+
+pub record IsFirstWanted (demand : Demand) (net : Plan) (c : CollectorView) (last s : ℕ) : Type 0 where
+  pub some : 0 < s
+  pub few : s ≤ last
+  pub wanted : is_wanted demand net c s ≡ true
+  pub first : (t : ℕ) → 0 < t → t < s → is_wanted demand net c t ≡ false
+
+-- the routes of the first that is wanted, or that there is none
+abbrev pub CollectorGives : Demand → Plan → CollectorView → ℕ → Output → Type 0
+CollectorGives demand net c last out =
+    ((s : ℕ) × IsFirstWanted demand net c last s × (out ≡ output (parts_text net (decided_by c s)) DONE))
+    ⊎ (((s : ℕ) → 0 < s → s ≤ last → is_wanted demand net c s ≡ false) × (out ≡ unsettled_output))

@@ -1,0 +1,118 @@
+//! What the routers of `bgpnet run` are told to do.
+
+ghost use Rattle.std.specs.Prelude.{◌≡◌, ◌<◌, ◌==◌, [], length, map, count_by, IfOk, MatchOption};
+ghost use Rattle.std.specs.List.{AllByRecursion};
+ghost use Rattle.router_model.specs.Settings.{linked};
+ghost use Rattle.run_engine.specs.Gates.{opening, given_by, told_of, told_each, spacing_of, HasRoom};
+
+use crate::gates::RunGate;
+use net_workers::{Chore, MOST_TURNS};
+use ranked_policy::{Asn, Network};
+use router_core::is_peer;
+use router_model::Command;
+use std::alloc::{AllocError, Global};
+
+/// How long the routers of a network run, and the snapshots that are taken.
+#[derive(Clone, Copy, PartialEq, Eq)]
+pub struct RunOptions {
+    /// The chores of each router, 1 to [`MOST_TURNS`]; for others the run is refused.
+    pub turns: u32,
+    /// How many snapshots the least router takes, numbered from 1. The words of the program name 1 to 1000;
+    /// for none, all is `unsettled`.
+    pub snapshots: u32,
+}
+
+// Starts the session with each peer, and originates each prefix of which the router is the origin.
+fn opening(alloc: Global, network: &Network, number: Asn) -> Result<Vec<Chore>, AllocError>
+    ensures { IfOk result (λ chores. chores.items ≡ opening network.now number) }
+{
+    let mut chores = Vec::new(alloc);
+    for router in network.routers() {
+        if is_peer(network, number, router.asn) {
+            chores.push(Chore::Command(Command::Start(router.asn)))?;
+        }
+    }
+    for origin in network.origins() {
+        if origin.router == number {
+            chores.push(Chore::Command(Command::Originate(origin.prefix)))?;
+        }
+    }
+    Ok(chores)
+}
+
+// How many peers a router has.
+fn count_peers(network: &Network, number: Asn) -> usize
+    ensures { result ≡ count_by (λ r. linked network.now number r.asn) network.now.routers }
+{
+    let routers = network.routers().iter();
+    routers
+        .filter(|router| is_peer(network, number, router.asn))
+        .count()
+}
+
+// How many prefixes a router is the origin of.
+fn count_prefixes(network: &Network, number: Asn) -> usize
+    ensures { result ≡ count_by (λ o. o.router == number) network.now.origins }
+{
+    let origins = network.origins().iter();
+    origins.filter(|origin| origin.router == number).count()
+}
+
+// How many chores the opening of a router has.
+fn opening_len(network: &Network, number: Asn) -> usize
+    ensures { result ≡ length (opening network.now number) }
+{
+    let _ = network.built();
+    count_peers(network, number) + count_prefixes(network, number)
+}
+
+/// How far each snapshot stands behind the one before, where the options leave room for it and for
+/// the opening of every router. It takes no memory.
+pub fn spacing(network: &Network, options: &RunOptions) -> Option<u32>
+    ensures { MatchOption result (HasRoom network.now options.now → ⊥) (λ spacing. HasRoom network.now options.now × (spacing ≡ spacing_of network.now options.now)) }
+{
+    if options.turns == 0 || options.turns > MOST_TURNS {
+        return None;
+    }
+    let turns = options.turns as usize;
+    let routers = network.routers();
+    for router in routers {
+        if turns < opening_len(network, router.asn) {
+            return None;
+        }
+    }
+    let behind = turns - opening_len(network, routers[0].asn);
+    let spacing = behind / (options.snapshots as usize + 1);
+    if spacing == 0 {
+        None
+    } else {
+        Some(spacing as u32)
+    }
+}
+
+/// The gates of a network's routers, rising, for a run of the network in threads: each gives the chores of its
+/// router's opening, a `Start` for each peer and an `Originate` for each prefix of which it is the origin, and
+/// then Turns. The least router also takes the snapshots from 1 to the last, one each `spacing` chores behind
+/// its opening; the others take none.
+///
+/// It answers an error where memory is refused.
+pub fn new_gates(
+    alloc: Global,
+    network: &Network,
+    spacing: u32,
+    snapshots: u32,
+) -> Result<Vec<RunGate>, AllocError>
+    requires { 0 < spacing }
+    ensures many { IfOk result (λ gates. length gates.items ≡ length network.now.routers) }
+    ensures nothing { IfOk result (λ gates. AllByRecursion (λ gate. given_by gate ≡ []) gates.items) }
+    ensures told { IfOk result (λ gates. map told_of gates.items ≡ told_each network.now spacing snapshots network.now.routers) }
+{
+    let mut gates = Vec::new(alloc);
+    let mut left = snapshots;
+    for router in network.routers() {
+        let chores = opening(alloc, network, router.asn)?;
+        gates.push(RunGate::new(chores, spacing, left))?;
+        left = 0;
+    }
+    Ok(gates)
+}

@@ -1,0 +1,79 @@
+//! The gate of a router of `bgpnet run`.
+
+ghost use Rattle.std.specs.Prelude.{◌≡◌, ◌<◌, []};
+ghost use Rattle.run_engine.specs.Gates.{AreChores, chore_at, later_chore, given_by, told_of};
+
+use net_workers::{Chore, Gate};
+use ranked_policy::Asn;
+use router_model::Command;
+use std::sync::Wait;
+
+/// A gate that gives the chores of an opening and then Turns; but each `spacing` chores behind the opening the
+/// snapshot of the next number, from 1 to the last.
+#[derive(Drop)]
+pub struct RunGate {
+    opening: Vec<Chore>,
+    spacing: u32,
+    snapshots: u32,
+    count: u64,
+}
+
+impl RunGate {
+    /// A gate that has given nothing yet, with the chores of its opening, so many chores from each snapshot to
+    /// the next, and the last snapshot: 0 for none. It takes no memory.
+    pub fn new(opening: Vec<Chore>, spacing: u32, snapshots: u32) -> RunGate
+        requires { 0 < spacing }
+        ensures nothing { given_by result ≡ [] }
+        ensures told { told_of result ≡ record { opening = opening.items; spacing = spacing; snapshots = snapshots } }
+        ensures chores { AreChores (told_of result) (chore_at (told_of result)) }
+    {
+        RunGate {
+            opening,
+            spacing,
+            snapshots,
+            count: 0,
+        }
+    }
+}
+
+// The chore that stands so far behind the opening.
+fn later_chore(spacing: u32, snapshots: u32, behind: u32) -> Chore
+    ensures { result ≡ later_chore spacing snapshots behind }
+{
+    if spacing == 0 || behind % spacing != 0 {
+        return Chore::Turn;
+    }
+    let number = behind / spacing;
+    if number == 0 || snapshots < number {
+        Chore::Turn
+    } else {
+        Chore::Command(Command::Snapshot(number))
+    }
+}
+
+// The chore of a turn.
+fn chore_at(opening: &[Chore], spacing: u32, snapshots: u32, turn: u32) -> Chore
+    ensures { result ≡ chore_at (record { opening = opening.now; spacing = spacing; snapshots = snapshots }) turn }
+{
+    let at = turn as usize;
+    if at < opening.len() {
+        opening[at]
+    } else {
+        later_chore(spacing, snapshots, (at - opening.len()) as u32)
+    }
+}
+
+impl Gate for RunGate {
+    ghost use Rattle.run_engine.specs.Gates.{Told};
+
+    ghost Told = { Told };
+
+    ghost told = { told_of };
+
+    ghost given = { given_by };
+
+    fn next<R: Wait>(&mut self, _rt: &R, _router: Asn, turn: u32) -> Chore {
+        self.count = u64::from(turn) + 1;
+        chore_at(self.opening.as_slice(), self.spacing, self.snapshots, turn)
+    }
+}

@@ -1,0 +1,18 @@
+//! The engine of `bgpnet run`: it runs a network in threads, and writes the routes of the first snapshot
+//! that is settled and as it is demanded, or `unsettled`.
+//!
+//! The contract of `bgpnet run` is that of [`run_stream`]: what is written is the text of a run in threads of
+//! what was read. [`run_gated`] runs a network at the word of any gates, [`new_gates`] makes those of
+//! `bgpnet run`. The definitions stand in `specs/`: `Running` (the text of a network in threads) and `Gates`
+//! (what its routers are told). The lines themselves are `net_text`'s and `schedule_text`'s.
+#![tactic(auto)]
+
+mod chores;
+mod gates;
+mod run;
+mod settled;
+mod threads;
+
+pub use chores::{RunOptions, new_gates};
+pub use gates::RunGate;
+pub use run::{run_gated, run_stream};

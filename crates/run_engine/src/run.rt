@@ -1,0 +1,150 @@
+//! `bgpnet run`: the routes on which a network in threads settles.
+
+ghost use Rattle.std.specs.Prelude.{◌≡◌, ◌⊎◌, [], length, IfOk, OnOk, OnErr, true, false};
+ghost use Rattle.std.specs.List.{AllByRecursion};
+ghost use Rattle.net_text.specs.Lexing.{lines_of};
+ghost use Rattle.text_engines.specs.Decoding.{output};
+ghost use Rattle.text_engines.specs.Engine.{PrintedBy, PrintedFrontBy, WrittenBy, WrittenFrontBy};
+ghost use Rattle.run_engine.specs.Running.{HasSetting, RunGives, LinesRun, InputRuns, Runs, Gated};
+
+use crate::chores::{RunOptions, new_gates, spacing};
+use crate::settled::Demand;
+use crate::threads::{fault_output, threads_output};
+use net_text::{Code, read_network};
+use net_workers::{Gate, Limits, RunFault};
+use ranked_policy::Network;
+use router_runs::each_network_has_a_setting;
+use std::alloc::{AllocError, Global};
+use std::sync::Wait;
+use std::thread::Threads;
+use text_engines::{
+    INPUT_LIMIT, InputError, IoStopped, Sink, Source, read_input, refused_output, text_output,
+    want_of_memory, write_out,
+};
+
+/// Runs a network in threads at the word of these gates, which have given no chore yet, and writes
+/// the routes of the least settled snapshot from 1 to the last, or `unsettled`; answers the status.
+///
+/// Where the run is refused it writes so, and where memory is refused `memory` alone. It stops only
+/// where a write failed, and then what was written is a beginning of the text.
+pub fn run_gated<R, G, T>(
+    rt: &R,
+    alloc: Global,
+    network: &Network,
+    gates: Vec<G>,
+    limits: Limits,
+    last: u32,
+    sink: &mut T,
+) -> Result<u8, IoStopped>
+where
+    R: Threads + Wait + Sync,
+    G: Gate + Send + Drop,
+    T: Sink,
+    requires fresh { AllByRecursion (λ gate. G.given gate ≡ []) gates.items }
+    // What is written is what is printed of a run of the network in threads, and nothing else.
+    ensures done { IfOk result (λ status. WrittenBy (Gated G.given G.told network.now limits.turns gates.items last) (T.contents sink.old) (T.contents sink.new) status) }
+    // It answers a status only where no write failed, and stops only where one did.
+    ensures unfailed { OnOk result (T.failed sink.new ≡ T.failed sink.old) }
+    ensures failed { OnErr result (T.failed sink.new ≡ true) }
+    // A failed write leaves a beginning of the text.
+    ensures stopped { OnErr result (WrittenFrontBy (Gated G.given G.told network.now limits.turns gates.items last) (T.contents sink.old) (T.contents sink.new)) }
+{
+    match threads_output(rt, alloc, network, gates, limits, last, Demand::AsRecorded) {
+        Ok((text, status)) => {
+            write_out(sink, text.as_slice())?;
+            Ok(status)
+        }
+        Err(_) => want_of_memory(sink),
+    }
+}
+
+// A network has a setting that chooses by rank, since its hold time is one of two octets.
+fn has_setting(network: &Network)
+    ensures { HasSetting network.now }
+{
+    each_network_has_a_setting();
+    let _hold = network.settings().hold;
+}
+
+// What is printed for a network, and the status.
+fn network_output<R>(
+    rt: &R,
+    alloc: Global,
+    options: &RunOptions,
+    network: &Network,
+) -> Result<(Vec<u8>, u8), AllocError>
+where
+    R: Threads + Wait + Sync,
+    ensures { IfOk result (λ printed. RunGives options.now network.now (output printed.0.items printed.1)) }
+{
+    has_setting(network);
+    let Some(spacing) = spacing(network, options) else {
+        return fault_output(alloc, RunFault::BadLimits);
+    };
+    let last = options.snapshots;
+    let gates = new_gates(alloc, network, spacing, last)?;
+    let limits = Limits {
+        turns: options.turns,
+    };
+    threads_output(rt, alloc, network, gates, limits, last, Demand::EveryOrigin)
+}
+
+// What is printed for an input, and the status.
+fn run_output<R>(
+    rt: &R,
+    alloc: Global,
+    options: &RunOptions,
+    input: Vec<u8>,
+) -> Result<(Vec<u8>, u8), AllocError>
+where
+    R: Threads + Wait + Sync,
+    ensures { IfOk result (λ printed. InputRuns options.now input.items (output printed.0.items printed.1)) }
+{
+    if input.len() > INPUT_LIMIT {
+        return refused_output(alloc, 0, Code::OutOfLimit.text());
+    }
+    match read_network(alloc, input.as_slice()) {
+        Ok(network) => network_output(rt, alloc, options, &network),
+        Err(refused) => text_output(alloc, &refused),
+    }
+}
+
+/// Reads a network, runs it in threads, and writes the routes of the least settled snapshot in which
+/// every origin originates, or `unsettled`, or the first line that is refused; answers the status.
+///
+/// Where memory is refused it writes `memory` alone and answers 3. It stops only where a read or a
+/// write failed, and then what was written is a beginning of the text.
+pub fn run_stream<R, S, T>(
+    rt: &R,
+    alloc: Global,
+    options: &RunOptions,
+    source: &mut S,
+    sink: &mut T,
+) -> Result<u8, IoStopped>
+where
+    R: Threads + Wait + Sync,
+    S: Source,
+    T: Sink,
+    // What is written is what is printed of a run in threads of what was read, and nothing else.
+    ensures done { IfOk result (λ status. PrintedBy (Runs options.now) (S.remaining source.old) (T.contents sink.old) (T.contents sink.new) status) }
+    // It answers a status only where no read and no write failed, and stops only where one did.
+    ensures unfailed { OnOk result ((S.failed source.new ≡ S.failed source.old) × (T.failed sink.new ≡ T.failed sink.old)) }
+    ensures failed { OnErr result ((S.failed source.new ≡ true) ⊎ (T.failed sink.new ≡ true)) }
+    // Where a read failed nothing is written.
+    ensures silent { S.failed source.old ≡ false → S.failed source.new ≡ true → T.contents sink.new ≡ T.contents sink.old }
+    // A failed read or write leaves a beginning of the text.
+    ensures stopped { OnErr result (PrintedFrontBy (Runs options.now) (S.remaining source.old) (T.contents sink.old) (T.contents sink.new)) }
+{
+    let input = match read_input(alloc, source) {
+        Ok(input) => input,
+        Err(InputError::Memory) => return want_of_memory(sink),
+        Err(InputError::Stopped) => return Err(IoStopped),
+    };
+    match run_output(rt, alloc, options, input) {
+        Ok((text, status)) => {
+            write_out(sink, text.as_slice())?;
+            Ok(status)
+        }
+        Err(_) => want_of_memory(sink),
+    }
+}

@@ -1,0 +1,59 @@
+//! What is printed of a network that runs in threads.
+
+ghost use Rattle.std.specs.Prelude.{◌≡◌, ◌≢◌, [], length, IfOk};
+ghost use Rattle.std.specs.List.{AllByRecursion};
+ghost use Rattle.net_workers.specs.declared.record.RunFault.TheVariants.{Memory};
+ghost use Rattle.text_engines.specs.Decoding.{output};
+ghost use Rattle.run_engine.specs.Running.{faulty, ThreadsGive};
+
+use crate::settled::{Demand, settled_output};
+use bgp_codec::Message;
+use net_workers::{Gate, Limits, RunFault, run_net};
+use prefix_lanes::Prefix;
+use ranked_policy::{Network, Path};
+use run_model::outcome_is_one;
+use std::alloc::{AllocError, Global};
+use std::sync::Wait;
+use std::thread::Threads;
+use text_engines::refused_output;
+use world_core::laws::members_are_the_routers;
+
+/// What is printed for a fault of the run, and the status; want of memory is no such fault.
+pub fn fault_output(alloc: Global, fault: RunFault) -> Result<(Vec<u8>, u8), AllocError>
+    ensures kind { IfOk result (λ printed. fault ≢ Memory) }
+    ensures output { IfOk result (λ printed. output printed.0.items printed.1 ≡ faulty fault) }
+{
+    match fault {
+        RunFault::Memory => Err(AllocError),
+        RunFault::WorkerRefused { .. } => refused_output(alloc, 0, b"G2"),
+        RunFault::BadLimits => refused_output(alloc, 0, b"G3"),
+        RunFault::BoardDiffers => refused_output(alloc, 0, b"G4"),
+    }
+}
+
+/// What is printed of a network that runs in threads at the word of these gates, and the status: the
+/// routes of the first of the snapshots from 1 to the last that came out settled and whose parts are
+/// as they are demanded, or `unsettled`; or that the run was refused.
+pub fn threads_output<R, G>(
+    rt: &R,
+    alloc: Global,
+    network: &Network,
+    gates: Vec<G>,
+    limits: Limits,
+    last: u32,
+    demand: Demand,
+) -> Result<(Vec<u8>, u8), AllocError>
+where
+    R: Threads + Wait + Sync,
+    G: Gate + Send + Drop,
+    requires fresh { AllByRecursion (λ gate. G.given gate ≡ []) gates.items }
+    ensures { IfOk result (λ printed. ThreadsGive G.given G.told demand network.now limits.turns gates.items last (output printed.0.items printed.1)) }
+{
+    let _ = network.built();
+    members_are_the_routers();
+    outcome_is_one::<Message, Prefix, Path>();
+    match run_net(rt, alloc, network, gates, limits) {
+        Ok(record) => settled_output(alloc, network, &record.collector, last, demand),
+        Err(fault) => fault_output(alloc, fault),
+    }
+}
