@@ -39,12 +39,7 @@ fn is_written_as(alloc: Global, message: &Message, tail: &[u8]) -> bool {
 
 // A message that is written behind one octet has so many, or is too long where none are named: then
 // the vector is as it was.
-fn is_written_behind(
-    rt: &impl Abort,
-    out: &mut Vec<u8>,
-    message: &Message,
-    wanted: Option<usize>,
-) {
+fn is_written_behind(rt: &impl Abort, out: &mut Vec<u8>, message: &Message, wanted: Option<usize>) {
     let room = out.capacity();
     assert!(rt; is_writable(message, &NOBODY));
     match encode(message, &NOBODY, out) {

@@ -12,26 +12,26 @@ static KEEPALIVE: [u8; 19] = [
 
 /// What stands in front, in short.
 #[derive(Clone, Copy, PartialEq, Eq)]
-enum Front {
+enum Seen {
     Whole(usize, usize),
     More,
     Bad,
 }
 
-fn in_short(next: &Next) -> Front {
+fn in_short(next: &Next) -> Seen {
     match next {
-        Next::Whole(from, to) => Front::Whole(*from, *to),
-        Next::More => Front::More,
-        Next::Bad(_) => Front::Bad,
+        Next::Whole(from, to) => Seen::Whole(*from, *to),
+        Next::More => Seen::More,
+        Next::Bad(_) => Seen::Bad,
     }
 }
 
-fn front(framer: &Framer) -> Front {
+fn front(framer: &Framer) -> Seen {
     in_short(&framer.next())
 }
 
 // Feeds a piece where nothing waits, and says what stands in front.
-fn fed(framer: &mut Framer, piece: &[u8]) -> Option<Front> {
+fn fed(framer: &mut Framer, piece: &[u8]) -> Option<Seen> {
     if framer.is_waiting() || piece.len() > 4096 {
         return None;
     }
@@ -42,9 +42,9 @@ fn fed(framer: &mut Framer, piece: &[u8]) -> Option<Front> {
 fn feed_octets(rt: &impl Abort, framer: &mut Framer) {
     for (i, octet) in KEEPALIVE.iter().enumerate() {
         let want = if i < 18 {
-            Front::More
+            Seen::More
         } else {
-            Front::Whole(0, 19)
+            Seen::Whole(0, 19)
         };
         assert!(rt; fed(framer, &[*octet]) == Some(want));
     }
@@ -59,9 +59,9 @@ fn one_octet_at_a_time(rt: HostRuntime) -> Result<(), Fail> {
 }
 
 fn feed_in_two(rt: &impl Abort, framer: &mut Framer, front: &[u8], back: &[u8]) {
-    assert!(rt; fed(framer, front) == Some(Front::More));
+    assert!(rt; fed(framer, front) == Some(Seen::More));
     assert!(rt; framer.rest_len() == front.len());
-    assert!(rt; fed(framer, back) == Some(Front::Whole(0, 19)));
+    assert!(rt; fed(framer, back) == Some(Seen::Whole(0, 19)));
 }
 
 #[test]
@@ -92,11 +92,11 @@ fn drop_one(rt: &impl Abort, framer: &mut Framer, left: usize) {
 }
 
 fn drop_messages(rt: &impl Abort, framer: &mut Framer) {
-    assert!(rt; fed(framer, &two_and_a_part()) == Some(Front::Whole(0, 19)));
+    assert!(rt; fed(framer, &two_and_a_part()) == Some(Seen::Whole(0, 19)));
     drop_one(rt, framer, 26);
     drop_one(rt, framer, 7);
-    assert!(rt; front(framer) == Front::More);
-    assert!(rt; fed(framer, &KEEPALIVE[7..]) == Some(Front::Whole(0, 19)));
+    assert!(rt; front(framer) == Seen::More);
+    assert!(rt; fed(framer, &KEEPALIVE[7..]) == Some(Seen::Whole(0, 19)));
     assert!(rt; framer.bytes() == KEEPALIVE.as_slice());
 }
 
@@ -109,11 +109,11 @@ fn messages_are_dropped_from_the_front(rt: HostRuntime) -> Result<(), Fail> {
 }
 
 fn clear_a_fault(rt: &impl Abort, framer: &mut Framer) {
-    assert!(rt; fed(framer, &[0; 19]) == Some(Front::Bad));
-    assert!(rt; front(framer) == Front::Bad);
+    assert!(rt; fed(framer, &[0; 19]) == Some(Seen::Bad));
+    assert!(rt; front(framer) == Seen::Bad);
     assert!(rt; framer.is_waiting());
     framer.clear();
-    assert!(rt; front(framer) == Front::More);
+    assert!(rt; front(framer) == Seen::More);
     assert!(rt; framer.rest_len() == 0);
 }
 
@@ -125,7 +125,7 @@ fn a_fault_stays_until_it_is_cleared(rt: HostRuntime) -> Result<(), Fail> {
 }
 
 // What stands in front of the first octets of two KEEPALIVEs, one of them changed.
-fn in_front(alloc: Global, count: usize, at: usize, octet: u8) -> Front {
+fn in_front(alloc: Global, count: usize, at: usize, octet: u8) -> Seen {
     let mut octets = [0xff; 38];
     for (i, octet) in octets.iter_mut().enumerate() {
         *octet = KEEPALIVE[i % 19];
@@ -137,18 +137,18 @@ fn in_front(alloc: Global, count: usize, at: usize, octet: u8) -> Front {
 }
 
 // So many octets, the place and the value of the changed one, and what stands in front.
-static WITHOUT_A_FRAMER: [(usize, usize, u8, Front); 8] = [
+static WITHOUT_A_FRAMER: [(usize, usize, u8, Seen); 8] = [
     // Fewer than a header has, faulty or not.
-    (0, 0, 0xff, Front::More),
-    (18, 0, 0, Front::More),
+    (0, 0, 0xff, Seen::More),
+    (18, 0, 0, Seen::More),
     // A message alone, with a part of another behind it, and with a faulty one.
-    (19, 0, 0xff, Front::Whole(0, 19)),
-    (30, 0, 0xff, Front::Whole(0, 19)),
-    (38, 19, 0, Front::Whole(0, 19)),
+    (19, 0, 0xff, Seen::Whole(0, 19)),
+    (30, 0, 0xff, Seen::Whole(0, 19)),
+    (38, 19, 0, Seen::Whole(0, 19)),
     // A marker, a length and a type that are faulty.
-    (38, 0, 0, Front::Bad),
-    (19, 17, 18, Front::Bad),
-    (19, 18, 5, Front::Bad),
+    (38, 0, 0, Seen::Bad),
+    (19, 17, 18, Seen::Bad),
+    (19, 18, 5, Seen::Bad),
 ];
 
 // Octets that no framer holds.

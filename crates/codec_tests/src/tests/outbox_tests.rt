@@ -82,15 +82,7 @@ fn push_words(outbox: &mut Outbox) -> Result<(), AllocError> {
     push_control(outbox, Control::Shut(3))
 }
 
-static ITEMS: [Short; 7] = [
-    (1, 30),
-    (1, 8),
-    (2, 0),
-    (2, 19),
-    (3, 19),
-    (3, 0),
-    (3, 0),
-];
+static ITEMS: [Short; 7] = [(1, 30), (1, 8), (2, 0), (2, 19), (3, 19), (3, 0), (3, 0)];
 
 // A piece spans messages of one incarnation, and ends at a control item and at a new incarnation.
 #[test]

@@ -37,7 +37,10 @@ static FAULTY: [(&[u8; 3], u8, &[u8]); 8] = [
 #[test]
 fn header_faults(rt: HostRuntime) {
     for &(tail, sub, extra) in &FAULTY {
-        assert!(rt; is_refused(rt.alloc(), &header_of(tail), sub, extra), "{tail:?}");
+        assert!(rt;
+            is_refused(rt.alloc(), &header_of(tail), sub, extra),
+            "{tail:?}"
+        );
     }
 }
 

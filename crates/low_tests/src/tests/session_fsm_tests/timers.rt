@@ -89,10 +89,10 @@ fn send_update(rt: &impl Abort, session: &mut Session) {
 }
 
 /// The ways to OpenConfirm with the hold time of the peer's OPEN, beside the own one; one of them is 0.
-static NO_HOLD_TIME: [(u16, [FsmEvent; 3]); 3] = [
-    (0, [ManualStart, TcpCrAcked, BgpOpen { hold: 0 }]),
-    (0, [ManualStart, TcpCrAcked, BgpOpen { hold: 90 }]),
-    (90, [ManualStart, TcpCrAcked, BgpOpen { hold: 0 }]),
+static NO_HOLD_TIME: [(u16, &[FsmEvent]); 3] = [
+    (0, &[ManualStart, TcpCrAcked, BgpOpen { hold: 0 }]),
+    (0, &[ManualStart, TcpCrAcked, BgpOpen { hold: 90 }]),
+    (90, &[ManualStart, TcpCrAcked, BgpOpen { hold: 0 }]),
 ];
 
 static KEPT_UP: [FsmEvent; 3] = [KeepAliveMsg, UpdateMsg, KeepAliveMsg];
@@ -110,8 +110,8 @@ fn never_runs_out(rt: &impl Abort, own: u16, way: &[FsmEvent]) {
 /// Hold time 0 on either side: nothing runs out from OpenConfirm on.
 #[test]
 fn hold_time_zero(rt: HostRuntime) {
-    for (own, way) in &NO_HOLD_TIME {
-        never_runs_out(&rt, *own, way);
+    for &(own, way) in &NO_HOLD_TIME {
+        never_runs_out(&rt, own, way);
     }
 }
 
