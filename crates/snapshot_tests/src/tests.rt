@@ -1,10 +1,9 @@
-// What more than one of the crates is asked with.
+//! The tests of each crate, in a module of its name; and what they share.
+
 mod messages;
 mod networks;
+mod offer_board_tests;
 mod offers;
-
-// The tests of each crate, under its name in the other number.
-mod offer_boards;
-mod snap_collectors;
-mod snap_markers;
-mod stable_path;
+mod snap_collector_tests;
+mod snap_marker_tests;
+mod stable_paths_tests;
