@@ -103,6 +103,10 @@ message_line (UpdateMsg message) = update_line message
 message_line (NoticeMsg notice) = notice_line notice
 message_line AliveMsg = codes "keepalive"
 
+-- an UPDATE that was in flight: from whom, to whom, and its own line
+unfoldable pub flight_line : ℕ → ℕ → Update → List ℕ
+flight_line from to message = codes "flight " ++ (decimal from ++ (codes " " ++ (decimal to ++ (codes " " ++ line (update_line message)))))
+
 -- the NOTIFICATION of a fault
 abbrev pub notice_of : Fault → Message
 notice_of fault = NoticeMsg (record { code = fault.code; sub = fault.sub; extra = fault.extra })

@@ -6,8 +6,8 @@
 //! is given for a prefix; [`read_assignment`] answers these. [`split_at_section`] parts a text at
 //! the line that is one bare word. A text is refused for its first faulty line, by a [`Code`].
 //!
-//! [`message_line`] appends the line of a message, [`fault_lines`] those of a fault,
-//! [`truncated_line`] that of a rest; [`refused_line`], [`unstable_line`] and [`stable_line`] append
+//! [`message_line`] appends the line of a message, [`flight_line`] that of an UPDATE in flight,
+//! [`fault_lines`] those of a fault, [`truncated_line`] that of a rest; [`refused_line`], [`unstable_line`] and [`stable_line`] append
 //! what a check of an assignment says. A refused call leaves the buffer's octets as they were.
 //!
 //! The definitions stand in `specs/`: `Lexing` (lines and words), `Words` (what a word stands for
@@ -46,7 +46,8 @@ pub use checks::put_path;
 pub use code::{Code, Refused};
 pub use draft::read_network;
 pub use lines::{
-    fault_lines, message_line, refused_line, stable_line, truncated_line, unstable_line,
+    fault_lines, flight_line, message_line, refused_line, stable_line, truncated_line,
+    unstable_line,
 };
 pub use sections::{Split, split_at_section};
 pub use tail::Tail;

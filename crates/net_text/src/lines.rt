@@ -3,13 +3,13 @@
 
 ghost use Rattle.std.specs.Prelude.{◌≡◌, ◌+◌, ◌++◌, ◌<◌, ◌≤◌, codes, length, vec_len, vec_capacity, OnOk, OnErr};
 ghost use Rattle.bgp_values.specs.declared.messages.TheConstants.{MOST_DATA};
-ghost use Rattle.net_text.specs.Printing.{line, message_line, fault_lines, truncated_line, refused_line, unstable_line, stable_line};
+ghost use Rattle.net_text.specs.Printing.{line, message_line, fault_lines, flight_line, truncated_line, refused_line, unstable_line, stable_line};
 ghost use Rattle.net_text.specs.Appending.{text_of, IsSendable};
 
 use crate::checks::{put_refused, put_unstable};
 use crate::messages::{put_fault, put_notice, put_open, put_truncated};
 use crate::tail::Tail;
-use crate::updates::put_update;
+use crate::updates::{put_flight, put_update};
 use bgp_codec::{Fault, Message, Notice, Open, Update};
 use ranked_policy::Asn;
 use std::alloc::{AllocError, Global};
@@ -19,6 +19,8 @@ use std::alloc::{AllocError, Global};
 enum Line<'a> {
     Open(&'a Open),
     Update(&'a Update),
+    // From whom, to whom.
+    Flight(Asn, Asn, &'a Update),
     Notice(&'a Notice),
     Fault(&'a Fault),
     // How many octets are left.
@@ -38,6 +40,7 @@ fn put_line(alloc: Global, out: &mut Tail, line: &Line) -> Result<(), AllocError
     match line {
         Line::Open(message) => put_open(out, message),
         Line::Update(message) => put_update(out, message),
+        Line::Flight(from, to, message) => put_flight(out, *from, *to, message),
         Line::Notice(notice) => put_notice(out, notice),
         Line::Fault(fault) => put_fault(alloc, out, fault),
         Line::Truncated(len) => put_truncated(out, *len),
@@ -75,6 +78,15 @@ pub fn message_line(message: &Message, out: &mut Vec<u8>) -> Result<(), AllocErr
         Message::NoticeMsg(notice) => append(out, &Line::Notice(notice)),
         Message::AliveMsg => out.extend_from_slice(b"keepalive\n"),
     }
+}
+
+/// Appends the line of an UPDATE that was in flight from one router to another. It is refused only
+/// where memory was, and then changes nothing.
+pub fn flight_line(from: Asn, to: Asn, update: &Update, out: &mut Vec<u8>) -> Result<(), AllocError>
+    ensures ok { OnOk result (out.new.items ≡ out.old.items ++ flight_line from to update.now) }
+    ensures err { OnErr result (out.new.items ≡ out.old.items) }
+{
+    append(out, &Line::Flight(from, to, update))
 }
 
 /// Appends the two lines of a fault: its codes, and in hex the NOTIFICATION that tells of it

@@ -89,7 +89,7 @@ impl Tail {
     }
 
     /// Writes a count in decimal digits.
-    pub(crate) fn put_len(&mut self, len: usize) -> Result<(), AllocError>
+    pub fn put_len(&mut self, len: usize) -> Result<(), AllocError>
         ensures text { OnOk result (self.new.text ≡ self.old.text ++ decimal len) }
         ensures front { self.new.front ≡ self.old.front }
     {

@@ -2,10 +2,10 @@
 
 ghost use Rattle.std.specs.Prelude.{◌≡◌, ◌+◌, ◌*◌, ◌≤◌, ◌++◌, length, take, map, OnOk, OnErr};
 ghost use Rattle.std.specs.List.{join_with_byte};
-ghost use Rattle.net_text.specs.Printing.{line, update_line, withdrawn_text, announced_text, route_text, prefix_text, prefixes_text, segment_text, segments_text, path_text};
+ghost use Rattle.net_text.specs.Printing.{line, update_line, flight_line, withdrawn_text, announced_text, route_text, prefix_text, prefixes_text, segment_text, segments_text, path_text};
 
 use crate::tail::Tail;
-use bgp_codec::{Attrs, Items, Segment, SegmentKind, Update};
+use bgp_codec::{Asn, Attrs, Items, Segment, SegmentKind, Update};
 use prefix_lanes::Prefix;
 use std::alloc::AllocError;
 
@@ -103,4 +103,18 @@ pub fn put_update(out: &mut Tail, message: &Update) -> Result<(), AllocError>
     put_withdrawn(out, message.withdrawn.as_slice())?;
     put_announced(out, &message.attrs, message.nlri.as_slice())?;
     out.put_text(b"\n")
+}
+
+/// Appends the line of an UPDATE that was in flight from one router to another.
+#[tactic(auto, unfolding(crate::specs::Printing::flight_line))]
+pub fn put_flight(out: &mut Tail, from: Asn, to: Asn, message: &Update) -> Result<(), AllocError>
+    ensures text { OnOk result (out.new.text ≡ out.old.text ++ flight_line from to message.now) }
+    ensures front { out.new.front ≡ out.old.front }
+{
+    out.put_text(b"flight ")?;
+    out.put_decimal(from)?;
+    out.put_text(b" ")?;
+    out.put_decimal(to)?;
+    out.put_text(b" ")?;
+    put_update(out, message)
 }

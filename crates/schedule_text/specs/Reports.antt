@@ -37,6 +37,16 @@ snapshot_line s (Abandoned u v e c) = snapshot_text s (Abandoned u v e c)
 snapshot_line s (Moving u w) = snapshot_text s (Moving u w)
 snapshot_line s Settled = snapshot_text s Settled
 
+-- ---- cuts
+
+-- how many of the events were done up to the recordings of a snapshot, and of how many
+unfoldable pub cut_line : ℕ → ℕ → ℕ → List ℕ
+cut_line s recorded events = line (codes "cut " ++ (decimal s ++ (codes " after " ++ (decimal recorded ++ (codes " of " ++ decimal events)))))
+
+-- a snapshot that has no cut
+unfoldable pub cut_none_line : ℕ → List ℕ
+cut_none_line s = line (codes "cut " ++ (decimal s ++ codes " none"))
+
 -- ---- routes
 
 -- the path of a router for a prefix

@@ -5,8 +5,8 @@
 //! its line, or the first faulty line with its [`net_text::Code`].
 //!
 //! [`snapshot_line`] appends how a snapshot came out, [`now_line`] the heading of the routes at the
-//! end, [`route_line`] a router's path for a prefix, [`stop_line`] that a run refused the order of a
-//! line. A refused call leaves the buffer's octets as they were.
+//! end, [`route_line`] a router's path for a prefix, [`cut_line`] and [`cut_none_line`] where a snapshot cuts
+//! the events of a run, [`stop_line`] that a run refused the order of a line. A refused call leaves the buffer's octets as they were.
 //!
 //! The definitions stand in `specs/`: `Schedules` (keywords, their operands, whole texts), `Sayings`
 //! (which words say which order), `Reports` (lines of a run). [`laws`] has what they say together.
@@ -20,7 +20,7 @@ mod operands;
 mod report;
 mod schedule;
 
-pub use report::{now_line, route_line, snapshot_line, stop_line};
+pub use report::{cut_line, cut_none_line, now_line, route_line, snapshot_line, stop_line};
 pub use schedule::{ScheduledOrder, read_schedule};
 
 #[cfg(test)]

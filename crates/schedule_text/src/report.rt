@@ -4,7 +4,7 @@
 ghost use Rattle.std.specs.Prelude.{◌≡◌, ◌+◌, ◌++◌, ◌<◌, length, vec_len, vec_capacity, IsOk, OnOk, OnErr};
 ghost use Rattle.snap_marker.specs.Parts.{cause_of};
 ghost use Rattle.snap_collector.specs.Collecting.{why_of, outcome_of};
-ghost use Rattle.schedule_text.specs.Reports.{why_text, cause_text, outcome_text, snapshot_text, snapshot_line, route_line, now_line, stop_line, router_code, fault_code};
+ghost use Rattle.schedule_text.specs.Reports.{why_text, cause_text, outcome_text, snapshot_text, snapshot_line, route_line, now_line, cut_line, cut_none_line, stop_line, router_code, fault_code};
 
 use net_text::{Tail, put_path, refused_line};
 use prefix_lanes::Prefix;
@@ -100,6 +100,30 @@ fn put_route(out: &mut Tail, router: Asn, prefix: &Prefix, path: &[Asn]) -> Resu
     out.put_text(b"\n")
 }
 
+#[tactic(auto, unfolding(crate::specs::Reports::cut_line))]
+fn put_cut(out: &mut Tail, number: u32, recorded: usize, all: usize) -> Result<(), AllocError>
+    ensures text { OnOk result (out.new.text ≡ out.old.text ++ cut_line number recorded all) }
+    ensures front { out.new.front ≡ out.old.front }
+{
+    out.put_text(b"cut ")?;
+    out.put_decimal(number)?;
+    out.put_text(b" after ")?;
+    out.put_len(recorded)?;
+    out.put_text(b" of ")?;
+    out.put_len(all)?;
+    out.put_text(b"\n")
+}
+
+#[tactic(auto, unfolding(crate::specs::Reports::cut_none_line))]
+fn put_cut_none(out: &mut Tail, number: u32) -> Result<(), AllocError>
+    ensures text { OnOk result (out.new.text ≡ out.old.text ++ cut_none_line number) }
+    ensures front { out.new.front ≡ out.old.front }
+{
+    out.put_text(b"cut ")?;
+    out.put_decimal(number)?;
+    out.put_text(b" none\n")
+}
+
 /// Appends how a snapshot came out; nothing where it is undecided, which is never refused. It is
 /// refused only where memory was, and then changes nothing.
 pub fn snapshot_line(number: u32, outcome: &Outcome, out: &mut Vec<u8>) -> Result<(), AllocError>
@@ -130,6 +154,35 @@ pub fn route_line(
 {
     let mut tail = Tail::behind(out);
     let result = put_route(&mut tail, router, prefix, path);
+    *out = tail.finish(result.is_ok());
+    result
+}
+
+/// Appends how many of all events were done up to the recordings of a snapshot. It is refused only where
+/// memory was, and then changes nothing.
+pub fn cut_line(
+    number: u32,
+    recorded: usize,
+    all: usize,
+    out: &mut Vec<u8>,
+) -> Result<(), AllocError>
+    ensures ok { OnOk result (out.new.items ≡ out.old.items ++ cut_line number recorded all) }
+    ensures err { OnErr result (out.new.items ≡ out.old.items) }
+{
+    let mut tail = Tail::behind(out);
+    let result = put_cut(&mut tail, number, recorded, all);
+    *out = tail.finish(result.is_ok());
+    result
+}
+
+/// Appends that a snapshot has no cut, since it is undecided or was abandoned. It is refused only where
+/// memory was, and then changes nothing.
+pub fn cut_none_line(number: u32, out: &mut Vec<u8>) -> Result<(), AllocError>
+    ensures ok { OnOk result (out.new.items ≡ out.old.items ++ cut_none_line number) }
+    ensures err { OnErr result (out.new.items ≡ out.old.items) }
+{
+    let mut tail = Tail::behind(out);
+    let result = put_cut_none(&mut tail, number);
     *out = tail.finish(result.is_ok());
     result
 }

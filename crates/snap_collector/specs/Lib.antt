@@ -3,3 +3,4 @@ pub mod Laws
 pub mod Collecting
 pub mod Collector
 pub mod Taking
+pub mod Flights

@@ -1,17 +1,19 @@
 //! Who keeps the offers of the routers of a network.
 
-ghost use Rattle.std.specs.Prelude.{◌≡◌, ℕ, ◌<◌, ◌≤◌, ◌↔◌, length, [], ◌∷◌, map, take, vec_len, vec_capacity, IfOk, OnOk, OnErr, option_copied};
+ghost use Rattle.std.specs.Prelude.{◌≡◌, ℕ, ◌<◌, ◌≤◌, ◌↔◌, length, [], ◌∷◌, map, take, vec_len, vec_capacity, IfOk, IfErr, OnOk, OnErr, option_copied};
 ghost use Rattle.std.specs.List.{AllPairs, Contains};
 ghost use mathlib.Core.Logic.{◌⊎◌};
 ghost use Rattle.snap_collector.specs.Collecting.{made_by, made_in, member_of, outcome_of};
 ghost use Rattle.snap_collector.specs.Collector.{made_at, made_for, offers_at, entry_of, with_offers, first_part, AreDecided, AreKept, AreMembers, IsPartOf, kept_of};
+ghost use Rattle.snap_collector.specs.Flights.{flight_of, in_flight_of};
 ghost use Rattle.snap_collector.specs.Taking.{Takes, refusal_of};
 ghost use Rattle.snap_collector.specs.Verdicts.{verdict, decides};
 
 use crate::answer::{CollectError, Taken};
+use crate::flights::{InFlight, flights_to};
 use crate::members::{Member, is_member};
 use crate::outcome::Outcome;
-use crate::verdicts::{decides, has_offered, verdict};
+use crate::verdicts::{decides, first_part, has_offered, verdict};
 use ranked_policy::{Asn, Network};
 use snap_marker::{Offer, Part};
 use std::alloc::{AllocError, Global};
@@ -108,23 +110,6 @@ fn note(numbers: &mut Vec<u32>, number: u32)
     if let Err(at) = numbers.binary_search(&number) {
         numbers.insert(at, number).unwrap();
     }
-}
-
-// The first part of a router.
-fn first_part(offers: &[Offer], router: Asn) -> Option<&Part>
-    ensures { option_copied result ≡ first_part offers.now router }
-{
-    for offer in offers {
-        match offer {
-            Offer::Part(part) => {
-                if router == part.router {
-                    return Some(part);
-                }
-            }
-            Offer::Lost(_lost) => {}
-        }
-    }
-    None
 }
 
 impl Collector {
@@ -236,5 +221,22 @@ impl Collector {
         ensures { IsPartOf self.now number router (option_copied result) }
     {
         first_part(self.kept(number), router)
+    }
+
+    /// The UPDATEs that were in flight as the snapshot of a number was recorded, by router, then peer, in
+    /// the order acted on: those of the channels of its parts. None where it is neither settled nor moving.
+    /// Refused [`CollectError::Memory`] where a growth was.
+    pub fn in_flight(&self, number: u32) -> Result<Vec<InFlight>, CollectError>
+        ensures ok { IfOk result (λ flights. map flight_of flights.items ≡ in_flight_of (map member_of self.now.members) (kept_of (map member_of self.now.members) (made_for self.now number))) }
+        ensures err { IfErr result (λ why. why ≡ CollectError.Memory) }
+    {
+        let alloc = *self.members.allocator();
+        let kept = self.kept(number);
+        match verdict(self.members.as_slice(), kept) {
+            Outcome::Waiting | Outcome::Abandoned(_) => Ok(Vec::new(alloc)),
+            Outcome::Moving { .. } | Outcome::Settled => {
+                Ok(flights_to(alloc, self.members.as_slice(), kept)?)
+            }
+        }
     }
 }

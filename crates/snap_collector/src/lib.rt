@@ -12,13 +12,14 @@
 //!
 //! A [`Collector`] keeps the offers by their numbers: [`Collector::offer`] takes one, or answers that
 //! it comes late, [`Collector::outcome`] is the verdict on those kept, [`Collector::part`] what a
-//! router recorded.
+//! router recorded, [`Collector::in_flight`] the UPDATEs that were on their way as it was recorded.
 //!
 //! Left out: which offers a router makes.
 #![tactic(auto)]
 
 mod answer;
 mod collector;
+mod flights;
 pub mod laws;
 mod members;
 mod outcome;
@@ -26,6 +27,7 @@ mod verdicts;
 
 pub use answer::{CollectError, Taken};
 pub use collector::Collector;
+pub use flights::InFlight;
 pub use members::{Member, is_member};
 pub use outcome::{Outcome, Why};
 pub use verdicts::{decides, has_offered, verdict};

@@ -1,18 +1,19 @@
 //! What the offers for one snapshot show.
 
-ghost use Rattle.std.specs.Prelude.{◌≡◌, map, true, false, not, ◌==◌, Option, Some, None, MatchOption};
+ghost use Rattle.std.specs.Prelude.{◌≡◌, map, true, false, not, ◌==◌, Option, Some, None, MatchOption, option_copied};
 ghost use Rattle.std.specs.List.{find};
 ghost use Rattle.std.specs.Option.{option_map};
 ghost use Rattle.snap_marker.specs.Parts.{part_of, cause_of};
 ghost use Rattle.run_model.specs.Offers.{Abandoned};
 ghost use Rattle.run_model.specs.Offers as model;
 ghost use Rattle.snap_collector.specs.Verdicts.{any_lost, abandoned_or, all_parts, decides, has_part, pending, in_flight, mismatch, fault_at, first_fault, moving_or_settled, verdict};
+ghost use Rattle.snap_collector.specs.Collector.{first_part};
 ghost use Rattle.snap_collector.specs.Collecting.{member_of, made_in, why_of, outcome_of, has_offered};
 
 use crate::members::Member;
 use crate::outcome::{Outcome, Why};
 use ranked_policy::Asn;
-use snap_marker::{Lost, Offer};
+use snap_marker::{Lost, Offer, Part};
 
 /// Whether one of the offers is the router's.
 pub fn has_offered(offers: &[Offer], router: Asn) -> bool
@@ -36,6 +37,23 @@ fn first_lost(offers: &[Offer]) -> Option<&Lost>
         match offer {
             Offer::Part(_part) => {}
             Offer::Lost(lost) => return Some(lost),
+        }
+    }
+    None
+}
+
+/// The first part of a router.
+pub(crate) fn first_part(offers: &[Offer], router: Asn) -> Option<&Part>
+    ensures { option_copied result ≡ first_part offers.now router }
+{
+    for offer in offers {
+        match offer {
+            Offer::Part(part) => {
+                if router == part.router {
+                    return Some(part);
+                }
+            }
+            Offer::Lost(_lost) => {}
         }
     }
     None

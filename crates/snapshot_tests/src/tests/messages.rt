@@ -18,3 +18,11 @@ pub(super) fn withdrawal(alloc: Global) -> Result<Update, AllocError> {
     let withdrawn = Vec::from_slice(alloc, &[prefix])?;
     Ok(withdrawing(alloc, withdrawn))
 }
+
+/// Whether it is that withdrawal.
+pub(super) fn is_withdrawal(update: &Update) -> bool {
+    match update.withdrawn.as_slice() {
+        [prefix] => Prefix::new(0x0a02_0000, 16) == Some(*prefix),
+        _ => false,
+    }
+}

@@ -1,10 +1,11 @@
 //! What a collector of two linked routers answers, offer by offer.
 
+use crate::tests::messages::is_withdrawal;
 use crate::tests::networks::{PAIR, network};
 use crate::tests::offers::Offered::{Loss, Part};
 use crate::tests::offers::{LOSS_OF_2, Offered, offer};
 use ranked_policy::Asn;
-use snap_collector::{CollectError, Collector, Outcome, Taken, Why};
+use snap_collector::{CollectError, Collector, InFlight, Outcome, Taken, Why};
 use snap_marker::Offer;
 use std::alloc::{AllocError, Global};
 use std::process::Abort;
@@ -27,6 +28,8 @@ enum Step {
     Decided(&'static [u32]),
     // Whether the part of a router can be read, of the snapshot of a number.
     HasPart(u32, Asn, bool),
+    // The UPDATEs in flight, each to a router from its peer, of the snapshot of a number.
+    InFlight(u32, &'static [(Asn, Asn)]),
 }
 
 // The calls. These helpers ensure nothing, so that one answer is not carried along to the next.
@@ -64,6 +67,26 @@ fn has_part(collector: &Collector, number: u32, router: Asn) -> bool {
     collector.part(number, router).is_some()
 }
 
+// Whether each is a withdrawal to this router from this peer.
+fn are_withdrawals(flights: &[InFlight], wanted: &[(Asn, Asn)]) -> bool {
+    if flights.len() != wanted.len() {
+        return false;
+    }
+    for (i, flight) in flights.iter().enumerate() {
+        if (flight.router, flight.peer) != wanted[i] || !is_withdrawal(&flight.update) {
+            return false;
+        }
+    }
+    true
+}
+
+fn has_in_flight(collector: &Collector, number: u32, wanted: &[(Asn, Asn)]) -> bool {
+    match collector.in_flight(number) {
+        Ok(flights) => are_withdrawals(&flights, wanted),
+        Err(_) => false,
+    }
+}
+
 // Whether a step is so.
 fn is_so(alloc: Global, collector: &mut Collector, step: Step) -> bool {
     match step {
@@ -73,6 +96,7 @@ fn is_so(alloc: Global, collector: &mut Collector, step: Step) -> bool {
         Step::ComesOut(number, outcome) => comes_out(collector, number, outcome),
         Step::Decided(numbers) => has_decided(collector, numbers),
         Step::HasPart(number, router, wanted) => has_part(collector, number, router) == wanted,
+        Step::InFlight(number, wanted) => has_in_flight(collector, number, wanted),
     }
 }
 
@@ -224,4 +248,33 @@ static TWO_INCARNATIONS: [Step; 3] = [
 #[test]
 fn two_incarnations_are_moving(rt: HostRuntime) -> Result<(), Fail> {
     tries(&rt, rt.alloc(), &TWO_INCARNATIONS)
+}
+
+// What the channels of the parts hold is in flight once the snapshot is decided: to 1 first, then to 2.
+static ON_THE_WAY: [Step; 5] = [
+    Step::Offers(Part(2, false, 7, 1), Ok(Taken::Kept)),
+    Step::InFlight(5, &[]),
+    Step::Offers(Part(1, false, 7, 2), Ok(Taken::Decided)),
+    Step::InFlight(5, &[(1, 2), (1, 2), (2, 1)]),
+    Step::InFlight(6, &[]),
+];
+
+#[test]
+fn updates_are_in_flight(rt: HostRuntime) -> Result<(), Fail> {
+    tries(&rt, rt.alloc(), &ON_THE_WAY)
+}
+
+// Nothing is in flight of a snapshot that is settled, nor of one that is abandoned.
+static NONE_ON_THE_WAY: [Step; 6] = [
+    Step::Offers(QUIET_1, Ok(Taken::Kept)),
+    Step::Offers(QUIET_2, Ok(Taken::Decided)),
+    Step::InFlight(5, &[]),
+    Step::Records(Part(1, false, 7, 2)),
+    Step::Records(Loss(2, 4)),
+    Step::InFlight(4, &[]),
+];
+
+#[test]
+fn nothing_is_in_flight(rt: HostRuntime) -> Result<(), Fail> {
+    tries(&rt, rt.alloc(), &NONE_ON_THE_WAY)
 }
