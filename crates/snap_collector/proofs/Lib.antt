@@ -4,3 +4,5 @@ pub mod Deciding
 pub mod Books
 pub mod Routers
 pub mod Decided
+pub mod FirstParts
+pub mod NoFlights

@@ -18,9 +18,11 @@ abbrev pub flight_of : InFlight → Flight
 flight_of f = record { router = f.router; peer = f.peer; message = UpdateMsg f.update }
 
 -- the messages from a peer
+abbrev pub flight_from : ℕ → ℕ → Message → Flight
+flight_from u v m = record { router = u; peer = v; message = m }
+
 abbrev pub flights_from : ℕ → ℕ → List Message → List Flight
-flights_from u v [] = []
-flights_from u v (m ∷ ms) = record { router = u; peer = v; message = m } ∷ flights_from u v ms
+flights_from u v ms = map (flight_from u v) ms
 
 -- those of a router's part, by its peers
 abbrev pub flights_of : Member → RouterPart → List Flight

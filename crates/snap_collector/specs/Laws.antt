@@ -4,9 +4,10 @@ use mathlib.Core.Logic.{◌⊎◌}
 use Rattle.prefix_lanes.specs.Bits.{PrefixView}
 use Rattle.bgp_codec.specs.declared.message.Message.{Message}
 use Rattle.run_model.specs.Routes.{Network}
-use Rattle.run_model.specs.Offers.{HasOutcome, made_for, number_of}
+use Rattle.run_model.specs.Offers.{HasOutcome, Settled, made_for, number_of}
 use Rattle.snap_marker.specs.Recordings.{MadeOffer}
 use Rattle.snap_collector.specs.Collector.{kept_of}
+use Rattle.snap_collector.specs.Flights.{in_flight_of}
 use Rattle.snap_collector.specs.Verdicts.{Member, IsOver, IsKept, AreFor, decides, verdict}
 
 -- of the offers made, those for a number that were kept: all of them, or those up to the one that decided
@@ -38,3 +39,7 @@ NothingIsKept = (members : List Member) (s : ℕ) → IsKeptOf members s [] []
 -- what a collector keeps of all offers made: those for the number up to the first that decides
 abbrev pub CollectedAreKept : Type 0
 CollectedAreKept = (members : List Member) (s : ℕ) (made : List MadeOffer) → IsKeptOf members s made (kept_of members (made_for s made))
+
+-- the channels of a settled snapshot hold nothing
+abbrev pub SettledHasNoneInFlight : Type 0
+SettledHasNoneInFlight = (members : List Member) (kept : List MadeOffer) → verdict members kept ≡ Settled → in_flight_of members kept ≡ []

@@ -1,7 +1,7 @@
 //! What verdicts are worth, over every list of offers. Each is the contract of a function without
 //! work of its own.
 
-ghost use Rattle.snap_collector.specs.Laws.{CollectedAreKept, KeptGoesOn, NothingIsKept, VerdictsAreOutcomes};
+ghost use Rattle.snap_collector.specs.Laws.{CollectedAreKept, KeptGoesOn, NothingIsKept, SettledHasNoneInFlight, VerdictsAreOutcomes};
 
 /// The verdict on the offers that were kept is how the snapshot comes out by all offers that were
 /// made, late ones among them.
@@ -23,4 +23,9 @@ pub fn kept_goes_on()
 /// the other laws say of offers that were kept.
 pub fn collected_are_kept()
     ensures { CollectedAreKept }
+{}
+
+/// Of a snapshot that is settled nothing is in flight.
+pub fn settled_has_none_in_flight()
+    ensures { SettledHasNoneInFlight }
 {}

@@ -175,4 +175,5 @@ fn laws_are_called(_rt: HostRuntime) {
     laws::nothing_is_kept();
     laws::kept_goes_on();
     laws::collected_are_kept();
+    laws::settled_has_none_in_flight();
 }
