@@ -54,6 +54,3 @@ pub use reading::decode;
 pub use rule::{Asn, NOBODY, Rule, Width};
 pub use update::Update;
 pub use writing::{encode, put_message, written_len};
-
-#[cfg(test)]
-mod tests;

@@ -15,6 +15,3 @@ mod framer;
 pub mod laws;
 
 pub use framer::{Framer, Next, next_message};
-
-#[cfg(test)]
-mod tests;

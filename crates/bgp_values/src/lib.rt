@@ -30,6 +30,3 @@ pub use messages::{
 pub use ranges::{
     FIRST_UNICAST, GREATEST_ASN, LAST_UNICAST, LEAST_HOLD, is_asn, is_hold_time, is_unicast,
 };
-
-#[cfg(test)]
-mod tests;

@@ -205,6 +205,3 @@ impl Default for LinkEnd {
         LinkEnd::new()
     }
 }
-
-#[cfg(test)]
-mod tests;

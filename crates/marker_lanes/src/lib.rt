@@ -60,6 +60,3 @@ fn end_of_ones(octets: &[u8], from: usize) -> usize
     }
     at
 }
-
-#[cfg(test)]
-mod tests;

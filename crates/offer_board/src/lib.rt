@@ -13,6 +13,3 @@ mod same;
 pub use board::{BoardState, Made};
 pub use same::{made_by_same, same_offer};
 pub use snap_collector::{CollectError, Taken};
-
-#[cfg(test)]
-mod tests;

@@ -20,6 +20,3 @@ pub use cover_table::{CAPACITY, CoverError, CoverTable};
 pub use laws::{a_prefix_is_its_bits, masking_clears_bits, the_longest_is_one};
 pub use mask::mask_all;
 pub use prefix::Prefix;
-
-#[cfg(test)]
-mod tests;

@@ -1,11 +1,11 @@
 -- The longest rule that covers a prefix, by the place of its prefix among those of the rules.
-use Rattle.std.proofs.Common.{◌≡◌, ℕ, suc, ◌+◌, ◌<◌, ◌≤◌, List, [], ◌∷◌, ◌++◌, length, Some, None, sym, ap, subst, ◌∙◌, arith, take, get_or, map, length-append}
+use Rattle.std.proofs.Common.{◌≡◌, ℕ, ◌<◌, ◌≤◌, List, ◌∷◌, ◌++◌, length, Some, None, sym, ap, subst, ◌∙◌, arith, get_or, map, length-append}
 use Rattle.std.specs.List.{All}
 use Rattle.std.proofs.Math.Seq.{get_or-append_seam}
-use Rattle.std.proofs.lemmas.List.{get_or-map, length-map, map-append, take_all, take_more, get_or_default}
+use Rattle.std.proofs.lemmas.List.{get_or-map, length-map}
 use Rattle.std.proofs.lemmas.List.Elements.{All-append, All-cons, All-weaker}
 use Rattle.prefix_lanes.specs.Bits.{PrefixView, Covers}
-use Rattle.prefix_lanes.specs.Covering.{StandsAt, IsLongest}
+use Rattle.prefix_lanes.specs.Covering.{IsLongest}
 use Rattle.ranked_policy.specs.declared.network.Rule.{Rule}
 use Rattle.ranked_policy.specs.Policies.{IsRuleFor, NoRuleFor}
 
@@ -40,9 +40,3 @@ rule_at rules q at rule read h =
       covers = subst (λ e. Covers e q) (sym is) s.covers;
       longest = subst (λ e. All (λ other. Covers other.prefix q → other.prefix.len ≤ e.len) rules) (sym is) (of_rules NoLonger rules all);
     }
-
--- the prefixes of the rules so far
-pub prefixes_more : (rules : List Rule) (i : ℕ) (rule : Rule) (ps : List PrefixView) → i < length rules → rule ≡ get_or rules i rule → ps ≡ prefixes (take i rules) → ps ++ rule.prefix ∷ [] ≡ prefixes (take (i + 1) rules)
-prefixes_more rules i rule ps l read e =
-    ap (λ xs. xs ++ rule.prefix ∷ []) e ∙ sym (map-append (λ r. r.prefix) (take i rules) (rule ∷ []))
-    ∙ ap (λ r. prefixes (take i rules ++ r ∷ [])) read ∙ ap prefixes (sym (take_more rules i rule l))

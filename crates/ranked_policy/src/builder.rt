@@ -15,6 +15,7 @@ use crate::places::{
     find_prefix, find_router, is_origin, place_of_prefix, place_of_router, router_of,
 };
 use crate::refusal::NetError;
+use crate::rules::Rules;
 use crate::ways::Ways;
 use prefix_lanes::Prefix;
 use std::alloc::Global;
@@ -76,7 +77,7 @@ impl NetBuilder {
         let Err(place) = place_of_router(self.routers.as_slice(), asn) else {
             return Err(NetError::Repeated);
         };
-        let rules = Items::new(*self.routers.allocator());
+        let rules = Rules::new(*self.routers.allocator());
         if let Err(_) = self.routers.insert(place, Router { asn, id, rules }) {
             return Err(NetError::Memory);
         }
@@ -206,11 +207,6 @@ impl NetBuilder {
         ensures plan { IsPlan self.now }
     {
         self.origins.as_slice()
-    }
-
-    /// The allocator that it takes memory from.
-    pub(crate) fn allocator(&self) -> Global {
-        *self.routers.allocator()
     }
 
     /// Whether a router has the number.

@@ -27,6 +27,7 @@ mod peers;
 mod places;
 mod policy;
 mod refusal;
+mod rules;
 mod table;
 mod ways;
 
@@ -40,4 +41,5 @@ pub use network::{Link, Network, Origin, Router, Rule, Settings};
 pub use path::{Asn, Path};
 pub use policy::{Chosen, Only, Policy, Ranked, Shortest};
 pub use refusal::NetError;
+pub use rules::Rules;
 pub use table::PolicyTable;

@@ -5,6 +5,7 @@ use crate::items::Items;
 use crate::path::{Asn, Path};
 use crate::peers::peers_of;
 use crate::places::{find_prefix, find_router};
+use crate::rules::Rules;
 use crate::table::PolicyTable;
 use prefix_lanes::Prefix;
 use std::alloc::{AllocError, Global};
@@ -40,7 +41,7 @@ pub struct Router {
     /// Its identifier, an address (RFC 4271 section 4.2).
     pub id: u32,
     /// Its rules, in the order in which they were named.
-    pub rules: Items<Rule>,
+    pub rules: Rules,
 }
 
 /// Two routers that are peers of each other.
@@ -210,12 +211,7 @@ impl Network {
         ensures table { IfSome result IsTable }
     {
         match self.router(asn) {
-            Some(router) => Some(PolicyTable::new(
-                self.built.allocator(),
-                asn,
-                router.rules.as_slice(),
-                self.origins(),
-            )),
+            Some(router) => Some(PolicyTable::new(asn, &router.rules, self.origins())),
             None => None,
         }
     }

@@ -1,49 +1,40 @@
 //! The policies of a router.
 
-ghost use Rattle.std.specs.Prelude.{◌≡◌, ◌≤◌, ◌↔◌, ℕ, List, IsTrue, MatchOption, length, map};
+ghost use Rattle.std.specs.Prelude.{◌≡◌, ◌↔◌, ℕ, List, IsTrue};
 ghost use Rattle.std.specs.List.{All, Any, Contains};
 ghost use Rattle.ranked_policy.specs.Plans.{IsNamed};
-ghost use Rattle.ranked_policy.specs.Policies.{IsTable, IsPermitted, IsPreferred, IsRuleFor, NoRuleFor, IsOriginOf};
+ghost use Rattle.ranked_policy.specs.Policies.{IsTable, IsPermitted, IsPreferred, IsOriginOf};
 ghost use Rattle.ranked_policy.specs.Choosing.{chosen_permits, chosen_prefers};
-ghost use Rattle.ranked_policy.specs.declared.limits.TheConstants.{MOST_RULES};
 
-use crate::network::{Origin, Rule};
+use crate::network::Origin;
 use crate::path::Asn;
 use crate::places::origin_of;
 use crate::policy::{Chosen, Only, Ranked, Shortest};
-use prefix_lanes::{CoverTable, Prefix, a_prefix_is_its_bits};
-use std::alloc::Global;
+use crate::rules::Rules;
+use prefix_lanes::{Prefix, a_prefix_is_its_bits};
 use std::marker::Model;
 
 /// The policies of one router, for each prefix.
 #[derive(Debug, Drop)]
 pub struct PolicyTable<'a> {
     router: Asn,
-    rules: &'a [Rule],
+    rules: &'a Rules,
     origins: &'a [Origin],
-    // The prefixes of the rules, in their order.
-    prefixes: CoverTable,
 }
 
 impl<'a> Model for PolicyTable<'a> {
-    ghost use Rattle.std.specs.Prelude.{◌≡◌, map};
     ghost use Rattle.ranked_policy.specs.Policies.{Table, IsTable};
 
     ghost Value = { Table };
 
     ghost view = { λ t. record { router = t.router; rules = t.rules.now; origins = t.origins.now } };
 
-    ghost invariant = { λ t. IsTable (record { router = t.router; rules = t.rules.now; origins = t.origins.now }) × (t.prefixes ≡ map (λ rule. rule.prefix) t.rules.now) };
+    ghost invariant = { λ t. IsTable (record { router = t.router; rules = t.rules.now; origins = t.origins.now }) };
 }
 
 impl<'a> PolicyTable<'a> {
     /// The table of a router with these rules, where these prefixes are originated. Takes no memory.
-    pub(crate) fn new(
-        alloc: Global,
-        router: Asn,
-        rules: &'a [Rule],
-        origins: &'a [Origin],
-    ) -> PolicyTable<'a>
+    pub(crate) fn new(router: Asn, rules: &'a Rules, origins: &'a [Origin]) -> PolicyTable<'a>
         requires { IsTable (record { router = router; rules = rules.now; origins = origins.now }) }
         ensures { result ≡ record { router = router; rules = rules.now; origins = origins.now } }
     {
@@ -51,7 +42,6 @@ impl<'a> PolicyTable<'a> {
             router,
             rules,
             origins,
-            prefixes: prefixes_of(alloc, rules),
         }
     }
 
@@ -77,7 +67,7 @@ impl<'a> PolicyTable<'a> {
                 router: self.router,
             });
         }
-        match longest_rule(self.rules, &self.prefixes, prefix) {
+        match self.rules.longest(prefix) {
             Some(rule) => Chosen::Ranked(Ranked {
                 paths: rule.paths.as_slice(),
                 origin,
@@ -97,30 +87,5 @@ fn is_at(origin: Option<Asn>, router: Asn) -> bool
     match origin {
         Some(origin) => origin == router,
         None => false,
-    }
-}
-
-// The prefixes of the rules, which are no more than a table takes.
-fn prefixes_of(alloc: Global, rules: &[Rule]) -> CoverTable
-    requires { length rules.now ≤ MOST_RULES }
-    ensures { result ≡ map (λ rule. rule.prefix) rules.now }
-{
-    let mut prefixes = CoverTable::new(alloc);
-    for rule in rules {
-        if let Err(_) = prefixes.push(rule.prefix) {
-            unreachable!();
-        }
-    }
-    prefixes
-}
-
-// The longest rule that covers the prefix.
-fn longest_rule<'a>(rules: &'a [Rule], prefixes: &CoverTable, prefix: &Prefix) -> Option<&'a Rule>
-    requires { prefixes.now ≡ map (λ rule. rule.prefix) rules.now }
-    ensures { MatchOption result (NoRuleFor rules.now prefix.now) (λ rule. IsRuleFor rules.now prefix.now rule.now) }
-{
-    match prefixes.longest(prefix) {
-        Some(place) => Some(&rules[place]),
-        None => None,
     }
 }

@@ -99,6 +99,13 @@ impl<'a> Router<'a> {
         self.stamp
     }
 
+    /// The number of the last snapshot that it recorded, 0 where it recorded none.
+    pub fn last_snapshot(&self) -> u32
+        ensures { result ≡ (plain_of self.now).router.snapshots.last }
+    {
+        self.marks.last()
+    }
+
     /// The path that it keeps for a prefix (Loc-RIB, RFC 4271 section 3.2): empty where it keeps none.
     pub fn kept(&self, prefix: &Prefix) -> &[Asn]
         ensures { result.now ≡ (plain_of self.now).router.kept prefix.now }

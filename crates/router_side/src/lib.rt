@@ -29,6 +29,3 @@ pub use history::{History, Told};
 pub use reading::{opened, read_front};
 pub use say::{Say, Says};
 pub use side::SideEnd;
-
-#[cfg(test)]
-mod tests;

@@ -15,6 +15,7 @@ mod offering;
 mod offers;
 mod recording;
 mod sessions;
+mod sides;
 mod steps;
 mod strays;
 mod walking;

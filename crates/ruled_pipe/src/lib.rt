@@ -18,8 +18,6 @@ mod log;
 mod refusal;
 mod rule;
 mod tail;
-#[cfg(test)]
-mod tests;
 
 pub use ends::{MOST_ITEMS, PutEnd, TakeEnd, with_ends};
 pub use refusal::PipeError;

@@ -42,10 +42,8 @@ pub mod CutOrders
 pub mod CutRuns
 pub mod CutOffers
 pub mod NetworkSteps
-pub mod SpeakerExamples
 pub mod Liftings
 pub mod StampedGathers
-pub mod GatheringExamples
 mod StepFacts
 mod FactLaws
 mod StreamFacts

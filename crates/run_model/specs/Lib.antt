@@ -17,7 +17,6 @@ pub mod Stamps
 pub mod Gathering
 pub mod Exchange
 pub mod ThroughCut
-pub mod Speakers
 pub mod Steps
 pub mod Streams
 pub mod Facts

@@ -19,8 +19,6 @@ pub mod network_links;
 pub mod octets;
 pub mod offers;
 pub mod orders;
-#[cfg(test)]
-mod orders_tests;
 pub mod places;
 pub mod quiet;
 pub mod recordings;
@@ -29,8 +27,6 @@ pub mod sessions;
 mod stamps;
 pub mod steps;
 pub mod streams;
-#[cfg(test)]
-mod tests;
 pub mod wrong_twins;
 
 pub use links::{

@@ -116,6 +116,3 @@ impl Session {
         self.keepalive_timer = self.hold_time / 3;
     }
 }
-
-#[cfg(test)]
-mod tests;

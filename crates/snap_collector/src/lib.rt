@@ -29,6 +29,3 @@ pub use collector::Collector;
 pub use members::{Member, is_member};
 pub use outcome::{Outcome, Why};
 pub use verdicts::{decides, has_offered, verdict};
-
-#[cfg(test)]
-mod tests;

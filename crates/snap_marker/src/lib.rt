@@ -15,6 +15,3 @@ mod refusal;
 pub use mark_state::MarkState;
 pub use part::{Cause, Channel, KeptPath, Lost, Offer, Part};
 pub use refusal::MarkError;
-
-#[cfg(test)]
-mod tests;

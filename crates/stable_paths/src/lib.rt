@@ -24,6 +24,3 @@ pub use instance::Instance;
 pub use refusal::StableError;
 pub use stability::{check, may_have};
 pub use verdict::Check;
-
-#[cfg(test)]
-mod tests;

@@ -2,11 +2,18 @@
 
 ghost use Rattle.world_core.specs.Keeping.{WhatIsPlayedIsARun, WhatIsPlayedIsReplayed, StepsAreReplayed, PlayedWorldsKeepTheirPromises, NothingWhereNoStepIs};
 ghost use Rattle.world_core.specs.Verdicts.{MembersAreOfTheNetwork, CollectorsJudgeTheirRuns, MembersAreTheRouters};
+ghost use Rattle.world_core.specs.Answering.{AnswersAreThrough};
+ghost use Rattle.world_core.specs.Loops.{OneMore};
+ghost use Rattle.world_core.specs.Picking.{NamesAreEnough};
+ghost use Rattle.world_core.specs.Tested.{TestsTellWhatIsInside};
+ghost use Rattle.world_core.specs.Through.{PickedIsThrough};
+ghost use Rattle.world_core.specs.Replays.{ChosenRunsArePlayed, WorldsHaveTheirRuns, CutsArePlayed};
 
 use router_model::laws::{
     answers_are_steps, idle_where_nothing_may_come, linked_routers_are_peers,
 };
 use router_runs::{snapshots_of_runs, updates_pass_in_order};
+use run_cuts::laws::{chosen_runs_pass_through, cuts_are_one, runs_pass_through_snapshots};
 use snap_collector::laws::{collected_are_kept, verdicts_are_outcomes};
 
 /// The events that a schedule did are a run of the network's routers, and the last state of the run has all that the world
@@ -68,4 +75,71 @@ pub fn collectors_judge_their_runs()
 {
     verdicts_are_outcomes();
     collected_are_kept();
+}
+
+/// The events of a run in which each event is what its router's call chooses, and no outbox is full as one comes, are played
+/// to the end of that run.
+///
+/// Premises: the network is one, routers choose by rank, the hold time fits an OPEN; the run has no more events than there
+/// are stamps.
+pub fn chosen_runs_are_played()
+    ensures { ChosenRunsArePlayed }
+{
+    answers_are_steps();
+    linked_routers_are_peers();
+}
+
+/// What is played is a run in which each event is what its router's call answers.
+pub fn worlds_have_their_runs()
+    ensures { WorldsHaveTheirRuns }
+{
+    answers_are_steps();
+}
+
+/// The run through the cut of a snapshot, played: where no outbox reached the limit, its events lead from a new world to one
+/// that stands at the end of it.
+pub fn cuts_are_played()
+    ensures { CutsArePlayed }
+{
+    answers_are_steps();
+    linked_routers_are_peers();
+    chosen_runs_pass_through();
+}
+
+/// Which events of a run come first, and in which part, can be read off their names and off whether each is inside.
+pub fn names_are_enough()
+    ensures { NamesAreEnough }
+{}
+
+/// Whether each event of a played schedule is inside the cut of a snapshot is told by its world: its router's last recorded
+/// number is below that of the snapshot.
+pub fn tests_tell_what_is_inside()
+    ensures { TestsTellWhatIsInside }
+{
+    answers_are_steps();
+    cuts_are_one();
+}
+
+/// What is picked by names and tests is the run through the cut of a snapshot that is settled or moving; and where no outbox
+/// ever reached the limit its events are played to its end.
+pub fn picked_is_through()
+    ensures { PickedIsThrough }
+{
+    answers_are_steps();
+    linked_routers_are_peers();
+    runs_pass_through_snapshots();
+    chosen_runs_pass_through();
+    cuts_are_one();
+}
+
+/// What is picked of events, and a world's tests of them, with one event more: the steps of loops over them.
+pub fn one_more()
+    ensures { OneMore }
+{}
+
+/// What is picked is the answer where a snapshot is settled or moving, else there is none.
+pub fn answers_are_through()
+    ensures { AnswersAreThrough }
+{
+    picked_is_through();
 }

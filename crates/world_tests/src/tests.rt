@@ -3,6 +3,7 @@ use ranked_policy::{NetBuilder, NetError, Network, Settings};
 use std::alloc::Global;
 use std::test::Fail;
 
+mod pipes;
 mod playing;
 mod scripts;
 mod threads;

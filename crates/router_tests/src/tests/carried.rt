@@ -96,9 +96,11 @@ fn meet_at(alloc: Global, cut: usize, n: u32, records: bool) -> Result<bool, Fai
     outcome
 }
 
-// At each of these cuts, in so many turns.
+// Cuts, and in how many turns the routers meet.
+static CUTS: [(usize, u32); 3] = [(4096, 40), (18, 100), (1, 400)];
+
 fn meets(rt: &impl Abort, alloc: Global, records: bool) -> Result<(), Fail> {
-    for (cut, n) in [(4096, 40), (18, 100), (1, 400)] {
+    for &(cut, n) in &CUTS {
         assert!(rt; meet_at(alloc, cut, n, records)?, "at a cut of {cut}");
     }
     Ok(())

@@ -52,7 +52,7 @@ pub(super) fn what(alloc: Global, sent: &Sent<'_>) -> Option<What> {
 }
 
 // Its kind, its incarnation, and the number of a marker.
-fn numbers(what: &What) -> (u8, u32, u32) {
+pub(super) fn numbers(what: &What) -> (u8, u32, u32) {
     match what {
         What::Dial(epoch) => (0, *epoch, 0),
         What::Piece(epoch, _) => (1, *epoch, 0),

@@ -95,8 +95,10 @@ fn router_refusals(rt: HostRuntime) -> Result<(), Fail> {
     Ok(())
 }
 
+static BEHIND_THE_LAST: [(Asn, Answer); 3] = [(65, LIMIT), (1, REPEATED), (0, LIMIT)];
+
 fn router_limit_in(rt: &impl Abort, net: &mut NetBuilder) {
-    for (asn, want) in [(65, LIMIT), (1, REPEATED), (0, LIMIT)] {
+    for &(asn, want) in &BEHIND_THE_LAST {
         assert!(rt; is(adds_router(net, asn, TEN | 65), want), "{asn}");
     }
 }
@@ -137,9 +139,8 @@ fn sixteen_links(rt: &impl Abort, net: &mut NetBuilder) {
 }
 
 fn links_of_a_full_router(rt: &impl Abort, net: &mut NetBuilder) {
-    for (a, b) in [(1, 18), (18, 1)] {
-        assert!(rt; is(adds_link(net, a, b), LIMIT), "{a} {b}");
-    }
+    assert!(rt; is(adds_link(net, 1, 18), LIMIT));
+    assert!(rt; is(adds_link(net, 18, 1), LIMIT));
 }
 
 fn link_refusals_in(rt: &impl Abort, net: &mut NetBuilder) {
@@ -288,9 +289,8 @@ fn ways_are(alloc: Global, net: &mut NetBuilder, last: Asn, want: Answer) -> boo
 }
 
 fn counts_of_paths(rt: &impl Abort, alloc: Global, net: &mut NetBuilder) {
-    for (last, want) in [(35, LIMIT), (34, Ok(()))] {
-        assert!(rt; ways_are(alloc, net, last, want), "{last}");
-    }
+    assert!(rt; ways_are(alloc, net, 35, LIMIT));
+    assert!(rt; ways_are(alloc, net, 34, Ok(())));
 }
 
 fn no_paths_are(alloc: Global, net: &mut NetBuilder, number: u32, want: Answer) -> bool {

@@ -25,26 +25,30 @@ fn is_origin(net: &Network, asn: Asn, prefix: &Prefix) -> bool {
     net.is_origin(asn, prefix)
 }
 
+static ROUTERS: [(Asn, Option<usize>); 5] = [
+    (1, Some(0)),
+    (3, Some(2)),
+    (4, Some(3)),
+    (0, None),
+    (5, None),
+];
+
 fn router_places(rt: &impl Abort, net: &Network) {
-    for (asn, place) in [
-        (1, Some(0)),
-        (3, Some(2)),
-        (4, Some(3)),
-        (0, None),
-        (5, None),
-    ] {
+    for &(asn, place) in &ROUTERS {
         assert!(rt; stands_at(net, asn, place), "{asn}");
     }
 }
 
+static PREFIXES: [(u32, u8, Option<usize>); 5] = [
+    (TEN, 8, Some(0)),
+    (0x0a01_0000, 16, Some(1)),
+    (0x0b00_0000, 8, Some(2)),
+    (TEN, 9, None),
+    (0x0c00_0000, 8, None),
+];
+
 fn prefix_places(rt: &impl Abort, net: &Network) {
-    for (addr, len, place) in [
-        (TEN, 8, Some(0)),
-        (0x0a01_0000, 16, Some(1)),
-        (0x0b00_0000, 8, Some(2)),
-        (TEN, 9, None),
-        (0x0c00_0000, 8, None),
-    ] {
+    for &(addr, len, place) in &PREFIXES {
         assert!(rt; prefix_stands_at(net, addr, len, place), "{addr:x}/{len}");
     }
 }

@@ -110,15 +110,19 @@ fn push_links(net: &mut NetBuilder, count: u32, links: &[(Asn, Asn)]) -> Result<
     Ok(())
 }
 
+static ORIGINS: [(Asn, At); 3] = [(4, FAR), (1, LONG), (1, SHORT)];
+
 fn push_origins(net: &mut NetBuilder) -> Result<(), NetError> {
-    for (router, (addr, len)) in [(4, FAR), (1, LONG), (1, SHORT)] {
+    for &(router, (addr, len)) in &ORIGINS {
         adds_origin_at(net, router, addr, len)?;
     }
     Ok(())
 }
 
+static RING: [(Asn, Asn); 4] = [(1, 2), (2, 4), (4, 3), (3, 1)];
+
 fn push_ring(net: &mut NetBuilder) -> Result<(), NetError> {
-    push_links(net, 4, &[(1, 2), (2, 4), (4, 3), (3, 1)])?;
+    push_links(net, 4, &RING)?;
     push_origins(net)
 }
 

@@ -326,14 +326,24 @@ fn same_dirty(rib: &mut Rib, lists: &Lists, awaited: bool) -> bool {
     }
 }
 
-// Both say the same.
-fn same(rt: &impl Abort, alloc: Global, rib: &mut Rib, lists: &Lists, prefixes: &[Prefix]) {
-    for peer in [2u32, 3, 5] {
-        same_of_peer(rt, rib, lists, peer, prefixes);
+static PEERS: [Asn; 3] = [2, 3, 5];
+
+fn same_of_peers(rt: &impl Abort, rib: &Rib, lists: &Lists, prefixes: &[Prefix]) {
+    for peer in &PEERS {
+        same_of_peer(rt, rib, lists, *peer, prefixes);
     }
+}
+
+fn same_of_prefixes(rt: &impl Abort, alloc: Global, rib: &Rib, lists: &Lists, prefixes: &[Prefix]) {
     for prefix in prefixes {
         same_of_prefix(rt, alloc, rib, lists, prefix);
     }
+}
+
+// Both say the same.
+fn same(rt: &impl Abort, alloc: Global, rib: &mut Rib, lists: &Lists, prefixes: &[Prefix]) {
+    same_of_peers(rt, rib, lists, prefixes);
+    same_of_prefixes(rt, alloc, rib, lists, prefixes);
     let awaited = lists.is_awaited();
     assert!(rt; same_awaited(rib, awaited));
     assert!(rt; same_dirty(rib, lists, awaited));

@@ -21,6 +21,14 @@ pub returns-in-Err-push-clause-refused : goal.returns-in-Err-push-clause-refused
 returns-in-Err-push-clause-refused c =
     rw (← c.self.view_is) (refused_memory _ (rw (c.as_slice.ensures.value, c.as_slice-2.ensures.value) at c.in_default.ensures))
 
+pub push-requires : goal.push-requires
+push-requires c =
+    let met = rw (c.as_slice.ensures.value, c.as_slice-2.ensures.value) at c.in_default.ensures in
+    let found = rw c.as_slice-3.ensures.value at c.in-Ok.ensures.found in
+    let r = c.index_mut.result.now in
+    let room = (met Limit).1 c.in-Ok.place r found.0 (found.1 r) in
+    rw (← c.index_mut.ensures.value) at room
+
 pub invariant_of-self-2 : goal.invariant_of-self-2
 invariant_of-self-2 c =
     let met = rw (c.as_slice.ensures.value, c.as_slice-2.ensures.value) at c.in_default.ensures in

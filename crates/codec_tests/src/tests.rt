@@ -1,0 +1,5 @@
+//! The tests of each crate, in a module of its name.
+
+mod bgp_codec_tests;
+mod bgp_framing_tests;
+mod outbox_tests;

@@ -1,0 +1,2 @@
+pub mod SpeakerExamples
+pub mod GatheringExamples

@@ -1,0 +1,170 @@
+//! Each law at a concrete type, and small networks of which it is known what holds.
+ghost use Rattle.run_model.specs.CausalOrder.{CausalOrdersAreRuns};
+ghost use Rattle.run_model.specs.ThroughCut.{RunsPassThroughCuts};
+ghost use Rattle.std.specs.Prelude.{ℕ, Bool};
+ghost use Rattle.low_tests.specs.Speakers.{LinkedCounterStep, Speaker, SpeakerStep, Word, CountersDoNotCommute, ForetoldIsNoRun, NotAllOffersStand, NotByRouters, NotThroughAnyCut, NotWhateverIsCollected, SpeakersPutsCommute, TiesAreNotTurned, ToldIsARun, ToldThroughTheCut, TwoJournalsGathered};
+
+use run_model::{
+    JournalLines, Routers, WholeLines, causal_orders_are_runs, causal_orders_end_alike,
+    gathered_events_are_stamped, gathered_is_one, gathered_stamps_rise, gathering_lifts,
+    journals_can_be_gathered, offers_stand, parts_are_as_long, puts_come_earlier,
+    runs_are_causal_orders, runs_have_their_cuts, runs_pass_through_cuts, sorting_by_stamp_gathers,
+    sorting_by_stamp_then_router_gathers, stamps_change_no_item, stamps_give_causal_orders,
+    stamps_give_the_collectors_order, steps_are_takes_in_order, takes_have_their_puts,
+    threads_are_a_run,
+};
+
+/// Routers that add up what they take, and send their totals to those that they are linked with.
+struct Counters;
+
+impl Routers for Counters {
+    ghost Setting = { ℕ → ℕ → Bool };
+
+    ghost State = { ℕ };
+
+    ghost Own = { ℕ };
+
+    ghost Item = { ℕ };
+
+    ghost Offer = { ℕ };
+
+    ghost step = { LinkedCounterStep };
+}
+
+/// Routers that append numbers and put them later.
+struct Speakers;
+
+impl Routers for Speakers {
+    ghost Setting = { Unit {0} };
+
+    ghost State = { Speaker };
+
+    ghost Own = { Word };
+
+    ghost Item = { ℕ };
+
+    ghost Offer = { ℕ };
+
+    ghost step = { λ setting. SpeakerStep };
+}
+
+/// Lines of journals as pairs of stamp and router.
+struct Pairs;
+
+impl JournalLines for Pairs {
+    ghost Line = { ℕ × ℕ };
+
+    ghost stamp = { λ l. l.0 };
+
+    ghost router = { λ l. l.1 };
+}
+
+/// Pairs with a number beside them, of which they are the lines.
+struct Numbered;
+
+impl WholeLines for Numbered {
+    ghost Whole = { (ℕ × ℕ) × ℕ };
+
+    ghost Line = { ℕ × ℕ };
+
+    ghost line = { λ w. w.0 };
+
+    ghost stamp = { λ l. l.0 };
+
+    ghost router = { λ l. l.1 };
+}
+
+/// The premise on puts can be met, and not by every router.
+fn puts_of_speakers_commute()
+    ensures speakers { SpeakersPutsCommute }
+    ensures counters { CountersDoNotCommute }
+{}
+
+/// The laws at states that no type of the code has.
+fn laws_of_speakers()
+    ensures runs { CausalOrdersAreRuns SpeakerStep }
+    ensures cuts { RunsPassThroughCuts SpeakerStep }
+{
+    causal_orders_are_runs::<Speakers>();
+    runs_pass_through_cuts::<Speakers>();
+}
+
+/// A law at a network that is a variable.
+fn law_of_linked_counters()
+    ensures { (linked : ℕ → ℕ → Bool) → CausalOrdersAreRuns (LinkedCounterStep linked) }
+{
+    causal_orders_are_runs::<Counters>();
+}
+
+/// A small run, and its order is causal.
+fn told_is_a_run()
+    ensures { ToldIsARun }
+{
+    steps_are_takes_in_order::<Speakers>();
+    runs_are_causal_orders::<Speakers>();
+}
+
+/// The same journals in an order that is neither causal nor a run.
+fn foretold_is_no_run()
+    ensures { ForetoldIsNoRun }
+{
+    runs_are_causal_orders::<Speakers>();
+}
+
+/// The small run through a cut: its two parts computed, and the law without consistency, which fails.
+fn told_through_a_cut()
+    ensures parts { ToldThroughTheCut }
+    ensures any { NotThroughAnyCut }
+{
+    steps_are_takes_in_order::<Speakers>();
+}
+
+/// Two journals gathered; a tie turned round, which is not; and an order by router numbers, which is not causal.
+fn journals_are_gathered_by_stamp_then_router()
+    ensures gathered { TwoJournalsGathered }
+    ensures ties { TiesAreNotTurned }
+    ensures routers { NotByRouters }
+{}
+
+/// Two laws on offers without their premises, which fail.
+fn offers_are_collected_in_order()
+    ensures collected { NotWhateverIsCollected }
+    ensures inside { NotAllOffersStand }
+{}
+
+#[test]
+fn each_law_at_a_type() {
+    causal_orders_are_runs::<Counters>();
+    causal_orders_end_alike::<Counters>();
+    stamps_change_no_item::<Counters>();
+    runs_are_causal_orders::<Counters>();
+    takes_have_their_puts::<Counters>();
+    stamps_give_causal_orders::<Counters>();
+    stamps_give_the_collectors_order::<Counters>();
+    threads_are_a_run::<Counters>();
+    steps_are_takes_in_order::<Counters>();
+    puts_come_earlier::<Counters>();
+    runs_have_their_cuts::<Counters>();
+    runs_pass_through_cuts::<Counters>();
+    offers_stand::<Counters>();
+    parts_are_as_long::<Counters>();
+    sorting_by_stamp_gathers::<Pairs>();
+    sorting_by_stamp_then_router_gathers::<Pairs>();
+    journals_can_be_gathered::<Pairs>();
+    gathered_stamps_rise::<Pairs>();
+    gathered_is_one::<Pairs>();
+    gathering_lifts::<Numbered>();
+    gathered_events_are_stamped::<Counters>();
+}
+
+#[test]
+fn small_networks() {
+    puts_of_speakers_commute();
+    laws_of_speakers();
+    law_of_linked_counters();
+    told_is_a_run();
+    foretold_is_no_run();
+    told_through_a_cut();
+    journals_are_gathered_by_stamp_then_router();
+    offers_are_collected_in_order();
+}

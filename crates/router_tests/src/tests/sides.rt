@@ -1,0 +1,135 @@
+//! One side of a router (`router_side`).
+
+ghost use Rattle.session_fsm.specs.Table.{IsGoodEvent};
+ghost use Rattle.router_side.specs.Sayings.{IsSayable};
+
+use super::items::numbers;
+use bgp_codec::Message;
+use bgp_codec::laws::written_has_a_header;
+use link_epoch::Sign;
+use router_core::What;
+use router_side::{Given, History, SideEnd};
+use session_fsm::{FsmEvent, SessionConfig, State};
+use std::alloc::{AllocError, Global};
+use std::process::Abort;
+use std::test::Fail;
+
+const SESSION: SessionConfig = SessionConfig {
+    hold: 90,
+    restart: 0,
+};
+
+// The helpers ensure nothing: a caller asks the side what became of it.
+
+// The side carries out what an event leads to.
+fn meets(
+    alloc: Global,
+    side: &mut SideEnd,
+    own_open: &Message,
+    event: FsmEvent,
+) -> Result<(), AllocError>
+    requires own { IsSayable own_open.now }
+    requires good { IsGoodEvent event }
+{
+    let made = side.meet(own_open, event);
+    side.reserve(own_open, &Given::Nothing, &made)?;
+    side.commit(alloc, own_open, &made);
+    Ok(())
+}
+
+// The side carries out what a sign of the peer's leads to.
+fn is_given(
+    alloc: Global,
+    side: &mut SideEnd,
+    own_open: &Message,
+    sign: Sign,
+) -> Result<(), AllocError>
+    requires { IsSayable own_open.now }
+{
+    let made = side.sign(own_open, sign);
+    side.reserve(own_open, &Given::Nothing, &made)?;
+    side.commit(alloc, own_open, &made);
+    Ok(())
+}
+
+// A marker is appended.
+fn marks(side: &mut SideEnd, number: u32) -> Result<(), AllocError> {
+    side.reserve_marker()?;
+    side.mark(number);
+    Ok(())
+}
+
+// The item that is put next, once it is put.
+fn put(side: &mut SideEnd) -> Result<Option<What>, AllocError> {
+    let next = side.next_item(4096)?;
+    side.item_put(4096);
+    Ok(next)
+}
+
+// Whether the next item has this kind, this incarnation and this number of a marker.
+fn puts(side: &mut SideEnd, wanted: (u8, u32, u32)) -> bool {
+    match put(side) {
+        Ok(Some(what)) => numbers(&what) == wanted,
+        Ok(None) | Err(_) => false,
+    }
+}
+
+fn is_in(side: &SideEnd, state: State, epoch: u32) -> bool {
+    side.state() == state && side.epoch() == epoch
+}
+
+fn has_octets(side: &SideEnd, count: usize) -> bool {
+    side.octets_waiting() == count
+}
+
+// Whether a history tells of no UPDATE.
+fn tells_nothing(alloc: Global, history: &History) -> bool {
+    match history.told(alloc) {
+        Ok(told) => told.is_empty(),
+        Err(_) => false,
+    }
+}
+
+// Whether nothing waits, the session is not Established, and no UPDATE was acted on or sent.
+fn is_quiet(alloc: Global, side: &SideEnd) -> bool {
+    !side.has_item()
+        && !side.is_up()
+        && tells_nothing(alloc, side.acted())
+        && tells_nothing(alloc, side.sent())
+}
+
+// A start dials. The peer's Dial of the same number joins, so that the router's OPEN is said; here a
+// KEEPALIVE stands for it. A marker goes behind it.
+#[test]
+fn a_side_opens(rt: HostRuntime) -> Result<(), Fail> {
+    written_has_a_header();
+    let mut side = SideEnd::new(rt.alloc(), SESSION)?;
+    a_side_opens_in(&rt, rt.alloc(), &Message::AliveMsg, &mut side)?;
+    Ok(())
+}
+
+fn a_side_opens_in(
+    rt: &impl Abort,
+    alloc: Global,
+    own_open: &Message,
+    side: &mut SideEnd,
+) -> Result<(), AllocError>
+    requires { IsSayable own_open.now }
+{
+    meets(alloc, side, own_open, FsmEvent::ManualStart)?;
+    assert!(rt; is_in(side, State::Connect, 1));
+    is_given(alloc, side, own_open, Sign::Dial(1))?;
+    assert!(rt; is_in(side, State::OpenSent, 1));
+    assert!(rt; has_octets(side, 19));
+    marks(side, 7)?;
+    says_in_order(rt, side);
+    assert!(rt; is_quiet(alloc, side));
+    Ok(())
+}
+
+// Its Dial, octets, and the marker.
+fn says_in_order(rt: &impl Abort, side: &mut SideEnd) {
+    assert!(rt; puts(side, (0, 1, 0)));
+    assert!(rt; puts(side, (1, 1, 0)));
+    assert!(rt; puts(side, (2, 1, 7)));
+}

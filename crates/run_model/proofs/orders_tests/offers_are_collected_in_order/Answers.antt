@@ -1,5 +1,0 @@
-use Rattle.run_model.proofs.GatheringExamples.{not_whatever_is_collected, not_all_offers_stand}
-use Rattle.run_model.proofs.orders_tests.offers_are_collected_in_order.Goals as goal
-
-pub returns : goal.returns
-returns c = record { collected = not_whatever_is_collected; inside = not_all_offers_stand }

@@ -1,0 +1,9 @@
+//! The tests of each crate, in a module of its name; and what they share.
+
+mod messages;
+mod networks;
+mod offer_board_tests;
+mod offers;
+mod snap_collector_tests;
+mod snap_marker_tests;
+mod stable_paths_tests;
