@@ -22,6 +22,3 @@ mod schedule;
 
 pub use report::{cut_line, cut_none_line, now_line, route_line, snapshot_line, stop_line};
 pub use schedule::{ScheduledOrder, read_schedule};
-
-#[cfg(test)]
-mod tests;

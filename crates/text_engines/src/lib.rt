@@ -28,6 +28,3 @@ pub use check::check_stream;
 pub use decode::decode_stream;
 pub use refusals::{refused_output, text_output};
 pub use transfer::{INPUT_LIMIT, InputError, read_input, want_of_memory, write_out};
-
-#[cfg(test)]
-mod tests;

@@ -1,5 +1,6 @@
-//! Tests of texts of networks and of assignments, and of lines of messages (`net_text`). They stand in a
-//! crate of their own, since a crate with tests is proved once for itself and once more for them.
+//! Tests of texts of networks, of assignments and of schedules, of lines (`net_text`, `schedule_text`), and of
+//! the engines that read one text (`text_engines`): what no row of `program_rows` shows. They stand in a crate of
+//! their own, since a crate with tests is proved once for itself and once more for them.
 #![tactic(auto)]
 
 #[cfg(test)]

@@ -7,15 +7,13 @@
 use net_text::{Code, Refused, read_network};
 use std::alloc::{AllocError, Global};
 
-mod assignments;
-mod codes;
 mod limits;
 mod lines;
 mod networks;
-
-// Two routers and their link, and a prefix; a rule of the first stands last.
-const BASE: &[u8] =
-    b"router 1 10.0.0.1\nrouter 2 10.0.0.2\nlink 1 2\norigin 1 10.1.0.0/16\nrank 2 10.0.0.0/8\n";
+mod orders;
+mod reports;
+mod stable;
+mod streams;
 
 // What a network text is refused for.
 fn refusal(alloc: Global, text: &[u8]) -> Option<Refused> {

@@ -105,6 +105,13 @@ fn prefixes_cover(rt: HostRuntime) {
     }
 }
 
+// Masks addresses, each by a length that is one of a prefix.
+fn mask(rt: &impl Abort, words: &mut [u32], lens: &[u8]) {
+    assert!(rt; words.len() == lens.len());
+    assert!(rt; lens.iter().all(|len| *len <= 32));
+    mask_all(words, lens);
+}
+
 #[test]
 fn masks(rt: HostRuntime) {
     let mut words = [0xa5a5_a5a5; 33];
@@ -114,10 +121,9 @@ fn masks(rt: HostRuntime) {
         lens[i] = i as u8;
         want[i] = 0xa5a5_a5a5 & MASKS[i];
     }
-    assert!(rt; lens.iter().all(|len| *len <= 32));
-    mask_all(&mut words, &lens);
+    mask(&rt, &mut words, &lens);
     assert!(rt; words == want);
-    mask_all(&mut [], &[]);
+    mask(&rt, &mut [], &[]);
 }
 
 // One address at a time.
@@ -131,9 +137,7 @@ fn plain_mask_all(words: &mut [u32], lens: &[u8]) {
 
 // Eight at a time leaves what one at a time leaves.
 fn masks_alike(rt: &impl Abort, words: &mut [u32], others: &mut [u32], lens: &[u8]) {
-    assert!(rt; words.len() == lens.len());
-    assert!(rt; lens.iter().all(|len| *len <= 32));
-    mask_all(words, lens);
+    mask(rt, words, lens);
     plain_mask_all(others, lens);
     assert!(rt; *words == *others, "{} addresses", lens.len());
 }

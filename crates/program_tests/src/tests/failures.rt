@@ -1,12 +1,16 @@
 //! A read or a write that fails.
 
-use super::MARKER;
 use command_line::{run_with, status_of};
 use std::io;
 use std::io::{Error, ErrorKind, Read, Write};
 use std::test::Fail;
 use text_engines::{IoStopped, Watched};
 
+// A KEEPALIVE, and a message of a type that there is not.
+const INPUT: &[u8] =
+    b"ffffffff ffffffff ffffffff ffffffff 0013 04 ffffffff ffffffff ffffffff ffffffff 0013 05";
+
+// What is printed for them.
 const TEXT: &[u8] = b"keepalive\nfault 1 3\nffffffffffffffffffffffffffffffff001603010305\n";
 
 // Gives three octets at a time, and fails at a read.
@@ -58,13 +62,9 @@ impl Write for Narrow {
 #[test]
 fn a_read_fails(rt: HostRuntime) -> Result<(), Fail> {
     let alloc = rt.alloc();
-    let input = format!(in alloc; "{MARKER}0013 04 {MARKER}0013 05")?;
-    let wanted = input.len().div_ceil(3) + 1;
+    let wanted = INPUT.len().div_ceil(3) + 1;
     for reads in 0..=wanted {
-        let mut reader = Watched::new(Halting {
-            left: input.as_bytes(),
-            reads,
-        });
+        let mut reader = Watched::new(Halting { left: INPUT, reads });
         let mut writer = Watched::new(Vec::new(alloc));
         let got = run_with(&rt, alloc, &["decode"], &mut reader, &mut writer);
         let out: Vec<u8> = writer.into_inner();
@@ -108,10 +108,9 @@ fn the_status_of_a_failure(rt: HostRuntime) -> Result<(), Fail> {
 #[test]
 fn a_write_fails(rt: HostRuntime) -> Result<(), Fail> {
     let alloc = rt.alloc();
-    let input = format!(in alloc; "{MARKER}0013 04 {MARKER}0013 05")?;
     for fails in [true, false] {
         for room in 0..=TEXT.len() {
-            let mut reader = Watched::new(input.as_bytes());
+            let mut reader = Watched::new(INPUT);
             let mut writer = Watched::new(Narrow {
                 taken: Vec::new(alloc),
                 room,

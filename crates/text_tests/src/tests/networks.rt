@@ -1,39 +1,9 @@
-//! Lines and words of a network text, and the network that it spells.
+//! The network that a text spells, and the parts of a text.
 
-use super::*;
+use net_text::{read_network, split_at_section};
 use ranked_policy::Network;
 use std::process::Abort;
 use std::test::Fail;
-
-static TEXTS: [(&[u8], Option<(usize, Code)>); 9] = [
-    (b"", Some((0, Code::OutOfLimit))),
-    (b"\n\n  \t \n# \xff\xfe\n", Some((0, Code::OutOfLimit))),
-    (b"hold 0\r\n\n#", Some((1, Code::OutOfLimit))),
-    (b"  router\t00001   010.0.00.001\t\r\n", None),
-    (b"router 1 10.0.0.1", None),
-    (b"router 1 10.0.0.1\r", Some((1, Code::Unreadable))),
-    (b"router 1 10.0.0.1\r\r\n", Some((1, Code::Unreadable))),
-    (
-        b"\r\nrouter 1 10.0.0.1\n\nrouter 2 10.0.0.2\n# end\n",
-        Some((4, Code::NotConnected)),
-    ),
-    (b"x#\n#x\nrouter", Some((1, Code::BadForm))),
-];
-
-// Whether a text is refused at this line with this code, or read where nothing is wanted.
-fn is_refused_at(alloc: Global, text: &[u8], wanted: Option<(usize, Code)>) -> bool {
-    match wanted {
-        Some((line, code)) => is_refused(alloc, text, Some(Refused { line, code })),
-        None => is_refused(alloc, text, None),
-    }
-}
-
-#[test]
-fn lines_and_words(rt: HostRuntime) {
-    for &(text, wanted) in &TEXTS {
-        assert!(rt; is_refused_at(rt.alloc(), text, wanted), "{text:?}");
-    }
-}
 
 fn has_settings(network: &Network, hold: u16, restart: u16, cut: usize, pipe: usize) -> bool {
     let settings = network.settings();
@@ -62,5 +32,17 @@ fn a_network_as_it_is_read(rt: HostRuntime) -> Result<(), Fail> {
         Ok(network) => a_network_as_it_is_read_in(&rt, &network),
         Err(_) => return Err("refused".into()),
     }
+    Ok(())
+}
+
+#[test]
+fn sections(rt: HostRuntime) -> Result<(), Fail> {
+    let split = split_at_section(b"a\r\n schedule \nb\nschedule", b"schedule");
+    assert!(rt; split.front == b"a\r\n".as_slice());
+    assert!(rt; split.behind == b"b\nschedule".as_slice());
+    assert!(rt; split.before == 2);
+    let split = split_at_section(b"a\nschedule x\n", b"schedule");
+    assert!(rt; split.behind == b"".as_slice());
+    assert!(rt; split.before == 2);
     Ok(())
 }

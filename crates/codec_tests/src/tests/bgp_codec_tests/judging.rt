@@ -2,7 +2,8 @@
 //! their own, so `rt try --test --fail-alloc N` refuses the reader's.
 
 use super::is_fault;
-use bgp_codec::{Asn, CodecError, Message, Rule, Width, decode, header, laws};
+use bgp_codec::{Asn, CodecError, Message, Rule, Width, decode};
+use bgp_framing::{Next, next_message};
 use std::alloc::Global;
 
 // A fault: its code, its subcode and its data.
@@ -21,7 +22,8 @@ struct Case {
 // one of the reader's.
 fn framed(kind: u8, body: &[u8]) -> [u8; 64] {
     let mut octets = [0xff; 64];
-    let [high, low] = (body.len().saturating_add(19) as u16).to_be_bytes();
+    let len = u16::try_from(body.len().saturating_add(19)).unwrap_or(0);
+    let [high, low] = len.to_be_bytes();
     octets[16] = high;
     octets[17] = low;
     octets[18] = kind;
@@ -42,19 +44,15 @@ fn is_as_wanted(answer: &Result<Message, CodecError>, wanted: Option<FirstFault>
     }
 }
 
-// Whether the octets are a frame for which that is answered.
+// Whether a frame stands in front of the octets, for which that is answered.
 fn answers(alloc: Global, octets: &[u8], rule: &Rule, wanted: Option<FirstFault>) -> bool {
-    laws::header_is_its_front();
-    let Some(first) = octets.first_chunk::<19>() else {
-        return false;
-    };
-    let Ok(header) = header(alloc, first) else {
-        return false;
-    };
-    if octets.len() != header.len as usize {
-        return false;
+    match next_message(alloc, octets) {
+        Next::Whole(_, end) => {
+            let (frame, _) = octets.split_at(end);
+            is_as_wanted(&decode(alloc, frame, rule), wanted)
+        }
+        Next::More | Next::Bad(_) => false,
     }
-    is_as_wanted(&decode(alloc, octets, rule), wanted)
 }
 
 // Whether the frame of a case is answered as it is to be.
@@ -63,9 +61,7 @@ fn is_answered(alloc: Global, case: &Case) -> bool {
         width: Width::Two,
         peer: case.peer,
     };
-    let octets = framed(case.kind, case.body);
-    let len = case.body.len().saturating_add(19).min(64);
-    answers(alloc, octets.split_at(len).0, &rule, case.fault)
+    answers(alloc, &framed(case.kind, case.body), &rule, case.fault)
 }
 
 // Bodies with their first faults, by RFC 4271 sections 6.2 and 6.3.

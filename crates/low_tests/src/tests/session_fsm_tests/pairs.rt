@@ -139,11 +139,19 @@ fn every_pair(rt: HostRuntime) {
     }
 }
 
+fn has_pair(row: &Row, state: State, event: FsmEvent) -> bool {
+    row.state == state && row.events.contains(&event)
+}
+
 /// How many rows have this pair.
 fn rows_of(state: State, event: FsmEvent) -> usize {
-    ROWS.iter()
-        .filter(|row| row.state == state && row.events.contains(&event))
-        .count()
+    let mut count = 0usize;
+    for row in &ROWS {
+        if has_pair(row, state, event) {
+            count = count.saturating_add(1);
+        }
+    }
+    count
 }
 
 /// Each pair of state and event stands in exactly one row.

@@ -1,8 +1,8 @@
 //! Copies of offers.
 
-use super::recorded::prefix;
 use super::steps::Step::{Begins, Hears, Marks};
 use super::steps::{Step, have_updates, plays};
+use crate::tests::networks::prefix;
 use snap_marker::{MarkState, Offer, Part};
 use std::alloc::{AllocError, Global};
 use std::process::Abort;
@@ -17,7 +17,7 @@ fn is_recorded(part: &Part) -> bool {
 // 10.1.0.0/16 alone.
 fn has_originated(part: &Part) -> bool {
     match (prefix(), part.originated.as_slice()) {
-        (Ok(prefix), [only]) => *only == prefix,
+        (Some(prefix), [only]) => *only == prefix,
         _ => false,
     }
 }

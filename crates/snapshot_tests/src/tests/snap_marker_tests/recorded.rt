@@ -1,23 +1,24 @@
 //! What router 1 records.
 
+use crate::tests::networks::prefix;
 use prefix_lanes::Prefix;
 use ranked_policy::{Asn, Path};
 use snap_marker::{Channel, KeptPath, Part};
 use std::alloc::{AllocError, Global};
 
-/// 10.1.0.0/16.
-pub(super) fn prefix() -> Result<Prefix, AllocError> {
-    Prefix::new(0x0a01_0000, 16).ok_or(AllocError)
-}
-
 // The path of router 1 alone.
 fn kept(alloc: Global) -> Result<Vec<KeptPath>, AllocError> {
-    let prefix = prefix()?;
+    let prefix = prefix().ok_or(AllocError)?;
     let path = Path::from_slice(alloc, &[1])?;
     let mut kept = Vec::new(alloc);
     kept.push(KeptPath { prefix, path })
         .map_err(|_| AllocError)?;
     Ok(kept)
+}
+
+fn originated(alloc: Global) -> Result<Vec<Prefix>, AllocError> {
+    let prefix = prefix().ok_or(AllocError)?;
+    Vec::from_slice(alloc, &[prefix])
 }
 
 // The empty channel of a peer, whose marker came or did not.
@@ -65,7 +66,7 @@ pub(super) fn part(
     peers: &[Asn],
     first: Option<Asn>,
 ) -> Result<Part, AllocError> {
-    let originated = Vec::from_slice(alloc, &[prefix()?])?;
+    let originated = originated(alloc)?;
     let channels = channels(alloc, peers, first)?;
     let kept = kept(alloc)?;
     Ok(part_of(number, kept, originated, channels))

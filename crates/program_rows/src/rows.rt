@@ -1,0 +1,123 @@
+//! The cases of a file of rows.
+
+use crate::lines::{Line, RowError, lines_of, push_lines, trimmed};
+use std::alloc::Global;
+
+/// What may be written, and the status.
+#[derive(Drop)]
+pub struct Answer {
+    /// The status that the program ends with.
+    pub status: u8,
+    /// What is written.
+    pub text: Vec<u8>,
+    /// Whether more follows it.
+    pub goes_on: bool,
+}
+
+/// What is read, and what may be written for it.
+#[derive(Drop)]
+pub struct Case<'a> {
+    /// What the case shows.
+    pub title: &'a str,
+    /// The words behind the program's name.
+    pub words: Vec<&'a str>,
+    /// What is read.
+    pub input: Vec<u8>,
+    /// One of these comes.
+    pub answers: Vec<Answer>,
+}
+
+// Whether a case begins with this line, or what stands in front of inputs.
+fn is_head(line: &Line<'_>) -> bool {
+    line.text.starts_with("== ") || line.text.starts_with("++ ")
+}
+
+fn is_status(line: &Line<'_>) -> bool {
+    line.text.starts_with("-- ")
+}
+
+// What stands behind a status.
+fn read_answer(alloc: Global, status: &Line<'_>, lines: &[Line<'_>]) -> Result<Answer, RowError> {
+    let number = status.text.strip_prefix("-- ").unwrap_or("").parse::<u8>();
+    let Ok(number) = number else {
+        return Err(status.is_no_row());
+    };
+    let mut answer = Answer {
+        status: number,
+        text: Vec::new(alloc),
+        goes_on: false,
+    };
+    let mut wanted = trimmed(lines);
+    if let [front @ .., last] = wanted
+        && last.text == "..."
+    {
+        answer.goes_on = true;
+        wanted = front;
+    }
+    push_lines(&mut answer.text, wanted)?;
+    Ok(answer)
+}
+
+// The words of a line of words.
+fn read_words<'a>(alloc: Global, line: &Line<'a>) -> Result<Vec<&'a str>, RowError> {
+    match line.text.strip_prefix("$") {
+        Some(words) => Ok(words.split_whitespace().collect(alloc)?),
+        None => Err(line.is_no_row()),
+    }
+}
+
+// The case that begins with this line, behind which these stand. Its input has others in front.
+fn read_case<'a>(
+    alloc: Global,
+    front: &[Line<'a>],
+    head: &Line<'a>,
+    lines: &[Line<'a>],
+) -> Result<Case<'a>, RowError> {
+    let [words, lines @ ..] = lines else {
+        return Err(head.is_no_row());
+    };
+    let mut case = Case {
+        title: head.text.strip_prefix("== ").unwrap_or(head.text),
+        words: read_words(alloc, words)?,
+        input: Vec::new(alloc),
+        answers: Vec::new(alloc),
+    };
+    push_lines(&mut case.input, front)?;
+    for part in lines.chunk_by(|_, line| !is_status(line)) {
+        match part {
+            [status, wanted @ ..] if is_status(status) => {
+                case.answers.push(read_answer(alloc, status, wanted)?)?;
+            }
+            input => push_lines(&mut case.input, input)?,
+        }
+    }
+    if case.answers.is_empty() {
+        return Err(head.is_no_row());
+    }
+    Ok(case)
+}
+
+// The number of the first line that says something.
+fn first_said(lines: &[Line<'_>]) -> Result<(), RowError> {
+    match trimmed(lines) {
+        [] => Ok(()),
+        [first, ..] => Err(first.is_no_row()),
+    }
+}
+
+/// The cases of a text.
+pub fn read_rows(alloc: Global, text: &str) -> Result<Vec<Case<'_>>, RowError> {
+    let lines = lines_of(alloc, text)?;
+    let mut cases = Vec::new(alloc);
+    let mut front: &[Line<'_>] = &[];
+    for part in lines.chunk_by(|_, line| !is_head(line)) {
+        match part {
+            [head, rest @ ..] if head.text.starts_with("== ") => {
+                cases.push(read_case(alloc, front, head, rest)?)?;
+            }
+            [head, rest @ ..] if is_head(head) => front = trimmed(rest),
+            before => first_said(before)?,
+        }
+    }
+    Ok(cases)
+}

@@ -1,0 +1,94 @@
+//! Records of networks in threads, played back by a world.
+
+use net_text::read_network;
+use net_workers::{Limits, Record, run_net};
+use ranked_policy::Network;
+use router_core::Router;
+use router_model::Stepped;
+use run_engine::new_gates;
+use std::alloc::{AllocError, Global};
+use std::sync::Wait;
+use std::test::Fail;
+use std::thread::Threads;
+use world_core::World;
+
+// Two routers and a link; and DISAGREE, where 2 and 3 prefer the way through each other.
+static NETWORKS: [&str; 2] = [
+    "router 1 10.0.0.1\nrouter 2 10.0.0.2\nlink 1 2\norigin 1 10.1.0.0/16\n",
+    "router 1 10.0.0.1\nrouter 2 10.0.0.2\nrouter 3 10.0.0.3\nlink 1 2\nlink 1 3\nlink 2 3\n\
+    origin 1 10.1.0.0/16\nrank 2 10.1.0.0/16 2-3-1 2-1\nrank 3 10.1.0.0/16 3-2-1 3-1\n",
+];
+
+// Whether two routers keep the same paths, and acted on and sent the same UPDATEs.
+fn are_alike(
+    alloc: Global,
+    network: &Network,
+    one: &Router<'_>,
+    other: &Router<'_>,
+) -> Result<bool, AllocError> {
+    for origin in network.origins() {
+        if one.kept(&origin.prefix) != other.kept(&origin.prefix) {
+            return Ok(false);
+        }
+    }
+    for peer in network.routers() {
+        let first = format!(in alloc; "{:?} {:?}", one.acted(peer.asn), one.sent(peer.asn))?;
+        let second = format!(in alloc; "{:?} {:?}", other.acted(peer.asn), other.sent(peer.asn))?;
+        if first.as_str() != second.as_str() {
+            return Ok(false);
+        }
+    }
+    Ok(true)
+}
+
+// Whether a world that plays the gathered events of a record does each, and ends in its routers.
+fn plays_back<G>(
+    alloc: Global,
+    network: &Network,
+    record: &Record<'_, G>,
+) -> Result<bool, AllocError> {
+    let Ok(mut world) = World::new(alloc, network) else {
+        return Err(AllocError);
+    };
+    for entry in &record.gathered {
+        if world.step(&entry.event) != Ok(Stepped::Did) {
+            return Ok(false);
+        }
+    }
+    for worked in &record.workers {
+        match world.router(worked.router.number()) {
+            Some(router) => {
+                if !are_alike(alloc, network, router, &worked.router)? {
+                    return Ok(false);
+                }
+            }
+            None => return Ok(false),
+        }
+    }
+    Ok(true)
+}
+
+fn run_plays_back<R: Threads + Wait + Sync>(
+    rt: &R,
+    alloc: Global,
+    network: &Network,
+) -> Result<bool, AllocError> {
+    let gates = new_gates(alloc, network, 100, 5)?;
+    match run_net(rt, alloc, network, gates, Limits { turns: 1000 }) {
+        Ok(record) => plays_back(alloc, network, &record),
+        Err(_) => Ok(false),
+    }
+}
+
+#[test]
+fn a_record_plays_back(rt: HostRuntime) -> Result<(), Fail> {
+    for &text in &NETWORKS {
+        match read_network(rt.alloc(), text.as_bytes()) {
+            Ok(network) => {
+                assert!(rt; run_plays_back(&rt, rt.alloc(), &network)?);
+            }
+            Err(_) => Err("a network")?,
+        }
+    }
+    Ok(())
+}
