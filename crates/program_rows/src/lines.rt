@@ -29,8 +29,8 @@ impl Line<'_> {
         RowError::NoRow { line: self.number }
     }
 
-    // Whether the line says nothing where it stands behind others.
-    fn says_nothing(&self) -> bool {
+    /// Whether the line says nothing where it may be left out.
+    pub fn says_nothing(&self) -> bool {
         self.text.is_empty() || self.text.starts_with("#")
     }
 }

@@ -66,10 +66,17 @@ fn read_words<'a>(alloc: Global, line: &Line<'a>) -> Result<Vec<&'a str>, RowErr
     }
 }
 
+// What the lines of a `++` spell.
+fn read_front(alloc: Global, lines: &[Line<'_>]) -> Result<Vec<u8>, RowError> {
+    let mut front = Vec::new(alloc);
+    push_lines(&mut front, trimmed(lines))?;
+    Ok(front)
+}
+
 // The case that begins with this line, behind which these stand. Its input has others in front.
 fn read_case<'a>(
     alloc: Global,
-    front: &[Line<'a>],
+    front: &[u8],
     head: &Line<'a>,
     lines: &[Line<'a>],
 ) -> Result<Case<'a>, RowError> {
@@ -79,10 +86,9 @@ fn read_case<'a>(
     let mut case = Case {
         title: head.text.strip_prefix("== ").unwrap_or(head.text),
         words: read_words(alloc, words)?,
-        input: Vec::new(alloc),
+        input: front.to_vec(alloc)?,
         answers: Vec::new(alloc),
     };
-    push_lines(&mut case.input, front)?;
     for part in lines.chunk_by(|_, line| !is_status(line)) {
         match part {
             [status, wanted @ ..] if is_status(status) => {
@@ -97,11 +103,11 @@ fn read_case<'a>(
     Ok(case)
 }
 
-// The number of the first line that says something.
-fn first_said(lines: &[Line<'_>]) -> Result<(), RowError> {
-    match trimmed(lines) {
-        [] => Ok(()),
-        [first, ..] => Err(first.is_no_row()),
+// Refuses the first line that says something, of those in front of all cases.
+fn expect_nothing(lines: &[Line<'_>]) -> Result<(), RowError> {
+    match lines.iter().find(|line| !line.says_nothing()) {
+        Some(line) => Err(line.is_no_row()),
+        None => Ok(()),
     }
 }
 
@@ -109,14 +115,14 @@ fn first_said(lines: &[Line<'_>]) -> Result<(), RowError> {
 pub fn read_rows(alloc: Global, text: &str) -> Result<Vec<Case<'_>>, RowError> {
     let lines = lines_of(alloc, text)?;
     let mut cases = Vec::new(alloc);
-    let mut front: &[Line<'_>] = &[];
+    let mut front = Vec::new(alloc);
     for part in lines.chunk_by(|_, line| !is_head(line)) {
         match part {
             [head, rest @ ..] if head.text.starts_with("== ") => {
-                cases.push(read_case(alloc, front, head, rest)?)?;
+                cases.push(read_case(alloc, front.as_slice(), head, rest)?)?;
             }
-            [head, rest @ ..] if is_head(head) => front = trimmed(rest),
-            before => first_said(before)?,
+            [head, rest @ ..] if is_head(head) => front = read_front(alloc, rest)?,
+            before => expect_nothing(before)?,
         }
     }
     Ok(cases)
