@@ -1,9 +1,11 @@
 //! Lines that are appended.
 
-use bgp_codec::{Fault, Message, Notice, Octets};
+use bgp_codec::{Attrs, Fault, Items, Message, Notice, Octets, Update};
 use net_text::{
-    fault_lines, message_line, refused_line, stable_line, truncated_line, unstable_line,
+    fault_lines, flight_line, message_line, refused_line, stable_line, truncated_line,
+    unstable_line,
 };
+use prefix_lanes::Prefix;
 use std::alloc::{AllocError, Global};
 use std::test::Fail;
 
@@ -44,6 +46,24 @@ fn put_fault(alloc: Global, out: &mut Vec<u8>) -> Result<(), AllocError> {
         extra: Octets::short(alloc, &[0x10, 0x01]),
     };
     fault_lines(&fault, out)
+}
+
+fn put_flight(alloc: Global, out: &mut Vec<u8>) -> Result<(), AllocError> {
+    let withdrawal = Update {
+        withdrawn: Items::one(Prefix::new(0x0a01_0000, 16).ok_or(AllocError)?),
+        attrs: Attrs::none(alloc),
+        nlri: Items::new(alloc),
+    };
+    flight_line(1, 2, &withdrawal, out)
+}
+
+// The line of an UPDATE in flight names both routers before the UPDATE, and ends once.
+#[test]
+fn a_flight_is_one_line(rt: HostRuntime) -> Result<(), Fail> {
+    let mut out = b"front\n".to_vec(rt.alloc())?;
+    put_flight(rt.alloc(), &mut out)?;
+    assert!(rt; out.as_slice() == b"front\nflight 1 2 update withdraw 10.1.0.0/16\n".as_slice());
+    Ok(())
 }
 
 // A line that is refused leaves what stood there; one that is not, all of it.

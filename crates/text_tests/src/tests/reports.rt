@@ -1,7 +1,7 @@
 //! The lines that a run is reported by, also those of outcomes and refusals that no schedule leads to.
 
 use router_model::RouterError;
-use schedule_text::{snapshot_line, stop_line};
+use schedule_text::{cut_line, cut_none_line, snapshot_line, stop_line};
 use snap_collector::{Outcome, Why};
 use snap_marker::{Cause, Lost};
 use std::alloc::{AllocError, Global};
@@ -77,6 +77,23 @@ fn each_outcome(rt: HostRuntime) -> Result<(), Fail> {
     for &(outcome, text) in &OUTCOMES {
         assert!(rt; is_printed(rt.alloc(), &outcome, text)?, "{text:?}");
     }
+    Ok(())
+}
+
+fn put_cuts(out: &mut Vec<u8>) -> Result<(), AllocError> {
+    cut_line(1, 31, 36, out)?;
+    cut_line(4294967295, 0, 18446744073709551615, out)?;
+    cut_none_line(2, out)
+}
+
+#[test]
+fn cuts_and_their_counts(rt: HostRuntime) -> Result<(), Fail> {
+    let mut out = b"front\n".to_vec(rt.alloc())?;
+    put_cuts(&mut out)?;
+    assert!(rt;
+        out.as_slice()
+            == b"front\ncut 1 after 31 of 36\ncut 4294967295 after 0 of 18446744073709551615\ncut 2 none\n".as_slice()
+    );
     Ok(())
 }
 
