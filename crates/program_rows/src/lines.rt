@@ -47,11 +47,10 @@ pub fn lines_of(alloc: Global, text: &str) -> Result<Vec<Line<'_>>, AllocError> 
 
 /// The lines without those at their end that say nothing.
 pub fn trimmed<'a, 'b>(lines: &'b [Line<'a>]) -> &'b [Line<'a>] {
-    let said = lines.iter().rposition(|line| !line.says_nothing());
-    match said {
-        Some(last) => &lines[..=last],
-        None => &[],
-    }
+    let last = lines.iter().rposition(|line| !line.says_nothing());
+    let count = last.map_or(0, |last| last.saturating_add(1));
+    let (said, _) = lines.split_at(count.min(lines.len()));
+    said
 }
 
 // What stands open before the next octet of a line.
