@@ -70,7 +70,7 @@ opened net rs boxes kept run nothing new empty none = (
 
 -- ---- events in their order
 
-step_to : (g : Setting) (y z : World) (event : Event) (at : ℕ) (s : Stepped) (a : WorldAnswer) → Gives g (Ok s) a y event z → world_of g y event at a ≡ Ok z
+pub step_to : (g : Setting) (y z : World) (event : Event) (at : ℕ) (s : Stepped) (a : WorldAnswer) → Gives g (Ok s) a y event z → world_of g y event at a ≡ Ok z
 step_to g y z event at s (Does u e stamp) h = ap Ok (sym h.1)
 step_to g y z event at s Nothing h = ap Ok (sym h.1)
 step_to g y z event at s (Stops fault) h = (let k = h.0 in absurd cc)
@@ -99,7 +99,7 @@ is_refused g y z event why (Does u e stamp) is h = inr (u, stamp, e, h.0, is)
 is_refused g y z event why Nothing is h = (let k = h.0 in absurd cc)
 is_refused g y z event why (Stops fault) is h = (let k : why ≡ fault = (let q = h.0 in cc) in inl (is ∙ ap Stops (sym k)))
 
-cut_at : (events : List Event) (i : ℕ) (d : Event) → i < length events → events ≡ take i events ++ get_or events i d ∷ drop (suc i) events
+pub cut_at : (events : List Event) (i : ℕ) (d : Event) → i < length events → events ≡ take i events ++ get_or events i d ∷ drop (suc i) events
 cut_at events i d l =
     sym (take-append-drop (suc i) events) ∙ ap (λ (k : List Event). k ++ drop (suc i) events) (take-suc events i d l) ∙ append_assoc (take i events) (get_or events i d ∷ []) (drop (suc i) events)
 

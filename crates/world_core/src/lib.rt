@@ -1,19 +1,24 @@
 //! A network of routers whose events one schedule names, in one order: a world, and what it plays.
 #![tactic(auto)]
 
+mod counts;
 mod entering;
 pub mod examples;
+mod flags;
 mod inbox;
 pub mod laws;
 mod marks;
 mod obeying;
 mod opening;
 mod player;
+mod reordering;
 mod schedule;
 mod state;
+mod through;
 mod world;
 
 pub use opening::new_router;
 pub use player::play;
 pub use schedule::{Event, Order, PlayFault, StepFault};
+pub use through::{Through, through_cut};
 pub use world::World;

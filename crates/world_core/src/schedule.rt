@@ -1,6 +1,7 @@
 //! The events of a schedule, the orders that stand for many of them, and why one is refused.
 
 ghost use Rattle.std.specs.Prelude.{◌≡◌, ◌<◌, ◌++◌, ◌∷◌, [], vec_len, vec_capacity};
+ghost use Rattle.world_core.specs.Events.{router_of};
 
 use ranked_policy::Asn;
 use router_model::{Command, RouterError};
@@ -27,6 +28,24 @@ pub enum Event {
     Advertise(Asn),
     /// The router makes the offer that waits in front of its queue.
     Offer(Asn),
+}
+
+impl Event {
+    /// The router that does it.
+    pub fn router(&self) -> Asn
+        ensures { result ≡ router_of self.now }
+    {
+        match *self {
+            Event::Command(number, _)
+            | Event::Tick(number)
+            | Event::Put(number, _)
+            | Event::Take(number, _)
+            | Event::Handle(number, _)
+            | Event::Decide(number)
+            | Event::Advertise(number)
+            | Event::Offer(number) => number,
+        }
+    }
 }
 
 /// An order of a schedule: one event, or so many rounds or ticks of all routers.

@@ -5,6 +5,8 @@ ghost use Rattle.std.specs.List.{AllByRecursion};
 ghost use Rattle.worker_loop.specs.declared.chore.Chore.TheVariants.{Stop};
 ghost use Rattle.worker_loop.specs.Script.{given_by};
 
+mod through;
+
 use net_text::read_network;
 use net_workers::{Chore, Gate, Limits, ScriptGate, run_net};
 use prefix_lanes::Prefix;

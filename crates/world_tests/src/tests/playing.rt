@@ -10,7 +10,7 @@ use std::test::Fail;
 use world_core::*;
 
 // What a router with one peer tries in a turn.
-fn turn(events: &mut Vec<Event>, number: Asn, peer: Asn) -> Result<(), AllocError> {
+pub(super) fn turn(events: &mut Vec<Event>, number: Asn, peer: Asn) -> Result<(), AllocError> {
     events.extend_from_slice(&[
         Event::Put(number, peer),
         Event::Take(number, peer),

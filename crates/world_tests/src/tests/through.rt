@@ -1,0 +1,204 @@
+//! Runs through the cut of a snapshot.
+
+use super::playing::turn;
+use super::{one_router, two_routers};
+use prefix_lanes::Prefix;
+use ranked_policy::{Asn, Network};
+use router_model::Command;
+use std::alloc::{AllocError, Global};
+use std::process::Abort;
+use std::test::Fail;
+use world_core::*;
+
+// What a schedule names; the prefix is that of the network.
+#[derive(Clone, Copy)]
+enum Does {
+    Starts(Asn, Asn),
+    Resets(Asn, Asn),
+    Originates(Asn),
+    Withdraws(Asn),
+    Records(Asn, u32),
+    Decides(Asn),
+    Advertises(Asn),
+    Offers(Asn),
+    // So many rounds of two routers.
+    Rounds(u32),
+}
+
+// A schedule, the number of a snapshot, and what comes of it: how many events are inside its cut, how many
+// there are, and how many lead to the cut.
+#[derive(Clone, Copy)]
+struct Row {
+    all: &'static [Does],
+    number: u32,
+    through: Option<(usize, usize, usize)>,
+}
+
+// At rest, and no such snapshot; while a withdrawal is in flight; and with a session that closes meanwhile.
+static OF_TWO: [Row; 4] = [
+    Row {
+        all: &[
+            Does::Starts(1, 2),
+            Does::Starts(2, 1),
+            Does::Originates(1),
+            Does::Rounds(40),
+            Does::Records(1, 1),
+            Does::Rounds(10),
+        ],
+        number: 1,
+        through: Some((31, 36, 32)),
+    },
+    Row {
+        all: &[
+            Does::Starts(1, 2),
+            Does::Starts(2, 1),
+            Does::Originates(1),
+            Does::Rounds(40),
+            Does::Records(1, 1),
+            Does::Rounds(10),
+        ],
+        number: 2,
+        through: None,
+    },
+    Row {
+        all: &[
+            Does::Starts(1, 2),
+            Does::Starts(2, 1),
+            Does::Originates(1),
+            Does::Rounds(40),
+            Does::Withdraws(1),
+            Does::Decides(1),
+            Does::Advertises(1),
+            Does::Records(1, 1),
+            Does::Records(2, 1),
+            Does::Rounds(10),
+        ],
+        number: 1,
+        through: Some((34, 48, 34)),
+    },
+    Row {
+        all: &[
+            Does::Starts(1, 2),
+            Does::Starts(2, 1),
+            Does::Originates(1),
+            Does::Rounds(40),
+            Does::Records(1, 1),
+            Does::Resets(2, 1),
+            Does::Rounds(5),
+            Does::Starts(1, 2),
+            Does::Rounds(40),
+        ],
+        number: 1,
+        through: None,
+    },
+];
+
+static OF_ONE: [Row; 1] = [Row {
+    all: &[
+        Does::Originates(1),
+        Does::Decides(1),
+        Does::Records(1, 1),
+        Does::Offers(1),
+    ],
+    number: 1,
+    through: Some((3, 4, 3)),
+}];
+
+// The event that is named; none where rounds are.
+fn event(does: Does, prefix: Prefix) -> Option<Event> {
+    match does {
+        Does::Starts(number, peer) => Some(Event::Command(number, Command::Start(peer))),
+        Does::Resets(number, peer) => Some(Event::Command(number, Command::Reset(peer))),
+        Does::Originates(number) => Some(Event::Command(number, Command::Originate(prefix))),
+        Does::Withdraws(number) => Some(Event::Command(number, Command::Withdraw(prefix))),
+        Does::Records(number, made) => Some(Event::Command(number, Command::Snapshot(made))),
+        Does::Decides(number) => Some(Event::Decide(number)),
+        Does::Advertises(number) => Some(Event::Advertise(number)),
+        Does::Offers(number) => Some(Event::Offer(number)),
+        Does::Rounds(_) => None,
+    }
+}
+
+fn rounds(events: &mut Vec<Event>, times: u32) -> Result<(), AllocError> {
+    for _ in 0..times {
+        turn(events, 1, 2)?;
+        turn(events, 2, 1)?;
+    }
+    Ok(())
+}
+
+fn adds(events: &mut Vec<Event>, does: Does, prefix: Prefix) -> Result<(), AllocError> {
+    if let Does::Rounds(times) = does {
+        rounds(events, times)?;
+    }
+    if let Some(event) = event(does, prefix) {
+        events.push(event)?;
+    }
+    Ok(())
+}
+
+// The events of a schedule, those that find nothing to do among them.
+fn schedule(alloc: Global, all: &[Does], prefix: Prefix) -> Result<Vec<Event>, AllocError> {
+    let mut events = Vec::new(alloc);
+    for &does in all {
+        adds(&mut events, does, prefix)?;
+    }
+    Ok(events)
+}
+
+// Whether events are played and each of them is done.
+fn does_all(alloc: Global, network: &Network, events: &[Event]) -> bool {
+    match play(alloc, network, events) {
+        Ok(world) => world.run() == events,
+        Err(_) => false,
+    }
+}
+
+// Whether a run through the cut is the wanted one, and all of its events are done again.
+fn is_wanted(
+    alloc: Global,
+    network: &Network,
+    through: &Through,
+    wanted: (usize, usize, usize),
+) -> bool {
+    (through.recorded, through.events.len(), through.place) == wanted
+        && does_all(alloc, network, through.events.as_slice())
+}
+
+// Whether what is done comes to the wanted answer.
+fn comes_to(alloc: Global, network: &Network, events: &[Event], row: &Row) -> bool {
+    match (through_cut(alloc, network, events, row.number), row.through) {
+        (Ok(Some(through)), Some(wanted)) => is_wanted(alloc, network, &through, wanted),
+        (Ok(None), None) => true,
+        _ => false,
+    }
+}
+
+fn is_as(alloc: Global, network: &Network, prefix: Prefix, row: &Row) -> bool {
+    match schedule(alloc, row.all, prefix) {
+        Ok(events) => comes_to(alloc, network, events.as_slice(), row),
+        Err(_) => false,
+    }
+}
+
+fn rows_are(rt: &impl Abort, alloc: Global, network: &Network, prefix: Prefix, rows: &[Row]) {
+    for row in rows {
+        assert!(rt; is_as(alloc, network, prefix, row));
+    }
+}
+
+#[test]
+fn two_routers_go_through_the_cut(rt: HostRuntime) -> Result<(), Fail> {
+    let prefix = Prefix::new(0x0a01_0000, 16).ok_or("a prefix")?;
+    let net = two_routers(rt.alloc(), prefix)?;
+    rows_are(&rt, rt.alloc(), &net, prefix, &OF_TWO);
+    Ok(())
+}
+
+#[test]
+fn one_router_goes_through_the_cut(rt: HostRuntime) -> Result<(), Fail> {
+    let prefix = Prefix::new(0x0a01_0000, 16).ok_or("a prefix")?;
+    let net = one_router(rt.alloc(), prefix)?;
+    rows_are(&rt, rt.alloc(), &net, prefix, &OF_ONE);
+    Ok(())
+}
