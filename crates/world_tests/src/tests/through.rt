@@ -104,21 +104,6 @@ static OF_ONE: [Row; 1] = [Row {
     through: Some((3, 4, 3)),
 }];
 
-// The event that is named; none where rounds are.
-fn event(does: Does, prefix: Prefix) -> Option<Event> {
-    match does {
-        Does::Starts(number, peer) => Some(Event::Command(number, Command::Start(peer))),
-        Does::Resets(number, peer) => Some(Event::Command(number, Command::Reset(peer))),
-        Does::Originates(number) => Some(Event::Command(number, Command::Originate(prefix))),
-        Does::Withdraws(number) => Some(Event::Command(number, Command::Withdraw(prefix))),
-        Does::Records(number, made) => Some(Event::Command(number, Command::Snapshot(made))),
-        Does::Decides(number) => Some(Event::Decide(number)),
-        Does::Advertises(number) => Some(Event::Advertise(number)),
-        Does::Offers(number) => Some(Event::Offer(number)),
-        Does::Rounds(_) => None,
-    }
-}
-
 fn rounds(events: &mut Vec<Event>, times: u32) -> Result<(), AllocError> {
     for _ in 0..times {
         turn(events, 1, 2)?;
@@ -128,13 +113,27 @@ fn rounds(events: &mut Vec<Event>, times: u32) -> Result<(), AllocError> {
 }
 
 fn adds(events: &mut Vec<Event>, does: Does, prefix: Prefix) -> Result<(), AllocError> {
-    if let Does::Rounds(times) = does {
-        rounds(events, times)?;
+    match does {
+        Does::Starts(number, peer) => {
+            events.extend_from_slice(&[Event::Command(number, Command::Start(peer))])
+        }
+        Does::Resets(number, peer) => {
+            events.extend_from_slice(&[Event::Command(number, Command::Reset(peer))])
+        }
+        Does::Originates(number) => {
+            events.extend_from_slice(&[Event::Command(number, Command::Originate(prefix))])
+        }
+        Does::Withdraws(number) => {
+            events.extend_from_slice(&[Event::Command(number, Command::Withdraw(prefix))])
+        }
+        Does::Records(number, made) => {
+            events.extend_from_slice(&[Event::Command(number, Command::Snapshot(made))])
+        }
+        Does::Decides(number) => events.extend_from_slice(&[Event::Decide(number)]),
+        Does::Advertises(number) => events.extend_from_slice(&[Event::Advertise(number)]),
+        Does::Offers(number) => events.extend_from_slice(&[Event::Offer(number)]),
+        Does::Rounds(times) => rounds(events, times),
     }
-    if let Some(event) = event(does, prefix) {
-        events.push(event)?;
-    }
-    Ok(())
 }
 
 // The events of a schedule, those that find nothing to do among them.
