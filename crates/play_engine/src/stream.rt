@@ -46,11 +46,7 @@ fn schedule_output(
 }
 
 // What is printed for a network and a schedule behind it.
-fn network_output(
-    alloc: Global,
-    shown: Shown,
-    split: &Split,
-) -> Result<(Vec<u8>, u8), AllocError>
+fn network_output(alloc: Global, shown: Shown, split: &Split) -> Result<(Vec<u8>, u8), AllocError>
     requires { split.now.before + length split.now.behind.now < 2 ^ 64 }
     ensures { IfOk result (λ printed. NetworkGives (ScheduleGives (IsShown shown)) (lines_of split.now.front.now) split.now.before (lines_of split.now.behind.now) (output printed.0.items printed.1)) }
 {
