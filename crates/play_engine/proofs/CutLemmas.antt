@@ -56,7 +56,7 @@ flights_are g made s whole =
 
 run_of : (g : Setting) (order : RunOrder) (old new : RunState) → IsCalledRun g old order new → runs.Run (logged_steps g) old order new
 run_of g [] old new h = h
-run_of g (d ∷ ds) old new h = (h.0, h.1, run_of g ds h.0 new h.2.1)
+run_of g (d ∷ ds) old new h = (h.0, h.1, run_of g ds h.0 new h.3)
 
 has_cut : RunsPassThroughSnapshots → (g : Setting) → IsSetting g → (w : World) (s inside : ℕ) → is_whole (outcome g.net w.made s) ≡ true → (run : PlayedRun g w) → HasInside g w run s inside
     → HasCut g w s inside
@@ -107,9 +107,19 @@ shows_cut pass x s inside out whole are again counts printed = λ (g : Setting) 
       λ set.
           let c = counts g e set in
           let same = same_world g w c.0 (again g e set.chooses) c.1 in
-          let both = subst (λ (y : World). (run : PlayedRun g y) × HasInside g y run s inside) same (c.2.0, c.2.1) in
+          let both = subst (λ (y : World). (run : PlayedRun g y) × HasInside g y run s inside) same (c.2, c.3) in
           has_cut pass g set w s inside is both.0 both.1,
       printed
       ∙ ap (λ (n : Plan). output (cut_line s inside (length x.run) ++ recorded_text n (map member_of x.collector.members) (kept_of (map member_of x.collector.members) (made_for x.collector s))) DONE) (sym e)
       ∙ ap (λ (t : List ℕ). output t DONE) (text_is g.net (map member_of x.collector.members) w.made s inside (length w.run) here),
     )
+
+-- the parts of its text, one behind the other
+pub cut_text_is : (x : WorldView) (net : Plan) (k : CollectorView) (s inside all : ℕ) (none first whole text : List ℕ) → none ≡ [] → first ≡ none ++ cut_line s inside all → whole ≡ first ++ text
+    → all ≡ length x.run → text ≡ recorded_text net (map member_of k.members) (kept_of (map member_of k.members) (made_for k s)) → x.net ≡ net → k ≡ x.collector
+    → output whole 0 ≡ output (cut_line s inside (length x.run) ++ recorded_text x.net (map member_of x.collector.members) (kept_of (map member_of x.collector.members) (made_for x.collector s))) DONE
+cut_text_is x net k s inside all none first whole text empty one two long is same value =
+    let said = is ∙ ap (λ (n : Plan). recorded_text n (map member_of k.members) (kept_of (map member_of k.members) (made_for k s))) (sym same)
+    ∙ ap (λ (j : CollectorView). recorded_text x.net (map member_of j.members) (kept_of (map member_of j.members) (made_for j s))) value in
+    ap (λ (t : List ℕ). output t 0)
+    (two ∙ ap (λ (t : List ℕ). t ++ text) (one ∙ ap (λ (t : List ℕ). t ++ cut_line s inside all) empty) ∙ ap (λ (n : ℕ). cut_line s inside n ++ text) long ∙ ap (λ (t : List ℕ). cut_line s inside (length x.run) ++ t) said)

@@ -1,16 +1,17 @@
 //! What `bgpnet cut` prints of a world: how many of its events are inside the cut of a snapshot, the routes and the UPDATEs in
 //! flight that were recorded.
 
-ghost use Rattle.std.specs.Prelude.{◌≡◌, ◌++◌, ◌×◌, OnOk, IfOk, map, true};
-ghost use Rattle.snap_collector.specs.Collecting.{member_of};
+ghost use Rattle.std.specs.Prelude.{◌≡◌, ◌++◌, OnOk, IfOk, map, true};
+ghost use Rattle.snap_collector.specs.Collecting.{member_of, outcome_of};
 ghost use Rattle.snap_collector.specs.Collector.{made_for, kept_of};
 ghost use Rattle.snap_collector.specs.Flights.{flight_of, is_whole};
 ghost use Rattle.world_core.specs.Verdicts.{judged};
-ghost use Rattle.world_core.specs.Views.{KeepsPromises};
+ghost use Rattle.schedule_text.specs.Reports.{cut_none_line};
 ghost use Rattle.text_engines.specs.Decoding.{output};
 ghost use Rattle.play_engine.specs.Playing.{Shows};
 ghost use Rattle.play_engine.specs.Cutting.{flights_text, recorded_text, IsCutReport};
 
+use crate::schedules::leave;
 use crate::snapshots::put_parts;
 use net_text::flight_line;
 use ranked_policy::Network;
@@ -18,7 +19,6 @@ use run_cuts::laws::runs_pass_through_snapshots;
 use schedule_text::{cut_line, cut_none_line};
 use snap_collector::{Collector, InFlight, Outcome};
 use std::alloc::{AllocError, Global};
-use std::mem::forget;
 use text_engines::status::DONE;
 use world_core::{World, count_inside};
 
@@ -68,7 +68,7 @@ fn whole_output(
 ) -> Result<(Vec<u8>, u8), AllocError>
     requires same { world.net ≡ network.now }
     requires whole { is_whole (judged world.collector number) ≡ true }
-    ensures { IfOk result (λ printed. Shows (IsCutReport number) world (output printed.0.items printed.1)) }
+    ensures { IfOk result (λ printed. Shows (IsCutReport number) world.entry (output printed.0.items printed.1)) }
 {
     runs_pass_through_snapshots();
     let recorded = recorded_of(alloc, network, world.collector(), number)?;
@@ -84,6 +84,16 @@ fn whole_output(
     Ok((out, DONE))
 }
 
+// Whether every router has a part of a snapshot that comes out so: it is settled or moving.
+fn is_whole(outcome: &Outcome) -> bool
+    ensures { result ≡ is_whole (outcome_of outcome.now) }
+{
+    match outcome {
+        Outcome::Waiting | Outcome::Abandoned(_) => false,
+        Outcome::Moving { .. } | Outcome::Settled => true,
+    }
+}
+
 /// What is printed of the cut of a snapshot, and the status.
 pub(crate) fn cut_output(
     alloc: Global,
@@ -92,13 +102,12 @@ pub(crate) fn cut_output(
     number: u32,
 ) -> Result<(Vec<u8>, u8), AllocError>
     requires { world.net ≡ network.now }
-    ensures { IfOk result (λ printed. Shows (IsCutReport number) world (output printed.0.items printed.1)) }
+    ensures { IfOk result (λ printed. Shows (IsCutReport number) world.entry (output printed.0.items printed.1)) }
 {
-    match world.collector().outcome(number) {
-        Outcome::Waiting | Outcome::Abandoned(_) => {
-            forget(world);
-            none_output(alloc, number)
-        }
-        Outcome::Moving { .. } | Outcome::Settled => whole_output(alloc, network, world, number),
+    if is_whole(&world.collector().outcome(number)) {
+        whole_output(alloc, network, world, number)
+    } else {
+        leave(world);
+        none_output(alloc, number)
     }
 }

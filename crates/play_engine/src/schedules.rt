@@ -28,8 +28,8 @@ pub struct Stop {
     pub why: StepFault,
 }
 
-// Leaves a world to the end of the process, which comes next: what it holds is many small blocks.
-fn leave(world: World<'_>) {
+/// Leaves a world to the end of the process, which comes next: what it holds is many small blocks.
+pub(crate) fn leave(world: World<'_>) {
     forget(world);
 }
 

@@ -94,8 +94,8 @@ impl<'a> World<'a> {
     /// The events that were done, the first first, without the world, which is dropped. They lead to it again. It takes no
     /// memory.
     pub fn into_run(self) -> Vec<Event>
-        ensures value { result.items ≡ self.run }
-        ensures comes { ComesOut self }
+        ensures value { result.items ≡ self.entry.run }
+        ensures comes { ComesOut self.entry }
     {
         self.state.run
     }
