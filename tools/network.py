@@ -66,11 +66,11 @@ class Network:
     """The routers, links, origins and rules of a network.
 
     `lines` are its lines without those that are skipped, `peers` the peers of each router, rising, `origins` the
-    router of each prefix, by address, then length, and `rules` those of each router."""
+    router of each prefix, by address, then length, `rules` those of each router, and `cut` the most octets of a piece."""
 
     def __init__(self, lines):
         self.lines, self.routers, self.links, self.peers, self.rules = [], [], [], {}, {}
-        origins = {}
+        self.cut, origins = 4096, {}
         for number, line in enumerate(lines, 1):
             words = words_of(line)
             if not words or words[0] in SECTIONS:
@@ -86,6 +86,8 @@ class Network:
                     self.peers[end].append(other)
             elif words[0] == "origin":
                 origins[Prefix.read(words[2])] = int(words[1])
+            elif words[0] == "cut":
+                self.cut = int(words[1])
             elif words[0] == "rank":
                 paths = [read_path(word) for word in words[3:]]
                 self.rules[int(words[1])].append(Rule(Prefix.read(words[2]), paths, number))
