@@ -158,7 +158,7 @@ class Draw(unittest.TestCase):
                     self.assertTrue(18 < x < width - 18 and 18 < y < height - 18)
 
     def test_routers_stand_apart(self):
-        for size in range(2, 65, 2):
+        for size in (2, 3, 5, 8, 12, 20, 40, 64):
             graph = topology.hierarchy(size, size, size)
             network = Network(topology.network_lines(graph, graph.routers[-1:], "shortest"))
             for origin in (1, size):

@@ -1,10 +1,12 @@
 """Tests of `streams`, over captures that are made here: a conversation as segments, these as frames, and these as a
-file. What the tool has to find is known before anything is altered."""
+file. What the tool has to find is known before anything is altered.
+
+    python3 tools/tests/streams_test.py     writes examples/session.pcap anew"""
 import random
 import struct
 import unittest
 
-from support import asked_program, load, run
+from support import TOP, asked_program, load, run
 
 streams = load("streams")
 
@@ -271,6 +273,13 @@ class Segments(unittest.TestCase):
         self.assertEqual(found_in(ethernet([segments[0], early, *segments[1:-1], probe, segments[-1]]))[0], whole(said))
 
 
+def example():
+    """The capture of the examples: router 1 starts the session, and announces two prefixes; a piece of its last message is
+    sent twice; all stands behind a VLAN tag."""
+    segments = conversation(speech(1, 2), speech(2, 0), size=37)
+    return pcap(1, [FRAMES["a VLAN tag"][1](packet(said)) for said in [*segments[:9], *segments[8:]]])
+
+
 class Printed(unittest.TestCase):
     """What the tool prints."""
 
@@ -283,6 +292,11 @@ class Printed(unittest.TestCase):
         self.assertEqual(out, f"1  10.0.0.1:40000 > 10.0.0.2:179  {len(speech(1, 9))} octets  "
                               "open keepalive update update update .., FIN\n"
                               f"2  10.0.0.2:179 > 10.0.0.1:40000  {len(speech(2, 1))} octets  open keepalive update, FIN\n")
+
+    def test_the_capture_of_the_examples(self):
+        data = (TOP / "examples/session.pcap").read_bytes()
+        self.assertEqual(data, example())
+        self.assertEqual(found_in(data), (whole(speech(1, 2), speech(2, 0)), []))
 
     def test_capabilities_of_both_opens(self):
         for one, other, said in ((self.FOUR, self.FOUR, True), (self.FOUR, b"", False), (b"", b"", False),
@@ -321,3 +335,7 @@ class Printed(unittest.TestCase):
             self.assertEqual((status, out, error.count("\n")), (2, "", 1))
         self.assertEqual(run("streams", "nothing.pcap"), (1, "", "streams: nothing.pcap: No such file or directory\n"))
         self.assertEqual(run("streams", "--help")[0], 0)
+
+
+if __name__ == "__main__":
+    (TOP / "examples/session.pcap").write_bytes(example())
