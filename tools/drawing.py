@@ -142,6 +142,11 @@ class Drawn:
         self.broken, self.changed, self.title, self.captions = broken, changed, title, captions
 
 
+def printable(text):
+    """The text without the characters that no XML file may have."""
+    return "".join(letter for letter in text if letter >= " " and letter not in "\ufffe\uffff" or letter in "\t\n")
+
+
 class Picture:
     """A picture of a network: its elements, and its size."""
 
@@ -190,7 +195,7 @@ class Picture:
     def add(self, tag, text=None, **attributes):
         """Adds an element; an attribute `class_` is written `class`, and `x_1` is `x1`."""
         spelt = "".join(f" {name.replace('_', '')}={quoteattr(str(value))}" for name, value in attributes.items())
-        self.elements.append(f"<{tag}{spelt}/>" if text is None else f"<{tag}{spelt}>{escape(text, quote=False)}</{tag}>")
+        self.elements.append(f"<{tag}{spelt}/>" if text is None else f"<{tag}{spelt}>{escape(printable(text), quote=False)}</{tag}>")
 
     def arrow(self, router, peer, kind):
         """An arrow from a router to the next one on its path, a little beside the link."""

@@ -13,6 +13,11 @@ GREATEST_ASN = 65535
 SECTIONS = ("assignment", "schedule")
 
 
+def read_number(word):
+    """The number that decimal digits spell, however many zeros stand in front."""
+    return int(word.lstrip("0") or "0")
+
+
 class Prefix(namedtuple("Prefix", "address length")):
     """An IPv4 prefix: the bits of its address past its length are cleared. Prefixes are ordered as they are printed."""
 
@@ -21,8 +26,9 @@ class Prefix(namedtuple("Prefix", "address length")):
         address, length = word.split("/")
         value = 0
         for part in address.split("."):
-            value = value << 8 | int(part)
-        return Prefix(value >> 32 - int(length) << 32 - int(length), int(length))
+            value = value << 8 | read_number(part)
+        past = 32 - read_number(length)
+        return Prefix(value >> past << past, 32 - past)
 
     def covers(self, other):
         return self.length <= other.length and self.address >> 32 - self.length == other.address >> 32 - self.length
@@ -37,7 +43,7 @@ Rule = namedtuple("Rule", "prefix paths line")
 
 def read_path(word):
     """The routers of a path, from the one that uses it to the origin; none of `none`."""
-    return () if word == "none" else tuple(int(number) for number in word.split("-"))
+    return () if word == "none" else tuple(map(read_number, word.split("-")))
 
 
 def path_text(path):
@@ -76,21 +82,21 @@ class Network:
             if not words or words[0] in SECTIONS:
                 continue
             self.lines.append(" ".join(words))
+            first = read_number(words[1])
             if words[0] == "router":
-                self.routers.append(int(words[1]))
-                self.peers[int(words[1])], self.rules[int(words[1])] = [], []
+                self.routers.append(first)
+                self.peers[first], self.rules[first] = [], []
             elif words[0] == "link":
-                link = int(words[1]), int(words[2])
+                link = first, read_number(words[2])
                 self.links.append(link)
                 for end, other in (link, link[::-1]):
                     self.peers[end].append(other)
             elif words[0] == "origin":
-                origins[Prefix.read(words[2])] = int(words[1])
+                origins[Prefix.read(words[2])] = first
             elif words[0] == "cut":
-                self.cut = int(words[1])
+                self.cut = first
             elif words[0] == "rank":
-                paths = [read_path(word) for word in words[3:]]
-                self.rules[int(words[1])].append(Rule(Prefix.read(words[2]), paths, number))
+                self.rules[first].append(Rule(Prefix.read(words[2]), [read_path(word) for word in words[3:]], number))
         self.routers.sort()
         for peers in self.peers.values():
             peers.sort()
@@ -124,12 +130,12 @@ def read_network(program, text, name):
 
 
 def routes_of(lines):
-    """The paths of `route` and `path` lines, by router and prefix."""
+    """The paths of `route` and `path` lines, by router and prefix. Of two of one router and prefix it is the last."""
     routes = {}
     for line in lines:
         words = words_of(line)
         if words and words[0] in ("route", "path"):
-            routes[int(words[1]), Prefix.read(words[2])] = read_path(words[3])
+            routes[read_number(words[1]), Prefix.read(words[2])] = read_path(words[3])
     return routes
 
 

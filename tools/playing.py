@@ -1,5 +1,5 @@
 """What the program says of a network behind the first orders of a schedule. Only its words `play` and `check` are asked."""
-from network import MOST_LINKS, MOST_PREFIXES, MOST_RULES, Prefix, path_text, read_path, routes_of, words_of
+from network import MOST_LINKS, MOST_PREFIXES, MOST_RULES, Prefix, path_text, read_number, read_path, routes_of, words_of
 from program import Refusal
 
 # A session counts as up where a prefix that one end would originate comes to the other, both ways, in the rounds in which
@@ -78,7 +78,7 @@ def assignment_text(network, prefix, chosen, without=()):
     lines = []
     for line in network.lines:
         words = words_of(line)
-        if words[0] == "link" and frozenset(map(int, words[1:])) in without:
+        if words[0] == "link" and frozenset(map(read_number, words[1:])) in without:
             continue
         if words[0] != "origin" or Prefix.read(words[2]) == prefix:
             lines.append(line)

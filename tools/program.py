@@ -68,6 +68,11 @@ def read_text(name):
     return read_octets(name).decode("latin-1")
 
 
+def write_text(text):
+    """Writes a text, in UTF-8 wherever it goes."""
+    sys.stdout.buffer.write(text.encode("utf-8"))
+
+
 class Program:
     """The program `bgpnet`, which judges what the tools find."""
 
@@ -102,6 +107,8 @@ def run_tool(main):
     except BrokenPipeError:
         os.dup2(os.open(os.devnull, os.O_WRONLY), sys.stdout.fileno())
         status = 0
+    except KeyboardInterrupt:
+        status = 130
     except Refusal as why:
         print(f"{os.path.basename(sys.argv[0])}: {why}", file=sys.stderr)
         status = 1

@@ -126,8 +126,12 @@ class Draw(unittest.TestCase):
         played = asked_program().answer(["play"], topology_text(network), path)
         picture = drawn(path, "--routes", "-", given="\n".join(played).encode())
         self.assertEqual(sorted(picture.has("route")), [(2, 1), (3, 1), (4, 2)])
-        self.assertEqual(run("draw", path, "--routes", "-", given=b"route 9 10.1.0.0/16 9-1\n"),
-                         (1, "", "draw: -: routes of another network\n"))
+        for report, said in ((b"now\nroute 9 10.1.0.0/16 9-1\n", "a route of another network"),
+                             (b"now\nroute 2 10.1.0.0/16 2-9\n", "a route of another network"),
+                             (b"now\nroute 2 10.1.0.0/16 3-1\n", "a route of another network"),
+                             (b"now\nroute 2 10.1.0.0/16\n", "no `route AS PREFIX PATH`"),
+                             (b"now\nroute two 10.1.0.0/16 2-1\n", "no `route AS PREFIX PATH`")):
+            self.assertEqual(run("draw", path, "--routes", "-", given=report), (1, "", f"draw: -:2: {said}\n"))
 
     def test_one_prefix_of_two(self):
         text = network_text(3, [(1, 2), (2, 3)], "origin 3 10.2.0.0/16\nassignment\n"
@@ -271,6 +275,10 @@ class Film(unittest.TestCase):
             state = playing.state_behind(program, network, orders[:at], "session")
             self.assertEqual(sorted(picture.has("route")),
                              hops({router: path for (router, _), path in state.routes.items()}))
+
+    def test_titles_in_any_letters(self):
+        text = network_text(1, []) + "schedule\n# title: Z\u00fcrich \u2192 <Bern> & \x07\ntick 1\n"
+        self.assertEqual(self.pictures("-", given=text.encode())[0].texts["title"], ["1. Z\u00fcrich \u2192 <Bern> & "])
 
     def test_an_unstable_moment(self):
         pictures = self.pictures("examples/play/ring.txt")

@@ -148,6 +148,10 @@ class Printed(unittest.TestCase):
             self.assertEqual((status, error), (0, ""))
             self.assertEqual(asked_program().answer(["play"], out, "order")[0], "snapshot 1 settled")
 
+    def test_numbers_with_zeros_in_front(self):
+        text = (TOP / "examples/disagree.txt").read_text().replace("rank 2 10.1", f"rank {'0' * 5000}2 0010.01").replace("2-3-1", "02-03-1")
+        self.assertEqual(run("settle", "-", given=text.encode())[:2], (0, self.DISAGREE))
+
     def test_an_order_over_small_pieces(self):
         text = (TOP / "examples/play/octets.txt").read_text()
         self.assertIn("\ncut 1\n", text)
@@ -212,6 +216,7 @@ class Warnings(unittest.TestCase):
         status, out, error = run("settle", "-", given=full.encode())
         self.assertEqual((status, out, error),
                          (1, "", f"settle: more than 20000 paths can come for {PREFIX}: give routers rank lines\n"))
+        self.assertEqual(run("settle", "-", given=b"router 1 10.0.0.1\n"), (1, "", "settle: -: no origin, so no routes\n"))
         for words in ([], ["x", "--play", "-1"], ["x", "--write", "falling"], ["x", "y"]):
             status, out, error = run("settle", *words)
             self.assertEqual((status, out, error.count("\n")), (2, "", 1), words)

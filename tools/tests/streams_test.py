@@ -322,6 +322,15 @@ class Printed(unittest.TestCase):
                                                  "  update announce 10.0.0.0/16 path 1 next 10.0.0.1"])
         self.assertIn("\n  fault 1 3\n", out)
 
+    def test_a_stream_is_decoded_in_parts(self):
+        """More than the program reads at once, a fault in the last part."""
+        said = open_message(1) + (message(4) * 40 + update_message(1, 7)) * 12000
+        data = ethernet(talk(CLIENT, SERVER, said + message(9), 7, 60000))
+        status, out, error = run("streams", "-", "--decode", given=data)
+        self.assertEqual((status, error), (1, "streams: stream 1: the program finds a fault\n"))
+        self.assertEqual((out.count("  keepalive\n"), out.count("  update announce")), (480000, 12000))
+        self.assertTrue(out.endswith("\n  fault 1 3\n  " + "ff" * 16 + "0016" + "03010309\n"))
+
     def test_holes_are_lines_on_the_standard_error(self):
         segments = list(talk(CLIENT, SERVER, speech(1, 2), 7, 30))
         status, out, error = run("streams", "-", 1, given=ethernet(segments[:2] + segments[3:]))

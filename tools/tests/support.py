@@ -33,4 +33,4 @@ def run(tool, *words, given=b""):
     environment = dict(os.environ, BGPNET=program_path)
     done = subprocess.run([sys.executable, str(TOOLS / tool), *map(str, words)], input=given, capture_output=True,
                           env=environment, cwd=TOP)
-    return done.returncode, done.stdout.decode("latin-1"), done.stderr.decode("latin-1")
+    return done.returncode, done.stdout.decode(), done.stderr.decode()

@@ -36,7 +36,7 @@ GRAPHML = """<?xml version="1.0" encoding="utf-8"?>
 <graphml xmlns="http://graphml.graphdrawing.org/xmlns">
   <key attr.name="label" attr.type="string" for="node" id="d1" />
   <graph edgedefault="undirected">
-    <node id="0"><data key="d1">Z\xc3\xbcrich</data></node>
+    <node id="0"><data key="d1">Z\u00fcrich</data></node>
     <node id="1"><data key="d1">Bern</data></node>
     <node id="2"/>
     <edge source="0" target="1"/><edge source="1" target="2"/><edge source="1" target="0"/>
@@ -177,9 +177,9 @@ rounds 100
         self.assertEqual(lines_of(out, "link"), ["link 70 80", "link 80 90"])
 
     def test_graphml(self):
-        status, out, error = run("topology", "--from", "graphml", given=GRAPHML.encode("latin-1"))
+        status, out, error = run("topology", "--from", "graphml", given=GRAPHML.encode())
         self.assertEqual((status, error), (0, ""))
-        self.assertEqual(out.splitlines()[:2], ["# router 1 is Z\xc3\xbcrich", "# router 2 is Bern"])
+        self.assertEqual(out.splitlines()[:2], ["# router 1 is Z\u00fcrich", "# router 2 is Bern"])
         self.assertEqual(lines_of(out, "link"), ["link 1 2", "link 2 3"])
         self.assertEqual(asked_program().answer(["play"], out, "graphml")[0], "snapshot 1 settled")
 
@@ -187,7 +187,7 @@ rounds 100
         given = b"# \xc3\xa9\nrouter 5 10.0.0.5\r\nrouter 2 10.0.0.2\nlink 5 2\norigin 5 10.1.0.0/16\n\nschedule\nrounds 1\n"
         status, out, error = run("topology", "--from", "network", "--rounds", 40, given=given)
         self.assertEqual((status, error), (0, ""))
-        self.assertEqual(out, "# \xc3\xa9\nrouter 5 10.0.0.5\nrouter 2 10.0.0.2\nlink 5 2\norigin 5 10.1.0.0/16\nschedule\n"
+        self.assertEqual(out, "# \xe9\nrouter 5 10.0.0.5\nrouter 2 10.0.0.2\nlink 5 2\norigin 5 10.1.0.0/16\nschedule\n"
                               "start 5 2\nstart 2 5\noriginate 5 10.1.0.0/16\nrounds 40\nsnapshot 2 1\nrounds 100\n")
         self.assertEqual(run("topology", "--from", "network", given=given.replace(b"5 2", b"5 3")),
                          (1, "", "topology: -:4: N3: a router that no earlier line names\n"))
@@ -222,6 +222,7 @@ class Refusals(unittest.TestCase):
         self.refused("as-rel", b"1|2|0\n\n2|1|-1\n", "-:3: 2 and 1 have another relation before")
         self.refused("as-rel", b"1|x|0\n", "-:1: 'x' is no AS number")
         self.refused("as-rel", b"0|1|0\n", "-:1: '0' is no AS number")
+        self.refused("as-rel", b"1|" + b"9" * 5000 + b"|0\n", f"-:1: '{'9' * 5000}' is no AS number")
         self.refused("as-rel", b"1|2|0\n2|396982|-1\n", "-:2: AS 396982 is above 65535")
         self.refused("edges", b"1 2\n2 3 4\n", "-:2: not two AS numbers")
         self.refused("edges", b"1 2\n3 3\n", "-:2: a link of 3 with itself")
