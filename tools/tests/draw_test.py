@@ -143,6 +143,13 @@ class Draw(unittest.TestCase):
         self.assertEqual((picture.circles["origin"], picture.has("wanted")), ([3], [(2, 3)]))
         self.assertEqual(picture.texts["bad"], ["check: unstable 2 has none best 2-3"])
 
+    def test_a_wider_rule_of_two_prefixes(self):
+        text = network_text(3, [(1, 2), (2, 3)], "origin 3 10.0.0.0/16\nrank 2 10.0.0.0/8 2-1 2-3\n").encode()
+        for words, origin, rule in (([], 3, "2-3"), (["--prefix", PREFIX], 1, "2-1")):
+            picture = drawn("-", *words, given=text)
+            written = [path for kind, paths in picture.texts.items() if kind.startswith("rule") for path in paths]
+            self.assertEqual((picture.circles["origin"], [path for path in written if path.startswith("2-")]), ([origin], [rule]))
+
     def test_random_networks_of_every_size(self):
         for seed in (*range(1, 14, 3), 20, 35, 50, 64):
             graph = topology.hierarchy(seed, seed, seed // 2)

@@ -1,7 +1,9 @@
 """Tests of `settle`. What it finds in random policies is compared with all assignments there are, and with the definition of
 a dispute wheel, without its code; then with what the program plays."""
 import itertools
+import pathlib
 import random
+import tempfile
 import unittest
 
 from support import TOP, asked_program, load, run
@@ -44,18 +46,22 @@ def stable_ones(rules):
             yield tuple(chosen[router] for router in range(1, 6))
 
 
-def has_wheel(live):
-    """Whether the relation of spokes has a circle: Q of u before T of v, where u likes a path that ends with T no less."""
+def least_wheel(live):
+    """The size of the smallest circle in the relation of spokes, 0 where there is none: Q of u is before T of v where u likes
+    a path that ends with T no less than Q."""
     spokes = [path for paths in live.values() for path in paths]
-    reached = {}
+    following = {}
     for spoke in spokes:
         own = live[spoke[0]]
-        reached[spoke] = {better[at:] for better in own[:own.index(spoke) + 1] for at in range(1, len(better))}
-    for middle in spokes:
-        for spoke in spokes:
-            if middle in reached[spoke]:
-                reached[spoke] |= reached[middle]
-    return any(spoke in reached[spoke] for spoke in spokes)
+        following[spoke] = {better[at:] for better in own[:own.index(spoke) + 1] for at in range(1, len(better))}
+    sizes = []
+    for spoke in spokes:
+        reached, size = following[spoke], 1
+        while spoke not in reached and size <= len(spokes):
+            reached, size = set().union(*(following[other] for other in reached)), size + 1
+        if spoke in reached:
+            sizes.append(size)
+    return min(sizes, default=0)
 
 
 class RandomPolicies(unittest.TestCase):
@@ -78,7 +84,7 @@ class RandomPolicies(unittest.TestCase):
                 self.assertEqual(sorted(tuple(chosen[router] for router in network.routers) for chosen in found),
                                  sorted(stable_ones(rules)))
                 wheel = settle.Spokes(live).wheel()
-                self.assertEqual(bool(wheel), has_wheel(live))
+                self.assertEqual(len(wheel), least_wheel(live))
                 self.assert_wheel(wheel, live)
                 self.assertTrue(wheel or len(found) == 1)
                 seen.add((min(len(found), 2), bool(wheel)))
@@ -91,6 +97,14 @@ class RandomPolicies(unittest.TestCase):
             self.assertLess(own.index(better), own.index(path))
             self.assertEqual(spoke[0], through)
             self.assertEqual(better[better.index(through):], spoke)
+
+    def test_every_simple_path_where_there_is_no_rule(self):
+        network = Network(network_of({}).splitlines())
+        live = settle.live_paths(network, next(iter(network.origins)))
+        for router in range(2, 6):
+            others = [other for other in range(2, 6) if other != router]
+            self.assertEqual(live[router], sorted(((router, *middle, 1) for size in range(4)
+                                                   for middle in itertools.permutations(others, size)), key=lambda path: (len(path), path)))
 
     def test_what_the_program_plays(self):
         program = asked_program()
@@ -173,12 +187,24 @@ class Printed(unittest.TestCase):
         self.assertIn("  stable assignments: more than 3\n", out)
         self.assertEqual(out.count("check: stable"), 3)
 
+    def test_a_program_that_does_not_confirm(self):
+        with tempfile.TemporaryDirectory() as folder:
+            program = pathlib.Path(folder) / "program"
+            program.write_text("#!/bin/sh\nif grep -q assignment; then echo unstable 2 has 2-1 best 2-3-1; else echo stable; fi\n")
+            program.chmod(0o755)
+            status, out, error = run("settle", "examples/disagree.txt", "--program", program)
+            self.assertEqual((status, error), (1, "settle: the program does not confirm what is found here\n"))
+            self.assertEqual(out.count("check: unstable 2 has 2-1 best 2-3-1"), 2)
+            program.write_text("#!/bin/sh\necho memory; exit 3\n")
+            self.assertEqual(run("settle", "examples/disagree.txt", "--program", program),
+                             (1, "", "settle: bgpnet check ends with status 3: memory\n"))
+
     def test_two_prefixes_and_a_wider_rule(self):
         text = ("router 1 10.0.0.1\nrouter 2 10.0.0.2\nrouter 3 10.0.0.3\nlink 1 2\nlink 2 3\nlink 1 3\n"
-                "origin 1 10.1.0.0/16\norigin 3 10.2.0.0/16\nrank 2 10.0.0.0/8 2-3-1 2-1-3 2-1\nrank 3 10.1.0.0/16 3-2-1 3-1\n")
+                "origin 3 10.2.0.0/16\norigin 1 10.1.0.0/16\nrank 2 10.0.0.0/8 2-3-1 2-1-3 2-1\nrank 3 10.1.0.0/16 3-2-1 3-1\n")
         status, out, error = run("settle", "-", "--play", 3, given=text.encode())
         self.assertEqual((status, error), (0, ""))
-        self.assertIn("prefix 10.1.0.0/16 of 1\n  stable assignments: 2\n", out)
+        self.assertTrue(out.startswith("prefix 10.1.0.0/16 of 1\n  stable assignments: 2\n"))
         self.assertIn("prefix 10.2.0.0/16 of 3\n  stable assignments: 1\n    1-3 2-1-3 3   check: stable\n  no dispute wheel\n", out)
 
 

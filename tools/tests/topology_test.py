@@ -28,7 +28,7 @@ DOT = """strict graph "a lab" { // two triangles
   node [shape=circle, label="x -- y"]; rankdir=LR
   London -- "New York" -- Paris [weight=3]
   /* the way
-     back */ Paris -- London
+     back */ Paris -- London [bold, weight=2]
   subgraph cluster_one { label = <the <b>east</b>>; Paris:e -- Rome; }
 }
 """
@@ -171,6 +171,10 @@ snapshot 1 1
 rounds 100
 """)
         self.assertEqual(asked_program().answer(["play"], out, "dot")[0], "snapshot 1 settled")
+
+    def test_a_mark_of_the_order_of_octets_says_nothing(self):
+        out = run("topology", "--from", "edges", "--network", given=b"\xef\xbb\xbf1 2\r\n2 3\r\n")[1]
+        self.assertEqual(lines_of(out, "link"), ["link 1 2", "link 2 3"])
 
     def test_dot_with_as_numbers(self):
         out = run("topology", "--from", "dot", "--network", given=b"digraph { 70 -> 80; 80 -> 70; 90 -> 80 }")[1]
