@@ -233,6 +233,10 @@ class Broken(unittest.TestCase):
             orders = [order for order in topology.texts.starts(network) if order != "start 3 1"] + ["rounds 3000"]
             self.assertEqual(self.broken(network, orders), {frozenset((1, 3))})
 
+    def test_small_pieces_over_many_links(self):
+        network = Network(network_text(16, [(16, other) for other in range(1, 16)], "cut 1\n").splitlines())
+        self.assertEqual(self.broken(network, topology.texts.starts(network)[1:] + ["rounds 5000"]), {frozenset((1, 16))})
+
     def test_what_leaves_no_room_for_the_question(self):
         origins = "".join(f"origin 1 20.{number}.0.0/16\n" for number in range(253))
         text = network_text(3, [(1, 2), (2, 3)], origins + "schedule\nstart 1 2\n")
@@ -271,6 +275,11 @@ class Film(unittest.TestCase):
             pictures = self.pictures(f"examples/play/{name}.txt")
             self.assertEqual([picture.texts["title"][0] for picture in pictures],
                              [f"{at}. {title}" for at, title in enumerate(titles, 1)])
+
+    def test_what_is_not_connected_is_not_judged(self):
+        first, second, _ = self.pictures("examples/play/disagree.txt")
+        self.assertEqual(("good" in first.texts, "bad" in first.texts), (False, False))
+        self.assertEqual(second.texts["good"], ["check without 1 2: stable"])
 
     def test_each_order(self):
         text = (TOP / "examples/play/session.txt").read_text()
