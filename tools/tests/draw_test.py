@@ -233,9 +233,11 @@ class Broken(unittest.TestCase):
             orders = [order for order in topology.texts.starts(network) if order != "start 3 1"] + ["rounds 3000"]
             self.assertEqual(self.broken(network, orders), {frozenset((1, 3))})
 
-    def test_small_pieces_over_many_links(self):
-        network = Network(network_text(16, [(16, other) for other in range(1, 16)], "cut 1\n").splitlines())
-        self.assertEqual(self.broken(network, topology.texts.starts(network)[1:] + ["rounds 5000"]), {frozenset((1, 16))})
+    def test_small_pieces_with_much_before_them(self):
+        origins = "".join(f"origin 1 20.{number}.0.0/16\n" for number in range(40))
+        network = Network(network_text(2, [(1, 2)], origins + "cut 1\n").splitlines())
+        orders = [*topology.texts.starts(network), "rounds 5000", *topology.texts.originations(network)]
+        self.assertEqual(self.broken(network, orders), set())
 
     def test_what_leaves_no_room_for_the_question(self):
         origins = "".join(f"origin 1 20.{number}.0.0/16\n" for number in range(253))
