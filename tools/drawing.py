@@ -1,6 +1,7 @@
 """Pictures of networks, as SVG: where routers stand, and what is drawn of each.
 
-Places are reckoned by sums, products, quotients and square roots alone, so that a picture is the same on every machine."""
+Places are reckoned by sums, products, quotients and square roots alone, so that a picture is the same on every
+machine."""
 import math
 from html import escape
 from xml.sax.saxutils import quoteattr
@@ -27,8 +28,10 @@ text { font: 11px "DejaVu Sans", Verdana, Helvetica, Arial, sans-serif; fill: #5
 .bad { fill: #d93025 }"""
 HEAD = """\
 <defs>
-<marker id="route" viewBox="0 0 10 10" refX="9" refY="5" markerWidth="5" markerHeight="5" orient="auto"><path d="M0 0L10 5L0 10z" fill="#188038"/></marker>
-<marker id="left" viewBox="0 0 10 10" refX="9" refY="5" markerWidth="5" markerHeight="5" orient="auto"><path d="M0 0L10 5L0 10z" fill="#d93025"/></marker>
+<marker id="route" viewBox="0 0 10 10" refX="9" refY="5" markerWidth="5" markerHeight="5" orient="auto">
+<path d="M0 0L10 5L0 10z" fill="#188038"/></marker>
+<marker id="left" viewBox="0 0 10 10" refX="9" refY="5" markerWidth="5" markerHeight="5" orient="auto">
+<path d="M0 0L10 5L0 10z" fill="#d93025"/></marker>
 </defs>"""
 
 RADIUS = 18
@@ -64,8 +67,8 @@ def around(at, number):
 
 
 def places(network, origin):
-    """Where each router stands, the origin below: as far apart as links lead, as well as can be (stress majorization, Gansner,
-    Koren and North 2004), from squares around the origin on."""
+    """Where each router stands, the origin below: as far apart as links lead, as well as can be (stress majorization,
+    Gansner, Koren and North 2004), from squares around the origin on."""
     routers = network.routers
     if len(routers) == 1:
         return {origin: (0.0, 0.0)}
@@ -77,7 +80,7 @@ def places(network, origin):
         for at, router in enumerate(own) if level else ():
             x, y = around(at * 100 + 37 * level, len(own) * 100 + 37 * level)
             spots[router] = (x * level, y * level)
-    pulls = {one: [(other, length, 1 / length**2) for other, length in apart[one].items() if other != one] for one in routers}
+    pulls = {one: [(other, length, 1 / length**2) for other, length in apart[one].items() if length] for one in routers}
     whole = {one: sum(pull for _, _, pull in pulls[one]) for one in routers}
     for _ in range(STEPS):
         spots = {one: pulled(spots, one, pulls[one], whole[one]) for one in routers}
@@ -126,16 +129,17 @@ def turned(spots, origin):
     if length < 0.05:
         return spots
     down_x, down_y = down_x / length, down_y / length
-    return {router: ((x - middle_x) * down_y - (y - middle_y) * down_x, (x - middle_x) * down_x + (y - middle_y) * down_y)
-            for router, (x, y) in spots.items()}
+    centred = {router: (x - middle_x, y - middle_y) for router, (x, y) in spots.items()}
+    return {router: (x * down_y - y * down_x, x * down_x + y * down_y) for router, (x, y) in centred.items()}
 
 
 # ---- what is drawn
 
 class Drawn:
-    """What a picture shows of a network beside its routers and links: for one prefix the routes of the routers that have
-    one, an unstable router with the path that it has and its best one, links whose session is down, routers to be marked,
-    a title, and captions with their classes."""
+    """What a picture shows of a network beside its routers and links: for one prefix the routes of the routers that
+    have one, an unstable router with the path that it has and its best one, links whose session is down, routers to
+    be marked, a title, and captions, each with whether it
+    is good."""
 
     def __init__(self, prefix, routes=None, unstable=None, broken=(), changed=(), title="", captions=()):
         self.prefix, self.routes, self.unstable = prefix, routes or {}, unstable
@@ -161,17 +165,22 @@ class Picture:
         """Reckons the places in pixels and the size. Answers on which side of each router its rule stands."""
         middle = sum(x for x, _ in spots.values()) / len(spots)
         sides = {router: 1 if x > middle - 0.001 else -1 for router, (x, _) in spots.items()}
-        reach = {router: RADIUS + 8 + max((LETTER * len(text) for text, _ in texts), default=0) for router, texts in self.texts.items()}
         link = LINK if len(spots) <= MOST_WITH_RULES else LONG_LINK
         scaled = {router: (x * link, y * link) for router, (x, y) in spots.items()}
-        left = min(x - (reach[router] if sides[router] < 0 else RADIUS + 5) for router, (x, _) in scaled.items())
-        right = max(x + (reach[router] if sides[router] > 0 else RADIUS + 5) for router, (x, _) in scaled.items())
+        left = min(x - self.reach(router, sides[router] < 0) for router, (x, _) in scaled.items())
+        right = max(x + self.reach(router, sides[router] > 0) for router, (x, _) in scaled.items())
         top, bottom = min(y for _, y in scaled.values()), max(y for _, y in scaled.values())
-        self.spots = {router: (round(x - left + MARGIN), round(y - top + TITLE + 25)) for router, (x, y) in scaled.items()}
+        away_x, away_y = MARGIN - left, TITLE + 25 - top
+        self.spots = {router: (round(x + away_x), round(y + away_y)) for router, (x, y) in scaled.items()}
         written = max([len(self.drawn.title) * 8.5] + [len(text) * LETTER for text, _ in self.drawn.captions])
         self.width = round(max(right - left, written) + 2 * MARGIN)
         self.height = round(bottom - top + TITLE + 65 + LINE * len(self.drawn.captions))
         return sides
+
+    def reach(self, router, has_texts):
+        """How far what is drawn of a router goes to a side, the one where its rule stands or the other."""
+        longest = max((len(text) for text, _ in self.texts[router]), default=0)
+        return RADIUS + 8 + LETTER * longest if has_texts else RADIUS + 5
 
     def rule_texts(self, router):
         """What is written beside a router, each with its class: the paths of its rule, or its route alone."""
@@ -195,7 +204,8 @@ class Picture:
     def add(self, tag, text=None, **attributes):
         """Adds an element; an attribute `class_` is written `class`, and `x_1` is `x1`."""
         spelt = "".join(f" {name.replace('_', '')}={quoteattr(str(value))}" for name, value in attributes.items())
-        self.elements.append(f"<{tag}{spelt}/>" if text is None else f"<{tag}{spelt}>{escape(printable(text), quote=False)}</{tag}>")
+        inner = "/>" if text is None else f">{escape(printable(text), quote=False)}</{tag}>"
+        self.elements.append(f"<{tag}{spelt}{inner}")
 
     def arrow(self, router, peer, kind):
         """An arrow from a router to the next one on its path, a little beside the link."""
@@ -223,8 +233,9 @@ class Picture:
             self.draw_router(router, router == unstable[0])
         if self.drawn.title:
             self.add("text", self.drawn.title, class_="title", x=MARGIN, y=MARGIN + 8)
-        for at, (text, kind) in enumerate(self.drawn.captions):
-            self.add("text", text, class_=kind, x=MARGIN, y=self.height - MARGIN - LINE * (len(self.drawn.captions) - 1 - at))
+        first = self.height - MARGIN - LINE * (len(self.drawn.captions) - 1)
+        for at, (text, is_good) in enumerate(self.drawn.captions):
+            self.add("text", text, class_="good" if is_good else "bad", x=MARGIN, y=first + LINE * at)
 
     def draw_router(self, router, is_unstable):
         x, y = self.spots[router]
@@ -246,13 +257,19 @@ class Picture:
             self.add("text", text, class_=kinds, x=x + side * (RADIUS + 8), y=y - 7 * (len(texts) - 1) + LINE * at + 4)
 
 
+def verdicts(lines):
+    """Captions of lines that say how snapshots came out."""
+    return [(line, line.endswith(" settled")) for line in lines]
+
+
 def svg(pictures, columns=1):
     """The text of a file with pictures side by side, so many in a row."""
     width = max(picture.width for picture in pictures)
     height = max(picture.height for picture in pictures)
     rows = -(-len(pictures) // columns)
-    size = width * min(columns, len(pictures)), height * rows
-    lines = [f'<svg xmlns="http://www.w3.org/2000/svg" width="{size[0]}" height="{size[1]}" viewBox="0 0 {size[0]} {size[1]}">',
+    whole_width, whole_height = width * min(columns, len(pictures)), height * rows
+    lines = [f'<svg xmlns="http://www.w3.org/2000/svg" width="{whole_width}" height="{whole_height}" '
+             f'viewBox="0 0 {whole_width} {whole_height}">',
              f"<style>\n{STYLE}\n</style>", HEAD, '<rect width="100%" height="100%" fill="white"/>']
     for at, picture in enumerate(pictures):
         lines.append(f'<g transform="translate({at % columns * width} {at // columns * height})">')

@@ -1,4 +1,4 @@
-"""Networks as the program reads them, of texts that it has taken: the program alone refuses (`read_network` asks it)."""
+"""Networks as the program reads them, of texts that it has taken: it alone refuses (`read_network` asks it)."""
 from collections import namedtuple
 
 # The limits of networks (docs/TEXTS.md).
@@ -58,8 +58,8 @@ def words_of(line):
 
 
 def parts_of(text):
-    """The lines of the network, the word of the section behind it (none without a section), and the section's lines.
-    The n-th line of the text is the n-th of both, the section's own counted with the network's."""
+    """The lines of the network, the last of them that of its section where there is one; the section's word, or None;
+    and the lines behind it."""
     lines = text.split("\n")
     for at, line in enumerate(lines):
         words = words_of(line)
@@ -72,7 +72,8 @@ class Network:
     """The routers, links, origins and rules of a network.
 
     `lines` are its lines without those that are skipped, `peers` the peers of each router, rising, `origins` the
-    router of each prefix, by address, then length, `rules` those of each router, and `cut` the most octets of a piece."""
+    router of each prefix, by address, then length, `rules` those of each router, and `cut` the most octets of a
+    piece."""
 
     def __init__(self, lines):
         self.lines, self.routers, self.links, self.peers, self.rules = [], [], [], {}, {}

@@ -78,7 +78,7 @@ class Program:
 
     def __init__(self, path):
         if not os.access(path, os.X_OK) or os.path.isdir(path):
-            raise Refusal(f"no program at {path}: `rt run -- play < stdin` in crates/bgpnet makes it, --program names another")
+            raise Refusal(f"no program at {path}: `rt run -- play < stdin` in crates/bgpnet makes it")
         self.path = os.path.abspath(path)
 
     def ask(self, words, text):

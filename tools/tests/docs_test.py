@@ -1,4 +1,5 @@
-"""Runs what docs/TOOLS.md shows, as it is written, and compares. Where it names the built program, it is the one of the test."""
+"""Runs what docs/TOOLS.md shows, as it is written, and compares. Where it names the built program, it is the one of the
+test."""
 import os
 import pathlib
 import subprocess

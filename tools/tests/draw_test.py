@@ -1,5 +1,5 @@
-"""Tests of `draw`, `film` and `pictures`. Pictures are read as XML: where each router stands, from where to where arrows go,
-and what is written; what they have to show is asked of the program."""
+"""Tests of `draw`, `film` and `pictures`. Pictures are read as XML: where each router stands, from where to where
+arrows go, and what is written; what they have to show is asked of the program."""
 import itertools
 import math
 import random
@@ -11,6 +11,7 @@ from support import TOP, TOOLS, asked_program, load, program_path, run
 
 import drawing
 import playing
+import program
 from network import Network, routes_of
 
 film = load("film")
@@ -179,13 +180,12 @@ class Draw(unittest.TestCase):
 
     def test_refusals(self):
         text = (TOP / "examples/disagree.txt").read_text()
-        for wrong, said in ((text.replace("link 2 3", "link 2 9"), "N3: a router that no earlier line names"),
-                            (text.replace("path 2 10.1.0.0/16 2-3-1", "path 2 10.1.0.0/16 2-4-1"), "N3: a router that no earlier line names"),
-                            (text.replace("path 2 10.1.0.0/16 2-3-1", "path 2 10.1.0.0/16 2-1-3"), "S1: a path that isn't permitted"),
-                            (text + "schedule\n", "N1: an unknown first word, a wrong number of words, or an octet past ASCII")):
-            status, out, error = run("draw", "-", given=wrong.encode())
-            line = next((at for at, (was, now) in enumerate(itertools.zip_longest(text.splitlines(), wrong.splitlines()), 1) if was != now))
-            self.assertEqual((status, out, error), (1, "", f"draw: -:{line}: {said}\n"))
+        path = "path 2 10.1.0.0/16 2-3-1"
+        for wrong, code in ((text.replace("link 2 3", "link 2 9"), "N3"), (text.replace(path, "path 2 10.1.0.0/16 2-4-1"), "N3"),
+                            (text.replace(path, "path 2 10.1.0.0/16 2-1-3"), "S1"), (text + "schedule\n", "N1")):
+            pairs = itertools.zip_longest(text.splitlines(), wrong.splitlines())
+            line = next(at for at, (was, now) in enumerate(pairs, 1) if was != now)
+            self.assertEqual(run("draw", "-", given=wrong.encode()), (1, "", f"draw: -:{line}: {code}: {program.CODES[code]}\n"))
         for word in ("10.2.0.0/16", "x", "1.2.3.4/99"):
             self.assertEqual(run("draw", "examples/ring.txt", "--prefix", word), (1, "", f"draw: no origin has the prefix {word}\n"))
         self.assertEqual(run("draw", "nothing"), (1, "", "draw: nothing: No such file or directory\n"))
@@ -221,8 +221,9 @@ class Broken(unittest.TestCase):
         network = Network(network_text(3, [(1, 2), (2, 3), (1, 3)]).splitlines())
         up = topology.texts.starts(network) + ["rounds 40"]
         sets = {name: {frozenset(map(int, link)) for link in name.split()} for name in ("12", "12 23", "12 23 13", "")}
-        for orders, wanted in ((["stop 1 2"], "12"), (["stop 1 2", "rounds 5", "start 1 2", "start 2 1"], ""), (["reset 2 1", "rounds 5"], "12"),
-                               (["restart 2", "rounds 5"], "12 23"), (["ticks 90"], "12 23 13"), (["ticks 30"], ""), ([], "")):
+        for orders, wanted in ((["stop 1 2"], "12"), (["stop 1 2", "rounds 5", "start 1 2", "start 2 1"], ""),
+                               (["reset 2 1", "rounds 5"], "12"), (["restart 2", "rounds 5"], "12 23"),
+                               (["ticks 90"], "12 23 13"), (["ticks 30"], ""), ([], "")):
             self.assertEqual(self.broken(network, up + orders), sets[wanted], orders)
 
     def test_rules_and_prefixes_in_the_way(self):
@@ -243,11 +244,13 @@ class Broken(unittest.TestCase):
         origins = "".join(f"origin 1 20.{number}.0.0/16\n" for number in range(253))
         text = network_text(3, [(1, 2), (2, 3)], origins + "schedule\nstart 1 2\n")
         self.assertEqual(run("film", "-", given=text.encode()),
-                         (1, "", "film: whether sessions are up can't be asked: that takes a prefix more for each router, 256 in all\n"))
+                         (1, "", "film: whether sessions are up can't be asked: that takes a prefix more for each router, and a "
+                                 "network has at most 256\n"))
         rules = "".join(f"rank 2 20.{number}.0.0/16\n" for number in range(62))
         text = network_text(3, [(1, 2), (2, 3)], rules + "schedule\nstart 1 2\n")
         self.assertEqual(run("film", "-", given=text.encode()),
-                         (1, "", "film: whether the sessions of 2 are up can't be asked: that takes a rule more, and one for each peer\n"))
+                         (1, "", "film: whether sessions are up can't be asked: that takes a rule more, and one for each peer, "
+                                 "and 2 has 62 of 64\n"))
 
 
 class Film(unittest.TestCase):
@@ -288,9 +291,9 @@ class Film(unittest.TestCase):
         orders = [line for line in text.split("\nschedule\n")[1].splitlines() if line and not line.startswith("#")]
         pictures = self.pictures("examples/play/session.txt", "--each")
         self.assertEqual(len(pictures), len(orders))
-        program, network = asked_program(), Network(text.split("\nschedule\n")[0].splitlines())
+        asked, network = asked_program(), Network(text.split("\nschedule\n")[0].splitlines())
         for at, picture in enumerate(pictures, 1):
-            state = playing.state_behind(program, network, orders[:at], "session")
+            state = playing.state_behind(asked, network, orders[:at], "session")
             self.assertEqual(sorted(picture.has("route")),
                              hops({router: path for (router, _), path in state.routes.items()}))
 

@@ -1,5 +1,5 @@
-"""Tests of `settle`. What it finds in random policies is compared with all assignments there are, and with the definition of
-a dispute wheel, without its code; then with what the program plays."""
+"""Tests of `settle`. What it finds in random policies is compared with all assignments there are, and with the
+definition of a dispute wheel, without its code; then with what the program plays."""
 import itertools
 import pathlib
 import random
@@ -47,8 +47,8 @@ def stable_ones(rules):
 
 
 def least_wheel(live):
-    """The size of the smallest circle in the relation of spokes, 0 where there is none: Q of u is before T of v where u likes
-    a path that ends with T no less than Q."""
+    """The size of the smallest circle in the relation of spokes, 0 where there is none: Q of u is before T of v where u
+    likes a path that ends with T no less than Q."""
     spokes = [path for paths in live.values() for path in paths]
     following = {}
     for spoke in spokes:
@@ -114,7 +114,7 @@ class RandomPolicies(unittest.TestCase):
             ends = settle.play_orders(program, network, ["rising", "lock-step", 1, 2])
             with self.subTest(rule=rule.__name__, seed=seed):
                 for said, routes in ends:
-                    self.assertTrue(said != "settled" or routes in stable)
+                    self.assertTrue(said != "settled" or tuple(path for _, path in routes) in stable)
                     self.assertTrue(wheel or said == "settled")
 
 
@@ -195,6 +195,11 @@ class Printed(unittest.TestCase):
             status, out, error = run("settle", "examples/disagree.txt", "--program", program)
             self.assertEqual((status, error), (1, "settle: the program does not confirm what is found here\n"))
             self.assertEqual(out.count("check: unstable 2 has 2-1 best 2-3-1"), 2)
+            program.write_text("#!/bin/sh\nif read -r _ && grep -q schedule; then echo snapshot 1 settled; "
+                               "printf 'route %s 10.1.0.0/16 none\\n' 1 2 3; echo now; else echo stable; fi\n")
+            status, out, error = run("settle", "examples/disagree.txt", "--program", program, "--play", 0)
+            self.assertEqual((status, error), (1, "settle: the program does not confirm what is found here\n"))
+            self.assertEqual(run("settle", "examples/disagree.txt", "--program", program)[0], 0)
             program.write_text("#!/bin/sh\necho memory; exit 3\n")
             self.assertEqual(run("settle", "examples/disagree.txt", "--program", program),
                              (1, "", "settle: bgpnet check ends with status 3: memory\n"))

@@ -274,8 +274,8 @@ class Segments(unittest.TestCase):
 
 
 def example():
-    """The capture of the examples: router 1 starts the session, and announces two prefixes; a piece of its last message is
-    sent twice; all stands behind a VLAN tag."""
+    """The capture of the examples: router 1 starts the session, and announces two prefixes; a piece of its last message
+    is sent twice; all stands behind a VLAN tag."""
     segments = conversation(speech(1, 2), speech(2, 0), size=37)
     return pcap(1, [FRAMES["a VLAN tag"][1](packet(said)) for said in [*segments[:9], *segments[8:]]])
 
