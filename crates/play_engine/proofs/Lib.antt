@@ -1,3 +1,4 @@
 pub mod PlayLemmas
 pub mod PartLemmas
 pub mod SettledLemmas
+pub mod CutLemmas

@@ -23,7 +23,7 @@ use Rattle.schedule_text.specs.declared.schedule.ScheduledOrder.{ScheduledOrder}
 use Rattle.play_engine.specs.declared.schedules.Stop.{Stop}
 use Rattle.text_engines.specs.Decoding.{Output, output}
 use Rattle.play_engine.specs.Reporting.{AreDecided, snapshots_text, now_text}
-use Rattle.play_engine.specs.Playing.{all_events, LeadTo, IsFirstRefused, Obeyed, Reports, OrdersGive, stopped}
+use Rattle.play_engine.specs.Playing.{all_events, LeadTo, IsFirstRefused, Obeyed, IsReport, Shows, OrdersGive, stopped}
 use Rattle.text_engines.proofs.CheckLemmas.{parted}
 use Rattle.play_engine.proofs.SettledLemmas.{can_be_believed}
 
@@ -92,15 +92,16 @@ text_on {X} f xs i x old new all lt is put h =
     ∙ ap (λ (t : List ℕ). old ++ t) (sym (ap (flat_map f) (drop_more xs i x lt ∙ ap (λ (y : X). y ∷ drop (i + 1) xs) (sym is)))) ∙ h
 
 -- from a new world: what is printed where all orders were obeyed, and where one was refused
-pub reported : (net : Plan) (orders : List ScheduledOrder) (x y : WorldView) (out : Output) → Opens net x → y.net ≡ x.net → Obeyed (Ok tt) x orders y → KeepsPromises y → Reports y out → OrdersGive net orders out
-reported net orders x y out opens same obeyed keeps gives = λ (g : Setting) (e : g.net ≡ net) (chooses : ChoosesByRank g).
-    let was = e ∙ sym opens.0 in
-    let is = was ∙ sym same in
-    inl (plain_world y, subst (λ (w : World). LeadTo g w orders (plain_world y)) (opens.1 g e) (obeyed g was chooses), keeps g is, gives g is)
+module _ (Gives : Setting → World → Output → Type 0) where
+  pub shown : (net : Plan) (orders : List ScheduledOrder) (x y : WorldView) (out : Output) → Opens net x → y.net ≡ x.net → Obeyed (Ok tt) x orders y → KeepsPromises y → Shows Gives y out → OrdersGive Gives net orders out
+  shown net orders x y out opens same obeyed keeps gives = λ (g : Setting) (e : g.net ≡ net) (chooses : ChoosesByRank g).
+      let was = e ∙ sym opens.0 in
+      let is = was ∙ sym same in
+      inl (plain_world y, subst (λ (w : World). LeadTo g w orders (plain_world y)) (opens.1 g e) (obeyed g was chooses), keeps g is, gives g is)
 
-pub halted : (net : Plan) (orders : List ScheduledOrder) (x y : WorldView) (stop : Stop) → Opens net x → Obeyed (Err stop) x orders y → stop.why ≢ Memory → OrdersGive net orders (stopped stop)
-halted net orders x y stop opens obeyed kind = λ (g : Setting) (e : g.net ≡ net) (chooses : ChoosesByRank g).
-    inr (stop, kind, subst (λ (w : World). IsFirstRefused g w orders stop) (opens.1 g e) (obeyed g (e ∙ sym opens.0) chooses), refl)
+  pub halted : (net : Plan) (orders : List ScheduledOrder) (x y : WorldView) (stop : Stop) → Opens net x → Obeyed (Err stop) x orders y → stop.why ≢ Memory → OrdersGive Gives net orders (stopped stop)
+  halted net orders x y stop opens obeyed kind = λ (g : Setting) (e : g.net ≡ net) (chooses : ChoosesByRank g).
+      inr (stop, kind, subst (λ (w : World). IsFirstRefused g w orders stop) (opens.1 g e) (obeyed g (e ∙ sym opens.0) chooses), refl)
 
 -- the numbers that the collector calls decided are those whose offers decide
 decided_are : (k kept : CollectorView) (members : List Member) (numbers : List ℕ) → map member_of k.members ≡ members → k ≡ kept → collected.AreDecided k numbers → AreDecided members (made_for kept) numbers
@@ -123,7 +124,7 @@ report_is none first second all snapshots now routes empty one two three =
 
 -- a report of a world, by what its collector says
 pub reports : (x : WorldView) (k : CollectorView) (numbers all : List ℕ) → k ≡ x.collector → map member_of k.members ≡ members_of x.net → collected.AreDecided k numbers → JudgesItsRuns x → SettledCanBeBelieved x → KeepsPromises x
-    → output all 0 ≡ output (snapshots_text x.net (map member_of k.members) (made_for k) numbers ++ now_text x.net (plain_world x)) 0 → Reports x (output all 0)
+    → output all 0 ≡ output (snapshots_text x.net (map member_of k.members) (made_for k) numbers ++ now_text x.net (plain_world x)) 0 → Shows IsReport x (output all 0)
 reports x k numbers all same are decided judges belief keeps printed = λ (g : Setting) (e : g.net ≡ x.net).
     let here = are ∙ ap members_of (sym e) in
     let kept = ap (λ (j : CollectorView). map member_of j.members) (sym same) ∙ here in

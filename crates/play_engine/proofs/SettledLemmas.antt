@@ -1,4 +1,4 @@
--- What is printed of a settled snapshot is what every router recorded.
+-- What is printed of a snapshot that is settled or moving is what every router recorded.
 use Rattle.std.proofs.Common.{◌≡◌, ℕ, ◌==◌, Bool, true, false, ◌&&◌, cond, List, [], ◌∷◌, ◌++◌, map, filter, Option, Some, None, refl, sym, ap, subst, ◌∙◌, inl, inr}
 use Rattle.std.specs.Prelude.{◌||◌}
 use Rattle.std.specs.List.{list_any}
@@ -11,28 +11,29 @@ use Rattle.run_model.specs.Offers.{Finished, Lost, Why, Outcome, Settled, IsIn, 
 use Rattle.snap_marker.specs.Recordings.{RouterOffer, RouterPart, MadeOffer}
 use Rattle.snap_collector.specs.Verdicts.{Member, has_part, of_part, all_parts, first_fault, decides, whole_or_waiting, abandoned_by, abandoned_or, verdict}
 use Rattle.snap_collector.specs.Collector.{kept_behind, kept_of, is_for}
+use Rattle.snap_collector.specs.Flights.{part_or, is_whole}
 use Rattle.router_model.specs.Settings.{Setting, IsSetting, is_router, peers}
 use Rattle.router_runs.specs.Runs.{RunOrder, RunState, IsRunTo, logged_steps}
 use Rattle.router_runs.specs.Snapshots.{HaveMade, IsBelievable}
 use Rattle.world_core.specs.World.{World, AgreesWith}
 use Rattle.world_core.specs.Keeping.{KeepsItsPromises}
 use Rattle.world_core.specs.Verdicts.{members_of}
-use Rattle.play_engine.specs.Reporting.{deciding, outcome, recorded, part_or}
+use Rattle.play_engine.specs.Reporting.{deciding, outcome, recorded}
 use Rattle.play_engine.specs.Playing.{CanBeBelieved}
 
--- ---- settled has a part of every router
+-- ---- it has a part of every router
 
-not_lost : (u : ℕ) (o : RouterOffer) (rest other : Outcome) → abandoned_by u o rest ≡ Settled → (rest ≡ Settled → other ≡ Settled) → other ≡ Settled
+not_lost : (u : ℕ) (o : RouterOffer) (rest other : Outcome) → is_whole (abandoned_by u o rest) ≡ true → (is_whole rest ≡ true → is_whole other ≡ true) → is_whole other ≡ true
 not_lost u (Finished s part) rest other h go = go h
 not_lost u (Lost s v e cause) rest other h go = absurd cc
 
-no_loss : (ms : List MadeOffer) (other : Outcome) → abandoned_or ms other ≡ Settled → other ≡ Settled
+no_loss : (ms : List MadeOffer) (other : Outcome) → is_whole (abandoned_or ms other) ≡ true → is_whole other ≡ true
 no_loss [] other h = h
 no_loss (m ∷ ms) other h = not_lost m.router m.offer (abandoned_or ms other) other h (no_loss ms other)
 
-whole : (b : Bool) (fault : Option (ℕ × Why)) → whole_or_waiting b fault ≡ Settled → b ≡ true
-whole true fault h = refl
-whole false fault h = absurd cc
+all_have : (b : Bool) (fault : Option (ℕ × Why)) → is_whole (whole_or_waiting b fault) ≡ true → b ≡ true
+all_have true fault h = refl
+all_have false fault h = absurd cc
 
 part_at : (u n : ℕ) (ms : List MadeOffer) (b c : Bool) → (u == n) ≡ b → has_part ms n (λ part. true) ≡ true → (b || c) ≡ true → (c ≡ true → has_part ms u (λ part. true) ≡ true) → has_part ms u (λ part. true) ≡ true
 part_at u n ms true c is here h go = subst (λ k. has_part ms k (λ part. true) ≡ true) (sym (eqb-true u n is)) here
@@ -114,7 +115,7 @@ AreOffersOf made offered = (t : ℕ) → made t ≡ filter (is_for t) offered
 abbrev pub parts_in : List MadeOffer → ℕ → RouterPart
 parts_in ms u = the_part (recorded ms u)
 
-module _ (g : Setting) (made : ℕ → List MadeOffer) (s : ℕ) (settled : outcome g.net made s ≡ Settled) where
+module _ (g : Setting) (made : ℕ → List MadeOffer) (s : ℕ) (whole : is_whole (outcome g.net made s) ≡ true) where
   abbrev parts_of : ℕ → RouterPart
   parts_of = parts_in (deciding g.net made s)
 
@@ -122,7 +123,7 @@ module _ (g : Setting) (made : ℕ → List MadeOffer) (s : ℕ) (settled : outc
   printed_is u i =
       let ms = deciding g.net made s in
       let members = members_of g.net in
-      let all = whole (all_parts members ms) (first_fault members ms) (no_loss ms (whole_or_waiting (all_parts members ms) (first_fault members ms)) settled) in
+      let all = all_have (all_parts members ms) (first_fault members ms) (no_loss ms (whole_or_waiting (all_parts members ms) (first_fault members ms)) whole) in
       let p = is_recorded ms u (part_of_each (numbers g.net.routers) (peers g.net) ms u all i) in
       the_same (recorded ms u) p.0 p.1
 
@@ -143,10 +144,11 @@ module _ (g : Setting) (w : World) (s : ℕ) (settled : outcome g.net w.made s �
   can_be_believed keeps belief =
       let k = keeps.run in
       let parts = parts_in (deciding g.net w.made s) in
-      let made = have_made g w.made s settled in
+      let whole = ap is_whole settled in
+      let made = have_made g w.made s whole in
       record {
         parts = parts;
-        printed = printed_is g w.made s settled;
+        printed = printed_is g w.made s whole;
         stable = (belief k.order [] k.state k.state k.run refl k.agrees parts (made k.state k.agrees.offers_made)).stable;
         believed = λ before later at last run goes agrees. belief before later at last run goes agrees parts (made last agrees.offers_made);
       }

@@ -1,2 +1,3 @@
 pub mod Reporting
 pub mod Playing
+pub mod Cutting

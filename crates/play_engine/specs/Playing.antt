@@ -27,7 +27,7 @@ use Rattle.play_engine.specs.declared.schedules.Stop.{Stop}
 use Rattle.text_engines.specs.declared.status.TheConstants.{DONE, REFUSED}
 use Rattle.text_engines.specs.Decoding.{Output, output, refused}
 use Rattle.play_engine.specs.Reporting.{AreDecided, deciding, outcome, recorded, snapshots_text, now_text}
-use Rattle.text_engines.specs.Inputs.{InputGives, Prints}
+use Rattle.text_engines.specs.Inputs.{Prints}
 
 -- ---- what is printed of a world
 
@@ -49,9 +49,9 @@ pub record IsReport (g : Setting) (w : World) (out : Output) : Type 0 where
   pub settled : IsSetting g → (s : ℕ) → outcome g.net w.made s ≡ Settled → CanBeBelieved g w s
   pub printed : out ≡ output (snapshots_text g.net (members_of g.net) w.made decided ++ now_text g.net w) DONE
 
--- what is printed of the world of the code, in every setting of its network
-abbrev pub Reports : WorldView → Output → Type 0
-Reports x out = (g : Setting) → g.net ≡ x.net → IsReport g (plain_world x) out
+-- what is shown of the world of the code, in every setting of its network, where this says what is shown of a world
+abbrev pub Shows : (Setting → World → Output → Type 0) → WorldView → Output → Type 0
+Shows Gives x out = (g : Setting) → g.net ≡ x.net → Gives g (plain_world x) out
 
 -- ---- what orders lead to
 
@@ -82,29 +82,25 @@ Obeyed r x orders y =
     (g : Setting) → g.net ≡ x.net → ChoosesByRank g
     → MatchResult r (λ _. LeadTo g (plain_world x) orders (plain_world y)) (λ stop. IsFirstRefused g (plain_world x) orders stop)
 
--- ---- what is printed
+-- ---- what is printed, where this says what is shown of the world that the orders lead to
 
 abbrev pub stopped : Stop → Output
 stopped stop = output (stop_line stop.line stop.why) REFUSED
 
--- for the orders of a schedule, in every setting of the network that chooses by rank: a report of the world that they lead to, in
--- which UPDATEs passed in order; or the first that is refused
-abbrev pub OrdersGive : Plan → List ScheduledOrder → Output → Type 0
-OrdersGive net orders out =
+-- for the orders of a schedule, in every setting of the network that chooses by rank: what is shown of the world that they lead to,
+-- in which UPDATEs passed in order; or the first that is refused
+abbrev pub OrdersGive : (Setting → World → Output → Type 0) → Plan → List ScheduledOrder → Output → Type 0
+OrdersGive Gives net orders out =
     (g : Setting) → g.net ≡ net → ChoosesByRank g
-    → ((w : World) × LeadTo g (new_world g) orders w × (IsSetting g → KeepsItsPromises g w) × IsReport g w out)
+    → ((w : World) × LeadTo g (new_world g) orders w × (IsSetting g → KeepsItsPromises g w) × Gives g w out)
     ⊎ ((stop : Stop) × (stop.why ≢ Memory) × IsFirstRefused g (new_world g) orders stop × (out ≡ stopped stop))
 
 -- for the lines of a schedule, so many lines standing before them
-abbrev pub ScheduleGives : Plan → ℕ → List Text → Output → Type 0
-ScheduleGives net before lines out =
+abbrev pub ScheduleGives : (Setting → World → Output → Type 0) → Plan → ℕ → List Text → Output → Type 0
+ScheduleGives Gives net before lines out =
     ((at : ℕ) × (code : Code) × (code ≢ kinds.Memory) × RefusesSchedule net before lines at code × (out ≡ refused at (code_text code)))
-    ⊎ ((orders : List ScheduledOrder) × SpellsSchedule net before lines orders × OrdersGive net orders out)
+    ⊎ ((orders : List ScheduledOrder) × SpellsSchedule net before lines orders × OrdersGive Gives net orders out)
 
--- for an input of a network and a schedule
-abbrev pub PlayGives : List ℕ → Output → Type 0
-PlayGives input out = InputGives ScheduleGives (codes "schedule") input out
-
--- what the program prints: that, or that memory ran out
+-- what `play` prints for an input of a network and a schedule: that, with a report of the world, or that memory ran out
 abbrev pub Plays : List ℕ → Output → Type 0
-Plays input out = Prints ScheduleGives (codes "schedule") input out
+Plays input out = Prints (ScheduleGives IsReport) (codes "schedule") input out

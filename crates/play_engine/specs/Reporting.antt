@@ -1,13 +1,14 @@
 -- What is printed of a world: how its snapshots came out, and the routes that its routers keep.
-use Rattle.std.specs.Prelude.{◌≡◌, ℕ, ◌<◌, ◌==◌, ◌↔◌, true, cond, List, [], ◌∷◌, ◌++◌, Option, None, Some}
+use Rattle.std.specs.Prelude.{◌≡◌, ℕ, ◌<◌, ◌↔◌, true, List, [], ◌∷◌, ◌++◌, Option, None, Some}
 use Rattle.std.specs.List.{flat_map, AllPairs, Contains}
 use Rattle.prefix_lanes.specs.Bits.{PrefixView}
 use Rattle.ranked_policy.specs.Plans.{Plan}
 use Rattle.ranked_policy.specs.declared.network.Origin.{Origin}
-use Rattle.run_model.specs.Offers.{Finished, Lost, Outcome, Waiting, Abandoned, Moving, Settled}
-use Rattle.snap_marker.specs.Recordings.{RouterOffer, RouterPart, MadeOffer}
+use Rattle.run_model.specs.Offers.{Outcome, Waiting, Abandoned, Moving, Settled}
+use Rattle.snap_marker.specs.Recordings.{RouterPart, MadeOffer}
 use Rattle.snap_collector.specs.Verdicts.{Member, decides, verdict}
 use Rattle.snap_collector.specs.Collector.{kept_of}
+use Rattle.snap_collector.specs.Flights.{part_in}
 use Rattle.world_core.specs.World.{World}
 use Rattle.world_core.specs.Verdicts.{members_of}
 use Rattle.schedule_text.specs.Reports.{snapshot_line, route_line, now_line}
@@ -28,13 +29,8 @@ now_text net w = now_line ++ routes_text net w
 -- ---- snapshots
 
 -- what a router recorded: its first part among these offers
-abbrev pub part_or : RouterOffer → Option RouterPart → Option RouterPart
-part_or (Finished s part) rest = Some part
-part_or (Lost s v e cause) rest = rest
-
 abbrev pub recorded : List MadeOffer → ℕ → Option RouterPart
-recorded [] u = None
-recorded (m ∷ ms) u = cond (u == m.router) (part_or m.offer (recorded ms u)) (recorded ms u)
+recorded offers u = part_in offers u
 
 -- the path that it recorded for the prefix of each origin
 abbrev pub part_text : List Origin → ℕ → Option RouterPart → List ℕ

@@ -1,62 +1,15 @@
 //! `bgpnet play`: the routes that a schedule leads to.
 
-ghost use Rattle.std.specs.Prelude.{◌≡◌, ◌≤◌, ◌^◌, ◌<◌, ◌+◌, ◌⊎◌, length, IfOk, OnOk, OnErr, true, false};
-ghost use Rattle.net_text.specs.Lexing.{lines_of};
-ghost use Rattle.text_engines.specs.Decoding.{output};
+ghost use Rattle.std.specs.Prelude.{◌≡◌, ◌⊎◌, IfOk, OnOk, OnErr, true, false};
 ghost use Rattle.text_engines.specs.Engine.{PrintedBy, PrintedFrontBy};
-ghost use Rattle.text_engines.specs.Inputs.{NetworkGives};
-ghost use Rattle.play_engine.specs.Playing.{ScheduleGives, PlayGives, Plays};
+ghost use Rattle.play_engine.specs.Playing.{Plays};
 
-use crate::schedules::orders_output;
-use net_text::{Code, Split, read_network, split_at_section};
-use ranked_policy::Network;
-use schedule_text::read_schedule;
-use std::alloc::{AllocError, Global};
-use text_engines::{
-    INPUT_LIMIT, InputError, IoStopped, Sink, Source, read_input, refused_output, text_output,
-    want_of_memory, write_out,
-};
+use crate::stream::{Shown, schedule_stream};
+use std::alloc::Global;
+use text_engines::{IoStopped, Sink, Source};
 
-// What is printed for a schedule, so many lines standing before it.
-fn schedule_output(
-    alloc: Global,
-    network: &Network,
-    before: usize,
-    text: &[u8],
-) -> Result<(Vec<u8>, u8), AllocError>
-    requires { before + length text.now < 2 ^ 64 }
-    ensures { IfOk result (λ printed. ScheduleGives network.now before (lines_of text.now) (output printed.0.items printed.1)) }
-{
-    match read_schedule(alloc, text, before, network) {
-        Ok(orders) => orders_output(alloc, network, orders.as_slice()),
-        Err(refused) => text_output(alloc, &refused),
-    }
-}
-
-// What is printed for a network and a schedule behind it.
-fn network_output(alloc: Global, split: &Split) -> Result<(Vec<u8>, u8), AllocError>
-    requires { split.now.before + length split.now.behind.now < 2 ^ 64 }
-    ensures { IfOk result (λ printed. NetworkGives ScheduleGives (lines_of split.now.front.now) split.now.before (lines_of split.now.behind.now) (output printed.0.items printed.1)) }
-{
-    match read_network(alloc, split.front) {
-        Ok(network) => schedule_output(alloc, &network, split.before, split.behind),
-        Err(refused) => text_output(alloc, &refused),
-    }
-}
-
-// What is printed for an input, and the status.
-fn play_output(alloc: Global, input: Vec<u8>) -> Result<(Vec<u8>, u8), AllocError>
-    ensures { IfOk result (λ printed. PlayGives input.items (output printed.0.items printed.1)) }
-{
-    if input.len() > INPUT_LIMIT {
-        return refused_output(alloc, 0, Code::OutOfLimit.text());
-    }
-    let split = split_at_section(input.as_slice(), b"schedule");
-    network_output(alloc, &split)
-}
-
-/// Reads a network and a schedule, and writes the routes of the world that the schedule leads to, or
-/// the first line that is refused; answers the status.
+/// Reads a network and a schedule, and writes how the snapshots came out and the routes of the world that
+/// the schedule leads to, or the first line that is refused; answers the status.
 ///
 /// Where memory is refused it writes `memory` alone and answers 3. It stops only where a read or a
 /// write failed, and then what was written is a beginning of the text.
@@ -75,16 +28,5 @@ pub fn play_stream<S: Source, T: Sink>(
     // A failed read or write leaves a beginning of the text.
     ensures stopped { OnErr result (PrintedFrontBy Plays (S.remaining source.old) (T.contents sink.old) (T.contents sink.new)) }
 {
-    let input = match read_input(alloc, source) {
-        Ok(input) => input,
-        Err(InputError::Memory) => return want_of_memory(sink),
-        Err(InputError::Stopped) => return Err(IoStopped),
-    };
-    match play_output(alloc, input) {
-        Ok((text, status)) => {
-            write_out(sink, text.as_slice())?;
-            Ok(status)
-        }
-        Err(_) => want_of_memory(sink),
-    }
+    schedule_stream(alloc, Shown::Report, source, sink)
 }

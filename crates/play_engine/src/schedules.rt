@@ -1,13 +1,16 @@
-//! What `bgpnet play` prints for a network and the orders of a schedule.
+//! What is printed for a network and the orders of a schedule.
 
 ghost use Rattle.std.specs.Prelude.{◌≡◌, ◌≢◌, ◌++◌, IfOk, OnOk, MatchResult};
 ghost use Rattle.router_core.specs.Views.{plain_of};
 ghost use Rattle.world_core.specs.Views.{plain_world, Opens, KeepsPromises};
 ghost use Rattle.text_engines.specs.Decoding.{output};
 ghost use Rattle.play_engine.specs.Reporting.{router_text, routes_text};
-ghost use Rattle.play_engine.specs.Playing.{Obeyed, Reports, stopped, OrdersGive};
+ghost use Rattle.play_engine.specs.Playing.{Obeyed, IsReport, Shows, stopped, OrdersGive};
+ghost use Rattle.play_engine.specs.Cutting.{IsShown};
 
+use crate::cuts::cut_output;
 use crate::snapshots::put_snapshots;
+use crate::stream::Shown;
 use ranked_policy::{Asn, Network, Origin};
 use router_core::Router;
 use schedule_text::{ScheduledOrder, now_line, route_line, stop_line};
@@ -23,6 +26,11 @@ pub struct Stop {
     pub line: usize,
     /// Why.
     pub why: StepFault,
+}
+
+/// Leaves a world to the end of the process, which comes next: what it holds is many small blocks.
+pub(crate) fn leave(world: World<'_>) {
+    forget(world);
 }
 
 // Appends the path that a router keeps for the prefix of each origin.
@@ -56,7 +64,7 @@ fn put_routes(network: &Network, world: &World<'_>, out: &mut Vec<u8>) -> Result
     Ok(())
 }
 
-// What is printed of a world, and the status.
+// The report of a world, and the status.
 fn report_output(
     alloc: Global,
     network: &Network,
@@ -64,7 +72,7 @@ fn report_output(
 ) -> Result<(Vec<u8>, u8), AllocError>
     requires same { world.now.net ≡ network.now }
     requires promises { KeepsPromises world.now }
-    ensures { IfOk result (λ printed. Reports world.now (output printed.0.items printed.1)) }
+    ensures { IfOk result (λ printed. Shows IsReport world.now (output printed.0.items printed.1)) }
 {
     let mut out = Vec::new(alloc);
     let collector = world.collector();
@@ -72,6 +80,27 @@ fn report_output(
     now_line(&mut out)?;
     put_routes(network, world, &mut out)?;
     Ok((out, DONE))
+}
+
+// What is shown of a world, and the status.
+fn shown_output(
+    alloc: Global,
+    shown: Shown,
+    network: &Network,
+    world: World<'_>,
+) -> Result<(Vec<u8>, u8), AllocError>
+    requires same { world.net ≡ network.now }
+    requires promises { KeepsPromises world }
+    ensures { IfOk result (λ printed. Shows (IsShown shown) world.entry (output printed.0.items printed.1)) }
+{
+    match shown {
+        Shown::Report => {
+            let printed = report_output(alloc, network, &world);
+            leave(world);
+            printed
+        }
+        Shown::Cut(number) => cut_output(alloc, network, world, number),
+    }
 }
 
 // Obeys the orders up to the first that is refused.
@@ -108,33 +137,35 @@ fn stop_output(alloc: Global, stop: Stop) -> Result<(Vec<u8>, u8), AllocError>
 // What is printed for orders in a world in which nothing was done.
 fn world_output(
     alloc: Global,
+    shown: Shown,
     network: &Network,
-    world: &mut World<'_>,
+    mut world: World<'_>,
     orders: &[ScheduledOrder],
 ) -> Result<(Vec<u8>, u8), AllocError>
-    requires opens { Opens network.now world.old }
-    requires promises { KeepsPromises world.old }
-    ensures { IfOk result (λ printed. OrdersGive network.now orders.now (output printed.0.items printed.1)) }
+    requires opens { Opens network.now world }
+    requires promises { KeepsPromises world }
+    ensures { IfOk result (λ printed. OrdersGive (IsShown shown) network.now orders.now (output printed.0.items printed.1)) }
 {
-    match obey_all(world, orders) {
-        Ok(()) => report_output(alloc, network, world),
-        Err(stop) => stop_output(alloc, stop),
+    match obey_all(&mut world, orders) {
+        Ok(()) => shown_output(alloc, shown, network, world),
+        Err(stop) => {
+            leave(world);
+            stop_output(alloc, stop)
+        }
     }
 }
 
 /// What is printed for the orders of a schedule, and the status.
-pub fn orders_output(
+pub(crate) fn orders_output(
     alloc: Global,
+    shown: Shown,
     network: &Network,
     orders: &[ScheduledOrder],
 ) -> Result<(Vec<u8>, u8), AllocError>
-    ensures { IfOk result (λ printed. OrdersGive network.now orders.now (output printed.0.items printed.1)) }
+    ensures { IfOk result (λ printed. OrdersGive (IsShown shown) network.now orders.now (output printed.0.items printed.1)) }
 {
-    let Ok(mut world) = World::new(alloc, network) else {
-        return Err(AllocError);
-    };
-    let printed = world_output(alloc, network, &mut world, orders);
-    // What the world holds is many small blocks, and goes with the process, which ends behind this.
-    forget(world);
-    printed
+    match World::new(alloc, network) {
+        Ok(world) => world_output(alloc, shown, network, world, orders),
+        Err(_) => Err(AllocError),
+    }
 }

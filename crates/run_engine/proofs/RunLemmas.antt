@@ -14,6 +14,7 @@ use Rattle.bgp_codec.specs.declared.message.Message.{Message}
 use Rattle.snap_marker.specs.Recordings.{RouterPart, MadeOffer}
 use Rattle.snap_collector.specs.Collecting.{member_of}
 use Rattle.snap_collector.specs.Collector.{CollectorView, made_for, kept_of, with_offers}
+use Rattle.snap_collector.specs.Flights.{is_whole}
 use Rattle.snap_collector.specs.Verdicts.{Member, verdict}
 use Rattle.router_model.specs.Settings.{Setting, IsSetting, is_router, names}
 use Rattle.router_runs.specs.Model.{network_of}
@@ -138,7 +139,7 @@ RecordedAndMade g state s made members =
 recorded_and_made : (g : Setting) (state : RunState) (s : ℕ) (made : ℕ → List MadeOffer) (members : List Member) → members ≡ members_of g.net → AreOffersOf made state.offered
     → RecordedAndMade g state s made members
 recorded_and_made g state s made members are of =
-    subst (RecordedAndMade g state s made) (sym are) (λ settled. (printed_is g made s settled, have_made g made s settled state of))
+    subst (RecordedAndMade g state s made) (sym are) (λ settled. (printed_is g made s (ap is_whole settled), have_made g made s (ap is_whole settled) state of))
 
 -- without a run
 abbrev IsRecorded : Plan → ℕ → (ℕ → List MadeOffer) → List Member → Type 0
@@ -148,7 +149,7 @@ IsRecorded net s made members =
 
 all_recorded : (net : Plan) (s : ℕ) (made : ℕ → List MadeOffer) (members : List Member) → members ≡ members_of net → IsRecorded net s made members
 all_recorded net s made members are =
-    subst (IsRecorded net s made) (sym are) (λ settled. printed_is (record { net = net; best = λ u q originated words. [] }) made s settled)
+    subst (IsRecorded net s made) (sym are) (λ settled. printed_is (record { net = net; best = λ u q originated words. [] }) made s (ap is_whole settled))
 
 abbrev One : Type 0
 One = OutcomeIsOne Message PrefixView (List ℕ)

@@ -18,9 +18,10 @@ use Rattle.world_core.proofs.Calling.{run_of, cuts_are_played}
 use Rattle.world_core.proofs.Picking.{names_are_enough, named_more}
 use Rattle.world_core.proofs.Testing.{tests_tell}
 
-counted : (cut : ℕ → ℕ) (before ds : RunOrder) → count_true (flags cut before ds) ≡ length (selected (λ u b e. ltb (length b) (cut u)) before ds)
-counted cut before [] = refl
-counted cut before (d ∷ ds) = at (ltb (length (events_of d.router before)) (cut d.router)) (counted cut (before ++ d ∷ []) ds)
+-- as many flags say inside as events are
+pub inside_counted : (cut : ℕ → ℕ) (before ds : RunOrder) → count_true (flags cut before ds) ≡ length (selected (λ u b e. ltb (length b) (cut u)) before ds)
+inside_counted cut before [] = refl
+inside_counted cut before (d ∷ ds) = at (ltb (length (events_of d.router before)) (cut d.router)) (inside_counted cut (before ++ d ∷ []) ds)
   where
     at : (b : Bool) → count_true (flags cut (before ++ d ∷ []) ds) ≡ length (selected (λ u b e. ltb (length b) (cut u)) (before ++ d ∷ []) ds)
         → cond b 1 0 + count_true (flags cut (before ++ d ∷ []) ds) ≡ length ((if b then d ∷ [] else []) ++ selected (λ u b e. ltb (length b) (cut u)) (before ++ d ∷ []) ds)
@@ -44,7 +45,7 @@ by_flags cut order tests events is are =
     (λ i. picked_by (is i) (are i))
     ∙ (λ i. record {
       events = ((λ j. first j ++ second j) ∙ sym (named_more (first_part cut order) (second_part cut order))) i;
-      recorded = counted cut [] order i;
+      recorded = inside_counted cut [] order i;
       place = (ap (λ l. length l) first ∙ as_many (first_part cut order)) i;
     })
 

@@ -20,5 +20,5 @@ mod world;
 pub use opening::new_router;
 pub use player::play;
 pub use schedule::{Event, Order, PlayFault, StepFault};
-pub use through::{Through, through_cut};
+pub use through::{Through, count_inside, through_cut};
 pub use world::World;

@@ -10,8 +10,8 @@ use crate::schedule::Event;
 use crate::through::Through;
 use std::alloc::{AllocError, Global};
 
-// How many events are inside.
-fn count_true(inside: &[bool]) -> usize
+/// How many events are inside.
+pub(crate) fn count_true(inside: &[bool]) -> usize
     ensures { result ≡ count_true inside.now }
 {
     let mut count = 0;

@@ -1,13 +1,13 @@
 //! The run of the same events that passes through the cut of a snapshot.
 
 ghost use Rattle.std.specs.Prelude.{◌≡◌, length, IfOk};
-ghost use Rattle.world_core.specs.Answering.{answer_of, GoesThrough, StopsAsPlay};
-ghost use Rattle.world_core.specs.Through.{picked_by};
+ghost use Rattle.world_core.specs.Answering.{answer_of, count_of, CountsInside, GoesThrough, RefusesAsPlay, StopsAsPlay};
+ghost use Rattle.world_core.specs.Through.{count_true, picked_by};
 ghost use Rattle.world_core.specs.Verdicts.{judged, JudgesItsRuns};
 
 use crate::flags::play_with_flags;
-use crate::laws::answers_are_through;
-use crate::reordering::reordered;
+use crate::laws::{answers_are_through, tests_tell_what_is_inside};
+use crate::reordering::{count_true, reordered};
 use crate::schedule::{Event, PlayFault, StepFault};
 use crate::world::World;
 use ranked_policy::Network;
@@ -82,4 +82,34 @@ pub fn through_cut(
             why: StepFault::Memory,
         }),
     }
+}
+
+// How many are inside, where the snapshot is settled or moving.
+fn counted(world: &World<'_>, inside: &[bool], number: u32) -> Option<usize>
+    ensures answer { result ≡ count_of (judged world.now.collector number) (count_true inside.now) }
+    ensures judges { JudgesItsRuns world.now }
+{
+    match world.collector().outcome(number) {
+        Outcome::Waiting | Outcome::Abandoned(_) => None,
+        Outcome::Moving { .. } | Outcome::Settled => Some(count_true(inside)),
+    }
+}
+
+/// How many of the events that were done are inside the cut of a snapshot, where it is settled or moving at their end: those of
+/// each router up to its recording, itself included. It is the [`recorded`](Through::recorded) of [`through_cut`], without the
+/// list of events.
+///
+/// None where the snapshot is not decided, or is abandoned. Refused as [`play`](crate::play) refuses the events.
+pub fn count_inside(
+    alloc: Global,
+    network: &Network,
+    events: &[Event],
+    number: u32,
+) -> Result<Option<usize>, PlayFault>
+    ensures counts { CountsInside result network.now events.now number }
+    ensures refused { RefusesAsPlay result network.now events.now }
+{
+    tests_tell_what_is_inside();
+    let (world, inside) = play_with_flags(alloc, network, events, number)?;
+    Ok(counted(&world, inside.as_slice(), number))
 }

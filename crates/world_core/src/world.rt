@@ -5,7 +5,7 @@ ghost use Rattle.world_core.specs.declared.schedule.StepFault.TheVariants.{Memor
 ghost use Rattle.snap_collector.specs.Collecting.{member_of};
 ghost use Rattle.snap_collector.specs.Collector.{AreMembers};
 ghost use Rattle.world_core.specs.Verdicts.{members_of, JudgesItsRuns, SettledCanBeBelieved};
-ghost use Rattle.world_core.specs.Views.{Opens, Answers, KeepsPromises, IsNoRouter, IsRouterOf};
+ghost use Rattle.world_core.specs.Views.{Opens, Answers, ComesOut, KeepsPromises, IsNoRouter, IsRouterOf};
 
 use crate::laws::{
     collectors_judge_their_runs, members_are_the_routers, played_worlds_keep_their_promises,
@@ -89,6 +89,15 @@ impl<'a> World<'a> {
         ensures { result.now ≡ self.now.run }
     {
         self.state.run.as_slice()
+    }
+
+    /// The events that were done, the first first, without the world, which is dropped. They lead to it again. It takes no
+    /// memory.
+    pub fn into_run(self) -> Vec<Event>
+        ensures value { result.items ≡ self.entry.run }
+        ensures comes { ComesOut self.entry }
+    {
+        self.state.run
     }
 
     /// The offers that were made. Its outcomes are those of the run that the world stands at the end of; the parts of a

@@ -148,7 +148,7 @@ fn schedule(alloc: Global, all: &[Does], prefix: Prefix) -> Result<Vec<Event>, A
 // Whether events are played and each of them is done.
 fn does_all(alloc: Global, network: &Network, events: &[Event]) -> bool {
     match play(alloc, network, events) {
-        Ok(world) => world.run() == events,
+        Ok(world) => world.run() == events && world.into_run().as_slice() == events,
         Err(_) => false,
     }
 }
@@ -173,9 +173,21 @@ fn comes_to(alloc: Global, network: &Network, events: &[Event], row: &Row) -> bo
     }
 }
 
+// Whether as many of what is done is inside as is wanted.
+fn counts(alloc: Global, network: &Network, events: &[Event], row: &Row) -> bool {
+    match (count_inside(alloc, network, events, row.number), row.through) {
+        (Ok(Some(inside)), Some((recorded, _, _))) => inside == recorded,
+        (Ok(None), None) => true,
+        _ => false,
+    }
+}
+
 fn is_as(alloc: Global, network: &Network, prefix: Prefix, row: &Row) -> bool {
     match schedule(alloc, row.all, prefix) {
-        Ok(events) => comes_to(alloc, network, events.as_slice(), row),
+        Ok(events) => {
+            comes_to(alloc, network, events.as_slice(), row)
+                && counts(alloc, network, events.as_slice(), row)
+        }
         Err(_) => false,
     }
 }

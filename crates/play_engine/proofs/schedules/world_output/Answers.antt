@@ -1,20 +1,21 @@
 use Rattle.std.proofs.Common.{sym, subst}
 use Rattle.text_engines.specs.Decoding.{Output, output}
 use Rattle.play_engine.specs.Playing.{OrdersGive}
+use Rattle.play_engine.specs.Cutting.{IsShown}
 use Rattle.text_engines.proofs.CheckLemmas.{if_ok, both_ok}
-use Rattle.play_engine.proofs.PlayLemmas.{reported, halted}
+use Rattle.play_engine.proofs.PlayLemmas.{shown, halted}
 use Rattle.play_engine.proofs.schedules.world_output.Goals as goal
 
 pub returns-in-Ok : goal.returns-in-Ok
 returns-in-Ok c =
-    if_ok _ _ c.report_output.result
-    (λ printed gives. reported c.args.network.now c.args.orders.now c.args.world.now c.obey_all.new.world (output printed.0.items printed.1) c.requires.opens c.obey_all.ensures.same c.in-Ok.ensures.obeyed c.obey_all.ensures.promises gives)
-    c.report_output.ensures
+    if_ok _ _ c.shown_output.result
+    (λ printed gives. shown (IsShown c.args.shown) c.args.network.now c.args.orders.now c.args.world c.obey_all.new.world (output printed.0.items printed.1) c.requires.opens c.obey_all.ensures.same c.in-Ok.ensures.obeyed c.obey_all.ensures.promises gives)
+    c.shown_output.ensures
 
 pub returns-in-Err : goal.returns-in-Err
 returns-in-Err c =
     both_ok _ _ _ c.stop_output.result
     (λ printed kind is.
-    subst (λ (out : Output). OrdersGive c.args.network.now c.args.orders.now out) (sym is)
-    (halted c.args.network.now c.args.orders.now c.args.world.now c.obey_all.new.world c.in-Err.stop c.requires.opens c.in-Err.ensures.obeyed kind))
+    subst (λ (out : Output). OrdersGive (IsShown c.args.shown) c.args.network.now c.args.orders.now out) (sym is)
+    (halted (IsShown c.args.shown) c.args.network.now c.args.orders.now c.args.world c.obey_all.new.world c.in-Err.stop c.requires.opens c.in-Err.ensures.obeyed kind))
     c.stop_output.ensures.kind c.stop_output.ensures.output

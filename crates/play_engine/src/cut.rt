@@ -1,0 +1,37 @@
+//! `bgpnet cut`: the cut of a snapshot of the world that a schedule leads to.
+
+ghost use Rattle.std.specs.Prelude.{◌≡◌, ◌⊎◌, IfOk, OnOk, OnErr, true, false};
+ghost use Rattle.text_engines.specs.Engine.{PrintedBy, PrintedFrontBy};
+ghost use Rattle.play_engine.specs.Cutting.{Cuts};
+
+use crate::stream::{Shown, schedule_stream};
+use std::alloc::Global;
+use text_engines::{IoStopped, Sink, Source};
+
+/// Reads a network and a schedule, and writes the cut of the snapshot of this number in the world that the
+/// schedule leads to, or the first line that is refused; answers the status.
+///
+/// Where the snapshot is settled or moving: how many events were done, and how many of them up to each
+/// router's recording; the routes that the routers recorded; and each UPDATE in flight. Else that it has
+/// no cut.
+///
+/// Where memory is refused it writes `memory` alone and answers 3. It stops only where a read or a
+/// write failed, and then what was written is a beginning of the text.
+pub fn cut_stream<S: Source, T: Sink>(
+    alloc: Global,
+    number: u32,
+    source: &mut S,
+    sink: &mut T,
+) -> Result<u8, IoStopped>
+    // What is written is what is printed for what was read, and nothing else.
+    ensures done { IfOk result (λ status. PrintedBy (Cuts number) (S.remaining source.old) (T.contents sink.old) (T.contents sink.new) status) }
+    // It answers a status only where no read and no write failed, and stops only where one did.
+    ensures unfailed { OnOk result ((S.failed source.new ≡ S.failed source.old) × (T.failed sink.new ≡ T.failed sink.old)) }
+    ensures failed { OnErr result ((S.failed source.new ≡ true) ⊎ (T.failed sink.new ≡ true)) }
+    // Where a read failed nothing is written.
+    ensures silent { S.failed source.old ≡ false → S.failed source.new ≡ true → T.contents sink.new ≡ T.contents sink.old }
+    // A failed read or write leaves a beginning of the text.
+    ensures stopped { OnErr result (PrintedFrontBy (Cuts number) (S.remaining source.old) (T.contents sink.old) (T.contents sink.new)) }
+{
+    schedule_stream(alloc, Shown::Cut(number), source, sink)
+}
