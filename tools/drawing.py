@@ -246,7 +246,7 @@ class Picture:
         if router == self.origin:
             self.add("circle", class_="ring", cx=x, cy=y, r=RADIUS + 4)
         if router in self.drawn.changed:
-            self.add("circle", class_="changed", cx=x, cy=y, r=RADIUS + 4)
+            self.add("circle", class_="changed", cx=x, cy=y, r=RADIUS + 7)
         kind = "unstable" if is_unstable else "origin" if router == self.origin else "router"
         self.add("circle", class_=kind, cx=x, cy=y, r=RADIUS)
         self.add("text", str(router), class_="number", x=x, y=y + 5)

@@ -2,11 +2,14 @@
 test."""
 import os
 import pathlib
+import re
 import subprocess
 import tempfile
 import unittest
 
 from support import TOP, program_path
+
+from program import CODES
 
 
 def shown(text):
@@ -33,6 +36,13 @@ class Tools(unittest.TestCase):
                                           env=dict(os.environ, BGPNET=program_path), capture_output=True, text=True)
                     self.assertEqual((done.returncode, done.stdout, done.stderr), (0, "".join(line + "\n" for line in wanted), ""))
             self.assertIn("</svg>", (pathlib.Path(folder) / "film.svg").read_text())
+
+    def test_each_code_is_told(self):
+        """Each code that `check` and `play` print is in docs/TEXTS.md, and the tools have words for it."""
+        text = (TOP / "docs/TEXTS.md").read_text()
+        told = set(re.findall(r"\b([NSEV]\d)\b", text.split("## Statuses")[0] + text.split("## Refusals")[1]))
+        self.assertEqual(told - set(CODES), {"E6", "E8", "V1"})  # no text of a tool comes to these
+        self.assertEqual(set(CODES) - told, set())
 
     def test_each_tool_has_a_help_with_an_example(self):
         for tool in ("streams", "topology", "settle", "draw", "film", "pictures", "test"):

@@ -105,13 +105,18 @@ def block(order, kind, body):
     return struct.pack(order + "II", kind, len(body) + 12) + body + struct.pack(order + "I", len(body) + 12)
 
 
-def pcapng(link, frames, order="<", simple=False):
+def pcapng(link, frames, order="<", kind=6, most=0):
+    """A section with an interface, and a block of a kind for each frame, of which `most` octets were captured (0: all)."""
     head = block(order, 0x0A0D0D0A, struct.pack(order + "IHHq", 0x1A2B3C4D, 1, 0, -1))
-    head += block(order, 1, struct.pack(order + "HHI", link, 0, 0))
-    if simple:
-        return head + b"".join(block(order, 3, struct.pack(order + "I", len(frame)) + frame) for frame in frames)
-    return head + b"".join(block(order, 6, struct.pack(order + "IIIII", 0, 0, 0, len(frame), len(frame)) + frame)
-                           for frame in frames)
+    head += block(order, 1, struct.pack(order + "HHI", link, 0, most))
+    head += block(order, 5, b"statistics, which say nothing here")
+    for frame in frames:
+        part = frame[:most or None]
+        heads = {2: struct.pack(order + "HHIIII", 0, 0, 0, 0, len(part), len(frame)),
+                 3: struct.pack(order + "I", len(frame)),
+                 6: struct.pack(order + "IIIII", 0, 0, 0, len(part), len(frame))}
+        head += block(order, kind, heads[kind] + part)
+    return head
 
 
 def ethernet(segments):
@@ -142,7 +147,7 @@ class Files(unittest.TestCase):
                     frames = [framed(octets) for octets in packets]
                     for order in "<>":
                         for data in (pcap(link, frames, order), pcap(link, frames, order, 0xA1B23C4D),
-                                     pcapng(link, frames, order), pcapng(link, frames, order, simple=True)):
+                                     *(pcapng(link, frames, order, kind) for kind in (2, 3, 6))):
                             with self.subTest(frame=name, order=order, ends=ends, extension=extension):
                                 self.assertEqual(found_in(data), (whole(said, answered), []))
 
@@ -162,6 +167,22 @@ class Files(unittest.TestCase):
         self.assertEqual(run("streams", "-", given=data[:20])[0::2], (1, "streams: the capture ends in its head\n"))
         for size in range(28, 400):
             found_in(pcapng(101, [packet(said) for said in conversation(said, answered)])[:size])
+
+    def test_no_octets_at_all_break_it(self):
+        packets = [packet(said, True) for said in conversation(speech(1, 2), speech(2, 2))]
+        packets += [packet(said, True) for said in conversation(speech(3, 2), speech(4, 2), (CLIENT_SIX, SERVER_SIX))]
+        for seed in range(400):
+            draw = random.Random(seed)
+            link, framed = draw.choice(list(FRAMES.values()))
+            form = draw.choice([pcap, pcapng])
+            data = bytearray(form(link, [framed(octets) for octets in packets], draw.choice("<>")))
+            for _ in range(draw.randrange(1, 40)):
+                data[draw.randrange(4, len(data))] = draw.choice([0, 1, 255, draw.randrange(256)])
+            with self.subTest(seed=seed):
+                try:
+                    found_in(bytes(data[:draw.choice([len(data), draw.randrange(len(data))])]))
+                except streams.Refusal as why:
+                    self.assertIn(str(why), ("neither pcap nor pcapng", "the capture ends in its head"))
 
     def test_other_link_types_are_named(self):
         data = pcap(127, [b"\0" * 60] * 3)
@@ -236,7 +257,8 @@ class Segments(unittest.TestCase):
         said = speech(1, 4)
         frames = [packet(segment) for segment in talk(CLIENT, SERVER, said, 7, 1000)]
         short = [frame[:90] for frame in frames]
-        self.assertEqual(found_in(pcap(101, short))[0], [(said[:50], [(50, len(said) - 50)], 0)])
+        for data in (pcap(101, short), *(pcapng(101, frames, "<", kind, most=90) for kind in (2, 3, 6))):
+            self.assertEqual(found_in(data), ([(said[:50], [(50, len(said) - 50)], 0)], []))
         self.assertEqual(found_in(pcap(101, short + frames))[0], whole(said))
 
     def test_a_capture_that_begins_in_the_middle(self):

@@ -171,6 +171,9 @@ snapshot 1 1
 rounds 100
 """)
         self.assertEqual(asked_program().answer(["play"], out, "dot")[0], "snapshot 1 settled")
+        out = run("topology", "--from", "dot", "--around", 1, "--keep", 2, "--network", given=DOT.encode())[1]
+        self.assertEqual(lines_of(out, "# "), ["# router 1 is London", "# router 3 is Paris",
+                                               "# 2 routers around 1; 2 stand outside"])
 
     def test_a_mark_of_the_order_of_octets_says_nothing(self):
         out = run("topology", "--from", "edges", "--network", given=b"\xef\xbb\xbf1 2\r\n2 3\r\n")[1]
