@@ -1,7 +1,7 @@
 //! What `bgpnet play` and `bgpnet cut` share: they read a network and a schedule, and write what is shown of the
 //! world that the schedule leads to.
 
-ghost use Rattle.std.specs.Prelude.{◌≡◌, ◌≤◌, ◌^◌, ◌<◌, ◌+◌, ◌⊎◌, length, codes, IfOk, OnOk, OnErr, true, false};
+ghost use Rattle.std.specs.Prelude.{◌≡◌, ◌^◌, ◌<◌, ◌+◌, ◌⊎◌, length, codes, IfOk, OnOk, OnErr, true, false};
 ghost use Rattle.net_text.specs.Lexing.{lines_of};
 ghost use Rattle.text_engines.specs.Decoding.{output};
 ghost use Rattle.text_engines.specs.Engine.{PrintedBy, PrintedFrontBy};
