@@ -96,6 +96,42 @@ An order is 'start U V', 'stop U V' or 'reset U V' for U's session with V, 'orig
   E8  the link has no incarnation left
   V2  the two routers have no link";
 
+/// What the help of `cut` says below its options: an example, and the statuses.
+pub const CUT_HELP: &str = "\
+The input is a network, a line 'schedule', and the orders of the schedule, as 'play --help' says:
+
+    router 1 10.0.0.1
+    router 2 10.0.0.2
+    link 1 2
+    origin 1 10.1.0.0/16
+    schedule
+    start 1 2
+    start 2 1
+    originate 1 10.1.0.0/16
+    rounds 40
+    withdraw 1 10.1.0.0/16
+    decide 1
+    advertise 1
+    snapshot 1 1
+    snapshot 2 1
+    rounds 10
+
+Both routers record snapshot 1 while the withdrawal is on its way, so 'cut 1' prints
+
+    cut 1 after 34 of 48
+    route 1 10.1.0.0/16 none
+    route 2 10.1.0.0/16 2-1
+    flight 1 2 update withdraw 10.1.0.0/16
+
+The schedule did 48 events, 34 of them up to each router's recording of the snapshot, itself
+included. The routes are those that the routers recorded. 'flight V U' and a message, as 'decode'
+prints it, is an UPDATE that was on its way from V to U: by U, then V, in the order in which U acted
+on them. Some order of the same events passes through just this state. 'cut S none': snapshot S is
+not decided at the end, or it was abandoned. 'refused LINE CODE' is as for 'play'.
+
+Status 0: done. 1: a refused input. 2: other words than these. 3: memory was refused ('memory').
+4: a read or a write failed.";
+
 /// What the help of `run` says below its options: an example.
 pub const RUN_HELP: &str = "\
 The input is a network:

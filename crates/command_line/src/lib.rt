@@ -13,8 +13,8 @@ mod helps;
 mod words;
 
 use bgp_codec::{Rule, Width};
-pub use helps::{CHECK_HELP, DECODE_HELP, PLAY_HELP, RUN_HELP};
-use play_engine::play_stream;
+pub use helps::{CHECK_HELP, CUT_HELP, DECODE_HELP, PLAY_HELP, RUN_HELP};
+use play_engine::{cut_stream, play_stream};
 use run_engine::run_stream;
 use std::alloc::{AllocError, Global};
 use std::sync::Wait;
@@ -52,6 +52,7 @@ where
         }
         Ok(Asked::Check) => check_stream(alloc, reader, writer),
         Ok(Asked::Play) => play_stream(alloc, reader, writer),
+        Ok(Asked::Cut(number)) => cut_stream(alloc, number, reader, writer),
         Ok(Asked::Run(options)) => run_stream(rt, alloc, &options, reader, writer),
         Ok(Asked::Text(text, status)) => {
             write_out(writer, text.as_bytes())?;

@@ -4,7 +4,7 @@ ghost use Rattle.std.specs.Prelude.{◌≡◌};
 ghost use Rattle.std.specs.List.{list_all};
 ghost use Rattle.net_text.specs.Words.{is_digit};
 
-use crate::helps::{CHECK_HELP, DECODE_HELP, PLAY_HELP, RUN_HELP};
+use crate::helps::{CHECK_HELP, CUT_HELP, DECODE_HELP, PLAY_HELP, RUN_HELP};
 use clap::error::ErrorKind;
 use clap::{Arg, ArgMatches, Command, Error};
 use run_engine::RunOptions;
@@ -20,6 +20,8 @@ pub enum Asked {
     Check,
     /// Play a schedule.
     Play,
+    /// Show the cut of the snapshot of this number.
+    Cut(u32),
     /// Run a network in threads.
     Run(RunOptions),
     /// A text to write, and the status to end with.
@@ -46,7 +48,7 @@ fn are_digits(text: &[u8]) -> bool
     are_digits
 }
 
-// What is said of a sign before the number of an option, where it has one.
+// What is said of a sign before a number, where it has one.
 fn sign_of(
     alloc: Global,
     found: &ArgMatches,
@@ -69,6 +71,20 @@ fn asked_decode(alloc: Global, found: &ArgMatches) -> Result<Asked, AllocError> 
     match sign_of(alloc, found, "peer", "--peer <AS>")? {
         Some(text) => Ok(Asked::Text(text, USAGE)),
         None => Ok(Asked::Decode(found.get_one::<u16>("peer"))),
+    }
+}
+
+fn asked_cut(alloc: Global, found: &ArgMatches) -> Result<Asked, AllocError> {
+    if let Some(text) = sign_of(alloc, found, "number", "<S>")? {
+        return Ok(Asked::Text(text, USAGE));
+    }
+    match found.get_one::<u32>("number") {
+        Some(number) => Ok(Asked::Cut(number)),
+        // The words were refused without it.
+        None => {
+            let text = format!(in alloc; "error: the number of a snapshot is missing\n")?;
+            Ok(Asked::Text(text, USAGE))
+        }
     }
 }
 
@@ -97,6 +113,18 @@ fn decode_command<'a>(alloc: Global) -> Result<Command<'a>, AllocError> {
         .arg(peer)
 }
 
+fn cut_command<'a>(alloc: Global) -> Result<Command<'a>, AllocError> {
+    let number = Arg::new(alloc, "number")
+        .value_name("S")
+        .required(true)
+        .value_parser(clap::value_parser!(u32).range(1..))
+        .help("The number of the snapshot, 1 to 4294967295");
+    Command::new(alloc, "cut")
+        .about("Plays a schedule, and prints the cut of one of its snapshots")
+        .after_help(CUT_HELP)
+        .arg(number)
+}
+
 fn run_command<'a>(alloc: Global) -> Result<Command<'a>, AllocError> {
     let turns = Arg::new(alloc, "turns")
         .long("turns")
@@ -115,14 +143,15 @@ fn run_command<'a>(alloc: Global) -> Result<Command<'a>, AllocError> {
         .arg(snapshots)
 }
 
-fn parse(alloc: Global, words: &[&str]) -> Result<Asked, Error> {
+// The words that the program takes.
+fn command<'a>(alloc: Global) -> Result<Command<'a>, AllocError> {
     let check = Command::new(alloc, "check")
         .about("Says whether an assignment of paths is stable")
         .after_help(CHECK_HELP);
     let play = Command::new(alloc, "play")
         .about("Plays a schedule of a network's routers")
         .after_help(PLAY_HELP);
-    let command = Command::new(alloc, "bgpnet")
+    Command::new(alloc, "bgpnet")
         .about(
             "Decodes BGP-4 messages, says whether paths are a stable assignment, plays schedules, \
             runs networks",
@@ -131,21 +160,33 @@ fn parse(alloc: Global, words: &[&str]) -> Result<Asked, Error> {
         .subcommand(decode_command(alloc)?)?
         .subcommand(check)?
         .subcommand(play)?
-        .subcommand(run_command(alloc)?)?;
-    let matches = command.try_get_matches_from(words)?;
+        .subcommand(cut_command(alloc)?)?
+        .subcommand(run_command(alloc)?)
+}
+
+// What words that were taken ask for.
+fn asked_by(alloc: Global, matches: &ArgMatches) -> Result<Asked, AllocError> {
     if matches.subcommand_matches("play").is_some() {
         return Ok(Asked::Play);
     }
     if matches.subcommand_matches("check").is_some() {
         return Ok(Asked::Check);
     }
+    if let Some(found) = matches.subcommand_matches("cut") {
+        return asked_cut(alloc, found);
+    }
     if let Some(found) = matches.subcommand_matches("run") {
-        return Ok(asked_run(alloc, found)?);
+        return asked_run(alloc, found);
     }
     match matches.subcommand_matches("decode") {
-        Some(found) => Ok(asked_decode(alloc, found)?),
+        Some(found) => asked_decode(alloc, found),
         None => Ok(Asked::Decode(None)),
     }
+}
+
+fn parse(alloc: Global, words: &[&str]) -> Result<Asked, Error> {
+    let matches = command(alloc)?.try_get_matches_from(words)?;
+    Ok(asked_by(alloc, &matches)?)
 }
 
 /// What the words behind the program's name ask for.

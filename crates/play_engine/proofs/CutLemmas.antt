@@ -1,7 +1,6 @@
 -- The cut that is printed of a snapshot.
 use Rattle.std.proofs.Common.{◌≡◌, ℕ, ◌==◌, Bool, true, false, cond, List, [], ◌∷◌, ◌++◌, length, map, Option, Some, refl, sym, ap, subst, ◌∙◌, inl, inr, Ok}
-use Rattle.std.proofs.Common.{append_assoc}
-use Rattle.std.specs.Prelude.{◌||◌, MatchOption, IfOk}
+use Rattle.std.specs.Prelude.{◌||◌}
 use Rattle.std.specs.List.{flat_map, list_any}
 use Rattle.std.proofs.lemmas.Bool.{eq-eqb, or_right}
 use Rattle.ranked_policy.specs.Plans.{Plan, numbers}
@@ -11,8 +10,8 @@ use Rattle.snap_collector.specs.Collecting.{member_of}
 use Rattle.snap_collector.specs.Collector.{CollectorView, made_for, kept_of}
 use Rattle.snap_collector.specs.Verdicts.{Member, verdict}
 use Rattle.snap_collector.specs.Flights.{Flight, is_whole, part_in, flights_by, flights_of, flights_at, in_flight_of}
-use Rattle.router_model.specs.Settings.{Setting, IsSetting, ChoosesByRank, is_router, peers}
-use Rattle.router_runs.specs.Runs.{RunOrder, RunState, IsRunTo, logged_steps}
+use Rattle.router_model.specs.Settings.{Setting, IsSetting, peers}
+use Rattle.router_runs.specs.Runs.{RunOrder, RunState, logged_steps}
 use Rattle.router_runs.specs.Snapshots.{ComesOut}
 use Rattle.run_model.specs.Network as runs
 use Rattle.run_cuts.specs.ThroughSnapshot.{RunsPassThroughSnapshots}
@@ -25,7 +24,7 @@ use Rattle.world_core.specs.World.{World, new_world, played}
 use Rattle.schedule_text.specs.Reports.{cut_line, cut_none_line}
 use Rattle.text_engines.specs.declared.status.TheConstants.{DONE}
 use Rattle.text_engines.specs.Decoding.{Output, output}
-use Rattle.play_engine.specs.Reporting.{deciding, outcome, recorded}
+use Rattle.play_engine.specs.Reporting.{deciding, outcome}
 use Rattle.play_engine.specs.Playing.{Shows}
 use Rattle.play_engine.specs.Cutting.{recorded_text, cut_text, HasCut, IsCutReport}
 use Rattle.play_engine.proofs.SettledLemmas.{parts_in, printed_is, have_made}
@@ -110,8 +109,8 @@ shows_cut pass x s inside out whole are again counts printed = λ (g : Setting) 
           let both = subst (λ (y : World). (run : PlayedRun g y) × HasInside g y run s inside) same (c.2, c.3) in
           has_cut pass g set w s inside is both.0 both.1,
       printed
-      ∙ ap (λ (n : Plan). output (cut_line s inside (length x.run) ++ recorded_text n (map member_of x.collector.members) (kept_of (map member_of x.collector.members) (made_for x.collector s))) DONE) (sym e)
-      ∙ ap (λ (t : List ℕ). output t DONE) (text_is g.net (map member_of x.collector.members) w.made s inside (length w.run) here),
+          ∙ ap (λ (n : Plan). output (cut_line s inside (length x.run) ++ recorded_text n (map member_of x.collector.members) (kept_of (map member_of x.collector.members) (made_for x.collector s))) DONE) (sym e)
+          ∙ ap (λ (t : List ℕ). output t DONE) (text_is g.net (map member_of x.collector.members) w.made s inside (length w.run) here),
     )
 
 -- the parts of its text, one behind the other

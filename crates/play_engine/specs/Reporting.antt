@@ -1,5 +1,5 @@
 -- What is printed of a world: how its snapshots came out, and the routes that its routers keep.
-use Rattle.std.specs.Prelude.{◌≡◌, ℕ, ◌<◌, ◌↔◌, true, List, [], ◌∷◌, ◌++◌, Option, None, Some}
+use Rattle.std.specs.Prelude.{◌≡◌, ℕ, ◌<◌, ◌↔◌, true, List, [], ◌++◌, Option, None, Some}
 use Rattle.std.specs.List.{flat_map, AllPairs, Contains}
 use Rattle.prefix_lanes.specs.Bits.{PrefixView}
 use Rattle.ranked_policy.specs.Plans.{Plan}

@@ -3,16 +3,14 @@ use Rattle.std.proofs.Common.{◌≡◌, ℕ, List, [], sym, ap, ◌∙◌, subs
 use Rattle.std.specs.Prelude.{Option, Ok, Err, MatchOption, Bool}
 use Rattle.ranked_policy.specs.Plans.{Plan}
 use Rattle.world_core.specs.declared.schedule.Event.{Event}
-use Rattle.world_core.specs.declared.schedule.PlayFault.{PlayFault}
 use Rattle.world_core.specs.declared.schedule.StepFault.TheVariants.{Memory}
 use Rattle.run_model.specs.Offers.{Outcome, Waiting, Abandoned, Moving, Settled}
 use Rattle.snap_marker.specs.Recordings.{RouterPart}
-use Rattle.router_model.specs.Settings.{Setting, ChoosesByRank}
+use Rattle.router_model.specs.Settings.{Setting}
 use Rattle.router_runs.specs.Snapshots.{ComesOut}
 use Rattle.run_cuts.specs.ThroughSnapshot.{ThroughItsCut}
 use Rattle.world_core.specs.Answering.{AnswersAreThrough, IsUndecided, answer_of, count_of, HasInside, CountsInside, GoesThrough, StopsAsPlay}
 use Rattle.world_core.specs.Flagging.{FlagsTo}
-use Rattle.world_core.specs.Orders.{IsPlayed}
 use Rattle.world_core.specs.Replays.{PlayedRun}
 use Rattle.world_core.specs.Tested.{TestsTellWhatIsInside}
 use Rattle.world_core.specs.Through.{ThroughView, IsThrough, inside_part, count_true, picked_by}
@@ -60,7 +58,7 @@ counts tell net events s x flags answer to judges is g e set =
       h,
       run,
       subst (λ (k : Option ℕ). MatchOption k (IsUndecided g run.state s) (HasInside g (plain_world x) run s)) (sym is)
-      (by_outcome g (plain_world x) run s (count_true flags)
-      (λ parts through. ap count_true (found ∙ tests.inside through.cut through.at (λ u k. through.passes.recorded u k)) ∙ inside_counted through.cut [] run.order)
-      (judged x.collector s) comes),
+          (by_outcome g (plain_world x) run s (count_true flags)
+          (λ parts through. ap count_true (found ∙ tests.inside through.cut through.at (λ u k. through.passes.recorded u k)) ∙ inside_counted through.cut [] run.order)
+          (judged x.collector s) comes),
     )

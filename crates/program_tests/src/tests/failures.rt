@@ -1,17 +1,41 @@
 //! A read or a write that fails.
 
 use command_line::{run_with, status_of};
+use std::alloc::Global;
 use std::io;
 use std::io::{Error, ErrorKind, Read, Write};
+use std::sync::Wait;
 use std::test::Fail;
+use std::thread::Threads;
 use text_engines::{IoStopped, Watched};
 
-// A KEEPALIVE, and a message of a type that there is not.
-const INPUT: &[u8] =
-    b"ffffffff ffffffff ffffffff ffffffff 0013 04 ffffffff ffffffff ffffffff ffffffff 0013 05";
+// Words, what is read behind them, what is written for it, and the status.
+struct Row {
+    words: &'static [&'static str],
+    input: &'static [u8],
+    text: &'static [u8],
+    status: u8,
+}
 
-// What is printed for them.
-const TEXT: &[u8] = b"keepalive\nfault 1 3\nffffffffffffffffffffffffffffffff001603010305\n";
+static ROWS: [Row; 2] = [
+    // A KEEPALIVE, and a message of a type that there is not.
+    Row {
+        words: &["decode"],
+        input: b"ffffffff ffffffff ffffffff ffffffff 0013 04 ffffffff ffffffff ffffffff ffffffff 0013 05",
+        text: b"keepalive\nfault 1 3\nffffffffffffffffffffffffffffffff001603010305\n",
+        status: 1,
+    },
+    // One router that records a snapshot.
+    Row {
+        words: &["cut", "1"],
+        input: b"router 1 10.0.0.1\nschedule\nsnapshot 1 1\noffer 1\n",
+        text: b"cut 1 after 1 of 2\n",
+        status: 0,
+    },
+];
+
+// The words of each engine.
+static ENGINES: [&[&str]; 5] = [&["decode"], &["check"], &["play"], &["cut", "1"], &["run"]];
 
 // Gives three octets at a time, and fails at a read.
 #[derive(Drop)]
@@ -62,36 +86,41 @@ impl Write for Narrow {
 #[test]
 fn a_read_fails(rt: HostRuntime) -> Result<(), Fail> {
     let alloc = rt.alloc();
-    let wanted = INPUT.len().div_ceil(3) + 1;
-    for reads in 0..=wanted {
-        let mut reader = Watched::new(Halting { left: INPUT, reads });
-        let mut writer = Watched::new(Vec::new(alloc));
-        let got = run_with(&rt, alloc, &["decode"], &mut reader, &mut writer);
-        let out: Vec<u8> = writer.into_inner();
-        if reads < wanted {
-            assert!(rt; matches!(got, Err(IoStopped)), "{reads} reads");
-            assert!(rt; out.is_empty());
-        } else {
-            assert!(rt; matches!(got, Ok(1)));
-            assert!(rt; out.as_slice() == TEXT);
+    for row in &ROWS {
+        let wanted = row.input.len().div_ceil(3).saturating_add(1);
+        for reads in 0..=wanted {
+            let mut reader = Watched::new(Halting {
+                left: row.input,
+                reads,
+            });
+            let mut writer = Watched::new(Vec::new(alloc));
+            let got = run_with(&rt, alloc, row.words, &mut reader, &mut writer).ok();
+            let out: Vec<u8> = writer.into_inner();
+            if reads < wanted {
+                assert!(rt; got.is_none(), "{reads} reads");
+                assert!(rt; out.is_empty());
+            } else {
+                assert!(rt; got == Some(row.status));
+                assert!(rt; out.as_slice() == row.text);
+            }
         }
     }
     Ok(())
 }
 
-// Where a read fails, no word writes anything.
+// Where a read fails, no engine writes anything.
 #[test]
 fn a_first_read_fails(rt: HostRuntime) -> Result<(), Fail> {
     let alloc = rt.alloc();
-    for word in ["decode", "check", "play", "run"] {
+    for words in &ENGINES {
         let mut reader = Watched::new(Halting {
             left: b"router 1 10.0.0.1\n",
             reads: 1,
         });
         let mut writer = Watched::new(Vec::new(alloc));
-        let got = run_with(&rt, alloc, &[word], &mut reader, &mut writer);
+        let got = run_with(&rt, alloc, words, &mut reader, &mut writer);
         let out: Vec<u8> = writer.into_inner();
-        assert!(rt; matches!(got, Err(IoStopped)), "{word}");
+        assert!(rt; matches!(got, Err(IoStopped)));
         assert!(rt; out.is_empty());
     }
     Ok(())
@@ -104,26 +133,35 @@ fn the_status_of_a_failure(rt: HostRuntime) -> Result<(), Fail> {
     Ok(())
 }
 
+// What is written where there is room for so many octets, and the status.
+fn written<R: Threads + Wait + Sync>(
+    rt: &R,
+    alloc: Global,
+    row: &Row,
+    (room, fails): (usize, bool),
+) -> (Vec<u8>, Option<u8>) {
+    let mut reader = Watched::new(row.input);
+    let mut writer = Watched::new(Narrow {
+        taken: Vec::new(alloc),
+        room,
+        fails,
+    });
+    let got = run_with(rt, alloc, row.words, &mut reader, &mut writer).ok();
+    let Narrow { taken, .. } = writer.into_inner();
+    (taken, got)
+}
+
 // Each write fails in turn, or takes nothing, until none does.
 #[test]
 fn a_write_fails(rt: HostRuntime) -> Result<(), Fail> {
-    let alloc = rt.alloc();
-    for fails in [true, false] {
-        for room in 0..=TEXT.len() {
-            let mut reader = Watched::new(INPUT);
-            let mut writer = Watched::new(Narrow {
-                taken: Vec::new(alloc),
-                room,
-                fails,
-            });
-            let got = run_with(&rt, alloc, &["decode"], &mut reader, &mut writer);
-            let Narrow { taken, .. } = writer.into_inner();
-            if room < TEXT.len() {
-                assert!(rt; matches!(got, Err(IoStopped)), "room for {room}");
-            } else {
-                assert!(rt; matches!(got, Ok(1)));
+    for row in &ROWS {
+        for fails in [true, false] {
+            for room in 0..=row.text.len() {
+                let (taken, got) = written(&rt, rt.alloc(), row, (room, fails));
+                let is_whole = room == row.text.len();
+                assert!(rt; got == is_whole.then_some(row.status), "room for {room}");
+                assert!(rt; Some(taken.as_slice()) == row.text.get(..room));
             }
-            assert!(rt; Some(taken.as_slice()) == TEXT.get(..room));
         }
     }
     Ok(())

@@ -1,6 +1,6 @@
 //! The examples of the helps: what is printed for each is what the help says.
 
-use command_line::{CHECK_HELP, DECODE_HELP, PLAY_HELP, RUN_HELP, run_with};
+use command_line::{CHECK_HELP, CUT_HELP, DECODE_HELP, PLAY_HELP, RUN_HELP, run_with};
 use std::alloc::{AllocError, Global};
 use std::sync::Wait;
 use std::test::Fail;
@@ -13,22 +13,25 @@ const PAIR: &str = "router 1 10.0.0.1\nrouter 2 10.0.0.2\nlink 1 2\norigin 1 10.
 // The routes of both.
 const BOTH: &str = "route 1 10.1.0.0/16 1\nroute 2 10.1.0.0/16 2-1\n";
 
-// A word, its help, and the status for the example.
-static HELPS: [(&str, &str, u8); 3] = [
-    ("decode", DECODE_HELP, 1),
-    ("check", CHECK_HELP, 0),
-    ("play", PLAY_HELP, 0),
+// Words, their help, and the status for the example.
+static HELPS: [(&[&str], &str, u8); 4] = [
+    (&["decode"], DECODE_HELP, 1),
+    (&["check"], CHECK_HELP, 0),
+    (&["play"], PLAY_HELP, 0),
+    (&["cut", "1"], CUT_HELP, 0),
 ];
 
 // How the lines of outputs begin.
-static PRINTED: [&str; 7] = [
+static PRINTED: [&str; 9] = [
     "open ",
     "keepalive",
     "fault ",
     "ffffffffffffffffffffffffffffffff",
     "unstable ",
     "now",
+    "cut ",
     "route ",
+    "flight ",
 ];
 
 fn is_printed(line: &str) -> bool {
@@ -53,12 +56,12 @@ fn example_of(alloc: Global, help: &str, printed: bool) -> Result<String, AllocE
 fn is_answered<R: Threads + Wait + Sync>(
     rt: &R,
     alloc: Global,
-    word: &str,
+    words: &[&str],
     (input, text, status): (&str, &str, u8),
 ) -> bool {
     let mut reader = Watched::new(input.as_bytes());
     let mut writer = Watched::new(Vec::new(alloc));
-    let got = run_with(rt, alloc, &[word], &mut reader, &mut writer).ok();
+    let got = run_with(rt, alloc, words, &mut reader, &mut writer).ok();
     let out: Vec<u8> = writer.into_inner();
     out.as_slice() == text.as_bytes() && got == Some(status)
 }
@@ -66,21 +69,21 @@ fn is_answered<R: Threads + Wait + Sync>(
 fn is_as_its_help_says<R: Threads + Wait + Sync>(
     rt: &R,
     alloc: Global,
-    word: &str,
+    words: &[&str],
     help: &str,
     status: u8,
 ) -> Result<bool, AllocError> {
     let input = example_of(alloc, help, false)?;
     let text = example_of(alloc, help, true)?;
-    Ok(is_answered(rt, alloc, word, (input.as_str(), text.as_str(), status)))
+    Ok(is_answered(rt, alloc, words, (input.as_str(), text.as_str(), status)))
 }
 
 #[test]
 fn each_example_of_a_help(rt: HostRuntime) -> Result<(), Fail> {
-    for &(word, help, status) in &HELPS {
+    for &(words, help, status) in &HELPS {
         assert!(rt;
-            is_as_its_help_says(&rt, rt.alloc(), word, help, status)?,
-            "{word}"
+            is_as_its_help_says(&rt, rt.alloc(), words, help, status)?,
+            "{help}"
         );
     }
     Ok(())

@@ -175,7 +175,10 @@ fn comes_to(alloc: Global, network: &Network, events: &[Event], row: &Row) -> bo
 
 // Whether as many of what is done is inside as is wanted.
 fn counts(alloc: Global, network: &Network, events: &[Event], row: &Row) -> bool {
-    match (count_inside(alloc, network, events, row.number), row.through) {
+    match (
+        count_inside(alloc, network, events, row.number),
+        row.through,
+    ) {
         (Ok(Some(inside)), Some((recorded, _, _))) => inside == recorded,
         (Ok(None), None) => true,
         _ => false,

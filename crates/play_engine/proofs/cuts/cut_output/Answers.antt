@@ -1,5 +1,4 @@
 use Rattle.std.proofs.Common.{ap, sym, ◌∙◌}
-use Rattle.snap_collector.specs.Collecting.{outcome_of}
 use Rattle.snap_collector.specs.Collector.{CollectorView}
 use Rattle.snap_collector.specs.Flights.{is_whole}
 use Rattle.world_core.specs.Verdicts.{judged}

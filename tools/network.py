@@ -1,0 +1,150 @@
+"""Networks as the program reads them, of texts that it has taken: it alone refuses (`read_network` asks it)."""
+from collections import namedtuple
+
+# The limits of networks (docs/TEXTS.md).
+MOST_ROUTERS = 64
+MOST_LINKS = 16
+MOST_PREFIXES = 256
+MOST_RULES = 64
+MOST_PATHS = 32
+LONGEST_PATH = 16
+GREATEST_ASN = 65535
+
+SECTIONS = ("assignment", "schedule")
+
+
+def read_number(word):
+    """The number that decimal digits spell, however many zeros stand in front."""
+    return int(word.lstrip("0") or "0")
+
+
+class Prefix(namedtuple("Prefix", "address length")):
+    """An IPv4 prefix: the bits of its address past its length are cleared. Prefixes are ordered as they are printed."""
+
+    @staticmethod
+    def read(word):
+        address, length = word.split("/")
+        value = 0
+        for part in address.split("."):
+            value = value << 8 | read_number(part)
+        past = 32 - read_number(length)
+        return Prefix(value >> past << past, 32 - past)
+
+    def covers(self, other):
+        return self.length <= other.length and self.address >> 32 - self.length == other.address >> 32 - self.length
+
+    def __str__(self):
+        return ".".join(str(self.address >> shift & 255) for shift in (24, 16, 8, 0)) + f"/{self.length}"
+
+
+# A rule of a router: its paths for the prefixes inside `prefix`, best first, and the number of its line.
+Rule = namedtuple("Rule", "prefix paths line")
+
+
+def read_path(word):
+    """The routers of a path, from the one that uses it to the origin; none of `none`."""
+    return () if word == "none" else tuple(map(read_number, word.split("-")))
+
+
+def path_text(path):
+    return "-".join(map(str, path)) or "none"
+
+
+def words_of(line):
+    """The words of a line, none where the program skips it."""
+    words = line.rstrip("\r").replace("\t", " ").split(" ")
+    words = [word for word in words if word]
+    return [] if words and words[0].startswith("#") else words
+
+
+def parts_of(text):
+    """The lines of the network, the last of them that of its section where there is one; the section's word, or None;
+    and the lines behind it."""
+    lines = text.split("\n")
+    for at, line in enumerate(lines):
+        words = words_of(line)
+        if len(words) == 1 and words[0] in SECTIONS:
+            return lines[:at + 1], words[0], lines[at + 1:]
+    return lines, None, []
+
+
+class Network:
+    """The routers, links, origins and rules of a network.
+
+    `lines` are its lines without those that are skipped, `peers` the peers of each router, rising, `origins` the
+    router of each prefix, by address, then length, `rules` those of each router, and `cut` the most octets of a
+    piece."""
+
+    def __init__(self, lines):
+        self.lines, self.routers, self.links, self.peers, self.rules = [], [], [], {}, {}
+        self.cut, origins = 4096, {}
+        for number, line in enumerate(lines, 1):
+            words = words_of(line)
+            if not words or words[0] in SECTIONS:
+                continue
+            self.lines.append(" ".join(words))
+            first = read_number(words[1])
+            if words[0] == "router":
+                self.routers.append(first)
+                self.peers[first], self.rules[first] = [], []
+            elif words[0] == "link":
+                link = first, read_number(words[2])
+                self.links.append(link)
+                for end, other in (link, link[::-1]):
+                    self.peers[end].append(other)
+            elif words[0] == "origin":
+                origins[Prefix.read(words[2])] = first
+            elif words[0] == "cut":
+                self.cut = first
+            elif words[0] == "rank":
+                self.rules[first].append(Rule(Prefix.read(words[2]), [read_path(word) for word in words[3:]], number))
+        self.routers.sort()
+        for peers in self.peers.values():
+            peers.sort()
+        self.origins = {prefix: origins[prefix] for prefix in sorted(origins)}
+
+    @property
+    def text(self):
+        return "".join(line + "\n" for line in self.lines)
+
+    def rule(self, router, prefix):
+        """The rule of a router that applies to a prefix, the longest that covers it, or none."""
+        covering = [rule for rule in self.rules[router] if rule.prefix.covers(prefix)]
+        return max(covering, key=lambda rule: rule.prefix.length, default=None)
+
+    def ranked(self, router, prefix):
+        """The paths that a router's rule permits for a prefix, best first; None where no rule applies."""
+        origin = self.origins[prefix]
+        if router == origin:
+            return [(origin,)]
+        rule = self.rule(router, prefix)
+        return rule and [path for path in rule.paths if path[-1] == origin]
+
+
+def read_network(program, text, name):
+    """The network of a text, the word of its section and the section's lines. Where the program refuses the network,
+    so does this, by the line of the file `name`."""
+    lines, section, rest = parts_of(text)
+    above = "\n".join(lines[:-1] + [""] if section else lines)
+    program.answer(["check"], above, name)
+    return Network(lines), section, rest
+
+
+def routes_of(lines):
+    """The paths of `route` and `path` lines, by router and prefix. Of two of one router and prefix it is the last."""
+    routes = {}
+    for line in lines:
+        words = words_of(line)
+        if words and words[0] in ("route", "path"):
+            routes[read_number(words[1]), Prefix.read(words[2])] = read_path(words[3])
+    return routes
+
+
+def starts(network):
+    """The orders that start each session of a network from both ends."""
+    return [f"start {end} {other}" for link in network.links for end, other in (link, link[::-1])]
+
+
+def originations(network):
+    """The orders that originate each prefix of a network at its origin."""
+    return [f"originate {router} {prefix}" for prefix, router in network.origins.items()]

@@ -1,0 +1,112 @@
+"""What the program says of a network behind the first orders of a schedule. Only its words `play` and `check` are
+asked."""
+from network import MOST_LINKS, MOST_PREFIXES, MOST_RULES, Prefix
+from network import path_text, read_number, read_path, routes_of, words_of
+from program import Refusal
+
+# A session counts as up where a prefix that one end would originate comes to the other, both ways, in the rounds in
+# which a router tells every prefix to every peer; so many times more as there are pieces in this many octets.
+ROUNDS_PER_PREFIX, LEAST_ROUNDS, PIECE = MOST_LINKS + 4, 200, 64
+# The blocks from which these prefixes are taken (RFC 2544 keeps them for trials), and their length.
+BLOCKS, BLOCK = range(198 << 24 | 18 << 16, 198 << 24 | 20 << 16, 512), 23
+
+
+def chosen_prefix(network, word):
+    """The prefix that a word names, without one the first; none of a network without origins."""
+    if word is None:
+        return next(iter(network.origins), None)
+    try:
+        prefix = Prefix.read(word)
+    except ValueError:
+        prefix = None
+    if prefix not in network.origins:
+        raise Refusal(f"no origin has the prefix {word}")
+    return prefix
+
+
+class State:
+    """The routes of every router, by router and prefix, the lines of the decided snapshots, and the links, as sets of
+    two routers, whose session is not up."""
+
+    def __init__(self, routes, snapshots, broken):
+        self.routes, self.snapshots, self.broken = routes, snapshots, broken
+
+
+def state_behind(program, network, orders, name):
+    """The state behind orders, which are lines of a schedule that the program takes."""
+    text = network.text + "schedule\n" + "".join(order + "\n" for order in orders)
+    lines = program.answer(["play"], text, name)
+    at = lines.index("now")
+    snapshots = [line for line in lines[:at] if line.startswith("snapshot")]
+    return State(routes_of(lines[at + 1:]), snapshots, broken_links(program, network, orders, name))
+
+
+def free_block(network):
+    """A block of addresses that no prefix of the network, and none of its rules, lies in."""
+    used = [*network.origins, *(rule.prefix for rules in network.rules.values() for rule in rules)]
+    blocks = (Prefix(address, BLOCK) for address in BLOCKS)
+    free = next((block for block in blocks if not any(block.covers(prefix) for prefix in used)), None)
+    if free is None or len(network.origins) + len(network.routers) > MOST_PREFIXES:
+        raise Refusal("whether sessions are up can't be asked: that takes a prefix more for each router, and a network "
+                      f"has at most {MOST_PREFIXES}")
+    return free
+
+
+def with_probes(network):
+    """A prefix for each router, and the lines of the network in which only its peers permit it."""
+    block = free_block(network)
+    probes = {router: Prefix(block.address + place, 32) for place, router in enumerate(network.routers)}
+    lines = network.lines + [f"origin {router} {prefix}" for router, prefix in probes.items()]
+    for router in network.routers:
+        if len(network.rules[router]) + 1 + len(network.peers[router]) > MOST_RULES:
+            raise Refusal(f"whether sessions are up can't be asked: that takes a rule more, and one for each peer, and "
+                          f"{router} has {len(network.rules[router])} of {MOST_RULES}")
+        lines.append(f"rank {router} {block}")
+        lines += [f"rank {router} {probes[peer]} {router}-{peer}" for peer in network.peers[router]]
+    return probes, lines
+
+
+def broken_links(program, network, orders, name):
+    """The links whose session is not up behind orders: one of the ends' prefixes does not come to the other end."""
+    probes, lines = with_probes(network)
+    rounds = max(LEAST_ROUNDS, ROUNDS_PER_PREFIX * (len(probes) + len(network.origins))) * max(1, PIECE // network.cut)
+    lines += ["schedule", *orders, *(f"originate {router} {prefix}" for router, prefix in probes.items())]
+    lines.append(f"rounds {rounds}")
+    said = program.answer(["play"], "".join(line + "\n" for line in lines), name)
+    routes = routes_of(said[said.index("now") + 1:])
+    return {frozenset(link) for link in network.links
+            if not all(routes[end, probes[other]] == (end, other) for end, other in (link, link[::-1]))}
+
+
+def assignment_text(network, prefix, chosen, without=()):
+    """The input of `check` for an assignment of one prefix, without some links."""
+    lines = []
+    for line in network.lines:
+        words = words_of(line)
+        if words[0] == "link" and frozenset(map(read_number, words[1:])) in without:
+            continue
+        if words[0] != "origin" or Prefix.read(words[2]) == prefix:
+            lines.append(line)
+    lines.append("assignment")
+    lines += [f"path {router} {prefix} {path_text(chosen.get(router, ()))}" for router in network.routers]
+    return "".join(line + "\n" for line in lines)
+
+
+def judgement(program, network, prefix, chosen, without=()):
+    """What `check` says of the paths of one prefix in the network without some links, as words and whether it is
+    stable; nothing where the prefix is not originated, or where what is left is not connected."""
+    if not chosen.get(network.origins[prefix]):
+        return None
+    status, lines = program.ask(["check"], assignment_text(network, prefix, chosen, without))
+    if status:
+        return None
+    links = ", ".join(" ".join(map(str, link)) for link in network.links if frozenset(link) in without)
+    return f"check{' without ' * bool(links)}{links}: {lines[0]}", lines[0] == "stable"
+
+
+def unstable_of(said):
+    """The router, its path and its best one where a judgement is not stable, else nothing."""
+    if not said or said[1]:
+        return None
+    _, router, _, path, _, best = said[0].split(": ")[-1].split()
+    return int(router), read_path(path), read_path(best)

@@ -1,0 +1,328 @@
+"""Tests of `draw`, `film` and `pictures`. Pictures are read as XML: where each router stands, from where to where
+arrows go, and what is written; what they have to show is asked of the program."""
+import itertools
+import math
+import random
+import subprocess
+import unittest
+import xml.etree.ElementTree
+
+from support import TOP, TOOLS, asked_program, load, program_path, run
+
+import drawing
+import playing
+import program
+from network import Network, routes_of
+
+film = load("film")
+topology = load("topology")
+
+PREFIX = "10.1.0.0/16"
+SVG = "{http://www.w3.org/2000/svg}"
+
+
+class Seen:
+    """What a reader sees in a picture, the part of a file in one group: the place of each router, the routers by their
+    circles, lines by their class as pairs of routers, and the texts by their class."""
+
+    def __init__(self, group):
+        self.spots, self.circles, self.lines, self.texts = {}, {}, {}, {}
+        elements = [element for element in group.iter() if element.tag != SVG + "g"]
+        for element in elements:
+            if element.get("class") == "number":
+                self.spots[int(element.text)] = (float(element.get("x")), float(element.get("y")) - 5)
+        for element in elements:
+            kind = element.get("class")
+            if element.tag == SVG + "circle":
+                at = float(element.get("cx")), float(element.get("cy"))
+                self.circles.setdefault(kind, []).append(next(router for router, spot in self.spots.items() if spot == at))
+            elif element.tag == SVG + "line":
+                ends = ((float(element.get("x" + end)), float(element.get("y" + end))) for end in "12")
+                self.lines.setdefault(kind, []).append(tuple(map(self.nearest, ends)))
+            elif element.tag == SVG + "text":
+                self.texts.setdefault(kind, []).append(element.text)
+
+    def nearest(self, at):
+        router = min(self.spots, key=lambda router: math.dist(at, self.spots[router]))
+        assert math.dist(at, self.spots[router]) < 25
+        return router
+
+    def has(self, kind):
+        return self.lines.get(kind, [])
+
+
+def seen(text):
+    """The pictures of a file, and its root."""
+    root = xml.etree.ElementTree.fromstring(text)
+    return [Seen(group) for group in root.findall(SVG + "g")], root
+
+
+def hops(routes):
+    """What arrows have to show of routes: each router with the next one."""
+    return sorted((router, path[1]) for router, path in routes.items() if len(path) > 1)
+
+
+def drawn(*words, given=b""):
+    status, out, error = run("draw", *words, given=given)
+    assert (status, error) == (0, ""), error
+    pictures, _ = seen(out)
+    assert len(pictures) == 1
+    return pictures[0]
+
+
+def network_text(routers, links, more=""):
+    lines = [f"router {router} 10.0.0.{router}" for router in range(1, routers + 1)]
+    lines += [f"link {one} {other}" for one, other in links] + [f"origin 1 {PREFIX}"]
+    return "".join(line + "\n" for line in lines) + more
+
+
+class Draw(unittest.TestCase):
+    def test_examples_of_check(self):
+        for path in sorted((TOP / "examples").glob("*.txt")):
+            text = path.read_text()
+            network = Network(text.split("\nassignment\n")[0].splitlines())
+            routes = {router: way for (router, _), way in routes_of(text.splitlines()).items()}
+            said = asked_program().answer(["check"], text, path)[0]
+            with self.subTest(example=path.name):
+                picture = drawn(path)
+                self.assertEqual(sorted(picture.spots), network.routers)
+                self.assertEqual(sorted(picture.has("link")), sorted(network.links))
+                self.assertEqual(picture.circles["origin"], [1])
+                self.assertEqual(picture.texts["good" if said == "stable" else "bad"], ["check: " + said])
+                if said == "stable":
+                    self.assertEqual(sorted(picture.has("route")), hops(routes))
+                    self.assertEqual((picture.has("left"), picture.has("wanted")), ([], []))
+                    continue
+                _, router, _, has, _, best = said.split()
+                self.assertEqual(picture.circles["unstable"], [int(router)])
+                self.assertEqual(sorted(picture.has("route") + picture.has("left")), hops(routes))
+                self.assertEqual(picture.has("left"), [(int(router), int(has.split("-")[1]))])
+                self.assertEqual(picture.has("wanted"), [(int(router), int(best.split("-")[1]))])
+
+    def test_rules_are_written_out(self):
+        picture = drawn("examples/good-gadget-direct.txt", "--title", "a <title> & more")
+        written = [text for kind, texts in picture.texts.items() if kind.startswith("rule") for text in texts]
+        self.assertEqual(sorted(written), sorted("10.1.0.0/16 2-4-1 2-1 3-2-1 3-1 4-1 5-4-1 5-3-1".split()))
+        kept = [text for kind, texts in picture.texts.items() if kind.endswith(" kept") for text in texts]
+        self.assertEqual(sorted(kept), "2-1 3-2-1 4-1 5-4-1".split())
+        self.assertEqual([text for kind, texts in picture.texts.items() if kind.endswith(" best") for text in texts], ["2-4-1"])
+        self.assertEqual(picture.texts["title"], ["a <title> & more"])
+
+    def test_a_schedule_is_played(self):
+        picture = drawn("examples/play/wedgie-stuck.txt")
+        self.assertEqual(sorted(picture.has("route")), [(2, 1), (3, 2), (4, 1)])
+        self.assertEqual(picture.texts["good"], ["snapshot 1 settled", "check: stable"])
+        picture = drawn("-", given=(TOP / "examples/play/reset.txt").read_bytes())
+        self.assertEqual((picture.has("broken"), picture.has("route")), ([(1, 2)], []))
+
+    def test_a_network_alone(self):
+        picture = drawn("-", given=network_text(3, [(1, 2), (2, 3)]).encode())
+        self.assertEqual((picture.has("route"), "good" in picture.texts, "bad" in picture.texts), ([], False, False))
+        picture = drawn("-", given=b"router 7 10.0.0.7\n")
+        self.assertEqual((list(picture.spots), picture.lines), ([7], {}))
+
+    def test_routes_of_a_report(self):
+        path = TOP / "examples/shortest.txt"
+        network = Network(path.read_text().split("\nassignment\n")[0].splitlines())
+        played = asked_program().answer(["play"], topology_text(network), path)
+        picture = drawn(path, "--routes", "-", given="\n".join(played).encode())
+        self.assertEqual(sorted(picture.has("route")), [(2, 1), (3, 1), (4, 2)])
+        for report, said in ((b"now\nroute 9 10.1.0.0/16 9-1\n", "a route of another network"),
+                             (b"now\nroute 2 10.1.0.0/16 2-9\n", "a route of another network"),
+                             (b"now\nroute 2 10.1.0.0/16 3-1\n", "a route of another network"),
+                             (b"now\nroute 2 10.1.0.0/16\n", "no `route AS PREFIX PATH`"),
+                             (b"now\nroute two 10.1.0.0/16 2-1\n", "no `route AS PREFIX PATH`")):
+            self.assertEqual(run("draw", path, "--routes", "-", given=report), (1, "", f"draw: -:2: {said}\n"))
+
+    def test_one_prefix_of_two(self):
+        text = network_text(3, [(1, 2), (2, 3)], "origin 3 10.2.0.0/16\nassignment\n"
+                            "path 1 10.1.0.0/16 1\npath 2 10.1.0.0/16 2-1\npath 3 10.1.0.0/16 3-2-1\n"
+                            "path 3 10.2.0.0/16 3\npath 2 10.2.0.0/16 none\npath 1 10.2.0.0/16 none\n").encode()
+        picture = drawn("-", given=text)
+        self.assertEqual((sorted(picture.has("route")), picture.texts["good"]), ([(2, 1), (3, 2)], ["check: stable"]))
+        picture = drawn("-", "--prefix", "10.2.0.0/16", given=text)
+        self.assertEqual((picture.circles["origin"], picture.has("wanted")), ([3], [(2, 3)]))
+        self.assertEqual(picture.texts["bad"], ["check: unstable 2 has none best 2-3"])
+
+    def test_a_wider_rule_of_two_prefixes(self):
+        text = network_text(3, [(1, 2), (2, 3)], "origin 3 10.0.0.0/16\nrank 2 10.0.0.0/8 2-1 2-3\n").encode()
+        for words, origin, rule in (([], 3, "2-3"), (["--prefix", PREFIX], 1, "2-1")):
+            picture = drawn("-", *words, given=text)
+            written = [path for kind, paths in picture.texts.items() if kind.startswith("rule") for path in paths]
+            self.assertEqual((picture.circles["origin"], [path for path in written if path.startswith("2-")]), ([origin], [rule]))
+
+    def test_random_networks_of_every_size(self):
+        for seed in (*range(1, 14, 3), 20, 35, 50, 64):
+            graph = topology.hierarchy(seed, seed, seed // 2)
+            lines = topology.network_lines(graph, graph.routers[-1:], "gao-rexford")
+            text = "\n".join(lines + topology.schedule_lines(Network(lines), 1000, None)) + "\n"
+            status, out, error = run("draw", "-", given=text.encode())
+            with self.subTest(routers=seed):
+                self.assertEqual((status, error), (0, ""))
+                (picture,), root = seen(out)
+                said = asked_program().answer(["play"], text, "made")
+                routes = {router: path for (router, _), path in routes_of(said[said.index("now"):]).items()}
+                self.assertEqual(len(picture.spots), seed)
+                self.assertEqual(sorted(picture.has("route")), hops(routes))
+                self.assertEqual((len(picture.has("link")), picture.has("broken")), (len(graph.links()), []))
+                width, height = float(root.get("width")), float(root.get("height"))
+                for x, y in picture.spots.values():
+                    self.assertTrue(18 < x < width - 18 and 18 < y < height - 18)
+
+    def test_routers_stand_apart(self):
+        for size in (2, 3, 5, 8, 12, 20, 40, 64):
+            graph = topology.hierarchy(size, size, size)
+            network = Network(topology.network_lines(graph, graph.routers[-1:], "shortest"))
+            for origin in (1, size):
+                spots = drawing.places(network, origin)
+                for one, other in itertools.combinations(spots.values(), 2):
+                    self.assertGreater(math.dist(one, other) * drawing.LINK, 2 * drawing.RADIUS + 8)
+
+    def test_refusals(self):
+        text = (TOP / "examples/disagree.txt").read_text()
+        path = "path 2 10.1.0.0/16 2-3-1"
+        for wrong, code in ((text.replace("link 2 3", "link 2 9"), "N3"), (text.replace(path, "path 2 10.1.0.0/16 2-4-1"), "N3"),
+                            (text.replace(path, "path 2 10.1.0.0/16 2-1-3"), "S1"), (text + "schedule\n", "N1")):
+            pairs = itertools.zip_longest(text.splitlines(), wrong.splitlines())
+            line = next(at for at, (was, now) in enumerate(pairs, 1) if was != now)
+            self.assertEqual(run("draw", "-", given=wrong.encode()), (1, "", f"draw: -:{line}: {code}: {program.CODES[code]}\n"))
+        for word in ("10.2.0.0/16", "x", "1.2.3.4/99"):
+            self.assertEqual(run("draw", "examples/ring.txt", "--prefix", word), (1, "", f"draw: no origin has the prefix {word}\n"))
+        self.assertEqual(run("draw", "nothing"), (1, "", "draw: nothing: No such file or directory\n"))
+        self.assertEqual(run("draw", "-", "--routes", "-")[0], 2)
+        self.assertEqual(run("draw")[0], 2)
+        self.assertEqual(run("draw", "--help")[0], 0)
+
+
+def topology_text(network):
+    return network.text + "\n".join(topology.schedule_lines(network, 1000, None)) + "\n"
+
+
+class Broken(unittest.TestCase):
+    """Which links have a session that is up, as the program says."""
+
+    def broken(self, network, orders):
+        return playing.broken_links(asked_program(), network, orders, "made")
+
+    def test_links_that_are_not_started(self):
+        for seed in range(20):
+            draw = random.Random(seed)
+            size = draw.choice([2, 5, 12, 30, 64])
+            graph = topology.hierarchy(size, seed, size)
+            network = Network(topology.network_lines(graph, graph.routers[-1:], "gao-rexford"))
+            starts = topology.texts.starts(network)
+            omitted = set(draw.sample(range(len(starts)), min(len(starts), draw.randrange(4))))
+            orders = [order for at, order in enumerate(starts) if at not in omitted] + ["rounds 1000"]
+            wanted = {frozenset(map(int, starts[at].split()[1:])) for at in omitted}
+            with self.subTest(seed=seed):
+                self.assertEqual(self.broken(network, orders), wanted)
+
+    def test_sessions_that_close(self):
+        network = Network(network_text(3, [(1, 2), (2, 3), (1, 3)]).splitlines())
+        up = topology.texts.starts(network) + ["rounds 40"]
+        sets = {name: {frozenset(map(int, link)) for link in name.split()} for name in ("12", "12 23", "12 23 13", "")}
+        for orders, wanted in ((["stop 1 2"], "12"), (["stop 1 2", "rounds 5", "start 1 2", "start 2 1"], ""),
+                               (["reset 2 1", "rounds 5"], "12"), (["restart 2", "rounds 5"], "12 23"),
+                               (["ticks 90"], "12 23 13"), (["ticks 30"], ""), ([], "")):
+            self.assertEqual(self.broken(network, up + orders), sets[wanted], orders)
+
+    def test_rules_and_prefixes_in_the_way(self):
+        links = [(1, 2), (2, 3), (1, 3)]
+        for more in ("rank 2 0.0.0.0/0\nrank 3 198.18.0.0/15 3-2-1\n", "origin 2 198.18.0.0/32\norigin 3 198.18.3.0/24\n",
+                     "origin 2 0.0.0.0/0\n", "cut 1\n", "cut 1\nrank 1 198.18.0.0/23\n"):
+            network = Network(network_text(3, links, more).splitlines())
+            orders = [order for order in topology.texts.starts(network) if order != "start 3 1"] + ["rounds 3000"]
+            self.assertEqual(self.broken(network, orders), {frozenset((1, 3))})
+
+    def test_small_pieces_with_much_before_them(self):
+        origins = "".join(f"origin 1 20.{number}.0.0/16\n" for number in range(40))
+        network = Network(network_text(2, [(1, 2)], origins + "cut 1\n").splitlines())
+        orders = [*topology.texts.starts(network), "rounds 5000", *topology.texts.originations(network)]
+        self.assertEqual(self.broken(network, orders), set())
+
+    def test_what_leaves_no_room_for_the_question(self):
+        origins = "".join(f"origin 1 20.{number}.0.0/16\n" for number in range(253))
+        text = network_text(3, [(1, 2), (2, 3)], origins + "schedule\nstart 1 2\n")
+        self.assertEqual(run("film", "-", given=text.encode()),
+                         (1, "", "film: whether sessions are up can't be asked: that takes a prefix more for each router, and a "
+                                 "network has at most 256\n"))
+        rules = "".join(f"rank 2 20.{number}.0.0/16\n" for number in range(62))
+        text = network_text(3, [(1, 2), (2, 3)], rules + "schedule\nstart 1 2\n")
+        self.assertEqual(run("film", "-", given=text.encode()),
+                         (1, "", "film: whether sessions are up can't be asked: that takes a rule more, and one for each peer, "
+                                 "and 2 has 62 of 64\n"))
+
+
+class Film(unittest.TestCase):
+    def pictures(self, *words, given=b""):
+        status, out, error = run("film", *words, given=given)
+        self.assertEqual((status, error), (0, ""))
+        return seen(out)[0]
+
+    def test_the_wedgie(self):
+        """RFC 4264: after the primary link has failed and come back, the network stays with the backup link."""
+        pictures = self.pictures("examples/play/wedgie-whole.txt")
+        meant, backup = [(2, 3), (3, 4), (4, 1)], [(2, 1), (3, 2), (4, 1)]
+        self.assertEqual([sorted(picture.has("route")) for picture in pictures],
+                         [meant, meant, [(2, 1), (3, 2), (4, 3)], backup, meant, meant])
+        self.assertEqual([picture.has("broken") for picture in pictures], [[(1, 2)], [], [(1, 4)], [], [(1, 2)], []])
+        self.assertEqual([sorted(picture.circles.get("changed", [])) for picture in pictures], [[], [], [2, 3, 4], [4], [2, 3], []])
+        self.assertEqual([picture.texts["good"][-1] for picture in pictures],
+                         ["check without 1 2: stable", "snapshot 1 settled", "check without 1 4: stable", "snapshot 3 settled",
+                          "check without 1 2: stable", "snapshot 4 settled"])
+        self.assertEqual(pictures[2].texts["bad"], ["snapshot 2 abandoned 1 4 notup"])
+        self.assertEqual(pictures[3].texts["title"], ["4. the primary link is back: stuck"])
+
+    def test_steps(self):
+        for name, titles in (("wedgie-stuck", ["6 starts, originate 1", "start 1 2, start 2 1", "stop 1 4", "start 1 4, start 4 1"]),
+                             ("reset-again", ["start 1 2, start 2 1, originate 1", "reset 2 1", "start 1 2"]),
+                             ("snapshot-not-up", ["snapshot 1 1"])):
+            pictures = self.pictures(f"examples/play/{name}.txt")
+            self.assertEqual([picture.texts["title"][0] for picture in pictures],
+                             [f"{at}. {title}" for at, title in enumerate(titles, 1)])
+
+    def test_what_is_not_connected_is_not_judged(self):
+        first, second, _ = self.pictures("examples/play/disagree.txt")
+        self.assertEqual(("good" in first.texts, "bad" in first.texts), (False, False))
+        self.assertEqual(second.texts["good"], ["check without 1 2: stable"])
+
+    def test_each_order(self):
+        text = (TOP / "examples/play/session.txt").read_text()
+        orders = [line for line in text.split("\nschedule\n")[1].splitlines() if line and not line.startswith("#")]
+        pictures = self.pictures("examples/play/session.txt", "--each")
+        self.assertEqual(len(pictures), len(orders))
+        asked, network = asked_program(), Network(text.split("\nschedule\n")[0].splitlines())
+        for at, picture in enumerate(pictures, 1):
+            state = playing.state_behind(asked, network, orders[:at], "session")
+            self.assertEqual(sorted(picture.has("route")),
+                             hops({router: path for (router, _), path in state.routes.items()}))
+
+    def test_titles_in_any_letters(self):
+        text = network_text(1, []) + "schedule\n# title: Z\u00fcrich \u2192 <Bern> & \x07\ntick 1\n"
+        self.assertEqual(self.pictures("-", given=text.encode())[0].texts["title"], ["1. Z\u00fcrich \u2192 <Bern> & "])
+
+    def test_an_unstable_moment(self):
+        pictures = self.pictures("examples/play/ring.txt")
+        self.assertEqual(len(pictures[-1].circles["unstable"]), 1)
+
+    def test_refusals(self):
+        for text, said in ((network_text(1, []), "-: no schedule"), (network_text(1, []) + "schedule\n", "-: no schedule"),
+                           ("router 1 10.0.0.1\nschedule\ntick 1\n", "-: no origin, so no routes"),
+                           (network_text(1, []) + "schedule\ntick 1\nstart 1 2\n", "-:5: N3: a router that no earlier line names"),
+                           (network_text(1, []) + "schedule\nsnapshot 1 2\n# more\nsnapshot 1 2\n",
+                            "-:6: E3: a snapshot whose number is not above the router's last")):
+            self.assertEqual(run("film", "-", given=text.encode()), (1, "", f"film: {said}\n"))
+        text = network_text(1, []) + "schedule\n" + "tick 1\n" * 61
+        self.assertEqual(run("film", "-", "--each", given=text.encode()), (1, "", "film: 61 steps, and at most 60 are drawn\n"))
+        self.assertEqual(run("film", "--columns", "0", "x")[0], 2)
+        self.assertEqual(run("film", "--help")[0], 0)
+
+
+class Documents(unittest.TestCase):
+    def test_pictures_are_as_they_are_made(self):
+        self.assertEqual(run("pictures", "--compare"), (0, "", ""))
+
+    def test_a_text_comes_out_the_same_again(self):
+        words = ["python3", str(TOOLS / "draw"), "examples/ring-next.txt", "--program", program_path]
+        first, again = (subprocess.run(words, cwd=TOP, capture_output=True).stdout for _ in range(2))
+        self.assertTrue(first and first == again)

@@ -1,0 +1,256 @@
+"""Tests of `settle`. What it finds in random policies is compared with all assignments there are, and with the
+definition of a dispute wheel, without its code; then with what the program plays."""
+import itertools
+import pathlib
+import random
+import tempfile
+import unittest
+
+from support import TOP, asked_program, load, run
+
+from network import Network
+
+settle = load("settle")
+
+PREFIX = "10.1.0.0/16"
+
+
+def network_of(rules, size=5):
+    """A network of routers of which each two are peers; router 1 is the origin, and rules are words."""
+    routers = range(1, size + 1)
+    lines = [f"router {router} 10.0.0.{router}" for router in routers]
+    lines += [f"link {one} {other}" for one, other in itertools.combinations(routers, 2)]
+    lines += [f"origin 1 {PREFIX}"] + [f"rank {router} {PREFIX} {rule}" for router, rule in rules.items()]
+    return "".join(line + "\n" for line in lines)
+
+
+def random_rule(draw, router):
+    """Three paths of any length to router 1."""
+    others = [other for other in range(2, 6) if other != router]
+    every = [(router, *middle, 1) for size in range(3) for middle in itertools.permutations(others, size)]
+    return draw.sample(every, 3)
+
+
+def gadget_rule(draw, router):
+    """Through two others, and then straight."""
+    others = draw.sample([other for other in range(2, 6) if other != router], 2)
+    return [(router, other, 1) for other in others] + [(router, 1)]
+
+
+def stable_ones(rules):
+    """Of all assignments those in which each router has its best choice."""
+    routers = sorted(rules)
+    for paths in itertools.product(*(rules[router] + [()] for router in routers)):
+        chosen = {1: (1,), **dict(zip(routers, paths))}
+        if all(chosen[router] == next((path for path in rules[router] if chosen[path[1]] == path[1:]), ()) for router in routers):
+            yield tuple(chosen[router] for router in range(1, 6))
+
+
+def least_wheel(live):
+    """The size of the smallest circle in the relation of spokes, 0 where there is none: Q of u is before T of v where u
+    likes a path that ends with T no less than Q."""
+    spokes = [path for paths in live.values() for path in paths]
+    following = {}
+    for spoke in spokes:
+        own = live[spoke[0]]
+        following[spoke] = {better[at:] for better in own[:own.index(spoke) + 1] for at in range(1, len(better))}
+    sizes = []
+    for spoke in spokes:
+        reached, size = following[spoke], 1
+        while spoke not in reached and size <= len(spokes):
+            reached, size = set().union(*(following[other] for other in reached)), size + 1
+        if spoke in reached:
+            sizes.append(size)
+    return min(sizes, default=0)
+
+
+class RandomPolicies(unittest.TestCase):
+    POLICIES = [(random_rule, seed) for seed in range(400)] + [(gadget_rule, seed) for seed in range(300)]
+
+    def made(self, rule, seed):
+        draw = random.Random(seed)
+        rules = {router: rule(draw, router) for router in range(2, 6)}
+        words = {router: " ".join(map(settle.path_text, paths)) for router, paths in rules.items()}
+        network = Network(network_of(words).splitlines())
+        return rules, network, settle.live_paths(network, next(iter(network.origins)))
+
+    def test_assignments_and_wheels_of_seven_hundred_policies(self):
+        seen = set()
+        for rule, seed in self.POLICIES:
+            rules, network, live = self.made(rule, seed)
+            with self.subTest(rule=rule.__name__, seed=seed):
+                found, are_all = settle.stable_assignments(live, 1, 100)
+                self.assertTrue(are_all)
+                self.assertEqual(sorted(tuple(chosen[router] for router in network.routers) for chosen in found),
+                                 sorted(stable_ones(rules)))
+                wheel = settle.Spokes(live).wheel()
+                self.assertEqual(len(wheel), least_wheel(live))
+                self.assert_wheel(wheel, live)
+                self.assertTrue(wheel or len(found) == 1)
+                seen.add((min(len(found), 2), bool(wheel)))
+        self.assertEqual(seen, {(1, False), (0, True), (1, True), (2, True)})
+
+    def assert_wheel(self, wheel, live):
+        """Each router likes the way through the next better, and what it then has is the next one's path."""
+        for (path, better, through), (spoke, _, _) in zip(wheel, wheel[1:] + wheel[:1]):
+            own = live[path[0]]
+            self.assertLess(own.index(better), own.index(path))
+            self.assertEqual(spoke[0], through)
+            self.assertEqual(better[better.index(through):], spoke)
+
+    def test_every_simple_path_where_there_is_no_rule(self):
+        network = Network(network_of({}).splitlines())
+        live = settle.live_paths(network, next(iter(network.origins)))
+        for router in range(2, 6):
+            others = [other for other in range(2, 6) if other != router]
+            self.assertEqual(live[router], sorted(((router, *middle, 1) for size in range(4)
+                                                   for middle in itertools.permutations(others, size)), key=lambda path: (len(path), path)))
+
+    def test_what_the_program_plays(self):
+        program = asked_program()
+        for rule, seed in self.POLICIES[:40] + self.POLICIES[-40:]:
+            rules, network, live = self.made(rule, seed)
+            stable, wheel = list(stable_ones(rules)), settle.Spokes(live).wheel()
+            ends = settle.play_orders(program, network, ["rising", "lock-step", 1, 2])
+            with self.subTest(rule=rule.__name__, seed=seed):
+                for said, routes in ends:
+                    self.assertTrue(said != "settled" or tuple(path for _, path in routes) in stable)
+                    self.assertTrue(wheel or said == "settled")
+
+
+class Printed(unittest.TestCase):
+    DISAGREE = """prefix 10.1.0.0/16 of 1
+  stable assignments: 2
+    1 2-3-1 3-1   check: stable
+    1 2-1 3-2-1   check: stable
+  dispute wheel of 2:
+    2 would rather have 2-3-1 than 2-1, through 3
+    3 would rather have 3-2-1 than 3-1, through 2
+  orders may differ: 2 ends are possible, and an order may never settle
+"""
+
+    def test_examples(self):
+        for name, found, wheel, said in (
+                ("shortest", 1, None, "every order settles, and in the same routes"),
+                ("good-gadget", 1, None, "every order settles, and in the same routes"),
+                ("ring", 0, 3, "no order settles"),
+                ("wedgie", 2, 2, "orders may differ: 2 ends are possible, and an order may never settle"),
+                ("wedgie-failed", 1, None, "every order settles, and in the same routes")):
+            status, out, error = run("settle", f"examples/{name}.txt")
+            self.assertEqual((status, error), (0, ""))
+            lines = [line for line in out.splitlines() if not line.startswith("warning: ")]
+            self.assertEqual(lines[1], f"  stable assignments: {found}")
+            self.assertEqual(sum(line.endswith("check: stable") for line in lines), found)
+            self.assertIn(f"  dispute wheel of {wheel}:" if wheel else "  no dispute wheel", lines)
+            self.assertEqual(lines[-1], "  " + said)
+
+    def test_disagree(self):
+        self.assertEqual(run("settle", "examples/disagree.txt"), (0, self.DISAGREE, ""))
+
+    def test_both_ends_of_disagree_come(self):
+        status, out, error = run("settle", "examples/disagree.txt", "--play", 20)
+        self.assertEqual((status, error, out[:len(self.DISAGREE)]), (0, "", self.DISAGREE))
+        ends = out[len(self.DISAGREE):].splitlines()
+        self.assertEqual(ends[0], "played 22 orders")
+        self.assertEqual(sum(int(line.split()[0]) for line in ends[1:]), 22)
+        self.assertEqual({" ".join(line.split("(")[0].split()[1:]) for line in ends[1:]} - {"moving"},
+                         {"settled 1 2-3-1 3-1", "settled 1 2-1 3-2-1"})
+
+    def test_an_order_that_is_written_plays(self):
+        for order in ("rising", "lock-step", 7):
+            status, out, error = run("settle", "examples/good-gadget.txt", "--write", order)
+            self.assertEqual((status, error), (0, ""))
+            self.assertEqual(asked_program().answer(["play"], out, "order")[0], "snapshot 1 settled")
+
+    def test_numbers_with_zeros_in_front(self):
+        text = (TOP / "examples/disagree.txt").read_text().replace("rank 2 10.1", f"rank {'0' * 5000}2 0010.01").replace("2-3-1", "02-03-1")
+        self.assertEqual(run("settle", "-", given=text.encode())[:2], (0, self.DISAGREE))
+
+    def test_an_order_over_small_pieces(self):
+        text = (TOP / "examples/play/octets.txt").read_text()
+        self.assertIn("\ncut 1\n", text)
+        out = run("settle", "-", "--play", 2, given=text.encode())[1]
+        self.assertIn("    4  settled", out)
+
+    def test_many_assignments(self):
+        rules = {}
+        links = []
+        for one in range(2, 16, 2):
+            links += [(1, one), (1, one + 1), (one, one + 1)]
+            rules.update({router: f"{router}-{other}-1 {router}-1" for router, other in ((one, one + 1), (one + 1, one))})
+        text = "".join(f"router {router} 10.0.0.{router}\n" for router in range(1, 16))
+        text += "".join(f"link {one} {other}\n" for one, other in links) + f"origin 1 {PREFIX}\n"
+        text += "".join(f"rank {router} {PREFIX} {rule}\n" for router, rule in rules.items())
+        status, out, error = run("settle", "-", "--most", 200, given=text.encode())
+        self.assertEqual((status, error, out.count("check: stable")), (0, "", 2**7))
+        out = run("settle", "-", "--most", 3, given=text.encode())[1]
+        self.assertIn("  stable assignments: more than 3\n", out)
+        self.assertEqual(out.count("check: stable"), 3)
+
+    def test_a_program_that_does_not_confirm(self):
+        with tempfile.TemporaryDirectory() as folder:
+            program = pathlib.Path(folder) / "program"
+            program.write_text("#!/bin/sh\nif grep -q assignment; then echo unstable 2 has 2-1 best 2-3-1; else echo stable; fi\n")
+            program.chmod(0o755)
+            status, out, error = run("settle", "examples/disagree.txt", "--program", program)
+            self.assertEqual((status, error), (1, "settle: the program does not confirm what is found here\n"))
+            self.assertEqual(out.count("check: unstable 2 has 2-1 best 2-3-1"), 2)
+            program.write_text("#!/bin/sh\nif read -r _ && grep -q schedule; then echo snapshot 1 settled; "
+                               "printf 'route %s 10.1.0.0/16 none\\n' 1 2 3; echo now; else echo stable; fi\n")
+            status, out, error = run("settle", "examples/disagree.txt", "--program", program, "--play", 0)
+            self.assertEqual((status, error), (1, "settle: the program does not confirm what is found here\n"))
+            self.assertEqual(run("settle", "examples/disagree.txt", "--program", program)[0], 0)
+            program.write_text("#!/bin/sh\necho memory; exit 3\n")
+            self.assertEqual(run("settle", "examples/disagree.txt", "--program", program),
+                             (1, "", "settle: bgpnet check ends with status 3: memory\n"))
+
+    def test_two_prefixes_and_a_wider_rule(self):
+        text = ("router 1 10.0.0.1\nrouter 2 10.0.0.2\nrouter 3 10.0.0.3\nlink 1 2\nlink 2 3\nlink 1 3\n"
+                "origin 3 10.2.0.0/16\norigin 1 10.1.0.0/16\nrank 2 10.0.0.0/8 2-3-1 2-1-3 2-1\nrank 3 10.1.0.0/16 3-2-1 3-1\n")
+        status, out, error = run("settle", "-", "--play", 3, given=text.encode())
+        self.assertEqual((status, error), (0, ""))
+        self.assertTrue(out.startswith("prefix 10.1.0.0/16 of 1\n  stable assignments: 2\n"))
+        self.assertIn("prefix 10.2.0.0/16 of 3\n  stable assignments: 1\n    1-3 2-1-3 3   check: stable\n  no dispute wheel\n", out)
+
+
+class Warnings(unittest.TestCase):
+    def warned(self, rules, *wanted, links=((1, 2), (2, 3), (3, 4)), origins=f"origin 1 {PREFIX}\n"):
+        text = "".join(f"router {router} 10.0.0.{router}\n" for router in range(1, 5))
+        text += "".join(f"link {one} {other}\n" for one, other in links) + origins + rules
+        status, out, error = run("settle", "-", given=text.encode())
+        self.assertEqual((status, error), (0, ""))
+        self.assertEqual(tuple(line[9:] for line in out.splitlines() if line.startswith("warning: ")), wanted)
+
+    def test_paths_that_can_never_come(self):
+        self.warned(f"rank 3 {PREFIX} 3-1 3-2-1\n", "line 9: 3-1 can never come: there is no link 3 1")
+        self.warned(f"rank 2 {PREFIX} 2-1\nrank 4 {PREFIX} 4-3-1 4-3-2-1\n", "line 10: 4-3-1 can never come: there is no link 3 1")
+        self.warned(f"rank 3 {PREFIX} 3-4-2-1\nrank 4 {PREFIX} 4-3-2-1\n",
+                    "line 9: 3-4-2-1 can never come: there is no link 4 2",
+                    "line 10: 4-3-2-1 can never come: router 3 does not permit 3-2-1",
+                    f"router 3: no path for {PREFIX} can ever come", f"router 4: no path for {PREFIX} can ever come")
+        self.warned(f"rank 3 {PREFIX} 3-2-1 3-4\n", f"line 9: 3-4: 4 is no origin of a prefix of this rule")
+
+    def test_rules_for_nothing(self):
+        self.warned("rank 3 10.2.0.0/16 3-2-1\n", "line 9: no prefix that an origin has goes by this rule")
+        self.warned(f"rank 3 10.0.0.0/8 3-2-1\nrank 3 {PREFIX} 3-2-1\n", "line 9: no prefix that an origin has goes by this rule")
+        self.warned(f"rank 3 {PREFIX}\n", f"router 3: no path for {PREFIX} can ever come", f"router 4: no path for {PREFIX} can ever come")
+
+    def test_no_warning(self):
+        self.warned("")
+        self.warned(f"rank 1 {PREFIX} 1\nrank 3 {PREFIX} 3-2-1\n")
+
+    def test_refusals(self):
+        text = (TOP / "examples/disagree.txt").read_text().replace("link 2 3", "link 2 9")
+        line = text.splitlines().index("link 2 9") + 1
+        self.assertEqual(run("settle", "-", given=text.encode()), (1, "", f"settle: -:{line}: N3: a router that no earlier line names\n"))
+        full = network_of({}, 10)
+        status, out, error = run("settle", "-", given=full.encode())
+        self.assertEqual((status, out, error),
+                         (1, "", f"settle: more than 20000 paths can come for {PREFIX}: give routers rank lines\n"))
+        self.assertEqual(run("settle", "-", given=b"router 1 10.0.0.1\n"), (1, "", "settle: -: no origin, so no routes\n"))
+        for words in ([], ["x", "--play", "-1"], ["x", "--write", "falling"], ["x", "y"]):
+            status, out, error = run("settle", *words)
+            self.assertEqual((status, out, error.count("\n")), (2, "", 1), words)
+        self.assertEqual(run("settle", "nothing"), (1, "", "settle: nothing: No such file or directory\n"))
+        self.assertEqual(run("settle", "examples/ring.txt", "--program", "nothing")[0], 1)
+        self.assertEqual(run("settle", "--help")[0], 0)

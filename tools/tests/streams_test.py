@@ -1,0 +1,372 @@
+"""Tests of `streams`, over captures that are made here: a conversation as segments, these as frames, and these as a
+file. What the tool has to find is known before anything is altered.
+
+    python3 tools/tests/streams_test.py     writes examples/session.pcap anew"""
+import random
+import struct
+import unittest
+
+from support import TOP, asked_program, load, run
+
+streams = load("streams")
+
+FIN, SYN, RST, ACK = 1, 2, 4, 16
+CLIENT, SERVER = (bytes([10, 0, 0, 1]), 40000), (bytes([10, 0, 0, 2]), 179)
+CLIENT_SIX, SERVER_SIX = (bytes([0x20, 1] + [0] * 13 + [1]), 40000), (bytes([0x20, 1] + [0] * 13 + [2]), 179)
+
+
+def message(kind, body=b""):
+    return b"\xff" * 16 + struct.pack(">HB", 19 + len(body), kind) + body
+
+
+def open_message(asn, capabilities=b""):
+    parameters = bytes([2, len(capabilities)]) + capabilities if capabilities else b""
+    return message(1, struct.pack(">BHH", 4, asn, 90) + bytes([10, 0, 0, asn & 255, len(parameters)]) + parameters)
+
+
+def update_message(asn, prefix):
+    attributes = bytes([0x40, 1, 1, 0, 0x40, 2, 4, 2, 1]) + struct.pack(">H", asn) + bytes([0x40, 3, 4, 10, 0, 0, 1])
+    return message(2, struct.pack(">HH", 0, len(attributes)) + attributes + bytes([16, 10, prefix]))
+
+
+def speech(asn, updates, capabilities=b""):
+    """What one end says: an OPEN, a KEEPALIVE, and UPDATEs."""
+    return open_message(asn, capabilities) + message(4) + b"".join(update_message(asn, n % 256) for n in range(updates))
+
+
+class Said:
+    """A segment: who says it, its sequence number, its flags and its octets."""
+
+    def __init__(self, source, target, sequence, flags, octets=b"", acknowledged=0):
+        self.source, self.target, self.octets = source, target, octets
+        self.sequence, self.flags, self.acknowledged = sequence % 2**32, flags, acknowledged % 2**32
+
+
+def talk(source, target, said, first, size, acknowledged=0):
+    """The segments in which one end says octets, from its SYN to its FIN; `size` is that of a segment."""
+    flags = SYN | (ACK if acknowledged else 0)
+    yield Said(source, target, first, flags, acknowledged=acknowledged)
+    for at in range(0, len(said), size):
+        yield Said(source, target, first + 1 + at, ACK, said[at:at + size])
+    yield Said(source, target, first + 1 + len(said), ACK | FIN)
+
+
+def conversation(said, answered, ends=(CLIENT, SERVER), first=1000, size=60):
+    """The segments of a connection, one of each end in turn."""
+    one = list(talk(*ends, said, first, size))
+    other = list(talk(*ends[::-1], answered, first + 77, size, acknowledged=first + 1))
+    both = []
+    while one or other:
+        both += one[:1] + other[:1]
+        one, other = one[1:], other[1:]
+    return both
+
+
+def tcp(said):
+    return struct.pack(">HHIIBBHHH", said.source[1], said.target[1], said.sequence, said.acknowledged, 0x50,
+                       said.flags, 0xFFFF, 0, 0) + said.octets
+
+
+def packet(said, extension=False):
+    """The IP packet of a segment; with an extension there stand options before TCP."""
+    octets = tcp(said)
+    if len(said.source[0]) == 16:
+        options = bytes([6, 0]) + b"\0" * 6 if extension else b""
+        head = struct.pack(">IHBB", 6 << 28, len(options) + len(octets), 60 if options else 6, 64)
+        return head + said.source[0] + said.target[0] + options + octets
+    options = b"\1" * 4 if extension else b""
+    head = struct.pack(">BBHHHBBH", 0x45 + extension, 0, 20 + len(options) + len(octets), 1, 0, 64, 6, 0)
+    return head + said.source[0] + said.target[0] + options + octets
+
+
+def protocol(octets):
+    return b"\x86\xdd" if octets[0] >> 4 == 6 else b"\x08\x00"
+
+
+FRAMES = {
+    "Ethernet": (1, lambda ip: b"\2" * 12 + protocol(ip) + ip + b"\0" * 6),
+    "a VLAN tag": (1, lambda ip: b"\2" * 12 + b"\x81\0\0\7" + protocol(ip) + ip),
+    "two VLAN tags": (1, lambda ip: b"\2" * 12 + b"\x88\xa8\0\7\x81\0\0\x09" + protocol(ip) + ip),
+    "raw IP": (101, lambda ip: ip),
+    "raw IP, as BSD numbers it": (12, lambda ip: ip),
+    "Linux cooked": (113, lambda ip: b"\0" * 14 + protocol(ip) + ip),
+    "Linux cooked, the second form": (276, lambda ip: protocol(ip) + b"\0" * 18 + ip),
+    "loopback": (0, lambda ip: b"\2\0\0\0" + ip),
+}
+
+
+def pcap(link, frames, order="<", magic=0xA1B2C3D4):
+    head = struct.pack(order + "IHHIIII", magic, 2, 4, 0, 0, 65535, link)
+    return head + b"".join(struct.pack(order + "IIII", 0, 0, len(frame), len(frame)) + frame for frame in frames)
+
+
+def block(order, kind, body):
+    body += b"\0" * (-len(body) % 4)
+    return struct.pack(order + "II", kind, len(body) + 12) + body + struct.pack(order + "I", len(body) + 12)
+
+
+def pcapng(link, frames, order="<", kind=6, most=0):
+    """A section with an interface, and a block of a kind for each frame, of which `most` octets were captured (0: all)."""
+    head = block(order, 0x0A0D0D0A, struct.pack(order + "IHHq", 0x1A2B3C4D, 1, 0, -1))
+    head += block(order, 1, struct.pack(order + "HHI", link, 0, most))
+    head += block(order, 5, b"statistics, which say nothing here")
+    for frame in frames:
+        part = frame[:most or None]
+        heads = {2: struct.pack(order + "HHIIII", 0, 0, 0, 0, len(part), len(frame)),
+                 3: struct.pack(order + "I", len(frame)),
+                 6: struct.pack(order + "IIIII", 0, 0, 0, len(part), len(frame))}
+        head += block(order, kind, heads[kind] + part)
+    return head
+
+
+def ethernet(segments):
+    return pcap(1, [FRAMES["Ethernet"][1](packet(said)) for said in segments])
+
+
+def found_in(data):
+    """The streams of a capture: the octets, the holes, and how many octets stand behind the first."""
+    losses = []
+    found = [stream for connection in streams.connections_of(memoryview(data), 179, losses)
+             for stream in connection.streams.values() if stream.octets]
+    return [(stream.octets, stream.holes, stream.behind) for stream in found], losses
+
+
+def whole(*said):
+    return [(octets, [], 0) for octets in said]
+
+
+class Files(unittest.TestCase):
+    """The forms of captures and of frames."""
+
+    def test_each_form_of_file_and_frame(self):
+        said, answered = speech(1, 5), speech(2, 3)
+        for ends in ((CLIENT, SERVER), (CLIENT_SIX, SERVER_SIX)):
+            for extension in (False, True):
+                packets = [packet(segment, extension) for segment in conversation(said, answered, ends)]
+                for name, (link, framed) in FRAMES.items():
+                    frames = [framed(octets) for octets in packets]
+                    for order in "<>":
+                        for data in (pcap(link, frames, order), pcap(link, frames, order, 0xA1B23C4D),
+                                     *(pcapng(link, frames, order, kind) for kind in (2, 3, 6))):
+                            with self.subTest(frame=name, order=order, ends=ends, extension=extension):
+                                self.assertEqual(found_in(data), (whole(said, answered), []))
+
+    def test_sections_of_pcapng_have_their_own_order(self):
+        one, other = conversation(speech(1, 2), speech(2, 1)), conversation(speech(3, 1), speech(4, 2), first=9000)
+        data = b"".join(pcapng(101, [packet(said) for said in talks], order) for talks, order in ((one, "<"), (other, ">")))
+        self.assertEqual(found_in(data), (whole(speech(1, 2), speech(2, 1), speech(3, 1), speech(4, 2)), []))
+
+    def test_a_capture_that_is_cut_off(self):
+        said, answered = speech(1, 2), speech(2, 2)
+        data = ethernet(conversation(said, answered))
+        for size in range(24, len(data)):
+            found, losses = found_in(data[:size])
+            for octets, _, _ in found:
+                self.assertTrue(said.startswith(octets) or answered.startswith(octets))
+            self.assertTrue(not losses or "in the middle of packet" in losses[0])
+        self.assertEqual(run("streams", "-", given=data[:20])[0::2], (1, "streams: the capture ends in its head\n"))
+        for size in range(28, 400):
+            found_in(pcapng(101, [packet(said) for said in conversation(said, answered)])[:size])
+
+    def test_no_octets_at_all_break_it(self):
+        packets = [packet(said, True) for said in conversation(speech(1, 2), speech(2, 2))]
+        packets += [packet(said, True) for said in conversation(speech(3, 2), speech(4, 2), (CLIENT_SIX, SERVER_SIX))]
+        for seed in range(400):
+            draw = random.Random(seed)
+            link, framed = draw.choice(list(FRAMES.values()))
+            form = draw.choice([pcap, pcapng])
+            data = bytearray(form(link, [framed(octets) for octets in packets], draw.choice("<>")))
+            for _ in range(draw.randrange(1, 40)):
+                data[draw.randrange(4, len(data))] = draw.choice([0, 1, 255, draw.randrange(256)])
+            with self.subTest(seed=seed):
+                try:
+                    found_in(bytes(data[:draw.choice([len(data), draw.randrange(len(data))])]))
+                except streams.Refusal as why:
+                    self.assertIn(str(why), ("neither pcap nor pcapng", "the capture ends in its head"))
+
+    def test_other_link_types_are_named(self):
+        data = pcap(127, [b"\0" * 60] * 3)
+        self.assertEqual(found_in(data), ([], ["3 packets of link type 127 are not read"]))
+
+    def test_what_is_no_bgp_is_passed_over(self):
+        said, answered = speech(1, 2), speech(2, 2)
+        others = conversation(b"GET / HTTP/1.1", b"200", ((CLIENT[0], 50000), (SERVER[0], 80)))
+        udp = bytearray(packet(others[0]))
+        udp[9] = 17
+        frames = [FRAMES["Ethernet"][1](octets) for octets in
+                  [*map(packet, conversation(said, answered)), *map(packet, others), bytes(udp), b"\x60"]]
+        self.assertEqual(found_in(pcap(1, frames + [b"", b"\2" * 13, b"\2" * 12 + b"\x08\x06" + b"\0" * 28])),
+                         (whole(said, answered), []))
+
+    def test_no_capture(self):
+        self.assertEqual(run("streams", "README.md"), (1, "", "streams: neither pcap nor pcapng\n"))
+        self.assertEqual(run("streams", "-", given=pcap(1, [])), (1, "", "streams: no octets from or to port 179\n"))
+
+
+class Segments(unittest.TestCase):
+    """The order and the number of segments."""
+
+    def test_retransmissions_count_once_and_order_does_not_count(self):
+        for seed in range(60):
+            draw = random.Random(seed)
+            said, answered = speech(1, draw.randrange(1, 40)), speech(2, draw.randrange(1, 40))
+            first = draw.choice([1000, 2**32 - 100, 2**32 - 1])
+            segments = conversation(said, answered, first=first, size=draw.randrange(1, 200))
+            segments = [again for segment in segments for again in [segment] * draw.choice([1, 1, 2, 3])]
+            for at in range(2, len(segments) - 1):
+                if draw.random() < 0.3:
+                    segments[at], segments[at + 1] = segments[at + 1], segments[at]
+            with self.subTest(seed=seed):
+                found, losses = found_in(ethernet(segments))
+                self.assertEqual(sorted(found), sorted(whole(said, answered)))
+                self.assertEqual(losses, [])
+
+    def test_retransmissions_in_other_pieces(self):
+        for seed in range(40):
+            draw = random.Random(seed)
+            said = speech(1, 30)
+            pieces = [*talk(CLIENT, SERVER, said, 5, 40), *talk(CLIENT, SERVER, said, 5, 70), *talk(CLIENT, SERVER, said, 5, 11)]
+            draw.shuffle(pieces)
+            with self.subTest(seed=seed):
+                self.assertEqual(found_in(ethernet(pieces))[0], whole(said))
+
+    def test_holes_are_named(self):
+        for seed in range(60):
+            draw = random.Random(seed)
+            said, size = speech(1, 30), draw.randrange(7, 90)
+            kept, missing = [], []
+            for segment in talk(CLIENT, SERVER, said, 7, size):
+                at = segment.sequence - 8
+                if segment.octets and draw.random() < 0.1:
+                    missing.append((at, at + len(segment.octets)))
+                else:
+                    kept.append(segment)
+            holes = []
+            for start, end in missing:
+                if holes and sum(holes[-1]) == start:
+                    holes[-1] = (holes[-1][0], holes[-1][1] + end - start)
+                else:
+                    holes.append((start, end - start))
+            front = said[:holes[0][0]] if holes else said
+            behind = len(said) - len(front) - sum(size for _, size in holes)
+            draw.shuffle(kept)
+            with self.subTest(seed=seed):
+                self.assertEqual(found_in(ethernet(kept))[0], [(front, holes, behind)] if front else [])
+
+    def test_octets_that_were_not_captured_are_a_hole(self):
+        said = speech(1, 4)
+        frames = [packet(segment) for segment in talk(CLIENT, SERVER, said, 7, 1000)]
+        short = [frame[:90] for frame in frames]
+        for data in (pcap(101, short), *(pcapng(101, frames, "<", kind, most=90) for kind in (2, 3, 6))):
+            self.assertEqual(found_in(data), ([(said[:50], [(50, len(said) - 50)], 0)], []))
+        self.assertEqual(found_in(pcap(101, short + frames))[0], whole(said))
+
+    def test_a_capture_that_begins_in_the_middle(self):
+        said = speech(1, 4)
+        later = [segment for segment in talk(CLIENT, SERVER, said, 7, 30)][3:]
+        found, _ = found_in(ethernet(later[::-1]))
+        self.assertEqual(found, whole(said[60:]))
+        status, out, error = run("streams", "-", given=ethernet(later))
+        self.assertEqual((status, error), (0, ""))
+        self.assertIn("no message begins here", out)
+
+    def test_ports_that_are_used_again(self):
+        speeches = [speech(number, number) for number in range(1, 9)]
+        segments = []
+        for number in range(0, 8, 2):
+            segments += conversation(speeches[number], speeches[number + 1], first=1000 * (number + 1))
+        self.assertEqual(found_in(ethernet(segments))[0], whole(*speeches))
+
+    def test_a_reset_says_nothing_of_what_was_sent(self):
+        said = speech(1, 1)
+        segments = [*list(talk(CLIENT, SERVER, said, 7, 30))[:-1], Said(CLIENT, SERVER, 999999, RST)]
+        self.assertEqual(found_in(ethernet(segments))[0], whole(said))
+
+    def test_an_acknowledgement_shows_what_was_not_captured(self):
+        said = speech(1, 1)
+        segments = [*list(talk(CLIENT, SERVER, said, 7, 30))[:-1], Said(CLIENT, SERVER, 8 + len(said) + 5, ACK)]
+        self.assertEqual(found_in(ethernet(segments))[0], [(said, [(len(said), 5)], 0)])
+
+    def test_a_probe_that_keeps_a_connection_alive(self):
+        said = speech(1, 1)
+        segments = list(talk(CLIENT, SERVER, said, 7, 30))
+        probe = Said(CLIENT, SERVER, 7 + len(said), ACK, b"\0")
+        early = Said(CLIENT, SERVER, 7, ACK, b"\0")
+        self.assertEqual(found_in(ethernet([segments[0], early, *segments[1:-1], probe, segments[-1]]))[0], whole(said))
+
+
+def example():
+    """The capture of the examples: router 1 starts the session, and announces two prefixes; a piece of its last message
+    is sent twice; all stands behind a VLAN tag."""
+    segments = conversation(speech(1, 2), speech(2, 0), size=37)
+    return pcap(1, [FRAMES["a VLAN tag"][1](packet(said)) for said in [*segments[:9], *segments[8:]]])
+
+
+class Printed(unittest.TestCase):
+    """What the tool prints."""
+
+    FOUR = bytes([65, 4, 0, 0, 0, 1, 2, 0])
+
+    def test_the_list(self):
+        data = ethernet(conversation(speech(1, 9), speech(2, 1)))
+        status, out, error = run("streams", "-", given=data)
+        self.assertEqual((status, error), (0, ""))
+        self.assertEqual(out, f"1  10.0.0.1:40000 > 10.0.0.2:179  {len(speech(1, 9))} octets  "
+                              "open keepalive update update update .., FIN\n"
+                              f"2  10.0.0.2:179 > 10.0.0.1:40000  {len(speech(2, 1))} octets  open keepalive update, FIN\n")
+
+    def test_the_capture_of_the_examples(self):
+        data = (TOP / "examples/session.pcap").read_bytes()
+        self.assertEqual(data, example())
+        self.assertEqual(found_in(data), (whole(speech(1, 2), speech(2, 0)), []))
+
+    def test_capabilities_of_both_opens(self):
+        for one, other, said in ((self.FOUR, self.FOUR, True), (self.FOUR, b"", False), (b"", b"", False),
+                                 (self.FOUR, bytes([2, 0]), False)):
+            data = ethernet(conversation(speech(1, 0, one), speech(2, 0, other)))
+            self.assertEqual("1 and 2: both OPENs have capability 65" in run("streams", "-", given=data)[1], said)
+
+    def test_hex_is_what_the_program_reads(self):
+        said, answered = speech(1, 300), speech(2, 1)
+        data = ethernet(conversation(said, answered, (CLIENT_SIX, SERVER_SIX), size=1400))
+        for number, octets in ((1, said), (2, answered)):
+            status, out, error = run("streams", "-", number, given=data)
+            self.assertEqual((status, error, bytes.fromhex(out)), (0, "", octets))
+            status, lines = asked_program().ask(["decode"], out)
+            self.assertEqual((status, lines[1], lines[-1].split()[0]), (0, "keepalive", "update"))
+        self.assertEqual(run("streams", "-", 3, given=data), (1, "", "streams: there are 2 streams\n"))
+
+    def test_decode(self):
+        wrong = speech(2, 0) + message(9)
+        status, out, error = run("streams", "-", "--decode", given=ethernet(conversation(speech(1, 1), wrong)))
+        self.assertEqual((status, error), (1, "streams: stream 2: the program finds a fault\n"))
+        self.assertEqual(out.splitlines()[1:4], ["  open as 1 hold 90 id 10.0.0.1", "  keepalive",
+                                                 "  update announce 10.0.0.0/16 path 1 next 10.0.0.1"])
+        self.assertIn("\n  fault 1 3\n", out)
+
+    def test_a_stream_is_decoded_in_parts(self):
+        """More than the program reads at once, a fault in the last part."""
+        said = open_message(1) + (message(4) * 40 + update_message(1, 7)) * 12000
+        data = ethernet(talk(CLIENT, SERVER, said + message(9), 7, 60000))
+        status, out, error = run("streams", "-", "--decode", given=data)
+        self.assertEqual((status, error), (1, "streams: stream 1: the program finds a fault\n"))
+        self.assertEqual((out.count("  keepalive\n"), out.count("  update announce")), (480000, 12000))
+        self.assertTrue(out.endswith("\n  fault 1 3\n  " + "ff" * 16 + "0016" + "03010309\n"))
+
+    def test_holes_are_lines_on_the_standard_error(self):
+        segments = list(talk(CLIENT, SERVER, speech(1, 2), 7, 30))
+        status, out, error = run("streams", "-", 1, given=ethernet(segments[:2] + segments[3:]))
+        self.assertEqual((status, bytes.fromhex(out)), (1, speech(1, 2)[:30]))
+        self.assertEqual(error, "streams: stream 1: 30 octets are missing behind octet 30\n"
+                                f"streams: stream 1: it ends at its first hole, {len(speech(1, 2)) - 60} octets stand behind it\n")
+
+    def test_wrong_words(self):
+        for words in ([], ["x", "0"], ["x", "1", "--decode"], ["x", "--port", "65536"], ["x", "y", "z"], ["--pro", "x"]):
+            status, out, error = run("streams", *words)
+            self.assertEqual((status, out, error.count("\n")), (2, "", 1))
+        self.assertEqual(run("streams", "nothing.pcap"), (1, "", "streams: nothing.pcap: No such file or directory\n"))
+        self.assertEqual(run("streams", "--help")[0], 0)
+
+
+if __name__ == "__main__":
+    (TOP / "examples/session.pcap").write_bytes(example())
