@@ -74,12 +74,13 @@ fn whole_output(
     let recorded = recorded_of(alloc, network, world.collector(), number)?;
     // The events alone are kept while they are played again.
     let run = world.into_run();
+    let all = run.len();
     // They are done again, and the snapshot comes out as it did: what is refused is memory.
-    let Ok(Some(inside)) = count_inside(alloc, network, run.as_slice(), number) else {
+    let Ok(Some(inside)) = count_inside(alloc, network, run, number) else {
         return Err(AllocError);
     };
     let mut out = Vec::new(alloc);
-    cut_line(number, inside, run.len(), &mut out)?;
+    cut_line(number, inside, all, &mut out)?;
     out.extend_from_slice(recorded.as_slice())?;
     Ok((out, DONE))
 }

@@ -1,8 +1,8 @@
 -- Events that are played with a flag for each that is done.
-use Rattle.std.proofs.Common.{◌≡◌, ◌≢◌, ℕ, ◌+◌, ◌<◌, ◌≤◌, Bool, List, [], ◌∷◌, ◌++◌, length, take, drop, get_or, refl, ap, sym, ◌∙◌, arith, suc, subst, inl, inr, length-append}
+use Rattle.std.proofs.Common.{◌≡◌, ◌≢◌, ℕ, ◌+◌, ◌<◌, ◌≤◌, Bool, List, [], ◌∷◌, ◌++◌, length, take, drop, get_or, append_assoc, refl, ap, sym, ◌∙◌, arith, suc, subst, inl, inr, length-append}
 use Rattle.std.specs.Prelude.{nat_lt, Result, Ok, Err}
 use Rattle.std.proofs.Math.Seq.{take-suc}
-use Rattle.std.proofs.lemmas.List.{append-nil, take_all, length-take-le}
+use Rattle.std.proofs.lemmas.List.{append-nil, take_all, take-append-drop, length-take-le}
 use Rattle.ranked_policy.specs.Plans.{Plan, IsNetwork, IsRouter}
 use Rattle.run_model.specs.Network.{alone, puts, takes, offers}
 use Rattle.router_model.specs.declared.refusal.Stepped.{Stepped}
@@ -13,9 +13,10 @@ use Rattle.router_model.specs.Step.{RouterEvent, Obeys, Ticks, Handles, Decides,
 use Rattle.router_runs.specs.Existence.{EachNetworkHasASetting}
 use Rattle.world_core.specs.declared.schedule.Event.{Event}
 use Rattle.world_core.specs.declared.schedule.StepFault.{StepFault}
+use Rattle.world_core.specs.declared.schedule.PlayFault.{PlayFault}
 use Rattle.world_core.specs.declared.schedule.StepFault.TheVariants.{Memory}
 use Rattle.world_core.specs.Events.{router_of}
-use Rattle.world_core.specs.Flagging.{Flags, FlagsTo}
+use Rattle.world_core.specs.Flagging.{Flags, FlagsTo, PlaysOn}
 use Rattle.world_core.specs.Orders.{IsPlayed, IsRefused}
 use Rattle.world_core.specs.Tested.{test_of, world_next, tested}
 use Rattle.world_core.specs.Views.{WorldView, plain_world, routers_of, Opens, Answers}
@@ -88,40 +89,93 @@ flags_refused s x y z event flags after why gives g same ranks =
 
 -- ---- events in their order
 
-pub flags_first : (net : Plan) (events : List Event) (s : ℕ) (x : WorldView) (flags : List Bool) → Opens net x → flags ≡ [] → FlagsTo net (take 0 events) s x flags
-flags_first net events s x flags opens is = record { net = opens.0; played = λ g e ranks. ap Ok (sym (opens.1 g e)); tests = λ g e ranks. is }
+pub flags_first : (net : Plan) (s : ℕ) (x : WorldView) (flags : List Bool) → Opens net x → flags ≡ [] → FlagsTo net [] s x flags
+flags_first net s x flags opens is = record { net = opens.0; played = λ g e ranks. ap Ok (sym (opens.1 g e)); tests = λ g e ranks. is }
 
-pub flags_next : (net : Plan) (events : List Event) (s i : ℕ) (event : Event) (x y : WorldView) (flags after : List Bool) → i < length events → event ≡ get_or events i event
-    → FlagsTo net (take i events) s x flags → Flags (Ok tt) s x flags event y after → y.net ≡ x.net → FlagsTo net (take (i + 1) events) s y after
-flags_next net events s i event x y flags after l is was gives same =
+flags_more : (net : Plan) (events : List Event) (s : ℕ) (event : Event) (x y : WorldView) (flags after : List Bool) → FlagsTo net events s x flags → Flags (Ok tt) s x flags event y after → y.net ≡ x.net
+    → FlagsTo net (events ++ event ∷ []) s y after
+flags_more net events s event x y flags after was gives same = record {
+  net = same ∙ was.net;
+  played = λ g e ranks.
+      let t = played_then g events (event ∷ []) (new_world g) (plain_world x) 0 (was.played g e ranks) in
+      t.1 ∙ ap (λ (r : Played). onward r (λ next. Ok next)) ((gives g (e ∙ sym was.net) ranks).0 t.0);
+  tests = λ g e ranks.
+      (gives g (e ∙ sym was.net) ranks).1 ∙ ap (λ k. k ++ test_of g s (plain_world x) (world_answer g (plain_world x) event)) (was.tests g e ranks)
+      ∙ sym (tests_more g s event events (new_world g) (plain_world x) 0 (was.played g e ranks));
+}
+
+-- those before this one of `events` were played behind others
+abbrev pub Reached : List Event → ℕ → WorldView → List Bool → ℕ → WorldView → List Bool → Type 0
+Reached events s x flags i y after = (net : Plan) (before : List Event) → FlagsTo net before s x flags → FlagsTo net (before ++ take i events) s y after
+
+pub flags_next : (events : List Event) (s : ℕ) (x : WorldView) (flags : List Bool) (i : ℕ) (event : Event) (y z : WorldView) (then after : List Bool) → i < length events → event ≡ get_or events i event
+    → Reached events s x flags i y then → Flags (Ok tt) s y then event z after → z.net ≡ y.net → Reached events s x flags (i + 1) z after
+flags_next events s x flags i event y z then after l is was gives same net before to =
     let one : suc i ≡ i + 1 = omega arith in
     let more : take i events ++ event ∷ [] ≡ take (i + 1) events = sym (take-suc events i event l ∙ ap (λ (k : Event). take i events ++ k ∷ []) (sym is)) ∙ ap (λ k. take k events) one in
-    subst (λ (k : List Event). FlagsTo net k s y after) more
-    (record {
-      net = same ∙ was.net;
-      played = λ g e ranks.
-          let t = played_then g (take i events) (event ∷ []) (new_world g) (plain_world x) 0 (was.played g e ranks) in
-          t.1 ∙ ap (λ (r : Played). onward r (λ next. Ok next)) ((gives g (e ∙ sym was.net) ranks).0 t.0);
-      tests = λ g e ranks.
-          (gives g (e ∙ sym was.net) ranks).1 ∙ ap (λ k. k ++ test_of g s (plain_world x) (world_answer g (plain_world x) event)) (was.tests g e ranks)
-          ∙ sym (tests_more g s event (take i events) (new_world g) (plain_world x) 0 (was.played g e ranks));
-    })
+    subst (λ (k : List Event). FlagsTo net k s z after) (append_assoc before (take i events) (event ∷ []) ∙ ap (λ (k : List Event). before ++ k) more)
+    (flags_more net (before ++ take i events) s event y z then after (was net before to) gives same)
 
-pub flags_until : (net : Plan) (events : List Event) (s i : ℕ) (event : Event) (x y : WorldView) (flags after : List Bool) (why : StepFault) → i < length events → event ≡ get_or events i event
-    → FlagsTo net (take i events) s x flags → Flags (Err why) s x flags event y after → (g : Setting) → g.net ≡ net → ChoosesByRank g → IsPlayed g events (Err (record { at = i; why = why }))
-flags_until net events s i event x y flags after why l is was gives g e ranks =
+-- one is refused
+pub flags_until : (events : List Event) (s : ℕ) (x : WorldView) (flags : List Bool) (i : ℕ) (event : Event) (y z : WorldView) (then after : List Bool) (why : StepFault) → i < length events → event ≡ get_or events i event
+    → Reached events s x flags i y then → Flags (Err why) s y then event z after
+    → (net : Plan) (before : List Event) → FlagsTo net before s x flags → (g : Setting) → g.net ≡ net → ChoosesByRank g → IsPlayed g (before ++ events) (Err (record { at = length before + i; why = why }))
+flags_until events s x flags i event y z then after why l is was gives net before to g e ranks =
+    let here = was net before to in
+    let few : length (take i events) ≡ i = length-take-le i events (omega arith) in
     inr (
-      plain_world x,
+      plain_world y,
       record {
-        before = take i events;
+        before = before ++ take i events;
         event = event;
         behind = drop (suc i) events;
-        parts = cut_at events i event l ∙ ap (λ (k : Event). take i events ++ k ∷ drop (suc i) events) (sym is);
-        place = length-take-le i events (omega arith);
-        reached = was.played g e ranks;
-        refused = gives g (e ∙ sym was.net) ranks;
+        parts =
+            ap (λ (k : List Event). before ++ k) (cut_at events i event l ∙ ap (λ (k : Event). take i events ++ k ∷ drop (suc i) events) (sym is))
+            ∙ sym (append_assoc before (take i events) (event ∷ drop (suc i) events));
+        place = length-append before (take i events) ∙ ap (λ k. length before + k) few;
+        reached = here.played g e ranks;
+        refused = gives g (e ∙ sym here.net) ranks;
       },
     )
+
+-- what is refused stays so with others behind it
+pub until_behind : (g : Setting) (events more : List Event) (fault : PlayFault) → IsPlayed g events (Err fault) → IsPlayed g (events ++ more) (Err fault)
+until_behind g events more fault (inl opening) = inl opening
+until_behind g events more fault (inr stops) =
+    let k = stops.1 in
+    inr (
+      stops.0,
+      record {
+        before = k.before;
+        event = k.event;
+        behind = k.behind ++ more;
+        parts = ap (λ (es : List Event). es ++ more) k.parts ∙ append_assoc k.before (k.event ∷ k.behind) more;
+        place = k.place;
+        reached = k.reached;
+        refused = k.refused;
+      },
+    )
+
+-- ---- events from a new world, all of them or in two halves
+
+pub refused_alone : (net : Plan) (events : List Event) (s : ℕ) (x y : WorldView) (flags after : List Bool) (fault : PlayFault) → FlagsTo net [] s x flags → PlaysOn (Err fault) s x flags events y after
+    → (g : Setting) → g.net ≡ net → ChoosesByRank g → IsPlayed g events (Err fault)
+refused_alone net events s x y flags after fault new one g e ranks =
+    let none : 0 + fault.at ≡ fault.at = omega arith in
+    subst (λ n. IsPlayed g events (Err (record { at = n; why = fault.why }))) none (one net [] new g e ranks)
+
+module _ (net : Plan) (events first later : List Event) (s : ℕ) (x y z : WorldView) (flags then after : List Bool) (parts : events ≡ first ++ later) (new : FlagsTo net [] s x flags) where
+  pub both_played : PlaysOn (Ok tt) s x flags first y then → PlaysOn (Ok tt) s y then later z after → FlagsTo net events s z after
+  both_played one two = subst (λ (k : List Event). FlagsTo net k s z after) (sym parts) (two net first (one net [] new))
+
+  pub first_refused : (fault : PlayFault) → PlaysOn (Err fault) s x flags first y then → (g : Setting) → g.net ≡ net → ChoosesByRank g → IsPlayed g events (Err fault)
+  first_refused fault one g e ranks = subst (λ (k : List Event). IsPlayed g k (Err fault)) (sym parts) (until_behind g first later fault (refused_alone net first s x y flags then fault new one g e ranks))
+
+  pub later_refused : (half : ℕ) (fault : PlayFault) → length first ≡ half → PlaysOn (Ok tt) s x flags first y then → PlaysOn (Err fault) s y then later z after
+      → (g : Setting) → g.net ≡ net → ChoosesByRank g → IsPlayed g events (Err (record { at = half + fault.at; why = fault.why }))
+  later_refused half fault long one two g e ranks =
+      subst (λ (k : List Event). IsPlayed g k (Err (record { at = half + fault.at; why = fault.why }))) (sym parts)
+      (subst (λ n. IsPlayed g (first ++ later) (Err (record { at = n + fault.at; why = fault.why }))) long (two net first (one net [] new) g e ranks))
 
 -- ---- a flag for each event that was done
 

@@ -1,5 +1,5 @@
 -- The clauses of calls that play events with a flag for each that is done: whether it is inside the cut of a snapshot.
-use Rattle.std.specs.Prelude.{ℕ, ◌≡◌, Bool, List, ◌++◌, Result, Ok, Err, MatchResult, Vec}
+use Rattle.std.specs.Prelude.{ℕ, ◌≡◌, ◌+◌, Bool, List, ◌++◌, length, Result, Ok, Err, MatchResult, Vec}
 use Rattle.ranked_policy.specs.Plans.{Plan}
 use Rattle.router_model.specs.Settings.{Setting, ChoosesByRank}
 use Rattle.world_core.specs.declared.schedule.Event.{Event}
@@ -24,6 +24,13 @@ pub record FlagsTo (plan : Plan) (events : List Event) (s : ℕ) (x : WorldView)
   pub net : x.net ≡ plan
   pub played : (g : Setting) → g.net ≡ plan → ChoosesByRank g → played g (new_world g) 0 events ≡ Ok (plain_world x)
   pub tests : (g : Setting) → g.net ≡ plan → ChoosesByRank g → flags ≡ tested g s (new_world g) events
+
+-- these are played behind any others, so the place of a refused one is that among all
+abbrev pub PlaysOn : Result (Unit {0}) PlayFault → ℕ → WorldView → List Bool → List Event → WorldView → List Bool → Type 0
+PlaysOn r s x flags events y flags_after =
+    (net : Plan) (before : List Event) → FlagsTo net before s x flags
+    → MatchResult r (λ _. FlagsTo net (before ++ events) s y flags_after)
+    (λ fault. (g : Setting) → g.net ≡ net → ChoosesByRank g → IsPlayed g (before ++ events) (Err (record { at = length before + fault.at; why = fault.why })))
 
 abbrev pub PlaysWithFlags : {Z : Type 0} → Result (WorldView × Vec Bool Z) PlayFault → Plan → List Event → ℕ → Type 0
 PlaysWithFlags r net events s =

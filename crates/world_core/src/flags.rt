@@ -1,9 +1,9 @@
 //! Events that are played, each with a flag: whether it is inside the cut of a snapshot.
 
-ghost use Rattle.std.specs.Prelude.{◌≡◌, length, nat_lt, IfOk};
+ghost use Rattle.std.specs.Prelude.{◌≡◌, ◌<◌, length, nat_lt, IfOk, IfErr};
 ghost use Rattle.ranked_policy.specs.Plans.{IsRouter};
 ghost use Rattle.world_core.specs.Events.{router_of};
-ghost use Rattle.world_core.specs.Flagging.{Flags, PlaysWithFlags};
+ghost use Rattle.world_core.specs.Flagging.{Flags, PlaysOn, PlaysWithFlags};
 ghost use Rattle.world_core.specs.Views.{routers_of};
 
 use crate::schedule::{Event, PlayFault, StepFault};
@@ -46,8 +46,27 @@ fn step_with_flag(
     }
 }
 
-/// Plays events, and says of each that was done whether it is inside: its router had not recorded the snapshot of this number
-/// before it.
+// Plays events behind those that were played, and says of each that was done whether it is inside. The place of a refused one
+// is counted from the first of these.
+fn play_on(
+    world: &mut World<'_>,
+    inside: &mut Vec<bool>,
+    events: &[Event],
+    number: u32,
+) -> Result<(), PlayFault>
+    ensures plays { PlaysOn result number world.old inside.old.items events.now world.new inside.new.items }
+    ensures place { IfErr result (λ fault. fault.at < length events.now) }
+{
+    for (at, event) in events.iter().enumerate() {
+        if let Err(why) = step_with_flag(world, inside, event, number) {
+            return Err(PlayFault { at, why });
+        }
+    }
+    Ok(())
+}
+
+/// Plays events, and says of each that was done whether it is inside the cut of a snapshot: its router had not recorded the
+/// snapshot of this number before it.
 pub(crate) fn play_with_flags<'a>(
     alloc: Global,
     network: &'a Network,
@@ -64,10 +83,35 @@ pub(crate) fn play_with_flags<'a>(
         Err(why) => return Err(PlayFault { at: 0, why }),
     };
     let mut inside = Vec::new(alloc);
-    for (at, event) in events.iter().enumerate() {
-        if let Err(why) = step_with_flag(&mut world, &mut inside, event, number) {
-            return Err(PlayFault { at, why });
-        }
-    }
+    play_on(&mut world, &mut inside, events, number)?;
     Ok((world, inside))
+}
+
+/// The same, of events that are given up: the half that was played is dropped before the other is played.
+pub(crate) fn play_halves<'a>(
+    alloc: Global,
+    network: &'a Network,
+    mut events: Vec<Event>,
+    number: u32,
+) -> Result<(World<'a>, Vec<bool>), PlayFault>
+    ensures { PlaysWithFlags result network.now events.items number }
+{
+    let half = events.len() / 2;
+    let Ok(later) = events.split_off(half) else {
+        return Err(PlayFault {
+            at: 0,
+            why: StepFault::Memory,
+        });
+    };
+    let mut world = match World::new(alloc, network) {
+        Ok(world) => world,
+        Err(why) => return Err(PlayFault { at: 0, why }),
+    };
+    let mut inside = Vec::new(alloc);
+    play_on(&mut world, &mut inside, events.as_slice(), number)?;
+    drop(events);
+    match play_on(&mut world, &mut inside, later.as_slice(), number) {
+        Ok(()) => Ok((world, inside)),
+        Err(PlayFault { at, why }) => Err(PlayFault { at: half + at, why }),
+    }
 }

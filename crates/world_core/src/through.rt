@@ -5,7 +5,7 @@ ghost use Rattle.world_core.specs.Answering.{answer_of, count_of, CountsInside, 
 ghost use Rattle.world_core.specs.Through.{count_true, picked_by};
 ghost use Rattle.world_core.specs.Verdicts.{judged, JudgesItsRuns};
 
-use crate::flags::play_with_flags;
+use crate::flags::{play_halves, play_with_flags};
 use crate::laws::{answers_are_through, tests_tell_what_is_inside};
 use crate::reordering::{count_true, reordered};
 use crate::schedule::{Event, PlayFault, StepFault};
@@ -97,19 +97,19 @@ fn counted(world: &World<'_>, inside: &[bool], number: u32) -> Option<usize>
 
 /// How many of the events that were done are inside the cut of a snapshot, where it is settled or moving at their end: those of
 /// each router up to its recording, itself included. It is the [`recorded`](Through::recorded) of [`through_cut`], without the
-/// list of events.
+/// list of events. The events are given up as they are played, half of them at a time.
 ///
 /// None where the snapshot is not decided, or is abandoned. Refused as [`play`](crate::play) refuses the events.
 pub fn count_inside(
     alloc: Global,
     network: &Network,
-    events: &[Event],
+    events: Vec<Event>,
     number: u32,
 ) -> Result<Option<usize>, PlayFault>
-    ensures counts { CountsInside result network.now events.now number }
-    ensures refused { RefusesAsPlay result network.now events.now }
+    ensures counts { CountsInside result network.now events.items number }
+    ensures refused { RefusesAsPlay result network.now events.items }
 {
     tests_tell_what_is_inside();
-    let (world, inside) = play_with_flags(alloc, network, events, number)?;
+    let (world, inside) = play_halves(alloc, network, events, number)?;
     Ok(counted(&world, inside.as_slice(), number))
 }

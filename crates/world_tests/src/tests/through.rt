@@ -174,7 +174,7 @@ fn comes_to(alloc: Global, network: &Network, events: &[Event], row: &Row) -> bo
 }
 
 // Whether as many of what is done is inside as is wanted.
-fn counts(alloc: Global, network: &Network, events: &[Event], row: &Row) -> bool {
+fn counts(alloc: Global, network: &Network, events: Vec<Event>, row: &Row) -> bool {
     match (
         count_inside(alloc, network, events, row.number),
         row.through,
@@ -188,8 +188,7 @@ fn counts(alloc: Global, network: &Network, events: &[Event], row: &Row) -> bool
 fn is_as(alloc: Global, network: &Network, prefix: Prefix, row: &Row) -> bool {
     match schedule(alloc, row.all, prefix) {
         Ok(events) => {
-            comes_to(alloc, network, events.as_slice(), row)
-                && counts(alloc, network, events.as_slice(), row)
+            comes_to(alloc, network, events.as_slice(), row) && counts(alloc, network, events, row)
         }
         Err(_) => false,
     }
