@@ -96,7 +96,7 @@ struct Number {
 }
 
 /// The number of a dial: the peer's where it waits there, else a new one, as long as there is one.
-static NUMBERS: [Number; 7] = [
+static NUMBERS: [Number; 9] = [
     Number {
         name: "the peer waits in 4",
         way: &[
@@ -120,6 +120,29 @@ static NUMBERS: [Number; 7] = [
         want: Ok(Dialled {
             epoch: 5,
             joined: false,
+        }),
+    },
+    Number {
+        name: "the peer waits in 5, and shut 4 before",
+        way: &[
+            Step::Hears(Dial(4), Offered(4)),
+            Step::Hears(Dial(5), Offered(5)),
+            Step::Hears(Shut(4), Quiet),
+        ],
+        want: Ok(Dialled {
+            epoch: 5,
+            joined: true,
+        }),
+    },
+    Number {
+        name: "the peer waits in 4, and shut a number not heard",
+        way: &[
+            Step::Hears(Dial(4), Offered(4)),
+            Step::Hears(Shut(5), Quiet),
+        ],
+        want: Ok(Dialled {
+            epoch: 4,
+            joined: true,
         }),
     },
     Number {

@@ -4,15 +4,33 @@ use super::answers::{DID, NOTHING};
 use super::beginnings::{ESTABLISHED, FRESH};
 use super::items::Sent::{Dial, Says, Shut};
 use super::steps::ALIVE;
-use super::steps::Asked::{Decide, Originate, Restart, Start, Withdraw};
+use super::steps::Asked::{Advertise, Decide, Originate, Restart, Start, Withdraw};
 use super::steps::Named::Greatest;
-use super::steps::Step::{Does, IsDrained, Keeps, Puts, Seconds};
+use super::steps::Step::{Does, Drains, IsDrained, Keeps, Puts, Seconds};
 use super::*;
 
 // A third of the hold time of 90 seconds passes: 1 says KEEPALIVE.
 #[test]
 fn a_keepalive_goes_out_in_time(rt: HostRuntime) -> Result<(), Fail> {
     static SCRIPT: &[Step<'static>] = &[
+        Seconds(29),
+        IsDrained(2),
+        Seconds(1),
+        Puts(2, Says(1, &[ALIVE])),
+    ];
+    asks(&rt, rt.alloc(), &ESTABLISHED, SCRIPT)
+}
+
+// An UPDATE that is told sets the time again: 1 says KEEPALIVE a third of the hold time behind it (RFC 4271
+// section 8.2.2).
+#[test]
+fn an_update_puts_the_keepalive_off(rt: HostRuntime) -> Result<(), Fail> {
+    static SCRIPT: &[Step<'static>] = &[
+        Does(Originate(Greatest), DID),
+        Does(Decide, DID),
+        Seconds(20),
+        Does(Advertise, DID),
+        Drains(2),
         Seconds(29),
         IsDrained(2),
         Seconds(1),

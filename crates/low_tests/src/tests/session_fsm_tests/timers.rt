@@ -32,6 +32,12 @@ static A_LIFE: [Step; 17] = [
     Step::Quiet(1000),
 ];
 
+/// The settings that it was made with, whatever was agreed.
+const A_CONFIG: SessionConfig = SessionConfig {
+    hold: 90,
+    restart: 0,
+};
+
 fn asks(rt: &impl Abort, session: &mut Session, event: FsmEvent, actions: &[Action]) {
     assert!(rt; give(rt, session, event).as_slice() == actions);
 }
@@ -50,6 +56,7 @@ fn keepalive_and_hold(rt: HostRuntime) {
     for step in &A_LIFE {
         take(&rt, &mut session, step);
     }
+    assert!(rt; session.config() == A_CONFIG);
 }
 
 /// A new session that these events happen to, and the timer that runs out in this tick.
