@@ -243,39 +243,6 @@ fn first_faults(rt: HostRuntime) {
     }
 }
 
-// The frame of an UPDATE's body with 10.0.0.0/8 and 11.0.0.0/8 withdrawn in front, which wants memory: where a
-// run refuses that growth, the fault behind it is looked for without any.
-fn framed_behind_two(body: &[u8]) -> [u8; 64] {
-    let plain = framed(2, body);
-    let mut octets = [0xff; 64];
-    octets[..21].copy_from_slice(&plain[..21]);
-    octets[21..25].copy_from_slice(b"\x08\x0a\x08\x0b");
-    octets[25..].copy_from_slice(&plain[21..60]);
-    octets[17] = plain[17].wrapping_add(4);
-    octets[20] = plain[20].wrapping_add(4);
-    octets
-}
-
-// Whether it is answered there too.
-fn is_answered_behind_two(alloc: Global, case: &Case) -> bool {
-    let rule = Rule {
-        width: Width::Two,
-        peer: case.peer,
-    };
-    answers(alloc, &framed_behind_two(case.body), &rule, case.fault)
-}
-
-#[test]
-fn first_faults_behind_a_growth(rt: HostRuntime) {
-    for case in &FAULTS {
-        assert!(rt;
-            case.kind != 2 || is_answered_behind_two(rt.alloc(), case),
-            "{}",
-            case.sentence
-        );
-    }
-}
-
 // A fault whose data take memory.
 static LONG_DATA: Case = Case {
     sentence: "an unknown attribute of twenty octets that is not optional",
