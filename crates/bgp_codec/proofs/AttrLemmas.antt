@@ -9,7 +9,8 @@ use Rattle.bgp_codec.specs.declared.attributes.Raw.{Raw}
 use Rattle.bgp_codec.specs.Spelling.{IsOctets}
 use Rattle.bgp_codec.specs.AttrTable.{high_flags}
 use Rattle.bgp_codec.specs.Updates.{raw_of, attr_octets, raw_octets, size_limit, SpellsAttr}
-use Rattle.bgp_codec.specs.UpdateReading.{is_extended, head_size, value_size, number_at, attr_at}
+use Rattle.bgp_codec.specs.UpdateReading.{is_extended, head_size, value_size, attr_at}
+use Rattle.bgp_codec.specs.AsNumbers.{number_at}
 use Rattle.bgp_codec.proofs.AttrSteps.{HasAttr, has_attr, head_is}
 
 -- ---- the octet of flags

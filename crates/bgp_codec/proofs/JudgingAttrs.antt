@@ -1,10 +1,11 @@
 -- What is remembered of attributes that are passed.
-use Rattle.std.proofs.Common.{◌≡◌, ℕ, zero, suc, ◌*◌, ◌<◌, ◌≤◌, Bool, true, false, cond, List, [], ◌∷◌, ◌++◌, length, take, get_or, set, Option, Some, None, Result, Ok, Err, refl, sym, ap, subst, ◌∙◌, arith, eq-eqb, ne_eqb, inl, inr}
+use Rattle.std.proofs.Common.{◌≡◌, ℕ, zero, suc, ◌+◌, ◌*◌, ◌<◌, ◌≤◌, Bool, true, false, cond, List, [], ◌∷◌, ◌++◌, length, take, drop, get_or, set, Option, Some, None, Result, Ok, Err, refl, sym, ap, subst, ◌∙◌, arith, eq-eqb, ne_eqb, inl, inr}
 use Rattle.std.specs.Prelude.{slice_index, ◌==◌, ◌||◌, ◌≢◌, nat_lt, replicate, is_some, if◌then◌else◌}
 use Rattle.std.specs.List.{flat_map, list_any}
-use Rattle.std.specs.Int.{w16, from_be_bytes}
 use Rattle.std.proofs.lemmas.Bool.{cases_eq, cond_both}
 use Rattle.std.proofs.lemmas.List.{get_or-set_same, get_or-set_other, length-set, get_or-replicate}
+use Rattle.bgp_values.specs.declared.width.Width.{Width}
+use Rattle.bgp_values.specs.declared.width.Width.TheVariants.{Two, Four}
 use Rattle.bgp_codec.specs.declared.fault.Fault.{Fault}
 use Rattle.bgp_codec.specs.declared.attributes.Attrs.{Attrs}
 use Rattle.bgp_codec.specs.declared.attributes.Raw.{Raw}
@@ -14,9 +15,10 @@ use Rattle.bgp_codec.specs.Reading.{Reader, all_of}
 use Rattle.bgp_codec.specs.Judging.{Remembers, first_number}
 use Rattle.bgp_codec.specs.AttrTable.{high_flags, is_known, flags_fit, size_fits}
 use Rattle.bgp_codec.specs.Updates.{raw_of, path_numbers}
-use Rattle.bgp_codec.specs.UpdateReading.{attr_fault, address_at, numbers_of, segment_at, path_reading, aggregator_of, with_origin, with_path, with_next_hop, with_med, with_local_pref, with_atomic, with_aggregator, with_other, no_attrs, has_code, put_raw, with_attr}
+use Rattle.bgp_codec.specs.UpdateReading.{attr_fault, segment_at, path_reading, aggregator_of, with_origin, with_path, with_next_hop, with_med, with_local_pref, with_atomic, with_aggregator, with_other, no_attrs, has_code, put_raw, with_attr}
+use Rattle.bgp_codec.specs.AsNumbers.{address_at, asn_size, asn_at, numbers_of}
 use Rattle.bgp_codec.proofs.EachLemmas.{Shortens, each_none, each_step, each_fault, front_found}
-use Rattle.bgp_codec.proofs.PathLemmas.{segment_shortens, segment_parts}
+use Rattle.bgp_codec.proofs.PathLemmas.{segment_shortens, segment_parts, one_inside}
 use Rattle.bgp_codec.proofs.AttrSteps.{guarded}
 use Rattle.bgp_codec.proofs.AttrLists.{has_other}
 use Rattle.bgp_codec.proofs.AttrItems.{value_by, known_small, tests_passed, made_of, path_read, hop_read}
@@ -31,13 +33,28 @@ front_of read x xs values (Ok v) is s e =
     (v, f.0, refl, f.2)
 front_of read x xs values (Err f) is s e = absurd (let both = sym (each_fault read x xs f is) ∙ e in cc)
 
--- the first of numbers of two octets each
-first_two : (n : ℕ) (octets : List ℕ) → 2 ≤ n → 2 ≤ length octets → first_number (numbers_of (take n octets)) ≡ Some (from_be_bytes w16 (slice_index octets 0 ∷ slice_index octets 1 ∷ []))
-first_two zero octets h k = absurd (omega arith)
-first_two (suc zero) octets h k = absurd (omega arith)
-first_two (suc (suc n)) [] h k = absurd (omega arith)
-first_two (suc (suc n)) (a ∷ []) h k = absurd (omega arith)
-first_two (suc (suc n)) (a ∷ b ∷ rest) h k = refl
+-- the first of numbers
+first_of_two : (n : ℕ) (octets : List ℕ) → 2 ≤ n → 2 ≤ length octets → first_number (numbers_of Two (take n octets)) ≡ Some (asn_at Two octets)
+first_of_two zero octets h k = absurd (omega arith)
+first_of_two (suc zero) octets h k = absurd (omega arith)
+first_of_two (suc (suc n)) [] h k = absurd (omega arith)
+first_of_two (suc (suc n)) (a ∷ []) h k = absurd (omega arith)
+first_of_two (suc (suc n)) (a ∷ b ∷ rest) h k = refl
+
+first_of_four : (n : ℕ) (octets : List ℕ) → 4 ≤ n → 4 ≤ length octets → first_number (numbers_of Four (take n octets)) ≡ Some (asn_at Four octets)
+first_of_four zero octets h k = absurd (omega arith)
+first_of_four (suc zero) octets h k = absurd (omega arith)
+first_of_four (suc (suc zero)) octets h k = absurd (omega arith)
+first_of_four (suc (suc (suc zero))) octets h k = absurd (omega arith)
+first_of_four (suc (suc (suc (suc n)))) [] h k = absurd (omega arith)
+first_of_four (suc (suc (suc (suc n)))) (a ∷ []) h k = absurd (omega arith)
+first_of_four (suc (suc (suc (suc n)))) (a ∷ b ∷ []) h k = absurd (omega arith)
+first_of_four (suc (suc (suc (suc n)))) (a ∷ b ∷ c ∷ []) h k = absurd (omega arith)
+first_of_four (suc (suc (suc (suc n)))) (a ∷ b ∷ c ∷ d ∷ rest) h k = refl
+
+first_in : (width : Width) (n : ℕ) (octets : List ℕ) → asn_size width ≤ n → asn_size width ≤ length octets → first_number (numbers_of width (take n octets)) ≡ Some (asn_at width octets)
+first_in Two n octets h k = first_of_two n octets h k
+first_in Four n octets h k = first_of_four n octets h k
 
 -- what is joined begins as its front does, where that has a number
 first_joined : (xs ys : List ℕ) (n : ℕ) → first_number xs ≡ Some n → first_number (xs ++ ys) ≡ Some n
@@ -45,98 +62,100 @@ first_joined [] ys n e = absurd cc
 first_joined (x ∷ xs) ys n e = e
 
 -- the first number of a path, as it stands in the octets
-abbrev pub number_in_front : List ℕ → Option ℕ
-number_in_front [] = None
-number_in_front (code ∷ rest) = Some (from_be_bytes w16 (slice_index rest 1 ∷ slice_index rest 2 ∷ []))
+abbrev pub number_in_front : Width → List ℕ → Option ℕ
+number_in_front width [] = None
+number_in_front width (code ∷ rest) = Some (asn_at width (drop 1 rest))
 
 -- a segment that was read has a number
-pub record HasFirst (octets : List ℕ) (segments : List Segment) : Type 0 where
-  pub first : first_number (path_numbers (Some segments)) ≡ number_in_front octets
-  pub long : 1 ≤ length octets → 4 ≤ length octets
+pub record HasFirst (width : Width) (octets : List ℕ) (segments : List Segment) : Type 0 where
+  pub first : first_number (path_numbers (Some segments)) ≡ number_in_front width octets
+  pub long : 1 ≤ length octets → 2 + asn_size width ≤ length octets
 
 nothing : (segments : List Segment) → (let r : Result (List Segment) Fault = Ok [] in r ≡ Ok segments) → [] ≡ segments
 nothing segments e = cc
 
-pub path_first : (octets : List ℕ) (segments : List Segment) → path_reading octets ≡ Ok segments → HasFirst octets segments
-path_first [] segments e =
-    let none = nothing segments (sym (each_none segment_at) ∙ e) in
-    subst (HasFirst []) none (record { first = refl; long = λ h. absurd (omega arith) })
-path_first (code ∷ []) segments e = let f = front_of segment_at code [] segments (segment_at (code ∷ [])) refl segment_shortens e in absurd (let q = f.2 in cc)
-path_first (code ∷ count ∷ rest) segments e =
-    let f = front_of segment_at code (count ∷ rest) segments (segment_at (code ∷ count ∷ rest)) refl segment_shortens e in
-    let p = segment_parts code count rest f.0.0 f.0.1 f.2 in
-    let numbers : numbers_of (take (2 * count) rest) ≡ f.0.0.numbers = ap (λ (s : Segment). s.numbers) p.1 in
-    let first = first_two (2 * count) rest (omega (arith, p.0.some)) (omega (arith, p.0.some, p.0.size)) in
+pub path_first : (width : Width) (octets : List ℕ) (segments : List Segment) → path_reading width octets ≡ Ok segments → HasFirst width octets segments
+path_first width [] segments e =
+    let none = nothing segments (sym (each_none (segment_at width)) ∙ e) in
+    subst (HasFirst width []) none (record { first = refl; long = λ h. absurd (omega arith) })
+path_first width (code ∷ []) segments e = let f = front_of (segment_at width) code [] segments (segment_at width (code ∷ [])) refl (segment_shortens width) e in absurd (let q = f.2 in cc)
+path_first width (code ∷ count ∷ rest) segments e =
+    let f = front_of (segment_at width) code (count ∷ rest) segments (segment_at width (code ∷ count ∷ rest)) refl (segment_shortens width) e in
+    let p = segment_parts width code count rest f.0.0 f.0.1 f.2 in
+    let numbers : numbers_of width (take (asn_size width * count) rest) ≡ f.0.0.numbers = ap (λ (s : Segment). s.numbers) p.1 in
+    let one = one_inside width count p.0.some in
+    let inside : asn_size width ≤ length rest = omega (arith, one, p.0.size) in
+    let first = first_in width (asn_size width * count) rest one inside in
     record {
       first = ap (λ (ss : List Segment). first_number (flat_map (λ s. s.numbers) ss)) (sym f.3) ∙ first_joined f.0.0.numbers (flat_map (λ s. s.numbers) f.1) _ (ap first_number (sym numbers) ∙ first);
-      long = λ h. omega (arith, p.0.some, p.0.size);
+      long = λ h. omega (arith, inside);
     }
 
--- less than four octets are the path without a number
-pub not_first : (octets : List ℕ) (segments : List Segment) → length octets < 4 → path_reading octets ≡ Ok segments → None ≡ first_number (path_numbers (Some segments))
-not_first [] segments h e = sym (path_first [] segments e).first
-not_first (x ∷ xs) segments h e = let long = (path_first (x ∷ xs) segments e).long (omega arith) in absurd (omega (arith, long))
+-- less than two octets are the path without a number
+pub not_first : (width : Width) (octets : List ℕ) (segments : List Segment) → length octets < 2 → path_reading width octets ≡ Ok segments → None ≡ first_number (path_numbers (Some segments))
+not_first width [] segments h e = sym (path_first width [] segments e).first
+not_first width (x ∷ xs) segments h e = let long = (path_first width (x ∷ xs) segments e).long (omega arith) in absurd (omega (arith, long))
 
--- four or more have it behind the two of the first segment
-pub is_first : (octets : List ℕ) (segments : List Segment) → 4 ≤ length octets → path_reading octets ≡ Ok segments
-    → Some (from_be_bytes w16 (slice_index octets 2 ∷ slice_index octets 3 ∷ [])) ≡ first_number (path_numbers (Some segments))
-is_first [] segments h e = absurd (omega arith)
-is_first (x ∷ xs) segments h e = sym (path_first (x ∷ xs) segments e).first
+-- two or more have it behind the two of the first segment
+pub is_first : (width : Width) (octets : List ℕ) (segments : List Segment) → 2 ≤ length octets → path_reading width octets ≡ Ok segments
+    → Some (asn_at width (drop 2 octets)) ≡ first_number (path_numbers (Some segments))
+is_first width [] segments h e = absurd (omega arith)
+is_first width (x ∷ xs) segments h e = sym (path_first width (x ∷ xs) segments e).first
 
 -- ---- the codes that are there
 
 -- one attribute more: its code is there, and else what was; the path is its value, or what it was
-pub record Adds (code : ℕ) (value : List ℕ) (a b : Attrs) : Type 0 where
+pub record Adds (width : Width) (code : ℕ) (value : List ℕ) (a b : Attrs) : Type 0 where
   pub same : has_code b code ≡ true
   pub others : (other : ℕ) → other ≢ code → has_code b other ≡ has_code a other
-  pub path : code ≡ 2 → (segments : List Segment) × (path_reading value ≡ Ok segments) × (b.path ≡ Some segments)
+  pub path : code ≡ 2 → (segments : List Segment) × (path_reading width value ≡ Ok segments) × (b.path ≡ Some segments)
   pub kept : code ≢ 2 → b.path ≡ a.path
 
-origin_adds : (a : Attrs) (value : List ℕ) (o : ℕ) → Adds 1 value a (with_origin a o)
-origin_adds a value o =
+origin_adds : (width : Width) (a : Attrs) (value : List ℕ) (o : ℕ) → Adds width 1 value a (with_origin a o)
+origin_adds width a value o =
     record { same = refl; others = λ k ne. let f : (k == 1) ≡ false = ne_eqb k 1 ne in rw f refl; path = λ e. absurd (omega arith); kept = λ ne. refl }
 
-path_adds : (a : Attrs) (value : List ℕ) (p : List Segment) → path_reading value ≡ Ok p → Adds 2 value a (with_path a p)
-path_adds a value p read =
+path_adds : (width : Width) (a : Attrs) (value : List ℕ) (p : List Segment) → path_reading width value ≡ Ok p → Adds width 2 value a (with_path a p)
+path_adds width a value p read =
     record { same = refl; others = λ k ne. let f : (k == 2) ≡ false = ne_eqb k 2 ne in rw f refl; path = λ e. (p, read, refl); kept = λ ne. absurd (ne refl) }
 
-next_hop_adds : (a : Attrs) (value : List ℕ) (n : ℕ) → Adds 3 value a (with_next_hop a n)
-next_hop_adds a value n =
+next_hop_adds : (width : Width) (a : Attrs) (value : List ℕ) (n : ℕ) → Adds width 3 value a (with_next_hop a n)
+next_hop_adds width a value n =
     record { same = refl; others = λ k ne. let f : (k == 3) ≡ false = ne_eqb k 3 ne in rw f refl; path = λ e. absurd (omega arith); kept = λ ne. refl }
 
-med_adds : (a : Attrs) (value : List ℕ) (n : ℕ) → Adds 4 value a (with_med a n)
-med_adds a value n =
+med_adds : (width : Width) (a : Attrs) (value : List ℕ) (n : ℕ) → Adds width 4 value a (with_med a n)
+med_adds width a value n =
     record { same = refl; others = λ k ne. let f : (k == 4) ≡ false = ne_eqb k 4 ne in rw f refl; path = λ e. absurd (omega arith); kept = λ ne. refl }
 
-local_pref_adds : (a : Attrs) (value : List ℕ) (n : ℕ) → Adds 5 value a (with_local_pref a n)
-local_pref_adds a value n =
+local_pref_adds : (width : Width) (a : Attrs) (value : List ℕ) (n : ℕ) → Adds width 5 value a (with_local_pref a n)
+local_pref_adds width a value n =
     record { same = refl; others = λ k ne. let f : (k == 5) ≡ false = ne_eqb k 5 ne in rw f refl; path = λ e. absurd (omega arith); kept = λ ne. refl }
 
-atomic_adds : (a : Attrs) (value : List ℕ) → Adds 6 value a (with_atomic a)
-atomic_adds a value =
+atomic_adds : (width : Width) (a : Attrs) (value : List ℕ) → Adds width 6 value a (with_atomic a)
+atomic_adds width a value =
     record { same = refl; others = λ k ne. let f : (k == 6) ≡ false = ne_eqb k 6 ne in rw f refl; path = λ e. absurd (omega arith); kept = λ ne. refl }
 
-aggregator_adds : (a : Attrs) (value : List ℕ) (flags : ℕ) → Adds 7 value a (with_aggregator a (aggregator_of value flags))
-aggregator_adds a value flags =
+aggregator_adds : (width : Width) (a : Attrs) (value : List ℕ) (flags : ℕ) → Adds width 7 value a (with_aggregator a (aggregator_of width value flags))
+aggregator_adds width a value flags =
     record { same = refl; others = λ k ne. let f : (k == 7) ≡ false = ne_eqb k 7 ne in rw f refl; path = λ e. absurd (omega arith); kept = λ ne. refl }
 
 -- a value of a known code that is taken
-value_adds : (code : ℕ) (a b : Attrs) (attr value : List ℕ) → is_known code ≡ true → value_by code a attr value ≡ Ok b → Adds code value a b
-value_adds zero a b attr value known e = absurd cc
-value_adds (suc zero) a b attr value known e =
+value_adds : (width : Width) (code : ℕ) (a b : Attrs) (attr value : List ℕ) → is_known code ≡ true → value_by width code a attr value ≡ Ok b → Adds width code value a b
+value_adds width zero a b attr value known e = absurd cc
+value_adds width (suc zero) a b attr value known e =
     let g = guarded (nat_lt 2 (slice_index value 0)) (attr_fault 6 attr) (with_origin a (slice_index value 0)) b e in
-    subst (Adds 1 value a) g.1 (origin_adds a value (slice_index value 0))
-value_adds (suc (suc zero)) a b attr value known e =
-    let p = path_read a b (path_reading value) e in
-    subst (Adds 2 value a) p.2 (path_adds a value p.0 p.1)
-value_adds (suc (suc (suc zero))) a b attr value known e =
+    subst (Adds width 1 value a) g.1 (origin_adds width a value (slice_index value 0))
+value_adds width (suc (suc zero)) a b attr value known e =
+    let p = path_read a b (path_reading width value) e in
+    subst (Adds width 2 value a) p.2 (path_adds width a value p.0 p.1)
+value_adds width (suc (suc (suc zero))) a b attr value known e =
     let h = hop_read a b (address_at value 0) (attr_fault 8 attr) _ e in
-    subst (Adds 3 value a) h.1 (next_hop_adds a value (address_at value 0))
-value_adds (suc (suc (suc (suc zero)))) a b attr value known e = subst (Adds 4 value a) (made_of _ b e) (med_adds a value (address_at value 0))
-value_adds (suc (suc (suc (suc (suc zero))))) a b attr value known e = subst (Adds 5 value a) (made_of _ b e) (local_pref_adds a value (address_at value 0))
-value_adds (suc (suc (suc (suc (suc (suc zero)))))) a b attr value known e = subst (Adds 6 value a) (made_of _ b e) (atomic_adds a value)
-value_adds (suc (suc (suc (suc (suc (suc (suc zero))))))) a b attr value known e = subst (Adds 7 value a) (made_of _ b e) (aggregator_adds a value (slice_index attr 0))
-value_adds (suc (suc (suc (suc (suc (suc (suc (suc n)))))))) a b attr value known e =
+    subst (Adds width 3 value a) h.1 (next_hop_adds width a value (address_at value 0))
+value_adds width (suc (suc (suc (suc zero)))) a b attr value known e = subst (Adds width 4 value a) (made_of _ b e) (med_adds width a value (address_at value 0))
+value_adds width (suc (suc (suc (suc (suc zero))))) a b attr value known e = subst (Adds width 5 value a) (made_of _ b e) (local_pref_adds width a value (address_at value 0))
+value_adds width (suc (suc (suc (suc (suc (suc zero)))))) a b attr value known e = subst (Adds width 6 value a) (made_of _ b e) (atomic_adds width a value)
+value_adds width (suc (suc (suc (suc (suc (suc (suc zero))))))) a b attr value known e = subst (Adds width 7 value a) (made_of _ b e) (aggregator_adds width a value (slice_index attr 0))
+value_adds width (suc (suc (suc (suc (suc (suc (suc (suc n)))))))) a b attr value known e =
     let le = known_small (suc (suc (suc (suc (suc (suc (suc (suc n)))))))) known in absurd (omega (arith, le))
 
 second_first : (b c d : Bool) → (b || (c || d)) ≡ (c || (b || d))
@@ -165,8 +184,8 @@ known_first a code last =
     else if code == 7 then is_some a.aggregator
     else last
 
-raw_adds : (a : Attrs) (value : List ℕ) (r : Raw) → is_known r.code ≡ false → Adds r.code value a (with_other a (put_raw r a.other))
-raw_adds a value r unknown =
+raw_adds : (width : Width) (a : Attrs) (value : List ℕ) (r : Raw) → is_known r.code ≡ false → Adds width r.code value a (with_other a (put_raw r a.other))
+raw_adds width a value r unknown =
     let b = with_other a (put_raw r a.other) in
     let itself : (r.code == r.code) ≡ true = eq-eqb r.code r.code refl in
     record {
@@ -179,24 +198,24 @@ raw_adds a value r unknown =
     }
 
 -- an attribute that is taken
-pub attr_adds : (a b : Attrs) (attr value : List ℕ) → with_attr a attr value ≡ Ok b → Adds (slice_index attr 1) value a b
-attr_adds a b attr value e =
+pub attr_adds : (width : Width) (a b : Attrs) (attr value : List ℕ) → with_attr width a attr value ≡ Ok b → Adds width (slice_index attr 1) value a b
+attr_adds width a b attr value e =
     let code = slice_index attr 1 in
-    let t = tests_passed (has_code a code) (is_known code) (flags_fit code (slice_index attr 0)) (size_fits code (length value)) _ _ _ _ _ b e in
+    let t = tests_passed (has_code a code) (is_known code) (flags_fit code (slice_index attr 0)) (size_fits width code (length value)) _ _ _ _ _ b e in
     elim t.1 [
       | inl other ↦
           let r = raw_of (high_flags (slice_index attr 0)) code value in
           let g = guarded (nat_lt (slice_index attr 0) 128) (attr_fault 2 attr) (with_other a (put_raw r a.other)) b other.1 in
-          subst (Adds code value a) g.1 (raw_adds a value r other.0)
-      | inr known ↦ value_adds code a b attr value known.0 known.1.1.1
+          subst (Adds width code value a) g.1 (raw_adds width a value r other.0)
+      | inr known ↦ (value_adds width) code a b attr value known.0 known.1.1.1
     ]
 
 -- ---- what is remembered
 
 -- a mark more
-marked : (came : Came) (a b : Attrs) (code : ℕ) (value : List ℕ) → code < 256 → Remembers came a → Adds code value a b
+marked : (width : Width) (came : Came) (a b : Attrs) (code : ℕ) (value : List ℕ) → code < 256 → Remembers came a → Adds width code value a b
     → (k : ℕ) → k < 256 → get_or (set came.codes code true) k false ≡ has_code b k
-marked came a b code value small r adds k h =
+marked width came a b code value small r adds k h =
     elim (cases_eq k code) [
       | inl same ↦
           ap (λ (j : ℕ). get_or (set came.codes code true) j false) same ∙ get_or-set_same came.codes code true false (omega (arith, r.marks)) ∙ sym adds.same ∙ ap (has_code b) (sym same)
@@ -204,26 +223,26 @@ marked came a b code value small r adds k h =
     ]
 
 -- a path came
-pub path_remembered : (came : Came) (a b : Attrs) (first : Option ℕ) (attr value : List ℕ) → slice_index attr 1 < 256 → slice_index attr 1 ≡ 2
-    → ((segments : List Segment) → path_reading value ≡ Ok segments → first ≡ first_number (path_numbers (Some segments)))
-    → Remembers came a → with_attr a attr value ≡ Ok b → Remembers (record { codes = set came.codes (slice_index attr 1) true; first = first }) b
-path_remembered came a b first attr value small two is r e =
-    let adds = attr_adds a b attr value e in
+pub path_remembered : (width : Width) (came : Came) (a b : Attrs) (first : Option ℕ) (attr value : List ℕ) → slice_index attr 1 < 256 → slice_index attr 1 ≡ 2
+    → ((segments : List Segment) → path_reading width value ≡ Ok segments → first ≡ first_number (path_numbers (Some segments)))
+    → Remembers came a → with_attr width a attr value ≡ Ok b → Remembers (record { codes = set came.codes (slice_index attr 1) true; first = first }) b
+path_remembered width came a b first attr value small two is r e =
+    let adds = attr_adds width a b attr value e in
     let p = adds.path two in
     record {
       marks = length-set came.codes (slice_index attr 1) true ∙ r.marks;
-      codes = marked came a b (slice_index attr 1) value small r adds;
+      codes = marked width came a b (slice_index attr 1) value small r adds;
       first = is p.0 p.1 ∙ ap (λ (o : Option (List Segment)). first_number (path_numbers o)) (sym p.2);
     }
 
 -- another attribute came
-pub other_remembered : (came : Came) (a b : Attrs) (attr value : List ℕ) → slice_index attr 1 < 256 → slice_index attr 1 ≢ 2
-    → Remembers came a → with_attr a attr value ≡ Ok b → Remembers (record { codes = set came.codes (slice_index attr 1) true; first = came.first }) b
-other_remembered came a b attr value small no_path r e =
-    let adds = attr_adds a b attr value e in
+pub other_remembered : (width : Width) (came : Came) (a b : Attrs) (attr value : List ℕ) → slice_index attr 1 < 256 → slice_index attr 1 ≢ 2
+    → Remembers came a → with_attr width a attr value ≡ Ok b → Remembers (record { codes = set came.codes (slice_index attr 1) true; first = came.first }) b
+other_remembered width came a b attr value small no_path r e =
+    let adds = attr_adds width a b attr value e in
     record {
       marks = length-set came.codes (slice_index attr 1) true ∙ r.marks;
-      codes = marked came a b (slice_index attr 1) value small r adds;
+      codes = marked width came a b (slice_index attr 1) value small r adds;
       first = r.first ∙ ap (λ (o : Option (List Segment)). first_number (path_numbers o)) (sym (adds.kept no_path));
     }
 

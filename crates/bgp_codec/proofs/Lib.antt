@@ -7,6 +7,7 @@ pub mod OpenLemmas
 pub mod OpenFaults
 pub mod OpenLaws
 pub mod OpenLoops
+pub mod OpenNumbers
 pub mod PrefixLemmas
 pub mod PathLemmas
 pub mod AttrSteps

@@ -12,7 +12,8 @@ use Rattle.prefix_lanes.specs.Bits.{PrefixView, IsCanonical, low_bits, address_b
 use Rattle.prefix_lanes.specs.Laws.{SameBitsSamePrefix, MaskedBits, MaskedIsCanonical}
 use Rattle.bgp_codec.specs.Spelling.{IsOctets}
 use Rattle.bgp_codec.specs.Updates.{SpellsEach, SpellsPrefix, octet_count, octet_bits, prefix_octets}
-use Rattle.bgp_codec.specs.UpdateReading.{address_at, update_fault, prefix_of, prefix_at, prefixes_reading}
+use Rattle.bgp_codec.specs.UpdateReading.{update_fault, prefix_of, prefix_at, prefixes_reading}
+use Rattle.bgp_codec.specs.AsNumbers.{address_at}
 use Rattle.bgp_codec.proofs.FaultData.{FaultsWithin, either_within}
 use Rattle.bgp_codec.proofs.OctetLemmas.{octets_front, octets_tail, octets_left, octets_right, octets_cons, octets_each, four_octets}
 use Rattle.bgp_codec.proofs.OctetLemmas.{octets_behind}

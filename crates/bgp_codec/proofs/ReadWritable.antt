@@ -1,5 +1,5 @@
 -- What is spelt is writable, and what is written of it is no longer.
-use Rattle.std.proofs.Common.{◌≡◌, ℕ, ◌+◌, ◌<◌, ◌≤◌, Bool, true, false, List, [], ◌∷◌, ◌++◌, length, Option, refl, sym, ap, ◌∙◌, arith, IsPermutation}
+use Rattle.std.proofs.Common.{◌≡◌, ℕ, ◌+◌, ◌<◌, ◌≤◌, Bool, true, false, List, [], ◌∷◌, ◌++◌, length, refl, sym, ap, ◌∙◌, arith, IsPermutation}
 use Rattle.std.specs.Prelude.{nat_le}
 use Rattle.std.specs.List.{flat_map, AllByRecursion}
 use Rattle.std.specs.Int.{w32, to_be_bytes}
@@ -13,6 +13,7 @@ use Rattle.bgp_codec.specs.declared.attributes.Raw.{Raw}
 use Rattle.bgp_codec.specs.declared.message.Message.{Message}
 use Rattle.bgp_codec.specs.declared.message.Message.TheVariants.{OpenMsg, UpdateMsg, NoticeMsg, AliveMsg}
 use Rattle.bgp_codec.specs.declared.rule.Rule.{Rule}
+use Rattle.bgp_values.specs.declared.width.Width.{Width}
 use Rattle.bgp_codec.specs.declared.update.Update.{Update}
 use Rattle.bgp_codec.specs.Spelling.{SpellsBody, IsWritable, kind_of, written_body}
 use Rattle.bgp_codec.specs.Updates.{SpellsEach, octet_count, SpellsPrefix, attr_octets, SpellsAttr, SpellsAttrs, size_limit, attributes, long_string, SpellsUpdate, UpdateFits, prefix_octets, raw_octets, attrs_octets, update_octets}
@@ -65,8 +66,8 @@ form_short r false false low e lt = omega arith
 attr_short : (front : List ℕ) (r : Raw) → SpellsAttr front r → length (raw_octets r) ≤ length front
 attr_short front r s = omega (arith, ap length s.whole, form_short r (nat_le 256 (length r.value)) s.extended s.low refl s.size)
 
-attrs_short : (octets : List ℕ) (a : Attrs) → SpellsAttrs octets a → length (attrs_octets a) ≤ length octets
-attrs_short octets a s = omega (arith, permuted_length raw_octets s.raws (attributes a) s.order, each_short SpellsAttr raw_octets octets s.raws attr_short s.each)
+attrs_short : (width : Width) (octets : List ℕ) (a : Attrs) → SpellsAttrs width octets a → length (attrs_octets width a) ≤ length octets
+attrs_short width octets a s = omega (arith, permuted_length raw_octets s.raws (attributes width a) s.order, each_short SpellsAttr raw_octets octets s.raws attr_short s.each)
 
 -- ---- a message
 
@@ -74,10 +75,10 @@ attrs_short octets a s = omega (arith, permuted_length raw_octets s.raws (attrib
 parts_length : (withdrawn attrs nlri : List ℕ) → length (long_string withdrawn ++ (long_string attrs ++ nlri)) ≡ 4 + (length withdrawn + (length attrs + length nlri))
 parts_length withdrawn attrs nlri = omega (arith, length-append withdrawn (long_string attrs ++ nlri), length-append attrs nlri)
 
-update_writable : (peer : Option ℕ) (body : List ℕ) (u : Update) → SpellsUpdate peer body u → UpdateFits u × (length (update_octets u) ≤ length body)
-update_writable peer body u s =
+update_writable : (rule : Rule) (body : List ℕ) (u : Update) → SpellsUpdate rule body u → UpdateFits rule.width u × (length (update_octets rule.width u) ≤ length body)
+update_writable rule body u s =
     let withdrawn = prefixes_short s.withdrawn u.withdrawn s.withdrawn_are in
-    let attrs = attrs_short s.attrs u.attrs s.attrs_are in
+    let attrs = attrs_short rule.width s.attrs u.attrs s.attrs_are in
     let nlri = prefixes_short s.nlri u.nlri s.nlri_are in (
       record {
         withdrawn = prefixes_canonical s.withdrawn u.withdrawn s.withdrawn_are;
@@ -92,15 +93,15 @@ update_writable peer body u s =
         withdrawn,
         attrs,
         nlri,
-        parts_length (flat_map prefix_octets u.withdrawn) (attrs_octets u.attrs) (flat_map prefix_octets u.nlri),
+        parts_length (flat_map prefix_octets u.withdrawn) (attrs_octets rule.width u.attrs) (flat_map prefix_octets u.nlri),
         parts_length s.withdrawn s.attrs s.nlri,
         ap length s.whole,
       ),
     )
 
-body_writable : (rule : Rule) (body : List ℕ) (m : Message) → SpellsBody rule body m → IsWritable rule m × (length (written_body m) ≤ length body)
+body_writable : (rule : Rule) (body : List ℕ) (m : Message) → SpellsBody rule body m → IsWritable rule m × (length (written_body rule.width m) ≤ length body)
 body_writable rule body (OpenMsg o) s = (s.fits, omega (arith, ap length s.whole))
-body_writable rule body (UpdateMsg u) s = update_writable rule.peer body u s
+body_writable rule body (UpdateMsg u) s = update_writable rule body u s
 body_writable rule body (NoticeMsg n) e = (tt, omega (arith, ap length e))
 body_writable rule body AliveMsg e = (tt, omega arith)
 
@@ -108,4 +109,4 @@ pub spelt_writable : SpeltIsWritable
 spelt_writable rule octets m s =
     let body = body_writable rule s.body m s.spelt in
     let parts = framed_parts (kind_of m) s.body (omega (arith, s.fits)) in
-    (body.0, omega (arith, body.1, length-written m, ap length s.whole, parts.size))
+    (body.0, omega (arith, body.1, length-written rule.width m, ap length s.whole, parts.size))

@@ -9,11 +9,13 @@ use Rattle.bgp_codec.specs.declared.fault.CodecError.{CodecError}
 use Rattle.bgp_codec.specs.declared.message.Message.{Message}
 use Rattle.bgp_codec.specs.declared.message.Message.TheVariants.{OpenMsg, UpdateMsg, NoticeMsg, AliveMsg}
 use Rattle.bgp_codec.specs.declared.rule.Rule.{Rule}
+use Rattle.bgp_values.specs.declared.width.Width.{Width}
+use Rattle.bgp_values.specs.declared.width.Width.TheVariants.{Two, Four}
 use Rattle.bgp_codec.specs.Header.{kind_field, length_field, is_message_len, is_kind, length_fits, IsFrame}
 use Rattle.bgp_codec.specs.Spelling.{IsWritable, IsOctets, Spells, SpellsBody, kind_of, framed, written, written_body}
 use Rattle.bgp_codec.proofs.WritingLemmas.{length-written}
 use Rattle.bgp_codec.specs.Reading.{Gives}
-use Rattle.bgp_codec.specs.Opens.{open_reading}
+use Rattle.bgp_codec.specs.Opens.{open_reading, is_peer, number_fault, said_in}
 use Rattle.bgp_codec.specs.Updates.{long_string}
 use Rattle.bgp_codec.specs.UpdateReading.{update_reading}
 use Rattle.bgp_codec.specs.Faults.{read_as, reading, body_reading, notice_reading, fault, fault_in, or_else, OneMessageOrFault, FaultFitsAMessage, WrittenIsSpelt, WrittenIsRead, IsFrom, PeersWritingIsRead}
@@ -65,8 +67,8 @@ octets_of rule body AliveMsg s are = tt
 
 -- what stands in a body reads as the message, whatever its kind
 body_again : (laws : PrefixLaws) (rule : Rule) (body : List ℕ) (m : Message) (s : SpellsBody rule body m) → HasOctets rule body m s → body_reading rule (kind_of m) body ≡ Ok m
-body_again laws rule body (OpenMsg o) s are = ap (read_as OpenMsg) (ap (open_reading rule) s.whole ∙ open_again rule o s.fits s.peer)
-body_again laws rule body (UpdateMsg u) s are = ap (read_as UpdateMsg) (update_again laws rule.peer body u s are.0 are.1)
+body_again laws rule body (OpenMsg o) s are = ap (read_as OpenMsg) (ap (open_reading rule) s.whole ∙ open_again rule o s.fits s.peer s.said)
+body_again laws rule body (UpdateMsg u) s are = ap (read_as UpdateMsg) (update_again laws rule body u s are.0 are.1)
 body_again laws rule body (NoticeMsg n) e are = ap (λ (b : List ℕ). Ok (notice_reading b)) e
 body_again laws rule body AliveMsg e are = refl
 
@@ -148,11 +150,11 @@ body_takes laws rule kind body m has e =
           let k : kind ≡ 1 = eqb-true kind 1 z.0 in
           let o = made OpenMsg (open_reading rule body) m z.1 in
           subst Good o.2 (k, open_takes rule body o.0 has.octets (has.at_open k) o.1)
-      | inr z ↦ elim (chosen (kind == 2) (read_as UpdateMsg (update_reading rule.peer body)) _ (Ok m) z.1) [
+      | inr z ↦ elim (chosen (kind == 2) (read_as UpdateMsg (update_reading rule body)) _ (Ok m) z.1) [
         | inl a ↦
             let k : kind ≡ 2 = eqb-true kind 2 a.0 in
-            let u = made UpdateMsg (update_reading rule.peer body) m a.1 in
-            subst Good u.2 (k, update_takes laws rule.peer body u.0 has.octets u.1)
+            let u = made UpdateMsg (update_reading rule body) m a.1 in
+            subst Good u.2 (k, update_takes laws rule body u.0 has.octets u.1)
         | inr a ↦ elim (chosen (kind == 3) (Ok (notice_reading body)) (Ok AliveMsg) (Ok m) a.1) [
           | inl b ↦
               let k : kind ≡ 3 = eqb-true kind 3 b.0 in
@@ -202,30 +204,38 @@ is_spelt laws rule octets (Ok m) are frame told = read_spelt laws rule octets m 
 is_spelt laws rule octets (Err e) are frame told = tt
 
 -- under a rule that names nobody every message passes for the peer's
-from_nobody : (rule : Rule) (m : Message) → rule.peer ≡ None → IsFrom rule m
-from_nobody rule (OpenMsg o) nobody = rw nobody refl
-from_nobody rule (UpdateMsg u) nobody = λ some. rw nobody refl
-from_nobody rule (NoticeMsg n) nobody = tt
-from_nobody rule AliveMsg nobody = tt
+nobody_said : (width : Width) (said : Option ℕ) → number_fault width None None said ≡ None
+nobody_said Two said = refl
+nobody_said Four None = refl
+nobody_said Four (Some asn) = refl
+
+from_nobody : (rule : Rule) (m : Message) → rule.peer ≡ None → rule.own ≡ None → IsFrom rule m
+from_nobody rule (OpenMsg o) nobody none = (
+  ap (λ (peer : Option ℕ). is_peer rule.width peer o.asn) nobody,
+  ap (λ (own : Option ℕ). number_fault rule.width own rule.peer (said_in o.params)) none ∙ ap (λ (peer : Option ℕ). number_fault rule.width None peer (said_in o.params)) nobody ∙ nobody_said rule.width (said_in o.params),
+)
+from_nobody rule (UpdateMsg u) nobody none = λ some. rw nobody refl
+from_nobody rule (NoticeMsg n) nobody none = tt
+from_nobody rule AliveMsg nobody none = tt
 
 -- what is written spells the message, its prefixes by octets
-body_spelt : (rule : Rule) (m : Message) → IsFrom rule m → IsWritable rule m → (s : SpellsBody rule (written_body m) m) × HasOctets rule (written_body m) m s
-body_spelt rule (OpenMsg o) from may = (record { fits = may; peer = from; whole = refl }, tt)
-body_spelt rule (UpdateMsg u) from may = update_written u rule.peer from may
+body_spelt : (rule : Rule) (m : Message) → IsFrom rule m → IsWritable rule m → (s : SpellsBody rule (written_body rule.width m) m) × HasOctets rule (written_body rule.width m) m s
+body_spelt rule (OpenMsg o) from may = (record { fits = may; peer = from.0; said = from.1; whole = refl }, tt)
+body_spelt rule (UpdateMsg u) from may = update_written u rule from may
 body_spelt rule (NoticeMsg n) from may = (refl, tt)
 body_spelt rule AliveMsg from may = (refl, tt)
 
 pub written_spelt : WrittenIsSpelt
-written_spelt rule m nobody may fits =
-    record { body = written_body m; spelt = (body_spelt rule m (from_nobody rule m nobody) may).0; fits = omega (arith, fits, length-written m); whole = refl }
+written_spelt rule m nobody none may fits =
+    record { body = written_body rule.width m; spelt = (body_spelt rule m (from_nobody rule m nobody none) may).0; fits = omega (arith, fits, length-written rule.width m); whole = refl }
 
 pub peers_writing_read : PrefixLaws → PeersWritingIsRead
 peers_writing_read laws rule m from may fits =
     let both = body_spelt rule m from may in
-    spelt_read laws rule (written m) m (record { body = written_body m; spelt = both.0; fits = omega (arith, fits, length-written m); whole = refl }) both.1
+    spelt_read laws rule (written rule.width m) m (record { body = written_body rule.width m; spelt = both.0; fits = omega (arith, fits, length-written rule.width m); whole = refl }) both.1
 
 pub written_read : PrefixLaws → WrittenIsRead
-written_read laws rule m nobody may fits = peers_writing_read laws rule m (from_nobody rule m nobody) may fits
+written_read laws rule m nobody none may fits = peers_writing_read laws rule m (from_nobody rule m nobody none) may fits
 
 -- ---- the data of a fault
 
@@ -240,8 +250,8 @@ either k false x y h g = g
 -- an attribute stands behind the two lengths of a body
 body_faults : (rule : Rule) (kind : ℕ) (body : List ℕ) → length body ≤ 4077 → FaultsWithin 4075 (body_reading rule kind body)
 body_faults rule kind body short =
-    either 4075 (kind == 1) _ _ (as_within 2 4075 OpenMsg (open_reading rule body) (omega arith) (open_faults rule body))
-    (either 4075 (kind == 2) _ _ (as_within 4075 4075 UpdateMsg (update_reading rule.peer body) (omega arith) (update_faults rule.peer body 4075 (omega (arith, short)) (omega arith)))
+    either 4075 (kind == 1) _ _ (as_within 6 4075 OpenMsg (open_reading rule body) (omega arith) (open_faults rule body))
+    (either 4075 (kind == 2) _ _ (as_within 4075 4075 UpdateMsg (update_reading rule body) (omega arith) (update_faults rule body 4075 (omega (arith, short)) (omega arith)))
     (either 4075 (kind == 3) _ _ tt tt))
 
 within_is : (r : Result Message Fault) (f : Fault) (k : ℕ) → FaultsWithin k r → fault_in r ≡ Some f → length f.extra ≤ k

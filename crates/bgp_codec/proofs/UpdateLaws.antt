@@ -10,11 +10,13 @@ use Rattle.prefix_lanes.specs.Bits.{PrefixView}
 use Rattle.prefix_lanes.specs.Laws.{MaskedBits, MaskedIsCanonical, SameBitsSamePrefix}
 use Rattle.bgp_codec.specs.declared.fault.Fault.{Fault}
 use Rattle.bgp_codec.specs.declared.attributes.Attrs.{Attrs}
+use Rattle.bgp_codec.specs.declared.rule.Rule.{Rule}
 use Rattle.bgp_codec.specs.declared.update.Update.{Update}
 use Rattle.bgp_codec.specs.Reading.{◌>>=◌}
 use Rattle.bgp_codec.specs.Spelling.{IsOctets}
 use Rattle.bgp_codec.specs.Updates.{long_string, SpellsEach, SpellsPrefix, missing, is_from, IsAnnounced, SpellsUpdate, prefix_octets, attrs_octets, update_octets, UpdateFits}
-use Rattle.bgp_codec.specs.UpdateReading.{update_fault, number_at, prefixes_reading, attrs_reading, announced_by, announced_reading, nlri_reading, withdrawn_len, attrs_len, update_of, parts_reading, update_reading}
+use Rattle.bgp_codec.specs.UpdateReading.{update_fault, prefixes_reading, attrs_reading, announced_by, announced_reading, nlri_reading, withdrawn_len, attrs_len, update_of, parts_reading, update_reading}
+use Rattle.bgp_codec.specs.AsNumbers.{number_at}
 use Rattle.bgp_codec.proofs.OctetLemmas.{octets_behind}
 use Rattle.bgp_codec.proofs.FaultData.{FaultsWithin, then_within, either_within, wider}
 use Rattle.bgp_codec.proofs.OctetLemmas.{octets_front, two_octets}
@@ -96,28 +98,28 @@ nlri_again laws peer a octets (p ∷ ps) are s told =
 
 -- ---- the three parts
 
-pub record PartsRead (peer : Option ℕ) (withdrawn attrs nlri : List ℕ) (u : Update) : Type 0 where
+pub record PartsRead (rule : Rule) (withdrawn attrs nlri : List ℕ) (u : Update) : Type 0 where
   pub withdrawn_are : prefixes_reading withdrawn ≡ Ok u.withdrawn
-  pub attrs_are : attrs_reading attrs ≡ Ok u.attrs
-  pub nlri_are : nlri_reading peer u.attrs nlri ≡ Ok u.nlri
+  pub attrs_are : attrs_reading rule.width attrs ≡ Ok u.attrs
+  pub nlri_are : nlri_reading rule.peer u.attrs nlri ≡ Ok u.nlri
 
 made_update : (u v : Update) → (let r : Result Update Fault = Ok u in r ≡ Ok v) → u ≡ v
 made_update u v e = cc
 
-last_found : (peer : Option ℕ) (withdrawn attrs nlri : List ℕ) (u : Update) (ws : List PrefixView) (b : Attrs) (n : Result (List PrefixView) Fault)
-    → prefixes_reading withdrawn ≡ Ok ws → attrs_reading attrs ≡ Ok b → nlri_reading peer b nlri ≡ n → (n >>= λ ps. Ok (update_of ws b ps)) ≡ Ok u → PartsRead peer withdrawn attrs nlri u
-last_found peer withdrawn attrs nlri u ws b (Err f) ew ea en e = absurd cc
-last_found peer withdrawn attrs nlri u ws b (Ok ps) ew ea en e =
-    subst (PartsRead peer withdrawn attrs nlri) (made_update (update_of ws b ps) u e) (record { withdrawn_are = ew; attrs_are = ea; nlri_are = en })
+last_found : (rule : Rule) (withdrawn attrs nlri : List ℕ) (u : Update) (ws : List PrefixView) (b : Attrs) (n : Result (List PrefixView) Fault)
+    → prefixes_reading withdrawn ≡ Ok ws → attrs_reading rule.width attrs ≡ Ok b → nlri_reading rule.peer b nlri ≡ n → (n >>= λ ps. Ok (update_of ws b ps)) ≡ Ok u → PartsRead rule withdrawn attrs nlri u
+last_found rule withdrawn attrs nlri u ws b (Err f) ew ea en e = absurd cc
+last_found rule withdrawn attrs nlri u ws b (Ok ps) ew ea en e =
+    subst (PartsRead rule withdrawn attrs nlri) (made_update (update_of ws b ps) u e) (record { withdrawn_are = ew; attrs_are = ea; nlri_are = en })
 
-parts_found : (peer : Option ℕ) (withdrawn attrs nlri : List ℕ) (u : Update) (w : Result (List PrefixView) Fault) (a : Result Attrs Fault)
-    → prefixes_reading withdrawn ≡ w → attrs_reading attrs ≡ a → (w >>= λ ws. a >>= λ b. nlri_reading peer b nlri >>= λ ps. Ok (update_of ws b ps)) ≡ Ok u → PartsRead peer withdrawn attrs nlri u
-parts_found peer withdrawn attrs nlri u (Err f) a ew ea e = absurd cc
-parts_found peer withdrawn attrs nlri u (Ok ws) (Err f) ew ea e = absurd cc
-parts_found peer withdrawn attrs nlri u (Ok ws) (Ok b) ew ea e = last_found peer withdrawn attrs nlri u ws b (nlri_reading peer b nlri) ew ea refl e
+parts_found : (rule : Rule) (withdrawn attrs nlri : List ℕ) (u : Update) (w : Result (List PrefixView) Fault) (a : Result Attrs Fault)
+    → prefixes_reading withdrawn ≡ w → attrs_reading rule.width attrs ≡ a → (w >>= λ ws. a >>= λ b. nlri_reading rule.peer b nlri >>= λ ps. Ok (update_of ws b ps)) ≡ Ok u → PartsRead rule withdrawn attrs nlri u
+parts_found rule withdrawn attrs nlri u (Err f) a ew ea e = absurd cc
+parts_found rule withdrawn attrs nlri u (Ok ws) (Err f) ew ea e = absurd cc
+parts_found rule withdrawn attrs nlri u (Ok ws) (Ok b) ew ea e = last_found rule withdrawn attrs nlri u ws b (nlri_reading rule.peer b nlri) ew ea refl e
 
-parts_again : (peer : Option ℕ) (withdrawn attrs nlri : List ℕ) (u : Update) → PartsRead peer withdrawn attrs nlri u → parts_reading peer withdrawn attrs nlri ≡ Ok u
-parts_again peer withdrawn attrs nlri u p = rw (p.withdrawn_are, p.attrs_are, p.nlri_are) refl
+parts_again : (rule : Rule) (withdrawn attrs nlri : List ℕ) (u : Update) → PartsRead rule withdrawn attrs nlri u → parts_reading rule withdrawn attrs nlri ≡ Ok u
+parts_again rule withdrawn attrs nlri u p = rw (p.withdrawn_are, p.attrs_are, p.nlri_are) refl
 
 -- ---- an UPDATE
 
@@ -144,9 +146,9 @@ whole_again body are le =
     at_place body 0 are (omega (arith, le)) ∙ ap (λ (r : List ℕ). long_string (take first (drop 2 body)) ++ r) back
 
 -- what is read is spelt so
-pub update_takes : (laws : PrefixLaws) (peer : Option ℕ) (body : List ℕ) (u : Update) → IsOctets body → update_reading peer body ≡ Ok u → SpellsUpdate peer body u
+pub update_takes : (laws : PrefixLaws) (rule : Rule) (body : List ℕ) (u : Update) → IsOctets body → update_reading rule body ≡ Ok u → SpellsUpdate rule body u
 unfolding update_reading
-update_takes laws peer body u are e =
+update_takes laws rule body u are e =
     let first = withdrawn_len body in
     let second = attrs_len body in
     let g = inside (is_cut body) (update_fault 1) _ u e in
@@ -155,9 +157,9 @@ update_takes laws peer body u are e =
     let withdrawn = take first (drop 2 body) in
     let attrs = take second (drop (4 + first) body) in
     let nlri = drop (4 + (first + second)) body in
-    let parts = parts_found peer withdrawn attrs nlri u (prefixes_reading withdrawn) (attrs_reading attrs) refl refl g.1 in
-    let fields = attrs_takes attrs u.attrs (octets_front second (drop (4 + first) body) (octets_behind (4 + first) body are)) parts.attrs_are in
-    let announced = nlri_takes laws peer u.attrs nlri u.nlri (octets_behind (4 + (first + second)) body are) parts.nlri_are in
+    let parts = parts_found rule withdrawn attrs nlri u (prefixes_reading withdrawn) (attrs_reading rule.width attrs) refl refl g.1 in
+    let fields = attrs_takes rule.width attrs u.attrs (octets_front second (drop (4 + first) body) (octets_behind (4 + first) body are)) parts.attrs_are in
+    let announced = nlri_takes laws rule.peer u.attrs nlri u.nlri (octets_behind (4 + (first + second)) body are) parts.nlri_are in
     let size : length withdrawn < 2 ^ 16 = omega (arith, length-take first (drop 2 body), are 0, are 1) in
     let size-2 : length attrs < 2 ^ 16 = omega (arith, length-take second (drop (4 + first) body), are (2 + first), are (2 + first + 1)) in
     record {
@@ -218,30 +220,30 @@ checks_pass body withdrawn attrs nlri s =
     let b : nat_lt (length body) (4 + (withdrawn_len body + attrs_len body)) ≡ false = le-ltb (length body) (4 + (withdrawn_len body + attrs_len body)) (omega (arith, s.first, s.second, s.size)) in
     rw (a, b) refl
 
-standing_again : (peer : Option ℕ) (body withdrawn attrs nlri : List ℕ) (u : Update) → Stands body withdrawn attrs nlri → PartsRead peer withdrawn attrs nlri u → update_reading peer body ≡ Ok u
+standing_again : (rule : Rule) (body withdrawn attrs nlri : List ℕ) (u : Update) → Stands body withdrawn attrs nlri → PartsRead rule withdrawn attrs nlri u → update_reading rule body ≡ Ok u
 unfolding update_reading
-standing_again peer body withdrawn attrs nlri u s p =
+standing_again rule body withdrawn attrs nlri u s p =
     let w : take (withdrawn_len body) (drop 2 body) ≡ withdrawn = ap (λ (n : ℕ). take n (drop 2 body)) s.first ∙ s.withdrawn_is in
     let a : take (attrs_len body) (drop (4 + withdrawn_len body) body) ≡ attrs =
     ap (λ (n : ℕ). take n (drop (4 + withdrawn_len body) body)) s.second ∙ ap (λ (n : ℕ). take (length attrs) (drop (4 + n) body)) s.first ∙ s.attrs_is in
     let n : drop (4 + (withdrawn_len body + attrs_len body)) body ≡ nlri =
     ap (λ (k : ℕ). drop (4 + (k + attrs_len body)) body) s.first ∙ ap (λ (k : ℕ). drop (4 + (length withdrawn + k)) body) s.second ∙ s.nlri_is in
-    ap (λ (b : Bool). cond b (Err (update_fault 1)) (parts_reading peer (take (withdrawn_len body) (drop 2 body)) (take (attrs_len body) (drop (4 + withdrawn_len body) body)) (drop (4 + (withdrawn_len body + attrs_len body)) body)))
+    ap (λ (b : Bool). cond b (Err (update_fault 1)) (parts_reading rule (take (withdrawn_len body) (drop 2 body)) (take (attrs_len body) (drop (4 + withdrawn_len body) body)) (drop (4 + (withdrawn_len body + attrs_len body)) body)))
     (checks_pass body withdrawn attrs nlri s)
-    ∙ ap (λ (x : List ℕ). parts_reading peer x (take (attrs_len body) (drop (4 + withdrawn_len body) body)) (drop (4 + (withdrawn_len body + attrs_len body)) body)) w
-    ∙ ap (λ (x : List ℕ). parts_reading peer withdrawn x (drop (4 + (withdrawn_len body + attrs_len body)) body)) a
-    ∙ ap (parts_reading peer withdrawn attrs) n
-    ∙ parts_again peer withdrawn attrs nlri u p
+    ∙ ap (λ (x : List ℕ). parts_reading rule x (take (attrs_len body) (drop (4 + withdrawn_len body) body)) (drop (4 + (withdrawn_len body + attrs_len body)) body)) w
+    ∙ ap (λ (x : List ℕ). parts_reading rule withdrawn x (drop (4 + (withdrawn_len body + attrs_len body)) body)) a
+    ∙ ap (parts_reading rule withdrawn attrs) n
+    ∙ parts_again rule withdrawn attrs nlri u p
 
 -- what is spelt so is read
-pub update_again : (laws : PrefixLaws) (peer : Option ℕ) (body : List ℕ) (u : Update) (s : SpellsUpdate peer body u) → IsOctets s.withdrawn → IsOctets s.nlri → update_reading peer body ≡ Ok u
-update_again laws peer body u s left right =
-    ap (update_reading peer) s.whole
-    ∙ standing_again peer (long_string s.withdrawn ++ (long_string s.attrs ++ s.nlri)) s.withdrawn s.attrs s.nlri u (stands s.withdrawn s.attrs s.nlri s.withdrawn_size s.attrs_size)
+pub update_again : (laws : PrefixLaws) (rule : Rule) (body : List ℕ) (u : Update) (s : SpellsUpdate rule body u) → IsOctets s.withdrawn → IsOctets s.nlri → update_reading rule body ≡ Ok u
+update_again laws rule body u s left right =
+    ap (update_reading rule) s.whole
+    ∙ standing_again rule (long_string s.withdrawn ++ (long_string s.attrs ++ s.nlri)) s.withdrawn s.attrs s.nlri u (stands s.withdrawn s.attrs s.nlri s.withdrawn_size s.attrs_size)
     (record {
       withdrawn_are = prefixes_again laws.masked laws.canonical laws.once s.withdrawn u.withdrawn left s.withdrawn_are;
-      attrs_are = attrs_again s.attrs u.attrs s.attrs_are s.attrs_fit;
-      nlri_are = nlri_again laws peer u.attrs s.nlri u.nlri right s.nlri_are s.announced;
+      attrs_are = attrs_again rule.width s.attrs u.attrs s.attrs_are s.attrs_fit;
+      nlri_are = nlri_again laws rule.peer u.attrs s.nlri u.nlri right s.nlri_are s.announced;
     })
 
 -- ---- the data of a fault
@@ -256,27 +258,27 @@ nlri_faults peer a [] = tt
 nlri_faults peer a (x ∷ xs) = announced_faults peer a (x ∷ xs) (missing a)
 
 -- an attribute stands behind the two lengths
-pub update_faults : (peer : Option ℕ) (body : List ℕ) (n : ℕ) → length body ≤ 4 + n → 1 ≤ n → FaultsWithin n (update_reading peer body)
+pub update_faults : (rule : Rule) (body : List ℕ) (n : ℕ) → length body ≤ 4 + n → 1 ≤ n → FaultsWithin n (update_reading rule body)
 unfolding update_reading
-update_faults peer body n long some =
+update_faults rule body n long some =
     let withdrawn = take (withdrawn_len body) (drop 2 body) in
     let attrs = take (attrs_len body) (drop (4 + withdrawn_len body) body) in
     let shorter : length attrs ≤ n = omega (arith, length-take (attrs_len body) (drop (4 + withdrawn_len body) body), length-drop (4 + withdrawn_len body) body) in
     either_within n (is_cut body) _ _ (omega arith)
     (then_within n (prefixes_reading withdrawn) _ (wider 0 n (prefixes_reading withdrawn) (omega arith) (prefixes_faults withdrawn))
-    (λ ws. then_within n (attrs_reading attrs) _ (wider (length attrs) n (attrs_reading attrs) shorter (attrs_faults attrs))
-    (λ a. then_within n (nlri_reading peer a (drop (4 + (withdrawn_len body + attrs_len body)) body)) _
-    (wider 1 n (nlri_reading peer a (drop (4 + (withdrawn_len body + attrs_len body)) body)) (omega arith) (nlri_faults peer a (drop (4 + (withdrawn_len body + attrs_len body)) body))) (λ ps. tt))))
+    (λ ws. then_within n (attrs_reading rule.width attrs) _ (wider (length attrs) n (attrs_reading rule.width attrs) shorter (attrs_faults rule.width attrs))
+    (λ a. then_within n (nlri_reading rule.peer a (drop (4 + (withdrawn_len body + attrs_len body)) body)) _
+    (wider 1 n (nlri_reading rule.peer a (drop (4 + (withdrawn_len body + attrs_len body)) body)) (omega arith) (nlri_faults rule.peer a (drop (4 + (withdrawn_len body + attrs_len body)) body))) (λ ps. tt))))
 
 -- what is written is spelt so, and its prefixes are octets
-pub update_written : (u : Update) (peer : Option ℕ) → (u.nlri ≢ [] → is_from peer u.attrs ≡ true) → UpdateFits u → (s : SpellsUpdate peer (update_octets u) u) × (IsOctets s.withdrawn × IsOctets s.nlri)
-update_written u peer from fits = (
+pub update_written : (u : Update) (rule : Rule) → (u.nlri ≢ [] → is_from rule.peer u.attrs ≡ true) → UpdateFits rule.width u → (s : SpellsUpdate rule (update_octets rule.width u) u) × (IsOctets s.withdrawn × IsOctets s.nlri)
+update_written u rule from fits = (
   record {
     withdrawn = flat_map prefix_octets u.withdrawn;
-    attrs = attrs_octets u.attrs;
+    attrs = attrs_octets rule.width u.attrs;
     nlri = flat_map prefix_octets u.nlri;
     withdrawn_are = prefixes_written u.withdrawn fits.withdrawn;
-    attrs_are = attrs_written u.attrs fits.attrs fits.attrs_size;
+    attrs_are = attrs_written rule.width u.attrs fits.attrs fits.attrs_size;
     attrs_fit = fits.attrs;
     nlri_are = prefixes_written u.nlri fits.nlri;
     announced = λ some. record { mandatory = fits.mandatory some; peer = from some };

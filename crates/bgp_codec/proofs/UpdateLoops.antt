@@ -7,6 +7,9 @@ use Rattle.std.specs.Int.{w32, to_be_bytes}
 use Rattle.std.proofs.lemmas.Bool.{le-ltb, lt-ltb}
 use Rattle.std.proofs.lemmas.List.{length-append, take_all, drop_all}
 use Rattle.std.proofs.lemmas.List.Concat.{flat_map-append}
+use Rattle.bgp_values.specs.declared.width.Width.{Width}
+use Rattle.bgp_values.specs.declared.width.Width.TheVariants.{Two, Four}
+use Rattle.bgp_codec.specs.AsNumbers.{asn_size}
 use Rattle.bgp_codec.specs.declared.attributes.Attrs.{Attrs}
 use Rattle.bgp_codec.specs.declared.attributes.Aggregator.{Aggregator}
 use Rattle.bgp_codec.specs.declared.attributes.Raw.{Raw}
@@ -33,8 +36,8 @@ module _ {X : Type 0} (P : X → Type 0) where
 
 -- ---- a path
 
-pub segment_size : (s : Segment) → length (segment_octets s) ≡ 2 + 2 * length s.numbers
-segment_size s = omega (arith, length_numbers s.numbers)
+pub segment_size : (width : Width) (s : Segment) → length (segment_octets width s) ≡ 2 + asn_size width * length s.numbers
+segment_size width s = omega (arith, length_numbers width s.numbers)
 
 -- ---- unknown attributes
 
@@ -102,34 +105,35 @@ atomic_size : (b : Bool) → length (flat_map raw_octets (given 64 6 (cond b (So
 atomic_size true = refl
 atomic_size false = refl
 
-aggregator_size : (o : Option Aggregator) → length (flat_map raw_octets (aggregator_raw o)) ≡ cond (is_some o) 9 0
-aggregator_size None = refl
-aggregator_size (Some g) = refl
+aggregator_size : (width : Width) (o : Option Aggregator) → length (flat_map raw_octets (aggregator_raw width o)) ≡ cond (is_some o) (7 + asn_size width) 0
+aggregator_size width None = refl
+aggregator_size Two (Some g) = refl
+aggregator_size Four (Some g) = refl
 
 -- octets put behind others
 pub grown : (new old part : List ℕ) → new ≡ old ++ part → length new ≡ length old + length part
 grown new old part e = ap length e ∙ length-append old part
 
 -- how many octets the attributes have, part by part
-pub attrs_lengths : (a : Attrs)
-    → length (attrs_octets a)
+pub attrs_lengths : (width : Width) (a : Attrs)
+    → length (attrs_octets width a)
     ≡ length (flat_map raw_octets (filter (stands true) a.other))
     + (length (flat_map raw_octets (given 64 1 (option_map (λ n. n ∷ []) a.origin)))
-    + (length (flat_map raw_octets (given 64 2 (option_map path_octets a.path)))
+    + (length (flat_map raw_octets (given 64 2 (option_map (path_octets width) a.path)))
     + (length (flat_map raw_octets (given 64 3 (option_map (to_be_bytes w32) a.next_hop)))
     + (length (flat_map raw_octets (given 128 4 (option_map (to_be_bytes w32) a.med)))
     + (length (flat_map raw_octets (given 64 5 (option_map (to_be_bytes w32) a.local_pref)))
     + (length (flat_map raw_octets (given 64 6 (cond a.atomic (Some []) None)))
-    + (length (flat_map raw_octets (aggregator_raw a.aggregator)) + length (flat_map raw_octets (filter (stands false) a.other)))))))))
-attrs_lengths a =
+    + (length (flat_map raw_octets (aggregator_raw width a.aggregator)) + length (flat_map raw_octets (filter (stands false) a.other)))))))))
+attrs_lengths width a =
     let f = raw_octets in
     let z = filter (stands false) a.other in
-    let g = aggregator_raw a.aggregator in
+    let g = aggregator_raw width a.aggregator in
     let t = given 64 6 (cond a.atomic (Some []) None) in
     let l = given 64 5 (option_map (to_be_bytes w32) a.local_pref) in
     let m = given 128 4 (option_map (to_be_bytes w32) a.med) in
     let n = given 64 3 (option_map (to_be_bytes w32) a.next_hop) in
-    let p = given 64 2 (option_map path_octets a.path) in
+    let p = given 64 2 (option_map (path_octets width) a.path) in
     let o = given 64 1 (option_map (λ n. n ∷ []) a.origin) in
     let b = filter (stands true) a.other in
     omega (
@@ -145,24 +149,24 @@ attrs_lengths a =
     )
 
 -- all but the path and the unknown ones have a size of their own
-pub attrs_size : (a : Attrs)
-    → length (attrs_octets a)
+pub attrs_size : (width : Width) (a : Attrs)
+    → length (attrs_octets width a)
     ≡ length (flat_map raw_octets (filter (stands true) a.other))
     + (cond (is_some a.origin) 4 0
-    + (length (flat_map raw_octets (given 64 2 (option_map path_octets a.path)))
+    + (length (flat_map raw_octets (given 64 2 (option_map (path_octets width) a.path)))
     + (cond (is_some a.next_hop) 7 0
     + (cond (is_some a.med) 7 0
-    + (cond (is_some a.local_pref) 7 0 + (cond a.atomic 3 0 + (cond (is_some a.aggregator) 9 0 + length (flat_map raw_octets (filter (stands false) a.other)))))))))
-attrs_size a =
+    + (cond (is_some a.local_pref) 7 0 + (cond a.atomic 3 0 + (cond (is_some a.aggregator) (7 + asn_size width) 0 + length (flat_map raw_octets (filter (stands false) a.other)))))))))
+attrs_size width a =
     omega (
       arith,
-      attrs_lengths a,
+      attrs_lengths width a,
       origin_size a.origin,
       number_size 64 3 a.next_hop,
       number_size 128 4 a.med,
       number_size 64 5 a.local_pref,
       atomic_size a.atomic,
-      aggregator_size a.aggregator,
+      aggregator_size width a.aggregator,
     )
 
 -- one part more, and what comes behind it
@@ -170,26 +174,26 @@ regroup : {X : Type 0} (f : X → List ℕ) (old : List ℕ) (xs ys : List X) �
 regroup f old xs ys = append_assoc old (flat_map f xs) (flat_map f ys) ∙ ap (λ (zs : List ℕ). old ++ zs) (sym (flat_map-append f xs ys))
 
 -- nine parts put one after the other are the attributes
-pub attrs_put : (a : Attrs) (old o1 o2 o3 o4 o5 o6 o7 o8 o9 : List ℕ)
+pub attrs_put : (width : Width) (a : Attrs) (old o1 o2 o3 o4 o5 o6 o7 o8 o9 : List ℕ)
     → o1 ≡ old ++ flat_map raw_octets (filter (stands true) a.other)
     → o2 ≡ o1 ++ flat_map raw_octets (given 64 1 (option_map (λ n. n ∷ []) a.origin))
-    → o3 ≡ o2 ++ flat_map raw_octets (given 64 2 (option_map path_octets a.path))
+    → o3 ≡ o2 ++ flat_map raw_octets (given 64 2 (option_map (path_octets width) a.path))
     → o4 ≡ o3 ++ flat_map raw_octets (given 64 3 (option_map (to_be_bytes w32) a.next_hop))
     → o5 ≡ o4 ++ flat_map raw_octets (given 128 4 (option_map (to_be_bytes w32) a.med))
     → o6 ≡ o5 ++ flat_map raw_octets (given 64 5 (option_map (to_be_bytes w32) a.local_pref))
     → o7 ≡ o6 ++ flat_map raw_octets (given 64 6 (cond a.atomic (Some []) None))
-    → o8 ≡ o7 ++ flat_map raw_octets (aggregator_raw a.aggregator)
+    → o8 ≡ o7 ++ flat_map raw_octets (aggregator_raw width a.aggregator)
     → o9 ≡ o8 ++ flat_map raw_octets (filter (stands false) a.other)
-    → o9 ≡ old ++ attrs_octets a
-attrs_put a old o1 o2 o3 o4 o5 o6 o7 o8 o9 e1 e2 e3 e4 e5 e6 e7 e8 e9 =
+    → o9 ≡ old ++ attrs_octets width a
+attrs_put width a old o1 o2 o3 o4 o5 o6 o7 o8 o9 e1 e2 e3 e4 e5 e6 e7 e8 e9 =
     let f = raw_octets in
     let z = filter (stands false) a.other in
-    let g = aggregator_raw a.aggregator in
+    let g = aggregator_raw width a.aggregator in
     let t = given 64 6 (cond a.atomic (Some []) None) in
     let l = given 64 5 (option_map (to_be_bytes w32) a.local_pref) in
     let m = given 128 4 (option_map (to_be_bytes w32) a.med) in
     let n = given 64 3 (option_map (to_be_bytes w32) a.next_hop) in
-    let p = given 64 2 (option_map path_octets a.path) in
+    let p = given 64 2 (option_map (path_octets width) a.path) in
     let o = given 64 1 (option_map (λ n. n ∷ []) a.origin) in
     let b = filter (stands true) a.other in
     e9 ∙ ap (λ (x : List ℕ). x ++ flat_map f z) e8 ∙ regroup f o7 g z

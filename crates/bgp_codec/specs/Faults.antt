@@ -7,7 +7,7 @@ use Rattle.bgp_codec.specs.declared.fault.CodecError.TheVariants as errors
 use Rattle.bgp_codec.specs.declared.message.Message.{Message}
 use Rattle.bgp_codec.specs.declared.message.Message.TheVariants.{OpenMsg, UpdateMsg, NoticeMsg, AliveMsg}
 use Rattle.bgp_codec.specs.declared.rule.Rule.{Rule}
-use Rattle.bgp_codec.specs.Opens.{open_reading, is_peer}
+use Rattle.bgp_codec.specs.Opens.{open_reading, is_peer, params_fault}
 use Rattle.bgp_codec.specs.Updates.{is_from}
 use Rattle.bgp_codec.specs.UpdateReading.{update_reading}
 use Rattle.bgp_codec.specs.Header.{header_fault, kind_field, IsFrame}
@@ -25,7 +25,7 @@ read_as make (Err first) = Err first
 abbrev pub body_reading : Rule → ℕ → List ℕ → Result Message Fault
 body_reading rule kind body =
     if kind == OPEN then read_as OpenMsg (open_reading rule body)
-    else if kind == UPDATE then read_as UpdateMsg (update_reading rule.peer body)
+    else if kind == UPDATE then read_as UpdateMsg (update_reading rule body)
     else if kind == NOTIFICATION then Ok (notice_reading body)
     else Ok AliveMsg
 
@@ -65,25 +65,25 @@ FaultFitsAMessage = (rule : Rule) (octets : List ℕ) (first : Fault) → IsFram
 
 -- what is written is spelt so
 abbrev pub WrittenIsSpelt : Type 0
-WrittenIsSpelt = (rule : Rule) (message : Message) → rule.peer ≡ None → IsWritable rule message → length (written message) ≤ MESSAGE_LIMIT → Spells rule (written message) message
+WrittenIsSpelt = (rule : Rule) (message : Message) → rule.peer ≡ None → rule.own ≡ None → IsWritable rule message → length (written rule.width message) ≤ MESSAGE_LIMIT → Spells rule (written rule.width message) message
 
 -- and reads as the message
 abbrev pub WrittenIsRead : Type 0
-WrittenIsRead = (rule : Rule) (message : Message) → rule.peer ≡ None → IsWritable rule message → length (written message) ≤ MESSAGE_LIMIT
-    → IsFrame (written message) × (reading rule (written message) ≡ Ok message)
+WrittenIsRead = (rule : Rule) (message : Message) → rule.peer ≡ None → rule.own ≡ None → IsWritable rule message → length (written rule.width message) ≤ MESSAGE_LIMIT
+    → IsFrame (written rule.width message) × (reading rule (written rule.width message) ≡ Ok message)
 
--- the message is one of the peer that the rule names, where it names one: its OPEN has that number, and its paths begin with it
+-- the message is one of the peer that the rule names, where it names one: its OPEN says that number, and its paths begin with it
 abbrev pub IsFrom : Rule → Message → Type 0
-IsFrom rule (OpenMsg message) = is_peer rule.peer message.asn ≡ true
+IsFrom rule (OpenMsg message) = (is_peer rule.width rule.peer message.asn ≡ true) × (params_fault rule message.params ≡ None)
 IsFrom rule (UpdateMsg message) = message.nlri ≢ [] → is_from rule.peer message.attrs ≡ true
 IsFrom rule (NoticeMsg notice) = Unit {0}
 IsFrom rule AliveMsg = Unit {0}
 
 -- so does what a peer writes, under a rule that names it
 abbrev pub PeersWritingIsRead : Type 0
-PeersWritingIsRead = (rule : Rule) (message : Message) → IsFrom rule message → IsWritable rule message → length (written message) ≤ MESSAGE_LIMIT
-    → IsFrame (written message) × (reading rule (written message) ≡ Ok message)
+PeersWritingIsRead = (rule : Rule) (message : Message) → IsFrom rule message → IsWritable rule message → length (written rule.width message) ≤ MESSAGE_LIMIT
+    → IsFrame (written rule.width message) × (reading rule (written rule.width message) ≡ Ok message)
 
 -- what is spelt is writable, and what is written is no longer
 abbrev pub SpeltIsWritable : Type 0
-SpeltIsWritable = (rule : Rule) (octets : List ℕ) (message : Message) → Spells rule octets message → IsWritable rule message × (length (written message) ≤ length octets)
+SpeltIsWritable = (rule : Rule) (octets : List ℕ) (message : Message) → Spells rule octets message → IsWritable rule message × (length (written rule.width message) ≤ length octets)

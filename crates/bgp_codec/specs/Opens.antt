@@ -1,14 +1,19 @@
 -- OPEN: its parts, how they are spelt, and its first fault (RFC 4271 sections 4.2 and 6.2, RFC 5492 section 4).
-use Rattle.std.specs.Prelude.{◌≡◌, ℕ, ◌+◌, ◌^◌, ◌<◌, nat_lt, ◌==◌, not, Bool, true, List, [], ◌∷◌, ◌++◌, length, take, drop, slice_index, Option, Some, None, Result, Ok, Err, if◌then◌else◌}
+use Rattle.std.specs.Prelude.{◌≡◌, ℕ, ◌+◌, ◌^◌, ◌<◌, nat_lt, ◌==◌, ◌||◌, ◌&&◌, not, Bool, true, List, [], ◌∷◌, ◌++◌, length, take, drop, slice_index, Option, Some, None, Result, Ok, Err, if◌then◌else◌}
+use Rattle.std.specs.Option.{option_or}
 use Rattle.std.specs.List.{flat_map, AllByRecursion}
 use Rattle.std.specs.Int.{w16, w32, to_be_bytes, from_be_bytes}
-use Rattle.bgp_values.specs.declared.messages.TheConstants.{VERSION, CAPABILITIES}
+use Rattle.bgp_values.specs.declared.messages.TheConstants.{VERSION, CAPABILITIES, FOUR_OCTET_ASN}
+use Rattle.bgp_values.specs.declared.width.TheConstants.{AS_TRANS}
+use Rattle.bgp_values.specs.declared.width.Width.{Width}
+use Rattle.bgp_values.specs.declared.width.Width.TheVariants.{Two, Four}
 use Rattle.bgp_codec.specs.declared.fault.Fault.{Fault}
-use Rattle.bgp_values.specs.declared.faults.TheConstants.{OPEN_MESSAGE_ERROR, UNSUPPORTED_VERSION_NUMBER, UNSPECIFIC, BAD_PEER_AS, BAD_BGP_IDENTIFIER, UNSUPPORTED_OPTIONAL_PARAMETER, UNACCEPTABLE_HOLD_TIME}
+use Rattle.bgp_values.specs.declared.faults.TheConstants.{OPEN_MESSAGE_ERROR, UNSUPPORTED_VERSION_NUMBER, UNSPECIFIC, BAD_PEER_AS, BAD_BGP_IDENTIFIER, UNSUPPORTED_CAPABILITY, UNSUPPORTED_OPTIONAL_PARAMETER, UNACCEPTABLE_HOLD_TIME}
 use Rattle.bgp_values.specs.Ranges.{is_hold_time, is_unicast}
 use Rattle.bgp_codec.specs.declared.open.Cap.{Cap}
 use Rattle.bgp_codec.specs.declared.open.Open.{Open}
 use Rattle.bgp_codec.specs.declared.rule.Rule.{Rule}
+use Rattle.bgp_codec.specs.AsNumbers.{address_at}
 use Rattle.bgp_codec.specs.Header.{fault_of}
 use Rattle.bgp_codec.specs.Reading.{◌>>=◌, Reader, all_of}
 
@@ -46,31 +51,75 @@ pub record OpenFits (o : Open) : Type 0 where
   pub params : AllByRecursion ParamFits o.params
   pub all : length (flat_map param_octets o.params) < 256
 
--- the number is the peer's, where a peer is named
-abbrev pub is_peer : Option ℕ → ℕ → Bool
-is_peer None asn = true
-is_peer (Some peer) asn = asn == peer
-
--- these octets are an OPEN's body, under the rule
-pub record SpellsOpen (rule : Rule) (body : List ℕ) (o : Open) : Type 0 where
-  pub fits : OpenFits o
-  pub peer : is_peer rule.peer o.asn ≡ true
-  pub whole : body ≡ open_octets o
-
--- ---- the first fault, from left to right
+-- ---- the speaker's number
 
 -- a fault of an OPEN without data
 abbrev pub open_fault : ℕ → Fault
 open_fault sub = fault_of OPEN_MESSAGE_ERROR sub []
+
+-- the field AS is the peer's number, where a peer is named; where numbers have four octets it may be AS_TRANS
+abbrev pub is_peer : Width → Option ℕ → ℕ → Bool
+is_peer width None asn = true
+is_peer Two (Some peer) asn = asn == peer
+is_peer Four (Some peer) asn = (asn == peer) || (asn == AS_TRANS)
+
+abbrev pub cap_of : ℕ → List ℕ → Cap
+cap_of code value = record { code = code; value = value }
+
+-- RFC 6793 section 3: the number that a capability says in four octets; one of another length says none
+abbrev pub number_said : Cap → Option ℕ
+number_said cap = if (cap.code == FOUR_OCTET_ASN) && (length cap.value == 4) then Some (address_at cap.value 0) else None
+
+-- the first number that one of them says
+abbrev pub first_said : {A : Type 0} → (A → Option ℕ) → List A → Option ℕ
+first_said says [] = None
+first_said says (x ∷ xs) = option_or (says x) (first_said says xs)
+
+-- that capabilities say, and parameters of capabilities
+abbrev pub said_by : List Cap → Option ℕ
+said_by caps = first_said number_said caps
+
+abbrev pub said_in : List (List Cap) → Option ℕ
+said_in params = first_said said_by params
+
+-- the capability of four-octet numbers as it stands in a message, which is the data of a fault where it is not there
+abbrev pub own_capability : ℕ → List ℕ
+own_capability own = FOUR_OCTET_ASN ∷ 4 ∷ to_be_bytes w32 own
+
+abbrev pub capability_fault : ℕ → Fault
+capability_fault own = fault_of OPEN_MESSAGE_ERROR UNSUPPORTED_CAPABILITY (own_capability own)
+
+-- where the reader names itself a number is said; where a peer is named the number that is said is the peer's
+abbrev pub said_fault : Option ℕ → Option ℕ → Option ℕ → Option Fault
+said_fault None peer None = None
+said_fault (Some own) peer None = Some (capability_fault own)
+said_fault own None (Some asn) = None
+said_fault own (Some peer) (Some asn) = if asn == peer then None else Some (open_fault BAD_PEER_AS)
+
+-- numbers of two octets need no capability
+abbrev pub number_fault : Width → Option ℕ → Option ℕ → Option ℕ → Option Fault
+number_fault Two own peer said = None
+number_fault Four own peer said = said_fault own peer said
+
+abbrev pub params_fault : Rule → List (List Cap) → Option Fault
+params_fault rule params = number_fault rule.width rule.own rule.peer (said_in params)
+
+-- ---- the spelling
+
+-- these octets are an OPEN's body, under the rule
+pub record SpellsOpen (rule : Rule) (body : List ℕ) (o : Open) : Type 0 where
+  pub fits : OpenFits o
+  pub peer : is_peer rule.width rule.peer o.asn ≡ true
+  pub said : params_fault rule o.params ≡ None
+  pub whole : body ≡ open_octets o
+
+-- ---- the first fault, from left to right
 
 -- a value in front, its length at 1 and its octets from 2, and what follows it
 abbrev pub value_at : List ℕ → Result (List ℕ × List ℕ) Fault
 value_at [] = Err (open_fault UNSPECIFIC)
 value_at (kind ∷ []) = Err (open_fault UNSPECIFIC)
 value_at (kind ∷ len ∷ rest) = if nat_lt (length rest) len then Err (open_fault UNSPECIFIC) else Ok (take len rest, drop len rest)
-
-abbrev pub cap_of : ℕ → List ℕ → Cap
-cap_of code value = record { code = code; value = value }
 
 -- a capability in front: its code, and its value inside
 abbrev pub cap_at : Reader Cap
@@ -99,16 +148,21 @@ id_field body = from_be_bytes w32 (slice_index body 5 ∷ slice_index body 6 ∷
 abbrev pub open_of : List ℕ → List (List Cap) → Open
 open_of body params = record { asn = asn_field body; hold = hold_field body; id = id_field body; params = params }
 
--- the OPEN of a body whose parameters have these octets
-abbrev pub open_behind : List ℕ → List ℕ → Result Open Fault
-open_behind body octets = params_reading octets >>= λ params. Ok (open_of body params)
+-- a value behind the last check
+abbrev pub unless : {A : Type 0} → Option Fault → A → Result A Fault
+unless None x = Ok x
+unless (Some first) x = Err first
 
--- version, AS, hold time, identifier, that the parameters fill the rest, then the parameters
+-- the OPEN of a body whose parameters have these octets
+abbrev pub open_behind : Rule → List ℕ → List ℕ → Result Open Fault
+open_behind rule body octets = params_reading octets >>= λ params. unless (params_fault rule params) (open_of body params)
+
+-- version, AS, hold time, identifier, that the parameters fill the rest, the parameters, then the number that they say
 unfoldable pub open_reading : Rule → List ℕ → Result Open Fault
 open_reading rule body =
     if not (slice_index body 0 == VERSION) then Err (fault_of OPEN_MESSAGE_ERROR UNSUPPORTED_VERSION_NUMBER (0 ∷ VERSION ∷ []))
-    else if not (is_peer rule.peer (asn_field body)) then Err (open_fault BAD_PEER_AS)
+    else if not (is_peer rule.width rule.peer (asn_field body)) then Err (open_fault BAD_PEER_AS)
     else if not (is_hold_time (hold_field body)) then Err (open_fault UNACCEPTABLE_HOLD_TIME)
     else if not (is_unicast (id_field body)) then Err (open_fault BAD_BGP_IDENTIFIER)
     else if not (length body == 10 + slice_index body 9) then Err (open_fault UNSPECIFIC)
-    else open_behind body (drop 10 body)
+    else open_behind rule body (drop 10 body)

@@ -9,6 +9,7 @@ use Rattle.bgp_codec.specs.declared.message.Message.TheVariants.{OpenMsg, Update
 use Rattle.bgp_codec.specs.declared.notice.Notice.{Notice}
 use Rattle.bgp_codec.specs.declared.open.Open.{Open}
 use Rattle.bgp_codec.specs.declared.rule.Rule.{Rule}
+use Rattle.bgp_values.specs.declared.width.Width.{Width}
 use Rattle.bgp_codec.specs.Opens.{SpellsOpen, OpenFits, open_octets}
 use Rattle.bgp_codec.specs.Updates.{SpellsUpdate, UpdateFits, update_octets}
 
@@ -38,7 +39,7 @@ notice_octets notice = notice.code ∷ notice.sub ∷ notice.extra
 -- these octets are a body of the message, under the rule
 abbrev pub SpellsBody : Rule → List ℕ → Message → Type 0
 SpellsBody rule body (OpenMsg message) = SpellsOpen rule body message
-SpellsBody rule body (UpdateMsg message) = SpellsUpdate rule.peer body message
+SpellsBody rule body (UpdateMsg message) = SpellsUpdate rule body message
 SpellsBody rule body (NoticeMsg notice) = body ≡ notice_octets notice
 SpellsBody rule body AliveMsg = body ≡ []
 
@@ -52,24 +53,24 @@ pub record Spells (rule : Rule) (octets : List ℕ) (message : Message) : Type 0
 -- each field is one that can be read, and each part fits its own length field
 abbrev pub IsWritable : Rule → Message → Type 0
 IsWritable rule (OpenMsg message) = OpenFits message
-IsWritable rule (UpdateMsg message) = UpdateFits message
+IsWritable rule (UpdateMsg message) = UpdateFits rule.width message
 IsWritable rule (NoticeMsg notice) = Unit {0}
 IsWritable rule AliveMsg = Unit {0}
 
--- the body that is written
-abbrev pub written_body : Message → List ℕ
-written_body (OpenMsg message) = open_octets message
-written_body (UpdateMsg message) = update_octets message
-written_body (NoticeMsg notice) = notice_octets notice
-written_body AliveMsg = []
+-- the body that is written, where AS numbers have so many octets
+abbrev pub written_body : Width → Message → List ℕ
+written_body width (OpenMsg message) = open_octets message
+written_body width (UpdateMsg message) = update_octets width message
+written_body width (NoticeMsg notice) = notice_octets notice
+written_body width AliveMsg = []
 
 -- the one spelling that is written
-abbrev pub written : Message → List ℕ
-written message = framed (kind_of message) (written_body message)
+abbrev pub written : Width → Message → List ℕ
+written width message = framed (kind_of message) (written_body width message)
 
 -- what is written has the nineteen octets of a header, and those of its body
 abbrev pub WrittenHasAHeader : Type 0
-WrittenHasAHeader = (message : Message) → length (written message) ≡ HEADER_LEN + length (written_body message)
+WrittenHasAHeader = (width : Width) (message : Message) → length (written width message) ≡ HEADER_LEN + length (written_body width message)
 
 -- section 4.2: the hold time of an OPEN that is writable is 0, or no less than the least one
 abbrev pub OpenHasAHoldTime : Type 0

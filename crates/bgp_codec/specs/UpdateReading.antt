@@ -1,7 +1,6 @@
 -- What reading an UPDATE answers, from left to right: its parts, or its first fault (RFC 4271 section 6.3).
 use Rattle.std.specs.Prelude.{ℕ, zero, suc, ◌+◌, ◌*◌, ◌/◌, ◌%◌, nat_lt, ◌==◌, ◌||◌, not, is_some, Bool, true, false, List, [], ◌∷◌, length, take, drop, slice_index, Option, Some, None, Result, Ok, Err, if◌then◌else◌}
 use Rattle.std.specs.List.{list_any}
-use Rattle.std.specs.Int.{w16, w32, from_be_bytes}
 use Rattle.prefix_lanes.specs.Bits.{PrefixView, masked}
 use Rattle.bgp_codec.specs.declared.fault.Fault.{Fault}
 use Rattle.bgp_values.specs.declared.faults.TheConstants.{UPDATE_MESSAGE_ERROR, MALFORMED_ATTRIBUTE_LIST, UNRECOGNIZED_WELL_KNOWN_ATTRIBUTE, MISSING_WELL_KNOWN_ATTRIBUTE, ATTRIBUTE_FLAGS_ERROR, ATTRIBUTE_LENGTH_ERROR, INVALID_ORIGIN_ATTRIBUTE, INVALID_NEXT_HOP_ATTRIBUTE, INVALID_NETWORK_FIELD, MALFORMED_AS_PATH}
@@ -12,6 +11,9 @@ use Rattle.bgp_codec.specs.declared.attributes.Aggregator.{Aggregator}
 use Rattle.bgp_codec.specs.declared.attributes.Attrs.{Attrs}
 use Rattle.bgp_codec.specs.declared.attributes.Raw.{Raw}
 use Rattle.bgp_codec.specs.declared.update.Update.{Update}
+use Rattle.bgp_values.specs.declared.width.Width.{Width}
+use Rattle.bgp_codec.specs.declared.rule.Rule.{Rule}
+use Rattle.bgp_codec.specs.AsNumbers.{number_at, address_at, asn_size, asn_at, numbers_of}
 use Rattle.bgp_codec.specs.Header.{fault_of}
 use Rattle.bgp_codec.specs.Reading.{◌>>=◌, Reader, all_of}
 use Rattle.bgp_values.specs.Ranges.{is_unicast}
@@ -27,13 +29,6 @@ update_fault sub = fault_of UPDATE_MESSAGE_ERROR sub []
 abbrev pub attr_fault : ℕ → List ℕ → Fault
 attr_fault sub attr = fault_of UPDATE_MESSAGE_ERROR sub attr
 
--- two octets, and four, from a place on
-abbrev pub number_at : List ℕ → ℕ → ℕ
-number_at octets i = from_be_bytes w16 (slice_index octets i ∷ slice_index octets (i + 1) ∷ [])
-
-abbrev pub address_at : List ℕ → ℕ → ℕ
-address_at octets i = from_be_bytes w32 (slice_index octets i ∷ slice_index octets (i + 1) ∷ slice_index octets (i + 2) ∷ slice_index octets (i + 3) ∷ [])
-
 -- the first bits of octets, of which at most four count
 abbrev pub prefix_of : ℕ → List ℕ → PrefixView
 prefix_of len octets = record { addr = masked (address_at octets 0) len; len = len }
@@ -48,29 +43,23 @@ prefix_at (len ∷ rest) =
 abbrev pub prefixes_reading : List ℕ → Result (List PrefixView) Fault
 prefixes_reading octets = all_of prefix_at octets
 
--- the numbers of two octets each
-abbrev pub numbers_of : List ℕ → List ℕ
-numbers_of [] = []
-numbers_of (high ∷ []) = []
-numbers_of (high ∷ low ∷ rest) = from_be_bytes w16 (high ∷ low ∷ []) ∷ numbers_of rest
-
 -- the segment of this kind whose numbers have these octets
-abbrev pub segment_with : SegmentKind → List ℕ → Segment
-segment_with kind octets = record { kind = kind; numbers = numbers_of octets }
+abbrev pub segment_with : Width → SegmentKind → List ℕ → Segment
+segment_with width kind octets = record { kind = kind; numbers = numbers_of width octets }
 
-abbrev pub segment_of : ℕ → List ℕ → Segment
-segment_of code octets = segment_with (if code == segment_code AsSet then AsSet else AsSequence) octets
+abbrev pub segment_of : Width → ℕ → List ℕ → Segment
+segment_of width code octets = segment_with width (if code == segment_code AsSet then AsSet else AsSequence) octets
 
 -- AS_SET or AS_SEQUENCE, at least one number, and all inside
-abbrev pub segment_at : Reader Segment
-segment_at [] = Err (update_fault MALFORMED_AS_PATH)
-segment_at (code ∷ []) = Err (update_fault MALFORMED_AS_PATH)
-segment_at (code ∷ count ∷ rest) =
-    if not ((code == segment_code AsSet) || (code == segment_code AsSequence)) || ((count == 0) || nat_lt (length rest) (2 * count)) then Err (update_fault MALFORMED_AS_PATH)
-    else Ok (segment_of code (take (2 * count) rest), drop (2 * count) rest)
+abbrev pub segment_at : Width → Reader Segment
+segment_at width [] = Err (update_fault MALFORMED_AS_PATH)
+segment_at width (code ∷ []) = Err (update_fault MALFORMED_AS_PATH)
+segment_at width (code ∷ count ∷ rest) =
+    if not ((code == segment_code AsSet) || (code == segment_code AsSequence)) || ((count == 0) || nat_lt (length rest) (asn_size width * count)) then Err (update_fault MALFORMED_AS_PATH)
+    else Ok (segment_of width code (take (asn_size width * count) rest), drop (asn_size width * count) rest)
 
-abbrev pub path_reading : List ℕ → Result (List Segment) Fault
-path_reading octets = all_of segment_at octets
+abbrev pub path_reading : Width → List ℕ → Result (List Segment) Fault
+path_reading width octets = all_of (segment_at width) octets
 
 -- whether Extended Length is set
 abbrev pub is_extended : ℕ → Bool
@@ -135,20 +124,20 @@ abbrev pub put_raw : Raw → List Raw → List Raw
 put_raw r [] = r ∷ []
 put_raw r (s ∷ rest) = if nat_lt r.code s.code then r ∷ s ∷ rest else s ∷ put_raw r rest
 
-abbrev pub aggregator_of : List ℕ → ℕ → Aggregator
-aggregator_of value flags = record { asn = number_at value 0; addr = address_at value 2; partial = is_partial flags }
+abbrev pub aggregator_of : Width → List ℕ → ℕ → Aggregator
+aggregator_of width value flags = record { asn = asn_at width value; addr = address_at value (asn_size width); partial = is_partial flags }
 
 -- the value of an attribute of a known code, its flags and its length being good
-abbrev pub with_value : Attrs → List ℕ → List ℕ → Result Attrs Fault
-with_value a attr value =
+abbrev pub with_value : Width → Attrs → List ℕ → List ℕ → Result Attrs Fault
+with_value width a attr value =
     let code = slice_index attr 1 in
     if code == ORIGIN then (if nat_lt INCOMPLETE (slice_index value 0) then Err (attr_fault INVALID_ORIGIN_ATTRIBUTE attr) else Ok (with_origin a (slice_index value 0)))
-    else if code == AS_PATH then (path_reading value >>= λ p. Ok (with_path a p))
+    else if code == AS_PATH then (path_reading width value >>= λ p. Ok (with_path a p))
     else if code == NEXT_HOP then (if is_unicast (address_at value 0) then Ok (with_next_hop a (address_at value 0)) else Err (attr_fault INVALID_NEXT_HOP_ATTRIBUTE attr))
     else if code == MULTI_EXIT_DISC then Ok (with_med a (address_at value 0))
     else if code == LOCAL_PREF then Ok (with_local_pref a (address_at value 0))
     else if code == ATOMIC_AGGREGATE then Ok (with_atomic a)
-    else Ok (with_aggregator a (aggregator_of value (slice_index attr 0)))
+    else Ok (with_aggregator a (aggregator_of width value (slice_index attr 0)))
 
 -- an attribute of an unknown code, which has to be optional
 abbrev pub other_reading : Attrs → List ℕ → List ℕ → Result Attrs Fault
@@ -157,27 +146,27 @@ other_reading a attr value =
     if nat_lt flags OPTIONAL then Err (attr_fault UNRECOGNIZED_WELL_KNOWN_ATTRIBUTE attr) else Ok (with_other a (put_raw (raw_of (high_flags flags) (slice_index attr 1) value) a.other))
 
 -- one attribute more: no repeat of a code, an unknown one is optional, the flags, the length and the value by the table
-abbrev pub with_attr : Attrs → List ℕ → List ℕ → Result Attrs Fault
-with_attr a attr value =
+abbrev pub with_attr : Width → Attrs → List ℕ → List ℕ → Result Attrs Fault
+with_attr width a attr value =
     let flags = slice_index attr 0 in
     let code = slice_index attr 1 in
     if has_code a code then Err (update_fault MALFORMED_ATTRIBUTE_LIST)
     else if not (is_known code) then other_reading a attr value
     else if not (flags_fit code flags) then Err (attr_fault ATTRIBUTE_FLAGS_ERROR attr)
-    else if not (size_fits code (length value)) then Err (attr_fault ATTRIBUTE_LENGTH_ERROR attr)
-    else with_value a attr value
+    else if not (size_fits width code (length value)) then Err (attr_fault ATTRIBUTE_LENGTH_ERROR attr)
+    else with_value width a attr value
 
 -- the attributes that octets consist of, behind those that were read, of which there are at most so many
-unfoldable pub attrs_in : ℕ → Attrs → List ℕ → Result Attrs Fault
-attrs_in n a [] = Ok a
-attrs_in zero a (octet ∷ rest) = Ok a
-attrs_in (suc n) a (octet ∷ rest) = attr_at (octet ∷ rest) >>= λ v. with_attr a v.0 v.1 >>= λ b. attrs_in n b v.2
+unfoldable pub attrs_in : Width → ℕ → Attrs → List ℕ → Result Attrs Fault
+attrs_in width n a [] = Ok a
+attrs_in width zero a (octet ∷ rest) = Ok a
+attrs_in width (suc n) a (octet ∷ rest) = attr_at (octet ∷ rest) >>= λ v. with_attr width a v.0 v.1 >>= λ b. attrs_in width n b v.2
 
-abbrev pub attrs_from : Attrs → List ℕ → Result Attrs Fault
-attrs_from a octets = attrs_in (length octets) a octets
+abbrev pub attrs_from : Width → Attrs → List ℕ → Result Attrs Fault
+attrs_from width a octets = attrs_in width (length octets) a octets
 
-abbrev pub attrs_reading : List ℕ → Result Attrs Fault
-attrs_reading octets = attrs_from no_attrs octets
+abbrev pub attrs_reading : Width → List ℕ → Result Attrs Fault
+attrs_reading width octets = attrs_from width no_attrs octets
 
 -- the announced prefixes: what is mandatory is there, then the prefixes, then the peer
 abbrev pub announced_by : Option ℕ → Option ℕ → Attrs → List ℕ → Result (List PrefixView) Fault
@@ -202,14 +191,14 @@ abbrev pub update_of : List PrefixView → Attrs → List PrefixView → Update
 update_of withdrawn attrs nlri = record { withdrawn = withdrawn; attrs = attrs; nlri = nlri }
 
 -- the three parts, each of them after the other
-abbrev pub parts_reading : Option ℕ → List ℕ → List ℕ → List ℕ → Result Update Fault
-parts_reading peer withdrawn attrs nlri =
-    prefixes_reading withdrawn >>= λ ws. attrs_reading attrs >>= λ a. nlri_reading peer a nlri >>= λ ps. Ok (update_of ws a ps)
+abbrev pub parts_reading : Rule → List ℕ → List ℕ → List ℕ → Result Update Fault
+parts_reading rule withdrawn attrs nlri =
+    prefixes_reading withdrawn >>= λ ws. attrs_reading rule.width attrs >>= λ a. nlri_reading rule.peer a nlri >>= λ ps. Ok (update_of ws a ps)
 
 -- the two lengths are inside, then the parts
-unfoldable pub update_reading : Option ℕ → List ℕ → Result Update Fault
-update_reading peer body =
+unfoldable pub update_reading : Rule → List ℕ → Result Update Fault
+update_reading rule body =
     let first = withdrawn_len body in
     let second = attrs_len body in
     if nat_lt (length body) (4 + first) || nat_lt (length body) (4 + (first + second)) then Err (update_fault MALFORMED_ATTRIBUTE_LIST)
-    else parts_reading peer (take first (drop 2 body)) (take second (drop (4 + first) body)) (drop (4 + (first + second)) body)
+    else parts_reading rule (take first (drop 2 body)) (take second (drop (4 + first) body)) (drop (4 + (first + second)) body)

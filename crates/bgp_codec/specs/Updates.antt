@@ -11,6 +11,9 @@ use Rattle.bgp_codec.specs.declared.attributes.Aggregator.{Aggregator}
 use Rattle.bgp_codec.specs.declared.attributes.Attrs.{Attrs}
 use Rattle.bgp_codec.specs.declared.attributes.Raw.{Raw}
 use Rattle.bgp_codec.specs.declared.update.Update.{Update}
+use Rattle.bgp_values.specs.declared.width.Width.{Width}
+use Rattle.bgp_codec.specs.declared.rule.Rule.{Rule}
+use Rattle.bgp_codec.specs.AsNumbers.{asn_octets, AsnFits}
 use Rattle.bgp_codec.specs.Opens.{short_string}
 use Rattle.bgp_values.specs.Ranges.{is_unicast}
 use Rattle.bgp_codec.specs.AttrTable.{high_flags, is_known, flags_of, partial_flag}
@@ -45,15 +48,15 @@ abbrev pub segment_code : SegmentKind → ℕ
 segment_code AsSet = AS_SET
 segment_code AsSequence = AS_SEQUENCE
 
--- a segment of a path: its type, the count of its numbers, the numbers
-abbrev pub segment_octets : Segment → List ℕ
-segment_octets s = segment_code s.kind ∷ length s.numbers ∷ flat_map (to_be_bytes w16) s.numbers
+-- a segment of a path: its type, the count of its numbers, the numbers, of two octets or of four
+abbrev pub segment_octets : Width → Segment → List ℕ
+segment_octets width s = segment_code s.kind ∷ length s.numbers ∷ flat_map (asn_octets width) s.numbers
 
-abbrev pub path_octets : List Segment → List ℕ
-path_octets segments = flat_map segment_octets segments
+abbrev pub path_octets : Width → List Segment → List ℕ
+path_octets width segments = flat_map (segment_octets width) segments
 
-abbrev pub aggregator_octets : Aggregator → List ℕ
-aggregator_octets g = to_be_bytes w16 g.asn ++ to_be_bytes w32 g.addr
+abbrev pub aggregator_octets : Width → Aggregator → List ℕ
+aggregator_octets width g = asn_octets width g.asn ++ to_be_bytes w32 g.addr
 
 abbrev pub raw_of : ℕ → ℕ → List ℕ → Raw
 raw_of flags code value = record { flags = flags; code = code; value = value }
@@ -62,9 +65,9 @@ abbrev pub given : ℕ → ℕ → Option (List ℕ) → List Raw
 given flags code None = []
 given flags code (Some value) = raw_of flags code value ∷ []
 
-abbrev pub aggregator_raw : Option Aggregator → List Raw
-aggregator_raw None = []
-aggregator_raw (Some g) = raw_of (flags_of AGGREGATOR + partial_flag g.partial) AGGREGATOR (aggregator_octets g) ∷ []
+abbrev pub aggregator_raw : Width → Option Aggregator → List Raw
+aggregator_raw width None = []
+aggregator_raw width (Some g) = raw_of (flags_of AGGREGATOR + partial_flag g.partial) AGGREGATOR (aggregator_octets width g) ∷ []
 
 -- an unknown code below all known ones, or above them
 abbrev pub stands : Bool → Raw → Bool
@@ -72,16 +75,16 @@ stands true r = r.code == 0
 stands false r = not (r.code == 0)
 
 -- the attributes that are there, in rising order of code: each with its three high flags and its value
-abbrev pub attributes : Attrs → List Raw
-attributes a =
+abbrev pub attributes : Width → Attrs → List Raw
+attributes width a =
     filter (stands true) a.other
     ++ (given TRANSITIVE ORIGIN (option_map (λ o. o ∷ []) a.origin)
-    ++ (given TRANSITIVE AS_PATH (option_map path_octets a.path)
+    ++ (given TRANSITIVE AS_PATH (option_map (path_octets width) a.path)
     ++ (given TRANSITIVE NEXT_HOP (option_map (to_be_bytes w32) a.next_hop)
     ++ (given OPTIONAL MULTI_EXIT_DISC (option_map (to_be_bytes w32) a.med)
     ++ (given TRANSITIVE LOCAL_PREF (option_map (to_be_bytes w32) a.local_pref)
     ++ (given TRANSITIVE ATOMIC_AGGREGATE (if a.atomic then Some [] else None)
-    ++ (aggregator_raw a.aggregator
+    ++ (aggregator_raw width a.aggregator
     ++ filter (stands false) a.other)))))))
 
 -- flags, code, length in one octet or two, value
@@ -102,17 +105,13 @@ pub record SpellsAttr (octets : List ℕ) (r : Raw) : Type 0 where
   pub whole : octets ≡ attr_octets extended low r
 
 -- the attributes, in any order
-pub record SpellsAttrs (octets : List ℕ) (a : Attrs) : Type 0 where
+pub record SpellsAttrs (width : Width) (octets : List ℕ) (a : Attrs) : Type 0 where
   pub raws : List Raw
-  pub order : IsPermutation raws (attributes a)
+  pub order : IsPermutation raws (attributes width a)
   pub each : SpellsEach SpellsAttr octets raws
 
--- each number is one of two octets
-abbrev pub AreShort : List ℕ → Type 0
-AreShort numbers = AllByRecursion (λ n. n < 2 ^ 16) numbers
-
-abbrev pub SegmentFits : Segment → Type 0
-SegmentFits s = (1 ≤ length s.numbers) × ((length s.numbers ≤ 255) × AreShort s.numbers)
+abbrev pub SegmentFits : Width → Segment → Type 0
+SegmentFits width s = (1 ≤ length s.numbers) × ((length s.numbers ≤ 255) × AllByRecursion (AsnFits width) s.numbers)
 
 -- an attribute that the table does not know is optional
 abbrev pub RawFits : Raw → Type 0
@@ -124,13 +123,13 @@ IsRising [] = Unit {0}
 IsRising (r ∷ rs) = AllByRecursion (λ s. r.code < s.code) rs × IsRising rs
 
 -- the values that attributes may have
-pub record AttrsFit (a : Attrs) : Type 0 where
+pub record AttrsFit (width : Width) (a : Attrs) : Type 0 where
   pub origin : IfSome a.origin (λ o. o ≤ INCOMPLETE)
-  pub path : IfSome a.path (AllByRecursion SegmentFits)
+  pub path : IfSome a.path (AllByRecursion (SegmentFits width))
   pub next_hop : IfSome a.next_hop (λ n. (n < 2 ^ 32) × (is_unicast n ≡ true))
   pub med : IfSome a.med (λ n. n < 2 ^ 32)
   pub local_pref : IfSome a.local_pref (λ n. n < 2 ^ 32)
-  pub aggregator : IfSome a.aggregator (λ g. (g.asn < 2 ^ 16) × (g.addr < 2 ^ 32))
+  pub aggregator : IfSome a.aggregator (λ g. AsnFits width g.asn × (g.addr < 2 ^ 32))
   pub other : AllByRecursion RawFits a.other
   pub rising : IsRising a.other
 
@@ -157,16 +156,16 @@ pub record IsAnnounced (rule_peer : Option ℕ) (a : Attrs) : Type 0 where
   pub mandatory : missing a ≡ None
   pub peer : is_from rule_peer a ≡ true
 
--- these octets are an UPDATE's body, under a rule that names this peer or nobody
-pub record SpellsUpdate (peer : Option ℕ) (body : List ℕ) (u : Update) : Type 0 where
+-- these octets are an UPDATE's body, under the rule
+pub record SpellsUpdate (rule : Rule) (body : List ℕ) (u : Update) : Type 0 where
   pub withdrawn : List ℕ
   pub attrs : List ℕ
   pub nlri : List ℕ
   pub withdrawn_are : SpellsEach SpellsPrefix withdrawn u.withdrawn
-  pub attrs_are : SpellsAttrs attrs u.attrs
-  pub attrs_fit : AttrsFit u.attrs
+  pub attrs_are : SpellsAttrs rule.width attrs u.attrs
+  pub attrs_fit : AttrsFit rule.width u.attrs
   pub nlri_are : SpellsEach SpellsPrefix nlri u.nlri
-  pub announced : u.nlri ≢ [] → IsAnnounced peer u.attrs
+  pub announced : u.nlri ≢ [] → IsAnnounced rule.peer u.attrs
   pub withdrawn_size : length withdrawn < 2 ^ 16
   pub attrs_size : length attrs < 2 ^ 16
   pub whole : body ≡ long_string withdrawn ++ (long_string attrs ++ nlri)
@@ -181,17 +180,17 @@ prefix_octets p = p.len ∷ take (octet_count p.len) (to_be_bytes w32 p.addr)
 abbrev pub raw_octets : Raw → List ℕ
 raw_octets r = attr_octets (nat_le 256 (length r.value)) 0 r
 
-abbrev pub attrs_octets : Attrs → List ℕ
-attrs_octets a = flat_map raw_octets (attributes a)
+abbrev pub attrs_octets : Width → Attrs → List ℕ
+attrs_octets width a = flat_map raw_octets (attributes width a)
 
-abbrev pub update_octets : Update → List ℕ
-update_octets u = long_string (flat_map prefix_octets u.withdrawn) ++ (long_string (attrs_octets u.attrs) ++ flat_map prefix_octets u.nlri)
+abbrev pub update_octets : Width → Update → List ℕ
+update_octets width u = long_string (flat_map prefix_octets u.withdrawn) ++ (long_string (attrs_octets width u.attrs) ++ flat_map prefix_octets u.nlri)
 
 -- each field is one that may be read with nobody named, and each part fits its own length field
-pub record UpdateFits (u : Update) : Type 0 where
+pub record UpdateFits (width : Width) (u : Update) : Type 0 where
   pub withdrawn : AllByRecursion IsCanonical u.withdrawn
-  pub attrs : AttrsFit u.attrs
+  pub attrs : AttrsFit width u.attrs
   pub nlri : AllByRecursion IsCanonical u.nlri
   pub mandatory : u.nlri ≢ [] → missing u.attrs ≡ None
   pub withdrawn_size : length (flat_map prefix_octets u.withdrawn) < 2 ^ 16
-  pub attrs_size : length (attrs_octets u.attrs) < 2 ^ 16
+  pub attrs_size : length (attrs_octets width u.attrs) < 2 ^ 16

@@ -4,12 +4,13 @@ ghost use Rattle.std.specs.Prelude.{◌≡◌, true, IfSome, ◌^◌, ◌≤◌,
 ghost use Rattle.std.specs.List.{AllByRecursion};
 ghost use Rattle.bgp_values.specs.declared.attributes.TheConstants.{INCOMPLETE};
 ghost use Rattle.bgp_values.specs.Ranges.{is_unicast};
+ghost use Rattle.bgp_codec.specs.AsNumbers.{AsnFits};
 ghost use Rattle.bgp_codec.specs.Updates.{SegmentFits, RawFits, IsRising, AttrsFit};
 
 use crate::attributes::{Aggregator, Attrs, Raw, high_flags, is_known};
 use crate::items::Items;
 use crate::path::{Segment, path_fits};
-use bgp_values::{GREATEST_ASN, INCOMPLETE, OPTIONAL, is_unicast};
+use bgp_values::{INCOMPLETE, OPTIONAL, Width, greatest_asn, is_unicast};
 
 // Whether these are attributes that the table does not know, with Optional and no low flag.
 fn raws_fit(raws: &[Raw]) -> bool
@@ -65,36 +66,36 @@ fn is_four_octets(_number: Option<u32>)
 {}
 
 // Whether an AGGREGATOR, where there is one, may be read.
-fn aggregator_fits(aggregator: Option<Aggregator>) -> bool
-    ensures { IsTrue result ↔ IfSome aggregator (λ g. (g.asn < 2 ^ 16) × (g.addr < 2 ^ 32)) }
+fn aggregator_fits(width: Width, aggregator: Option<Aggregator>) -> bool
+    ensures { IsTrue result ↔ IfSome aggregator (λ g. AsnFits width g.asn × (g.addr < 2 ^ 32)) }
 {
     match aggregator {
         None => true,
-        Some(by) => by.asn <= GREATEST_ASN,
+        Some(by) => by.asn <= greatest_asn(width),
     }
 }
 
 // Whether an AS_PATH, where there is one, may be read.
-fn as_path_fits(path: &Option<Items<Segment>>) -> bool
-    ensures { IsTrue result ↔ IfSome path.now (AllByRecursion SegmentFits) }
+fn as_path_fits(width: Width, path: &Option<Items<Segment>>) -> bool
+    ensures { IsTrue result ↔ IfSome path.now (AllByRecursion (SegmentFits width)) }
 {
     match path {
         None => true,
-        Some(path) => path_fits(path.as_slice()),
+        Some(path) => path_fits(width, path.as_slice()),
     }
 }
 
 // Whether the attributes have values that may be read.
-pub(crate) fn attrs_fit(attrs: &Attrs) -> bool
-    ensures { IsTrue result ↔ AttrsFit attrs.now }
+pub(crate) fn attrs_fit(width: Width, attrs: &Attrs) -> bool
+    ensures { IsTrue result ↔ AttrsFit width attrs.now }
 {
     is_four_octets(attrs.med);
     is_four_octets(attrs.local_pref);
     let raws = attrs.other.as_slice();
     origin_fits(attrs.origin)
-        && as_path_fits(&attrs.path)
+        && as_path_fits(width, &attrs.path)
         && next_hop_fits(attrs.next_hop)
-        && aggregator_fits(attrs.aggregator)
+        && aggregator_fits(width, attrs.aggregator)
         && raws_fit(raws)
         && is_rising(raws)
 }

@@ -13,15 +13,14 @@ use crate::attributes::{
 };
 use crate::fault::{CodecError, attr_fault, update_fault};
 use crate::items::Items;
-use crate::numbers::{address_at, number_at, octet_at};
+use crate::numbers::{address_at, asn_at, asn_size, number_at, octet_at};
 use crate::octets::Octets;
 use crate::path::read_path;
-use crate::rule::Asn;
 use bgp_values::{
     AGGREGATOR, AS_PATH, ATOMIC_AGGREGATE, ATTRIBUTE_FLAGS_ERROR, ATTRIBUTE_LENGTH_ERROR, EXTENDED,
     INCOMPLETE, INVALID_NEXT_HOP_ATTRIBUTE, INVALID_ORIGIN_ATTRIBUTE, LOCAL_PREF,
     MALFORMED_ATTRIBUTE_LIST, MULTI_EXIT_DISC, NEXT_HOP, OPTIONAL, ORIGIN,
-    UNRECOGNIZED_WELL_KNOWN_ATTRIBUTE, is_unicast,
+    UNRECOGNIZED_WELL_KNOWN_ATTRIBUTE, Width, is_unicast,
 };
 use std::alloc::Global;
 
@@ -116,9 +115,15 @@ fn add_other(alloc: Global, attrs: &mut Attrs, attr: &[u8], value: &[u8]) -> Res
 }
 
 // Takes the value of an attribute of a known code, whose flags and length are good.
-fn add_value(alloc: Global, attrs: &mut Attrs, attr: &[u8], value: &[u8]) -> Result<(), CodecError>
+fn add_value(
+    alloc: Global,
+    width: Width,
+    attrs: &mut Attrs,
+    attr: &[u8],
+    value: &[u8],
+) -> Result<(), CodecError>
     requires { is_known (slice_index attr.now 1) ≡ true }
-    ensures { Gives (λ _. attrs.new) result (with_value attrs.old attr.now value.now) }
+    ensures { Gives (λ _. attrs.new) result (with_value width attrs.old attr.now value.now) }
 {
     match octet_at(attr, 1) {
         ORIGIN => {
@@ -128,7 +133,7 @@ fn add_value(alloc: Global, attrs: &mut Attrs, attr: &[u8], value: &[u8]) -> Res
             }
             attrs.origin = Some(origin);
         }
-        AS_PATH => attrs.path = Some(read_path(alloc, value)?),
+        AS_PATH => attrs.path = Some(read_path(alloc, width, value)?),
         NEXT_HOP => {
             let next_hop = address_at(value, 0);
             if !is_unicast(next_hop) {
@@ -141,8 +146,8 @@ fn add_value(alloc: Global, attrs: &mut Attrs, attr: &[u8], value: &[u8]) -> Res
         ATOMIC_AGGREGATE => attrs.atomic = true,
         AGGREGATOR => {
             attrs.aggregator = Some(Aggregator {
-                asn: Asn::from(number_at(value, 0)),
-                addr: address_at(value, 2),
+                asn: asn_at(width, value),
+                addr: address_at(value, asn_size(width)),
                 partial: is_partial(octet_at(attr, 0)),
             });
         }
@@ -153,8 +158,14 @@ fn add_value(alloc: Global, attrs: &mut Attrs, attr: &[u8], value: &[u8]) -> Res
 
 // Takes one attribute more: no repeat of a code, an unknown one is optional, then its flags, its
 // length and its value by the table.
-fn add_attr(alloc: Global, attrs: &mut Attrs, attr: &[u8], value: &[u8]) -> Result<(), CodecError>
-    ensures { Gives (λ _. attrs.new) result (with_attr attrs.old attr.now value.now) }
+fn add_attr(
+    alloc: Global,
+    width: Width,
+    attrs: &mut Attrs,
+    attr: &[u8],
+    value: &[u8],
+) -> Result<(), CodecError>
+    ensures { Gives (λ _. attrs.new) result (with_attr width attrs.old attr.now value.now) }
 {
     let (flags, code) = (octet_at(attr, 0), octet_at(attr, 1));
     if has_code(attrs, code) {
@@ -166,10 +177,10 @@ fn add_attr(alloc: Global, attrs: &mut Attrs, attr: &[u8], value: &[u8]) -> Resu
     if !flags_fit(code, flags) {
         return Err(attr_fault(alloc, ATTRIBUTE_FLAGS_ERROR, attr));
     }
-    if !size_fits(code, value.len()) {
+    if !size_fits(width, code, value.len()) {
         return Err(attr_fault(alloc, ATTRIBUTE_LENGTH_ERROR, attr));
     }
-    add_value(alloc, attrs, attr, value)
+    add_value(alloc, width, attrs, attr, value)
 }
 
 // How many attributes octets consist of that the table does not know, if they are good: what a list
@@ -191,15 +202,15 @@ fn count_others(octets: &[u8]) -> usize
 }
 
 // The attributes that octets consist of.
-pub(crate) fn read_attrs(alloc: Global, octets: &[u8]) -> Result<Attrs, CodecError>
-    ensures { Gives (λ attrs. attrs) result (attrs_reading octets.now) }
+pub(crate) fn read_attrs(alloc: Global, width: Width, octets: &[u8]) -> Result<Attrs, CodecError>
+    ensures { Gives (λ attrs. attrs) result (attrs_reading width octets.now) }
 {
     let mut attrs = Attrs::none(alloc);
     attrs.other = Items::with_room(alloc, count_others(octets))?;
     let mut left = octets;
     'attrs: while !left.is_empty() {
         let (attr, value, rest) = read_attr(alloc, left)?;
-        add_attr(alloc, &mut attrs, attr, value)?;
+        add_attr(alloc, width, &mut attrs, attr, value)?;
         left = rest;
     }
     Ok(attrs)

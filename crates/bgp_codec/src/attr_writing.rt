@@ -7,15 +7,17 @@ ghost use Rattle.std.specs.Int.{w32, to_be_bytes};
 ghost use Rattle.std.specs.List.{flat_map, AllByRecursion};
 ghost use Rattle.bgp_codec.specs.AttrTable.{flags_of};
 ghost use Rattle.bgp_values.specs.declared.attributes.TheConstants.{ORIGIN, AS_PATH, ATOMIC_AGGREGATE, TRANSITIVE, OPTIONAL, PARTIAL};
+ghost use Rattle.bgp_codec.specs.AsNumbers.{AsnFits};
 ghost use Rattle.bgp_codec.specs.Updates.{SegmentFits, RawFits, AttrsFit, stands, given, raw_of, path_octets, aggregator_raw, raw_octets, attrs_octets};
 ghost use Rattle.bgp_codec.specs.declared.attributes.Raw.{Raw};
 
 use crate::attributes::{Aggregator, Attrs, Raw, flags_of};
 use crate::items::Items;
-use crate::path::{Segment, path_len, put_path};
+use crate::numbers::asn_size;
+use crate::path::{Segment, path_len, put_asn, put_path};
 use bgp_values::{
     AGGREGATOR, AS_PATH, ATOMIC_AGGREGATE, EXTENDED, LOCAL_PREF, MULTI_EXIT_DISC, NEXT_HOP, ORIGIN,
-    PARTIAL,
+    PARTIAL, Width,
 };
 
 // How many octets an attribute has that is written, with a value of so many octets, as far as a
@@ -56,18 +58,18 @@ fn raws_len(raws: &[Raw], before: bool) -> usize
 }
 
 // How many octets the path has as an attribute, as far as a `usize` counts.
-fn path_attr_len(path: &Option<Items<Segment>>) -> usize
-    ensures { result ≡ min (2 ^ 64 - 1) (length (flat_map raw_octets (given TRANSITIVE AS_PATH (option_map path_octets path.now)))) }
+fn path_attr_len(width: Width, path: &Option<Items<Segment>>) -> usize
+    ensures { result ≡ min (2 ^ 64 - 1) (length (flat_map raw_octets (given TRANSITIVE AS_PATH (option_map (path_octets width) path.now)))) }
 {
     match path {
         None => 0,
-        Some(path) => attr_len(path_len(path.as_slice())),
+        Some(path) => attr_len(path_len(width, path.as_slice())),
     }
 }
 
 // How many octets the attributes have that are written, as far as a `usize` counts.
-pub(crate) fn attrs_len(attrs: &Attrs) -> usize
-    ensures { result ≡ min (2 ^ 64 - 1) (length (attrs_octets attrs.now)) }
+pub(crate) fn attrs_len(width: Width, attrs: &Attrs) -> usize
+    ensures { result ≡ min (2 ^ 64 - 1) (length (attrs_octets width attrs.now)) }
 {
     let raws = attrs.other.as_slice();
     let fixed = given_len(attrs.origin.is_some(), 4)
@@ -75,10 +77,10 @@ pub(crate) fn attrs_len(attrs: &Attrs) -> usize
         + given_len(attrs.med.is_some(), 7)
         + given_len(attrs.local_pref.is_some(), 7)
         + given_len(attrs.atomic, 3)
-        + given_len(attrs.aggregator.is_some(), 9);
+        + given_len(attrs.aggregator.is_some(), 7 + asn_size(width));
     raws_len(raws, true)
         .saturating_add(fixed)
-        .saturating_add(path_attr_len(&attrs.path))
+        .saturating_add(path_attr_len(width, &attrs.path))
         .saturating_add(raws_len(raws, false))
 }
 
@@ -144,16 +146,21 @@ fn put_origin(out: &mut Vec<u8>, origin: Option<u8>)
 }
 
 // Appends AS_PATH where it is there, for which there is room.
-fn put_path_attr(out: &mut Vec<u8>, path: &Option<Items<Segment>>)
-    requires fit { IfSome path.now (AllByRecursion SegmentFits) }
-    requires size { length (flat_map raw_octets (given TRANSITIVE AS_PATH (option_map path_octets path.now))) < 2 ^ 16 }
-    requires room { vec_len out.old + length (flat_map raw_octets (given TRANSITIVE AS_PATH (option_map path_octets path.now))) ≤ vec_capacity out.old }
-    ensures items { out.new.items ≡ out.old.items ++ flat_map raw_octets (given TRANSITIVE AS_PATH (option_map path_octets path.now)) }
+fn put_path_attr(out: &mut Vec<u8>, width: Width, path: &Option<Items<Segment>>)
+    requires fit { IfSome path.now (AllByRecursion (SegmentFits width)) }
+    requires size { length (flat_map raw_octets (given TRANSITIVE AS_PATH (option_map (path_octets width) path.now))) < 2 ^ 16 }
+    requires room { vec_len out.old + length (flat_map raw_octets (given TRANSITIVE AS_PATH (option_map (path_octets width) path.now))) ≤ vec_capacity out.old }
+    ensures items { out.new.items ≡ out.old.items ++ flat_map raw_octets (given TRANSITIVE AS_PATH (option_map (path_octets width) path.now)) }
     ensures capacity { vec_capacity out.old ≤ vec_capacity out.new }
 {
     if let Some(path) = path {
-        put_head(out, flags_of(AS_PATH), AS_PATH, path_len(path.as_slice()));
-        put_path(out, path.as_slice());
+        put_head(
+            out,
+            flags_of(AS_PATH),
+            AS_PATH,
+            path_len(width, path.as_slice()),
+        );
+        put_path(out, width, path.as_slice());
     }
 }
 
@@ -180,37 +187,41 @@ fn put_atomic(out: &mut Vec<u8>, atomic: bool)
 }
 
 // Appends AGGREGATOR where it is there, for which there is room.
-fn put_aggregator(out: &mut Vec<u8>, aggregator: Option<Aggregator>)
-    requires fit { IfSome aggregator (λ g. (g.asn < 2 ^ 16) × (g.addr < 2 ^ 32)) }
-    requires room { vec_len out.old + length (flat_map raw_octets (aggregator_raw aggregator)) ≤ vec_capacity out.old }
-    ensures items { out.new.items ≡ out.old.items ++ flat_map raw_octets (aggregator_raw aggregator) }
+fn put_aggregator(out: &mut Vec<u8>, width: Width, aggregator: Option<Aggregator>)
+    requires fit { IfSome aggregator (λ g. AsnFits width g.asn × (g.addr < 2 ^ 32)) }
+    requires room { vec_len out.old + length (flat_map raw_octets (aggregator_raw width aggregator)) ≤ vec_capacity out.old }
+    ensures items { out.new.items ≡ out.old.items ++ flat_map raw_octets (aggregator_raw width aggregator) }
     ensures capacity { vec_capacity out.old ≤ vec_capacity out.new }
 {
     if let Some(by) = aggregator {
-        let [high, low] = (by.asn as u16).to_be_bytes();
-        let [a, b, c, d] = by.addr.to_be_bytes();
         let partial = if by.partial { PARTIAL } else { 0 };
-        let flags = flags_of(AGGREGATOR) + partial;
-        put_attr(out, flags, AGGREGATOR, &[high, low, a, b, c, d]);
+        put_head(
+            out,
+            flags_of(AGGREGATOR) + partial,
+            AGGREGATOR,
+            asn_size(width) + 4,
+        );
+        put_asn(out, width, by.asn);
+        out.extend_from_slice(&by.addr.to_be_bytes()).unwrap();
     }
 }
 
 // Appends the attributes in rising order of code, for which there is room.
-pub(crate) fn put_attrs(out: &mut Vec<u8>, attrs: &Attrs)
-    requires fit { AttrsFit attrs.now }
-    requires size { length (attrs_octets attrs.now) < 2 ^ 16 }
-    requires room { vec_len out.old + length (attrs_octets attrs.now) ≤ vec_capacity out.old }
-    ensures items { out.new.items ≡ out.old.items ++ attrs_octets attrs.now }
+pub(crate) fn put_attrs(out: &mut Vec<u8>, width: Width, attrs: &Attrs)
+    requires fit { AttrsFit width attrs.now }
+    requires size { length (attrs_octets width attrs.now) < 2 ^ 16 }
+    requires room { vec_len out.old + length (attrs_octets width attrs.now) ≤ vec_capacity out.old }
+    ensures items { out.new.items ≡ out.old.items ++ attrs_octets width attrs.now }
     ensures capacity { vec_capacity out.old ≤ vec_capacity out.new }
 {
     let raws = attrs.other.as_slice();
     put_raws(out, raws, true);
     put_origin(out, attrs.origin);
-    put_path_attr(out, &attrs.path);
+    put_path_attr(out, width, &attrs.path);
     put_number(out, NEXT_HOP, attrs.next_hop);
     put_number(out, MULTI_EXIT_DISC, attrs.med);
     put_number(out, LOCAL_PREF, attrs.local_pref);
     put_atomic(out, attrs.atomic);
-    put_aggregator(out, attrs.aggregator);
+    put_aggregator(out, width, attrs.aggregator);
     put_raws(out, raws, false);
 }

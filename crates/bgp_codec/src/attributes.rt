@@ -6,11 +6,13 @@ ghost use Rattle.bgp_codec.specs.UpdateReading.{no_attrs};
 ghost use Rattle.bgp_codec.specs.AttrTable.{high_flags, is_known, flags_of, is_partial, flags_fit, size_fits};
 
 use crate::items::Items;
+use crate::numbers::asn_size;
 use crate::octets::Octets;
 use crate::path::Segment;
 use crate::rule::Asn;
 use bgp_values::{
     AGGREGATOR, AS_PATH, ATOMIC_AGGREGATE, MULTI_EXIT_DISC, OPTIONAL, ORIGIN, PARTIAL, TRANSITIVE,
+    Width,
 };
 use std::alloc::Global;
 
@@ -116,15 +118,15 @@ pub(crate) fn flags_fit(code: u8, flags: u8) -> bool
 }
 
 // Whether the value of a known attribute may have so many octets: an address and a number have
-// four.
-pub(crate) fn size_fits(code: u8, size: usize) -> bool
-    ensures { result ≡ size_fits code size }
+// four, AGGREGATOR has an AS number and an address.
+pub(crate) fn size_fits(width: Width, code: u8, size: usize) -> bool
+    ensures { result ≡ size_fits width code size }
 {
     match code {
         ORIGIN => size == 1,
         AS_PATH => true,
         ATOMIC_AGGREGATE => size == 0,
-        AGGREGATOR => size == 6,
+        AGGREGATOR => size == asn_size(width) + 4,
         _ => size == 4,
     }
 }

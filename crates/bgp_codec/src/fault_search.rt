@@ -5,7 +5,7 @@
 ghost use Rattle.std.specs.Prelude.{◌≡◌, ◌≤◌, List, Some, Ok, false, length, slice_index};
 ghost use Rattle.bgp_codec.specs.Reading.{Judges, Passes};
 ghost use Rattle.bgp_codec.specs.Judging.{Remembers, first_number};
-ghost use Rattle.bgp_codec.specs.Opens.{caps_reading, param_at, params_reading, open_reading};
+ghost use Rattle.bgp_codec.specs.Opens.{number_said, said_by, said_in, cap_at, caps_reading, param_at, params_reading, open_reading};
 ghost use Rattle.bgp_codec.specs.Updates.{path_numbers, missing, is_from};
 ghost use Rattle.bgp_codec.specs.UpdateReading.{prefixes_reading, path_reading, has_code, with_value, with_attr, no_attrs, attrs_reading, nlri_reading, parts_reading, update_reading};
 ghost use Rattle.bgp_codec.specs.declared.attributes.Attrs.{Attrs};
@@ -14,9 +14,9 @@ ghost use Rattle.bgp_codec.specs.declared.path.Segment.{Segment};
 use crate::attr_reading::read_attr;
 use crate::attributes::{flags_fit, is_known, size_fits};
 use crate::fault::{CodecError, Fault, attr_fault, open_fault, update_fault};
-use crate::numbers::{address_at, octet_at};
+use crate::numbers::{address_at, asn_at, octet_at};
 use crate::octets::Octets;
-use crate::open::{params_of, read_value};
+use crate::open::{number_fault, number_said, params_of, read_value};
 use crate::path::segment_parts;
 use crate::prefixes::read_prefix;
 use crate::rule::{Asn, Rule};
@@ -25,47 +25,58 @@ use bgp_values::{
     AS_PATH, ATTRIBUTE_FLAGS_ERROR, ATTRIBUTE_LENGTH_ERROR, CAPABILITIES, INCOMPLETE,
     INVALID_NEXT_HOP_ATTRIBUTE, INVALID_ORIGIN_ATTRIBUTE, MALFORMED_AS_PATH,
     MALFORMED_ATTRIBUTE_LIST, MISSING_WELL_KNOWN_ATTRIBUTE, NEXT_HOP, OPTIONAL, ORIGIN,
-    UNRECOGNIZED_WELL_KNOWN_ATTRIBUTE, UNSUPPORTED_OPTIONAL_PARAMETER, UPDATE_MESSAGE_ERROR,
+    UNRECOGNIZED_WELL_KNOWN_ATTRIBUTE, UNSUPPORTED_OPTIONAL_PARAMETER, UPDATE_MESSAGE_ERROR, Width,
     is_unicast,
 };
 use std::alloc::Global;
 
 // ---- OPEN
 
-// Passes the capabilities that fill these octets.
-fn judge_caps(alloc: Global, octets: &[u8]) -> Result<(), CodecError>
-    ensures { Passes result (caps_reading octets.now) }
+// Passes the capability in front, and answers the number that it says, and what follows it.
+fn judge_cap(alloc: Global, octets: &[u8]) -> Result<(Option<Asn>, &[u8]), CodecError>
+    ensures { Judges (λ passed read. (passed.0 ≡ number_said read.0) × (read.1 ≡ passed.1.now)) result (cap_at octets.now) }
 {
-    let mut left = octets;
-    'caps: while !left.is_empty() {
-        let (_, rest) = read_value(alloc, left)?;
-        left = rest;
-    }
-    Ok(())
+    let (value, rest) = read_value(alloc, octets)?;
+    Ok((number_said(octet_at(octets, 0), value), rest))
 }
 
-// Passes the parameter in front, and answers what follows it.
-fn judge_param(alloc: Global, octets: &[u8]) -> Result<&[u8], CodecError>
-    ensures { Judges (λ rest read. read.1 ≡ rest.now) result (param_at octets.now) }
+// Passes the capabilities that fill these octets, and answers the first number that they say.
+fn judge_caps(alloc: Global, octets: &[u8]) -> Result<Option<Asn>, CodecError>
+    ensures { Judges (λ said caps. said ≡ said_by caps) result (caps_reading octets.now) }
+{
+    let mut said = None;
+    let mut left = octets;
+    'caps: while !left.is_empty() {
+        let (number, rest) = judge_cap(alloc, left)?;
+        said = said.or(number);
+        left = rest;
+    }
+    Ok(said)
+}
+
+// Passes the parameter in front, and answers the first number that it says, and what follows it.
+fn judge_param(alloc: Global, octets: &[u8]) -> Result<(Option<Asn>, &[u8]), CodecError>
+    ensures { Judges (λ passed read. (passed.0 ≡ said_by read.0) × (read.1 ≡ passed.1.now)) result (param_at octets.now) }
 {
     let (value, rest) = read_value(alloc, octets)?;
     if octet_at(octets, 0) != CAPABILITIES {
         return Err(open_fault(alloc, UNSUPPORTED_OPTIONAL_PARAMETER));
     }
-    judge_caps(alloc, value)?;
-    Ok(rest)
+    Ok((judge_caps(alloc, value)?, rest))
 }
 
-// Passes the parameters that fill these octets.
-fn judge_params(alloc: Global, octets: &[u8]) -> Result<(), CodecError>
-    ensures { Passes result (params_reading octets.now) }
+// Passes the parameters that fill these octets, and answers the first number that they say.
+fn judge_params(alloc: Global, octets: &[u8]) -> Result<Option<Asn>, CodecError>
+    ensures { Judges (λ said params. said ≡ said_in params) result (params_reading octets.now) }
 {
+    let mut said = None;
     let mut left = octets;
     'params: while !left.is_empty() {
-        let rest = judge_param(alloc, left)?;
+        let (number, rest) = judge_param(alloc, left)?;
+        said = said.or(number);
         left = rest;
     }
-    Ok(())
+    Ok(said)
 }
 
 // Passes the body of an OPEN: its first fault is answered, or want of memory where the data of that
@@ -75,7 +86,11 @@ pub(crate) fn judge_open(alloc: Global, body: &[u8], rule: &Rule) -> Result<(), 
     ensures { Passes result (open_reading rule.now body.now) }
 {
     let params = params_of(alloc, body, rule)?;
-    judge_params(alloc, params)
+    let said = judge_params(alloc, params)?;
+    match number_fault(alloc, rule, said) {
+        None => Ok(()),
+        Some(fault) => Err(CodecError::Fault(fault)),
+    }
 }
 
 // ---- UPDATE
@@ -93,12 +108,12 @@ fn judge_prefixes(alloc: Global, octets: &[u8]) -> Result<(), CodecError>
 }
 
 // Passes the segments that a path consists of.
-fn judge_path(alloc: Global, octets: &[u8]) -> Result<(), CodecError>
-    ensures { Passes result (path_reading octets.now) }
+fn judge_path(alloc: Global, width: Width, octets: &[u8]) -> Result<(), CodecError>
+    ensures { Passes result (path_reading width octets.now) }
 {
     let mut left = octets;
     'segments: while !left.is_empty() {
-        let (_, _, rest) = segment_parts(alloc, left)?;
+        let (_, _, rest) = segment_parts(alloc, width, left)?;
         left = rest;
     }
     Ok(())
@@ -113,19 +128,20 @@ struct Came {
     first: Option<Asn>,
 }
 
-// The first number of a path of these octets, which are good.
-fn first_asn(octets: &[u8]) -> Option<Asn>
-    ensures { (segments : List Segment) → path_reading octets.now ≡ Ok segments → result ≡ first_number (path_numbers (Some segments)) }
+// The first number of a path of these octets, which are good: it stands behind the two octets of the
+// first segment, if there is one.
+fn first_asn(width: Width, octets: &[u8]) -> Option<Asn>
+    ensures { (segments : List Segment) → path_reading width octets.now ≡ Ok segments → result ≡ first_number (path_numbers (Some segments)) }
 {
     match octets {
-        [_, _, high, low, ..] => Some(Asn::from(u16::from_be_bytes([*high, *low]))),
+        [_, _, numbers @ ..] => Some(asn_at(width, numbers)),
         _ => None,
     }
 }
 
 // Passes the value of an attribute of a known code, whose flags and length are good.
-fn judge_value(alloc: Global, attr: &[u8], value: &[u8]) -> Result<(), CodecError>
-    ensures { (a : Attrs) → Passes result (with_value a attr.now value.now) }
+fn judge_value(alloc: Global, width: Width, attr: &[u8], value: &[u8]) -> Result<(), CodecError>
+    ensures { (a : Attrs) → Passes result (with_value width a attr.now value.now) }
 {
     let code = octet_at(attr, 1);
     if code == ORIGIN && octet_at(value, 0) > INCOMPLETE {
@@ -135,15 +151,15 @@ fn judge_value(alloc: Global, attr: &[u8], value: &[u8]) -> Result<(), CodecErro
         return Err(attr_fault(alloc, INVALID_NEXT_HOP_ATTRIBUTE, attr));
     }
     if code == AS_PATH {
-        return judge_path(alloc, value);
+        return judge_path(alloc, width, value);
     }
     Ok(())
 }
 
 // Passes an attribute whose code did not come before: an unknown one is optional, then the flags,
 // the length and the value by the table.
-fn judge_new(alloc: Global, attr: &[u8], value: &[u8]) -> Result<(), CodecError>
-    ensures { (a : Attrs) → has_code a (slice_index attr.now 1) ≡ false → Passes result (with_attr a attr.now value.now) }
+fn judge_new(alloc: Global, width: Width, attr: &[u8], value: &[u8]) -> Result<(), CodecError>
+    ensures { (a : Attrs) → has_code a (slice_index attr.now 1) ≡ false → Passes result (with_attr width a attr.now value.now) }
 {
     let (flags, code) = (octet_at(attr, 0), octet_at(attr, 1));
     if !is_known(code) {
@@ -155,32 +171,38 @@ fn judge_new(alloc: Global, attr: &[u8], value: &[u8]) -> Result<(), CodecError>
     if !flags_fit(code, flags) {
         return Err(attr_fault(alloc, ATTRIBUTE_FLAGS_ERROR, attr));
     }
-    if !size_fits(code, value.len()) {
+    if !size_fits(width, code, value.len()) {
         return Err(attr_fault(alloc, ATTRIBUTE_LENGTH_ERROR, attr));
     }
-    judge_value(alloc, attr, value)
+    judge_value(alloc, width, attr, value)
 }
 
 // Remembers an attribute that was passed.
-fn remember(came: &mut Came, attr: &[u8], value: &[u8])
-    ensures { (a b : Attrs) → Remembers came.old a → with_attr a attr.now value.now ≡ Ok b → Remembers came.new b }
+fn remember(width: Width, came: &mut Came, attr: &[u8], value: &[u8])
+    ensures { (a b : Attrs) → Remembers came.old a → with_attr width a attr.now value.now ≡ Ok b → Remembers came.new b }
 {
     let code = octet_at(attr, 1);
     came.codes[code as usize] = true;
     if code == AS_PATH {
-        came.first = first_asn(value);
+        came.first = first_asn(width, value);
     }
 }
 
 // Passes one attribute more: no repeat of a code, then what it says alone.
-fn judge_attr(alloc: Global, came: &mut Came, attr: &[u8], value: &[u8]) -> Result<(), CodecError>
-    ensures { (a : Attrs) → Remembers came.old a → Judges (λ _ b. Remembers came.new b) result (with_attr a attr.now value.now) }
+fn judge_attr(
+    alloc: Global,
+    width: Width,
+    came: &mut Came,
+    attr: &[u8],
+    value: &[u8],
+) -> Result<(), CodecError>
+    ensures { (a : Attrs) → Remembers came.old a → Judges (λ _ b. Remembers came.new b) result (with_attr width a attr.now value.now) }
 {
     if came.codes[octet_at(attr, 1) as usize] {
         return Err(update_fault(alloc, MALFORMED_ATTRIBUTE_LIST));
     }
-    judge_new(alloc, attr, value)?;
-    remember(came, attr, value);
+    judge_new(alloc, width, attr, value)?;
+    remember(width, came, attr, value);
     Ok(())
 }
 
@@ -195,14 +217,14 @@ fn nothing_came() -> Came
 }
 
 // Passes the attributes that octets consist of, and answers what is remembered of them.
-fn judge_attrs(alloc: Global, octets: &[u8]) -> Result<Came, CodecError>
-    ensures { Judges (λ came a. Remembers came a) result (attrs_reading octets.now) }
+fn judge_attrs(alloc: Global, width: Width, octets: &[u8]) -> Result<Came, CodecError>
+    ensures { Judges (λ came a. Remembers came a) result (attrs_reading width octets.now) }
 {
     let mut came = nothing_came();
     let mut left = octets;
     'attrs: while !left.is_empty() {
         let (attr, value, rest) = read_attr(alloc, left)?;
-        judge_attr(alloc, &mut came, attr, value)?;
+        judge_attr(alloc, width, &mut came, attr, value)?;
         left = rest;
     }
     Ok(came)
@@ -263,23 +285,23 @@ fn judge_nlri(
 // Passes the three parts, each of them after the other.
 fn judge_parts(
     alloc: Global,
-    peer: Option<Asn>,
+    rule: &Rule,
     withdrawn: &[u8],
     attrs: &[u8],
     nlri: &[u8],
 ) -> Result<(), CodecError>
-    ensures { Passes result (parts_reading peer withdrawn.now attrs.now nlri.now) }
+    ensures { Passes result (parts_reading rule.now withdrawn.now attrs.now nlri.now) }
 {
     judge_prefixes(alloc, withdrawn)?;
-    let came = judge_attrs(alloc, attrs)?;
-    judge_nlri(alloc, peer, &came, nlri)
+    let came = judge_attrs(alloc, rule.width, attrs)?;
+    judge_nlri(alloc, rule.peer, &came, nlri)
 }
 
 // Passes the body of an UPDATE, as that of an OPEN is passed.
-pub(crate) fn judge_update(alloc: Global, body: &[u8], peer: Option<Asn>) -> Result<(), CodecError>
+pub(crate) fn judge_update(alloc: Global, body: &[u8], rule: &Rule) -> Result<(), CodecError>
     requires { 4 ≤ length body.now }
-    ensures { Passes result (update_reading peer body.now) }
+    ensures { Passes result (update_reading rule.now body.now) }
 {
     let (withdrawn, attrs, nlri) = parts_of(alloc, body)?;
-    judge_parts(alloc, peer, withdrawn, attrs, nlri)
+    judge_parts(alloc, rule, withdrawn, attrs, nlri)
 }

@@ -23,12 +23,12 @@ pub enum Message {
 
 /// Whether each field is one that a reader under the same rule, with nobody named, can answer, and
 /// each part fits its own length field. The length of the whole is [`crate::encode`]'s to judge.
-pub fn is_writable(message: &Message, _rule: &Rule) -> bool
-    ensures { IsTrue result ↔ IsWritable _rule.now message.now }
+pub fn is_writable(message: &Message, rule: &Rule) -> bool
+    ensures { IsTrue result ↔ IsWritable rule.now message.now }
 {
     match message {
         Message::OpenMsg(message) => fits(message),
-        Message::UpdateMsg(message) => update_fits(message),
+        Message::UpdateMsg(message) => update_fits(rule.width, message),
         Message::NoticeMsg(_) => true,
         Message::AliveMsg => true,
     }

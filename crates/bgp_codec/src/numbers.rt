@@ -1,7 +1,10 @@
 //! Numbers and lengths in a message (RFC 4271 section 4): the most significant octet first.
 
 ghost use Rattle.std.specs.Prelude.{◌≡◌, ◌≤◌, length, slice_index};
-ghost use Rattle.bgp_codec.specs.UpdateReading.{number_at, address_at};
+ghost use Rattle.bgp_codec.specs.AsNumbers.{number_at, address_at, asn_size, asn_at};
+
+use crate::rule::Asn;
+use bgp_values::Width;
 
 // The octet at a place, or zero behind the end.
 pub(crate) fn octet_at(octets: &[u8], at: usize) -> u8
@@ -34,10 +37,30 @@ pub(crate) fn address_at(octets: &[u8], at: usize) -> u32
     ])
 }
 
+// How many octets an AS number has.
+pub(crate) fn asn_size(width: Width) -> usize
+    ensures { result ≡ asn_size width }
+{
+    match width {
+        Width::Two => 2,
+        Width::Four => 4,
+    }
+}
+
+// The AS number in front.
+pub(crate) fn asn_at(width: Width, octets: &[u8]) -> Asn
+    ensures { result ≡ asn_at width octets.now }
+{
+    match width {
+        Width::Two => Asn::from(number_at(octets, 0)),
+        Width::Four => address_at(octets, 0),
+    }
+}
+
 // How many values octets consist of, if they are good, where each value has a second octet that says
 // how many units of so many octets follow it: what a list of the values has to hold.
 pub(crate) fn count_values(octets: &[u8], unit: usize) -> usize
-    requires { unit ≤ 2 }
+    requires { unit ≤ 4 }
     ensures { result ≤ length octets.now }
 {
     let mut count = 0usize;

@@ -3,17 +3,17 @@
 ghost use Rattle.std.specs.Prelude.{◌≡◌, ◌+◌, ◌-◌, ◌^◌, ◌≤◌, ◌<◌, ◌++◌, ◌∷◌, ◌↔◌, IsTrue, IfOk, IfErr, length, min, vec_len, vec_capacity};
 ghost use Rattle.std.specs.List.{flat_map, AllByRecursion};
 ghost use Rattle.bgp_codec.specs.Reading.{Gives, Judged, IsNoWant};
-ghost use Rattle.bgp_codec.specs.Opens.{cap_octets, param_octets, open_octets, asn_field, hold_field, id_field, CapFits, ParamFits, OpenFits, value_at, cap_at, caps_reading, param_at, params_reading, open_reading, open_behind, is_peer};
+ghost use Rattle.bgp_codec.specs.Opens.{cap_octets, param_octets, open_octets, asn_field, hold_field, id_field, CapFits, ParamFits, OpenFits, value_at, cap_at, caps_reading, param_at, params_reading, open_reading, open_behind, is_peer, cap_of, number_said, said_by, said_in, capability_fault, said_fault, number_fault};
 
 use crate::fault::{CodecError, Fault, open_fault};
 use crate::items::Items;
-use crate::numbers::{count_values, octet_at};
+use crate::numbers::{address_at, count_values, octet_at};
 use crate::octets::Octets;
 use crate::rule::{Asn, Rule};
 use bgp_values::{
-    BAD_BGP_IDENTIFIER, BAD_PEER_AS, CAPABILITIES, OPEN_MESSAGE_ERROR, UNACCEPTABLE_HOLD_TIME,
-    UNSPECIFIC, UNSUPPORTED_OPTIONAL_PARAMETER, UNSUPPORTED_VERSION_NUMBER, VERSION, is_hold_time,
-    is_unicast,
+    AS_TRANS, BAD_BGP_IDENTIFIER, BAD_PEER_AS, CAPABILITIES, FOUR_OCTET_ASN, OPEN_MESSAGE_ERROR,
+    UNACCEPTABLE_HOLD_TIME, UNSPECIFIC, UNSUPPORTED_CAPABILITY, UNSUPPORTED_OPTIONAL_PARAMETER,
+    UNSUPPORTED_VERSION_NUMBER, VERSION, Width, is_hold_time, is_unicast,
 };
 use std::alloc::Global;
 
@@ -105,13 +105,100 @@ fn read_params(alloc: Global, octets: &[u8]) -> Result<Items<Items<Cap>>, CodecE
     Ok(params)
 }
 
-// Whether a number is the peer's, where a peer is named.
-fn is_peer(peer: Option<Asn>, asn: u16) -> bool
-    ensures { result ≡ is_peer peer asn }
+// Whether the field AS is the peer's, where a peer is named.
+fn is_peer(width: Width, peer: Option<Asn>, asn: u16) -> bool
+    ensures { result ≡ is_peer width peer asn }
 {
-    match peer {
-        None => true,
-        Some(peer) => u32::from(asn) == peer,
+    match (peer, width) {
+        (None, _) => true,
+        (Some(peer), Width::Two) => Asn::from(asn) == peer,
+        (Some(peer), Width::Four) => Asn::from(asn) == peer || asn == AS_TRANS,
+    }
+}
+
+// The number that a capability of this code and value says.
+pub(crate) fn number_said(code: u8, value: &[u8]) -> Option<Asn>
+    ensures { result ≡ number_said (cap_of code value.now) }
+{
+    if code == FOUR_OCTET_ASN && value.len() == 4 {
+        Some(address_at(value, 0))
+    } else {
+        None
+    }
+}
+
+// The first number that capabilities say.
+fn said_by(caps: &[Cap]) -> Option<Asn>
+    ensures { result ≡ said_by caps.now }
+{
+    for cap in caps {
+        let said = number_said(cap.code, cap.value.as_slice());
+        if said.is_some() {
+            return said;
+        }
+    }
+    None
+}
+
+// The first number that the capabilities of parameters say.
+fn said_in(params: &[Items<Cap>]) -> Option<Asn>
+    ensures { result ≡ said_in params.now }
+{
+    for caps in params {
+        let said = said_by(caps.as_slice());
+        if said.is_some() {
+            return said;
+        }
+    }
+    None
+}
+
+// The fault of an OPEN that does not say its speaker's number in four octets, to a reader of this number.
+fn capability_fault(alloc: Global, own: Asn) -> Fault
+    ensures { result ≡ capability_fault own }
+{
+    let [a, b, c, d] = own.to_be_bytes();
+    Fault {
+        code: OPEN_MESSAGE_ERROR,
+        sub: UNSUPPORTED_CAPABILITY,
+        extra: Octets::short(alloc, &[FOUR_OCTET_ASN, 4, a, b, c, d]),
+    }
+}
+
+// What is wrong with the number that an OPEN says in four octets: it is there where the reader names
+// itself, and it is the peer's where a peer is named. It takes no memory.
+pub(crate) fn number_fault(alloc: Global, rule: &Rule, said: Option<Asn>) -> Option<Fault>
+    ensures { result ≡ number_fault rule.now.width rule.now.own rule.now.peer said }
+{
+    match rule.width {
+        Width::Two => None,
+        Width::Four => said_fault(alloc, rule.own, rule.peer, said),
+    }
+}
+
+// The same where numbers have four octets.
+fn said_fault(
+    alloc: Global,
+    own: Option<Asn>,
+    peer: Option<Asn>,
+    said: Option<Asn>,
+) -> Option<Fault>
+    ensures { result ≡ said_fault own peer said }
+{
+    match (said, own, peer) {
+        (None, None, _) => None,
+        (None, Some(own), _) => Some(capability_fault(alloc, own)),
+        (Some(_), _, None) => None,
+        (Some(asn), _, Some(peer)) => {
+            if asn == peer {
+                return None;
+            }
+            Some(Fault {
+                code: OPEN_MESSAGE_ERROR,
+                sub: BAD_PEER_AS,
+                extra: Octets::short(alloc, &[]),
+            })
+        }
     }
 }
 
@@ -136,7 +223,7 @@ pub(crate) fn params_of<'a>(
     rule: &Rule,
 ) -> Result<&'a [u8], CodecError>
     requires { 10 ≤ length body.now }
-    ensures ok { IfOk result (λ params. open_reading rule.now body.now ≡ open_behind body.now params.now) }
+    ensures ok { IfOk result (λ params. open_reading rule.now body.now ≡ open_behind rule.now body.now params.now) }
     ensures err { IfErr result (λ error. Judged error (open_reading rule.now body.now) × IsNoWant error) }
 {
     let (asn, hold, id) = fields_of(body);
@@ -147,7 +234,7 @@ pub(crate) fn params_of<'a>(
             extra: Octets::short(alloc, &[0, VERSION]),
         }));
     }
-    if !is_peer(rule.peer, asn) {
+    if !is_peer(rule.width, rule.peer, asn) {
         return Err(open_fault(alloc, BAD_PEER_AS));
     }
     if !is_hold_time(hold) {
@@ -171,6 +258,9 @@ pub(crate) fn read_open(alloc: Global, body: &[u8], rule: &Rule) -> Result<Open,
 {
     let params = params_of(alloc, body, rule)?;
     let params = read_params(alloc, params)?;
+    if let Some(fault) = number_fault(alloc, rule, said_in(params.as_slice())) {
+        return Err(CodecError::Fault(fault));
+    }
     let (asn, hold, id) = fields_of(body);
     Ok(Open {
         asn,

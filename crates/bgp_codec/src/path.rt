@@ -2,16 +2,17 @@
 
 ghost use Rattle.std.specs.Prelude.{◌≡◌, ◌+◌, ◌*◌, ◌-◌, ◌^◌, ◌≤◌, ◌<◌, ◌++◌, ◌↔◌, IsTrue, IsOk, IfOk, IfErr, length, min, vec_len, vec_capacity};
 ghost use Rattle.std.specs.List.{flat_map, AllByRecursion};
-ghost use Rattle.std.specs.Int.{w16, to_be_bytes};
 ghost use Rattle.bgp_codec.specs.Reading.{Gives, IsNoWant};
-ghost use Rattle.bgp_codec.specs.Updates.{segment_code, segment_octets, path_octets, SegmentFits, AreShort, begins_with};
-ghost use Rattle.bgp_codec.specs.UpdateReading.{segment_at, segment_with, path_reading, numbers_of};
+ghost use Rattle.bgp_codec.specs.Updates.{segment_code, path_octets, SegmentFits, begins_with};
+ghost use Rattle.bgp_codec.specs.UpdateReading.{segment_at, segment_with, path_reading};
+ghost use Rattle.bgp_codec.specs.AsNumbers.{asn_size, asn_octets, AsnFits, numbers_of};
+ghost use Rattle.bgp_values.specs.declared.width.Width.TheVariants.{Two, Four};
 
 use crate::fault::{CodecError, update_fault};
 use crate::items::Items;
-use crate::numbers::count_values;
+use crate::numbers::{asn_size, count_values};
 use crate::rule::Asn;
-use bgp_values::{AS_SEQUENCE, AS_SET, GREATEST_ASN, MALFORMED_AS_PATH};
+use bgp_values::{AS_SEQUENCE, AS_SET, MALFORMED_AS_PATH, Width, greatest_asn};
 use smallvec::SmallVec;
 use std::alloc::{AllocError, Global};
 use std::marker::Model;
@@ -77,8 +78,8 @@ pub struct Segment {
 }
 
 // The numbers of two octets each.
-fn read_numbers(alloc: Global, octets: &[u8]) -> Result<Numbers, AllocError>
-    ensures { IfOk result (λ numbers. numbers ≡ numbers_of octets.now) }
+fn read_of_two(alloc: Global, octets: &[u8]) -> Result<Numbers, AllocError>
+    ensures { IfOk result (λ numbers. numbers ≡ numbers_of Two octets.now) }
 {
     let mut numbers = SmallVec::new(alloc);
     numbers.reserve(octets.len() / 2)?;
@@ -90,19 +91,44 @@ fn read_numbers(alloc: Global, octets: &[u8]) -> Result<Numbers, AllocError>
     Ok(Numbers { numbers })
 }
 
+// The numbers of four octets each.
+fn read_of_four(alloc: Global, octets: &[u8]) -> Result<Numbers, AllocError>
+    ensures { IfOk result (λ numbers. numbers ≡ numbers_of Four octets.now) }
+{
+    let mut numbers = SmallVec::new(alloc);
+    numbers.reserve(octets.len() / 4)?;
+    let mut left = octets;
+    'numbers: while let [a, b, c, d, rest @ ..] = left {
+        numbers.push(u32::from_be_bytes([*a, *b, *c, *d]))?;
+        left = rest;
+    }
+    Ok(Numbers { numbers })
+}
+
+// The numbers of so many octets each.
+fn read_numbers(alloc: Global, width: Width, octets: &[u8]) -> Result<Numbers, AllocError>
+    ensures { IfOk result (λ numbers. numbers ≡ numbers_of width octets.now) }
+{
+    match width {
+        Width::Two => read_of_two(alloc, octets),
+        Width::Four => read_of_four(alloc, octets),
+    }
+}
+
 // The kind of the segment in front, the octets of its numbers, and what follows it. It takes no
 // memory.
 pub(crate) fn segment_parts(
     alloc: Global,
+    width: Width,
     octets: &[u8],
 ) -> Result<(SegmentKind, &[u8], &[u8]), CodecError>
-    ensures gives { Gives (λ read. (segment_with read.0 read.1.now, read.2.now)) result (segment_at octets.now) }
+    ensures gives { Gives (λ read. (segment_with width read.0 read.1.now, read.2.now)) result (segment_at width octets.now) }
     ensures memory { IfErr result IsNoWant }
 {
     match octets {
         [] | [_] => Err(update_fault(alloc, MALFORMED_AS_PATH)),
         [code, count, rest @ ..] => {
-            let (code, size) = (*code, 2 * *count as usize);
+            let (code, size) = (*code, asn_size(width) * *count as usize);
             if !(code == AS_SET || code == AS_SEQUENCE) || *count == 0 || rest.len() < size {
                 return Err(update_fault(alloc, MALFORMED_AS_PATH));
             }
@@ -118,22 +144,26 @@ pub(crate) fn segment_parts(
 }
 
 // The segment in front, and what follows it.
-fn read_segment(alloc: Global, octets: &[u8]) -> Result<(Segment, &[u8]), CodecError>
-    ensures { Gives (λ read. (read.0, read.1.now)) result (segment_at octets.now) }
+fn read_segment(alloc: Global, width: Width, octets: &[u8]) -> Result<(Segment, &[u8]), CodecError>
+    ensures { Gives (λ read. (read.0, read.1.now)) result (segment_at width octets.now) }
 {
-    let (kind, numbers, rest) = segment_parts(alloc, octets)?;
-    let numbers = read_numbers(alloc, numbers)?;
+    let (kind, numbers, rest) = segment_parts(alloc, width, octets)?;
+    let numbers = read_numbers(alloc, width, numbers)?;
     Ok((Segment { kind, numbers }, rest))
 }
 
 // The segments that a path consists of.
-pub(crate) fn read_path(alloc: Global, octets: &[u8]) -> Result<Items<Segment>, CodecError>
-    ensures { Gives (λ path. path) result (path_reading octets.now) }
+pub(crate) fn read_path(
+    alloc: Global,
+    width: Width,
+    octets: &[u8],
+) -> Result<Items<Segment>, CodecError>
+    ensures { Gives (λ path. path) result (path_reading width octets.now) }
 {
-    let mut segments = Items::with_room(alloc, count_values(octets, 2))?;
+    let mut segments = Items::with_room(alloc, count_values(octets, asn_size(width)))?;
     let mut left = octets;
     'segments: while !left.is_empty() {
-        let (segment, rest) = read_segment(alloc, left)?;
+        let (segment, rest) = read_segment(alloc, width, left)?;
         segments.push(alloc, segment)?;
         left = rest;
     }
@@ -152,25 +182,25 @@ pub(crate) fn begins_with(path: &[Segment], asn: Asn) -> bool
     false
 }
 
-// Whether each number fits two octets.
-fn numbers_fit(numbers: &[Asn]) -> bool
-    ensures { IsTrue result ↔ AreShort numbers.now }
+// Whether so many octets hold each number.
+fn numbers_fit(width: Width, numbers: &[Asn]) -> bool
+    ensures { IsTrue result ↔ AllByRecursion (AsnFits width) numbers.now }
 {
     for number in numbers {
-        if *number > GREATEST_ASN {
+        if *number > greatest_asn(width) {
             return false;
         }
     }
     true
 }
 
-// Whether each segment has 1 to 255 numbers, each of which fits two octets.
-pub(crate) fn path_fits(path: &[Segment]) -> bool
-    ensures { IsTrue result ↔ AllByRecursion SegmentFits path.now }
+// Whether each segment has 1 to 255 numbers, each of which so many octets hold.
+pub(crate) fn path_fits(width: Width, path: &[Segment]) -> bool
+    ensures { IsTrue result ↔ AllByRecursion (SegmentFits width) path.now }
 {
     for segment in path {
         let numbers = segment.numbers.as_slice();
-        if numbers.is_empty() || numbers.len() > 255 || !numbers_fit(numbers) {
+        if numbers.is_empty() || numbers.len() > 255 || !numbers_fit(width, numbers) {
             return false;
         }
     }
@@ -178,30 +208,47 @@ pub(crate) fn path_fits(path: &[Segment]) -> bool
 }
 
 // How many octets a path has that is written, as far as a `usize` counts.
-pub(crate) fn path_len(path: &[Segment]) -> usize
-    ensures { result ≡ min (2 ^ 64 - 1) (length (path_octets path.now)) }
+pub(crate) fn path_len(width: Width, path: &[Segment]) -> usize
+    ensures { result ≡ min (2 ^ 64 - 1) (length (path_octets width path.now)) }
 {
+    let size = asn_size(width);
     let mut len = 0usize;
     for segment in path {
         let count = segment.numbers.as_slice().len();
         len = len
             .saturating_add(2)
-            .saturating_add(count.saturating_mul(2));
+            .saturating_add(size.saturating_mul(count));
     }
     len
 }
 
-// Appends numbers of two octets each, for which there is room.
-fn put_numbers(out: &mut Vec<u8>, numbers: &[Asn])
-    requires fit { AreShort numbers.now }
-    requires room { vec_len out.old + length (flat_map (to_be_bytes w16) numbers.now) ≤ vec_capacity out.old }
-    ensures items { out.new.items ≡ out.old.items ++ flat_map (to_be_bytes w16) numbers.now }
+// Appends an AS number, for which there is room.
+pub(crate) fn put_asn(out: &mut Vec<u8>, width: Width, asn: Asn)
+    requires fit { AsnFits width asn }
+    requires room { vec_len out.old + asn_size width ≤ vec_capacity out.old }
+    ensures items { out.new.items ≡ out.old.items ++ asn_octets width asn }
+    ensures len { vec_len out.new ≡ vec_len out.old + asn_size width }
+    ensures capacity { vec_capacity out.old ≤ vec_capacity out.new }
+{
+    match width {
+        Width::Two => {
+            let [high, low] = (asn as u16).to_be_bytes();
+            out.push_reserved(high);
+            out.push_reserved(low);
+        }
+        Width::Four => out.extend_from_slice(&asn.to_be_bytes()).unwrap(),
+    }
+}
+
+// Appends numbers of so many octets each, for which there is room.
+fn put_numbers(out: &mut Vec<u8>, width: Width, numbers: &[Asn])
+    requires fit { AllByRecursion (AsnFits width) numbers.now }
+    requires room { vec_len out.old + length (flat_map (asn_octets width) numbers.now) ≤ vec_capacity out.old }
+    ensures items { out.new.items ≡ out.old.items ++ flat_map (asn_octets width) numbers.now }
     ensures capacity { vec_capacity out.old ≤ vec_capacity out.new }
 {
     for number in numbers {
-        let [high, low] = (*number as u16).to_be_bytes();
-        out.push_reserved(high);
-        out.push_reserved(low);
+        put_asn(out, width, *number);
     }
 }
 
@@ -216,16 +263,16 @@ fn segment_code(kind: SegmentKind) -> u8
 }
 
 // Appends the segments of a path, for which there is room.
-pub(crate) fn put_path(out: &mut Vec<u8>, path: &[Segment])
-    requires fit { AllByRecursion SegmentFits path.now }
-    requires room { vec_len out.old + length (path_octets path.now) ≤ vec_capacity out.old }
-    ensures items { out.new.items ≡ out.old.items ++ path_octets path.now }
+pub(crate) fn put_path(out: &mut Vec<u8>, width: Width, path: &[Segment])
+    requires fit { AllByRecursion (SegmentFits width) path.now }
+    requires room { vec_len out.old + length (path_octets width path.now) ≤ vec_capacity out.old }
+    ensures items { out.new.items ≡ out.old.items ++ path_octets width path.now }
     ensures capacity { vec_capacity out.old ≤ vec_capacity out.new }
 {
     for segment in path {
         let numbers = segment.numbers.as_slice();
         out.push_reserved(segment_code(segment.kind));
         out.push_reserved(numbers.len() as u8);
-        put_numbers(out, numbers);
+        put_numbers(out, width, numbers);
     }
 }

@@ -5,7 +5,8 @@ ghost use Rattle.std.specs.List.{flat_map, AllByRecursion};
 ghost use Rattle.prefix_lanes.specs.Bits.{IsCanonical};
 ghost use Rattle.bgp_codec.specs.Reading.{Gives, IsNoWant};
 ghost use Rattle.bgp_codec.specs.Updates.{octet_count, prefix_octets};
-ghost use Rattle.bgp_codec.specs.UpdateReading.{address_at, prefix_at, prefixes_reading};
+ghost use Rattle.bgp_codec.specs.UpdateReading.{prefix_at, prefixes_reading};
+ghost use Rattle.bgp_codec.specs.AsNumbers.{address_at};
 
 use crate::fault::{CodecError, update_fault};
 use crate::items::Items;

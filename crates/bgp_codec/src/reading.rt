@@ -15,7 +15,7 @@ use crate::fault_search::{judge_open, judge_update};
 use crate::message::Message;
 use crate::notice::read_notice;
 use crate::open::read_open;
-use crate::rule::{Asn, Rule};
+use crate::rule::Rule;
 use crate::update::read_update;
 use bgp_values::{HEADER_LEN, NOTIFICATION, OPEN, UPDATE};
 use prefix_lanes::{a_prefix_is_its_bits, masking_clears_bits};
@@ -40,14 +40,14 @@ fn decode_open(alloc: Global, body: &[u8], rule: &Rule) -> Result<Message, Codec
 
 // The UPDATE of a body, or its first fault, looked for as that of an OPEN is.
 #[inline(never)]
-fn decode_update(alloc: Global, body: &[u8], peer: Option<Asn>) -> Result<Message, CodecError>
+fn decode_update(alloc: Global, body: &[u8], rule: &Rule) -> Result<Message, CodecError>
     requires { 4 ≤ length body.now }
-    ensures { Decodes result (read_as UpdateMsg (update_reading peer body.now)) }
+    ensures { Decodes result (read_as UpdateMsg (update_reading rule.now body.now)) }
 {
-    match read_update(alloc, body, peer) {
+    match read_update(alloc, body, rule) {
         Ok(update) => Ok(Message::UpdateMsg(update)),
         Err(CodecError::Memory) => {
-            judge_update(alloc, body, peer)?;
+            judge_update(alloc, body, rule)?;
             Err(CodecError::Memory)
         }
         Err(error) => Err(error),
@@ -66,7 +66,7 @@ fn decode_by_type(alloc: Global, frame: &[u8], rule: &Rule) -> Result<Message, C
     let (_, body) = frame.split_at(HEADER_LEN);
     match frame[18] {
         OPEN => decode_open(alloc, body, rule),
-        UPDATE => decode_update(alloc, body, rule.peer),
+        UPDATE => decode_update(alloc, body, rule),
         NOTIFICATION => read_notice(alloc, body),
         _ => Ok(Message::AliveMsg),
     }

@@ -1,29 +1,25 @@
 //! Under which rule messages are read.
 
+use bgp_values::Width;
+
 /// The number of an autonomous system.
 pub type Asn = u32;
 
-/// How many octets a number in a path has.
-#[derive(Clone, Copy, Debug, PartialEq, Eq)]
-pub enum Width {
-    /// Two octets (RFC 4271).
-    Two,
-    /// Four octets (RFC 6793). Readers and writers do not look at it yet: they take numbers of two
-    /// octets under either width, and their contracts say so.
-    Four,
-}
-
-/// What the reader knows of the speaker.
+/// What the reader knows of the speaker, and of itself.
 #[derive(Clone, Copy, Debug, PartialEq, Eq)]
 pub struct Rule {
-    /// How many octets a number in a path has.
+    /// How many octets an AS number has.
     pub width: Width,
     /// The speaker's number, where its OPEN and its paths are to be checked against it.
     pub peer: Option<Asn>,
+    /// The reader's own number, where an OPEN has to say its speaker's number in four octets (RFC 6793 section 3).
+    /// Numbers of two octets make no use of it.
+    pub own: Option<Asn>,
 }
 
 /// Two-octet numbers, and nobody named.
 pub const NOBODY: Rule = Rule {
     width: Width::Two,
     peer: None,
+    own: None,
 };

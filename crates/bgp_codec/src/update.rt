@@ -4,6 +4,7 @@ ghost use Rattle.std.specs.Prelude.{◌≡◌, ◌≢◌, ℕ, Option, Err, IfOk
 ghost use Rattle.bgp_codec.specs.Reading.{Gives};
 ghost use Rattle.bgp_codec.specs.Updates.{missing, is_from, update_octets, UpdateFits};
 ghost use Rattle.bgp_codec.specs.UpdateReading.{nlri_reading, parts_reading, update_reading, update_fault};
+ghost use Rattle.bgp_codec.specs.declared.rule.Rule.{Rule};
 ghost use Rattle.std.specs.Int.{w16, to_be_bytes};
 
 use crate::attr_fitting::attrs_fit;
@@ -16,10 +17,10 @@ use crate::numbers::number_at;
 use crate::octets::Octets;
 use crate::path::begins_with;
 use crate::prefixes::{are_canonical, prefixes_len, put_prefixes, read_prefixes};
-use crate::rule::Asn;
+use crate::rule::{Asn, Rule};
 use bgp_values::{
     AS_PATH, MALFORMED_AS_PATH, MALFORMED_ATTRIBUTE_LIST, MISSING_WELL_KNOWN_ATTRIBUTE, NEXT_HOP,
-    ORIGIN, UPDATE_MESSAGE_ERROR,
+    ORIGIN, UPDATE_MESSAGE_ERROR, Width,
 };
 use prefix_lanes::Prefix;
 use std::alloc::Global;
@@ -90,16 +91,16 @@ fn read_nlri(
 // The three parts, each of them after the other.
 fn read_parts(
     alloc: Global,
-    peer: Option<Asn>,
+    rule: &Rule,
     withdrawn: &[u8],
     attrs: &[u8],
     nlri: &[u8],
 ) -> Result<Update, CodecError>
-    ensures { Gives (λ update. update) result (parts_reading peer withdrawn.now attrs.now nlri.now) }
+    ensures { Gives (λ update. update) result (parts_reading rule.now withdrawn.now attrs.now nlri.now) }
 {
     let withdrawn = read_prefixes(alloc, withdrawn)?;
-    let attrs = read_attrs(alloc, attrs)?;
-    let nlri = read_nlri(alloc, peer, &attrs, nlri)?;
+    let attrs = read_attrs(alloc, rule.width, attrs)?;
+    let nlri = read_nlri(alloc, rule.peer, &attrs, nlri)?;
     Ok(Update {
         withdrawn,
         attrs,
@@ -113,8 +114,8 @@ fn read_parts(
 #[tactic(auto, unfolding(crate::specs::UpdateReading::update_reading))]
 pub(crate) fn parts_of(alloc: Global, body: &[u8]) -> Result<(&[u8], &[u8], &[u8]), CodecError>
     requires { 4 ≤ length body.now }
-    ensures ok { IfOk result (λ parts. (peer : Option ℕ) → update_reading peer body.now ≡ parts_reading peer parts.0.now parts.1.now parts.2.now) }
-    ensures err { IfErr result (λ error. (error ≡ CodecError.Fault (update_fault MALFORMED_ATTRIBUTE_LIST)) × ((peer : Option ℕ) → update_reading peer body.now ≡ Err (update_fault MALFORMED_ATTRIBUTE_LIST))) }
+    ensures ok { IfOk result (λ parts. (rule : Rule) → update_reading rule body.now ≡ parts_reading rule parts.0.now parts.1.now parts.2.now) }
+    ensures err { IfErr result (λ error. (error ≡ CodecError.Fault (update_fault MALFORMED_ATTRIBUTE_LIST)) × ((rule : Rule) → update_reading rule body.now ≡ Err (update_fault MALFORMED_ATTRIBUTE_LIST))) }
 {
     let first = number_at(body, 0) as usize;
     let second = number_at(body, 2 + first) as usize;
@@ -131,16 +132,12 @@ pub(crate) fn parts_of(alloc: Global, body: &[u8]) -> Result<(&[u8], &[u8], &[u8
 
 // The UPDATE of a body.
 #[inline(never)]
-pub(crate) fn read_update(
-    alloc: Global,
-    body: &[u8],
-    peer: Option<Asn>,
-) -> Result<Update, CodecError>
+pub(crate) fn read_update(alloc: Global, body: &[u8], rule: &Rule) -> Result<Update, CodecError>
     requires { 4 ≤ length body.now }
-    ensures { Gives (λ update. update) result (update_reading peer body.now) }
+    ensures { Gives (λ update. update) result (update_reading rule.now body.now) }
 {
     let (withdrawn, attrs, nlri) = parts_of(alloc, body)?;
-    read_parts(alloc, peer, withdrawn, attrs, nlri)
+    read_parts(alloc, rule, withdrawn, attrs, nlri)
 }
 
 // Whether an UPDATE that announces these prefixes has what is mandatory.
@@ -151,25 +148,25 @@ fn is_complete(attrs: &Attrs, nlri: &[Prefix]) -> bool
 }
 
 // Whether each field is one that a reader can answer, and each part fits its own length field.
-pub(crate) fn update_fits(message: &Update) -> bool
-    ensures { IsTrue result ↔ UpdateFits message.now }
+pub(crate) fn update_fits(width: Width, message: &Update) -> bool
+    ensures { IsTrue result ↔ UpdateFits width message.now }
 {
     let withdrawn = message.withdrawn.as_slice();
     let nlri = message.nlri.as_slice();
     are_canonical(withdrawn);
     are_canonical(nlri);
-    attrs_fit(&message.attrs)
+    attrs_fit(width, &message.attrs)
         && is_complete(&message.attrs, nlri)
         && prefixes_len(withdrawn) < 0x1_0000
-        && attrs_len(&message.attrs) < 0x1_0000
+        && attrs_len(width, &message.attrs) < 0x1_0000
 }
 
 // How many octets the body has that is written, as far as a `usize` counts.
-pub(crate) fn update_len(message: &Update) -> usize
-    ensures { result ≡ min (2 ^ 64 - 1) (length (update_octets message.now)) }
+pub(crate) fn update_len(width: Width, message: &Update) -> usize
+    ensures { result ≡ min (2 ^ 64 - 1) (length (update_octets width message.now)) }
 {
     prefixes_len(message.withdrawn.as_slice())
-        .saturating_add(attrs_len(&message.attrs))
+        .saturating_add(attrs_len(width, &message.attrs))
         .saturating_add(prefixes_len(message.nlri.as_slice()))
         .saturating_add(4)
 }
@@ -187,16 +184,16 @@ fn put_len(out: &mut Vec<u8>, len: usize)
 }
 
 // Appends the body of an UPDATE, for which there is room.
-pub(crate) fn put_update(out: &mut Vec<u8>, message: &Update)
-    requires fit { UpdateFits message.now }
-    requires room { vec_len out.old + length (update_octets message.now) ≤ vec_capacity out.old }
-    ensures items { out.new.items ≡ out.old.items ++ update_octets message.now }
+pub(crate) fn put_update(out: &mut Vec<u8>, width: Width, message: &Update)
+    requires fit { UpdateFits width message.now }
+    requires room { vec_len out.old + length (update_octets width message.now) ≤ vec_capacity out.old }
+    ensures items { out.new.items ≡ out.old.items ++ update_octets width message.now }
     ensures capacity { vec_capacity out.old ≤ vec_capacity out.new }
 {
     let withdrawn = message.withdrawn.as_slice();
     put_len(out, prefixes_len(withdrawn));
     put_prefixes(out, withdrawn);
-    put_len(out, attrs_len(&message.attrs));
-    put_attrs(out, &message.attrs);
+    put_len(out, attrs_len(width, &message.attrs));
+    put_attrs(out, width, &message.attrs);
     put_prefixes(out, message.nlri.as_slice());
 }

@@ -11,7 +11,7 @@ use crate::notice::put_notice;
 use crate::open::{params_len, put_open};
 use crate::rule::Rule;
 use crate::update::{put_update, update_len};
-use bgp_values::{HEADER_LEN, KEEPALIVE, MESSAGE_LIMIT, NOTIFICATION, OPEN, UPDATE};
+use bgp_values::{HEADER_LEN, KEEPALIVE, MESSAGE_LIMIT, NOTIFICATION, OPEN, UPDATE, Width};
 
 const MARKER: [u8; 16] = [0xff; 16];
 
@@ -34,12 +34,12 @@ fn put_header(out: &mut Vec<u8>, kind: u8, body_len: usize)
 }
 
 // How many octets the body has that is written, as far as a `usize` counts.
-fn body_len(message: &Message) -> usize
-    ensures { result ≡ min (2 ^ 64 - 1) (length (written_body message.now)) }
+fn body_len(message: &Message, width: Width) -> usize
+    ensures { result ≡ min (2 ^ 64 - 1) (length (written_body width message.now)) }
 {
     match message {
         Message::OpenMsg(message) => params_len(message.params.as_slice()).saturating_add(10),
-        Message::UpdateMsg(message) => update_len(message),
+        Message::UpdateMsg(message) => update_len(width, message),
         Message::NoticeMsg(notice) => notice.extra.len().saturating_add(2),
         Message::AliveMsg => 0,
     }
@@ -58,23 +58,23 @@ fn kind_of(message: &Message) -> u8
 
 fn put_body(out: &mut Vec<u8>, message: &Message, rule: &Rule)
     requires fit { IsWritable rule.now message.now }
-    requires room { vec_len out.old + length (written_body message.now) ≤ vec_capacity out.old }
-    ensures items { out.new.items ≡ out.old.items ++ written_body message.now }
+    requires room { vec_len out.old + length (written_body rule.now.width message.now) ≤ vec_capacity out.old }
+    ensures items { out.new.items ≡ out.old.items ++ written_body rule.now.width message.now }
     ensures capacity { vec_capacity out.old ≤ vec_capacity out.new }
 {
     match message {
         Message::OpenMsg(message) => put_open(out, message),
-        Message::UpdateMsg(message) => put_update(out, message),
+        Message::UpdateMsg(message) => put_update(out, rule.width, message),
         Message::NoticeMsg(notice) => put_notice(out, notice),
         Message::AliveMsg => {}
     }
 }
 
 /// How many octets [`put_message`] and [`encode`] write for a message, as far as a `usize` counts.
-pub fn written_len(message: &Message) -> usize
-    ensures { result ≡ min (2 ^ 64 - 1) (length (written message.now)) }
+pub fn written_len(message: &Message, width: Width) -> usize
+    ensures { result ≡ min (2 ^ 64 - 1) (length (written width message.now)) }
 {
-    body_len(message).saturating_add(HEADER_LEN)
+    body_len(message, width).saturating_add(HEADER_LEN)
 }
 
 /// Appends the one spelling of a message that is written to a vector that has room for it. It takes
@@ -82,12 +82,12 @@ pub fn written_len(message: &Message) -> usize
 /// messages can be written one by one.
 pub fn put_message(out: &mut Vec<u8>, message: &Message, rule: &Rule)
     requires writable { IsWritable rule.now message.now }
-    requires fits { length (written message.now) ≤ MESSAGE_LIMIT }
-    requires room { vec_len out.old + length (written message.now) ≤ vec_capacity out.old }
-    ensures items { out.new.items ≡ out.old.items ++ written message.now }
+    requires fits { length (written rule.now.width message.now) ≤ MESSAGE_LIMIT }
+    requires room { vec_len out.old + length (written rule.now.width message.now) ≤ vec_capacity out.old }
+    ensures items { out.new.items ≡ out.old.items ++ written rule.now.width message.now }
     ensures capacity { vec_capacity out.old ≤ vec_capacity out.new }
 {
-    let len = body_len(message);
+    let len = body_len(message, rule.width);
     put_header(out, kind_of(message), len);
     put_body(out, message, rule);
 }
@@ -99,13 +99,13 @@ pub fn put_message(out: &mut Vec<u8>, message: &Message, rule: &Rule)
 /// call leaves the vector and its capacity as they were.
 pub fn encode(message: &Message, rule: &Rule, out: &mut Vec<u8>) -> Result<(), CodecError>
     requires { IsWritable rule.now message.now }
-    ensures ok { OnOk result (out.new.items ≡ out.old.items ++ written message.now) }
-    ensures too_long { IsErrOf result CodecError.TooLong ↔ (MESSAGE_LIMIT < length (written message.now)) }
+    ensures ok { OnOk result (out.new.items ≡ out.old.items ++ written rule.now.width message.now) }
+    ensures too_long { IsErrOf result CodecError.TooLong ↔ (MESSAGE_LIMIT < length (written rule.now.width message.now)) }
     // Want of memory is answered only where room was missing.
-    ensures only { IfErr result (λ error. (error ≡ CodecError.TooLong) ⊎ ((error ≡ CodecError.Memory) × (vec_capacity out.old < vec_len out.old + length (written message.now)))) }
+    ensures only { IfErr result (λ error. (error ≡ CodecError.TooLong) ⊎ ((error ≡ CodecError.Memory) × (vec_capacity out.old < vec_len out.old + length (written rule.now.width message.now)))) }
     ensures err { OnErr result ((out.new.items ≡ out.old.items) × (vec_capacity out.new ≡ vec_capacity out.old)) }
 {
-    let len = body_len(message);
+    let len = body_len(message, rule.width);
     if len > MOST_BODY {
         return Err(CodecError::TooLong);
     }

@@ -1,14 +1,22 @@
 -- What a speaker may say of itself in an OPEN (RFC 4271 section 4.2), each range as a test and as what it means.
 use Rattle.std.specs.Prelude.{ℕ, ◌≡◌, ◌≤◌, ◌/◌, nat_le, ◌==◌, ◌||◌, ◌&&◌, Bool}
 use mathlib.Core.Logic.{◌⊎◌}
-use Rattle.bgp_values.specs.declared.ranges.TheConstants.{GREATEST_ASN, LEAST_HOLD, FIRST_UNICAST, LAST_UNICAST}
+use Rattle.bgp_values.specs.declared.ranges.TheConstants.{LEAST_HOLD, FIRST_UNICAST, LAST_UNICAST}
+use Rattle.bgp_values.specs.declared.width.TheConstants.{GREATEST_OF_TWO, GREATEST_OF_FOUR}
+use Rattle.bgp_values.specs.declared.width.Width.{Width}
+use Rattle.bgp_values.specs.declared.width.Width.TheVariants.{Two, Four}
 
--- an AS number of two octets that a speaker may have (RFC 4271 section 4.2, RFC 7607)
-abbrev pub IsAsn : ℕ → Type 0
-IsAsn asn = (1 ≤ asn) × (asn ≤ GREATEST_ASN)
+-- the greatest AS number that two octets hold, and four (RFC 4271 section 4.2, RFC 6793 section 4.1)
+abbrev pub greatest_asn : Width → ℕ
+greatest_asn Two = GREATEST_OF_TWO
+greatest_asn Four = GREATEST_OF_FOUR
 
-abbrev pub is_asn : ℕ → Bool
-is_asn asn = nat_le 1 asn && nat_le asn GREATEST_ASN
+-- an AS number that a speaker may have (RFC 7607)
+abbrev pub IsAsn : Width → ℕ → Type 0
+IsAsn width asn = (1 ≤ asn) × (asn ≤ greatest_asn width)
+
+abbrev pub is_asn : Width → ℕ → Bool
+is_asn width asn = nat_le 1 asn && nat_le asn (greatest_asn width)
 
 -- a hold time that an OPEN may propose, in seconds: none, or no less than the least
 abbrev pub IsHoldTime : ℕ → Type 0

@@ -49,6 +49,9 @@ pub const UNSUPPORTED_OPTIONAL_PARAMETER: u8 = 4;
 /// Unacceptable Hold Time (section 6.2): one or two seconds.
 pub const UNACCEPTABLE_HOLD_TIME: u8 = 6;
 
+/// Unsupported Capability (RFC 5492 section 5): one that the reader has to have is not there.
+pub const UNSUPPORTED_CAPABILITY: u8 = 7;
+
 // ---- Those of an UPDATE's (section 6.3).
 
 /// Malformed Attribute List (section 6.3): lengths that do not fit, or an attribute twice.

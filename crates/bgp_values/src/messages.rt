@@ -24,6 +24,9 @@ pub const VERSION: u8 = 4;
 /// The type of an OPEN's parameter that has capabilities (RFC 5492 section 4).
 pub const CAPABILITIES: u8 = 2;
 
+/// The code of the capability that says the speaker's number in four octets (RFC 6793 section 3).
+pub const FOUR_OCTET_ASN: u8 = 65;
+
 /// The type of an OPEN (section 4.1).
 pub const OPEN: u8 = 1;
 

@@ -3,8 +3,7 @@
 ghost use Rattle.std.specs.Prelude.{◌≡◌, ◌↔◌, IsTrue};
 ghost use Rattle.bgp_values.specs.Ranges.{is_asn, IsAsn, is_hold_time, IsHoldTime, is_unicast, IsUnicast};
 
-/// The greatest AS number, which has two octets (RFC 4271 section 4.2).
-pub const GREATEST_ASN: u32 = 65_535;
+use crate::width::{Width, greatest_asn};
 
 /// The least hold time other than none, in seconds (section 4.2).
 pub const LEAST_HOLD: u16 = 3;
@@ -15,12 +14,13 @@ pub const FIRST_UNICAST: u32 = 1;
 /// The greatest first octet of an address of one host: addresses of groups begin with 224.
 pub const LAST_UNICAST: u32 = 223;
 
-/// Whether a speaker can have this AS number: not 0 (RFC 7607), and at most [`GREATEST_ASN`].
-pub fn is_asn(asn: u64) -> bool
-    ensures test { result ≡ is_asn asn }
-    ensures means { IsTrue result ↔ IsAsn asn }
+/// Whether a speaker can have this AS number, where numbers have so many octets: not 0 (RFC 7607), and at most
+/// [`greatest_asn`].
+pub fn is_asn(width: Width, asn: u64) -> bool
+    ensures test { result ≡ is_asn width asn }
+    ensures means { IsTrue result ↔ IsAsn width asn }
 {
-    1 <= asn && asn <= u64::from(GREATEST_ASN)
+    1 <= asn && asn <= u64::from(greatest_asn(width))
 }
 
 /// Whether an OPEN can propose this hold time, in seconds: 0, which is none, or at least [`LEAST_HOLD`].

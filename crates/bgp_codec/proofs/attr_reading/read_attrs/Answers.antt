@@ -8,13 +8,13 @@ use Rattle.bgp_codec.proofs.attr_reading.read_attrs.Goals as goal
 pub returns-in_err-attr : goal.returns-in_err-attr
 returns-in_err-attr c =
     let p = err_from_is_err_and c.from_residual-in_err-attr.result c.from_residual-in_err-attr.ensures.1 in
-    rw (p.1, p.2) (attrs_broken (attrs_reading c.args.octets.now) c.attrs.attrs c.attrs.left.now c.in_err-attr.field-0.0 (some_left _ c.attrs-test.ensures) c.in_err-attr.ensures.gives c.attrs.invariant)
+    rw (p.1, p.2) (attrs_broken c.args.width (attrs_reading c.args.width c.args.octets.now) c.attrs.attrs c.attrs.left.now c.in_err-attr.field-0.0 (some_left _ c.attrs-test.ensures) c.in_err-attr.ensures.gives c.attrs.invariant)
 
 pub returns-in_err-add_attr : goal.returns-in_err-add_attr
 returns-in_err-add_attr c =
     let p = err_from_is_err_and c.from_residual-in_err-add_attr.result c.from_residual-in_err-add_attr.ensures.1 in
     rw (p.1, p.2)
-    (attrs_stop (attrs_reading c.args.octets.now) c.attrs.attrs c.attrs.left.now c.in_ok-attr.attr.now c.in_ok-attr.value.now c.in_ok-attr.rest.now c.in_err-add_attr.field-0.0 c.in_ok-attr.ensures.gives
+    (attrs_stop c.args.width (attrs_reading c.args.width c.args.octets.now) c.attrs.attrs c.attrs.left.now c.in_ok-attr.attr.now c.in_ok-attr.value.now c.in_ok-attr.rest.now c.in_err-add_attr.field-0.0 c.in_ok-attr.ensures.gives
     c.in_err-add_attr.ensures c.attrs.invariant)
 
 pub attrs-smaller : goal.attrs-smaller
@@ -22,8 +22,8 @@ attrs-smaller c = omega (arith, attr_shorter c.attrs.left.now c.in_ok-attr.attr.
 
 pub attrs-preserved : goal.attrs-preserved
 attrs-preserved c =
-    attrs_go_on (attrs_reading c.args.octets.now) c.attrs.attrs _ c.attrs.left.now c.in_ok-attr.attr.now c.in_ok-attr.value.now c.in_ok-attr.rest.now c.in_ok-attr.ensures.gives c.in_ok-add_attr.ensures
+    attrs_go_on c.args.width (attrs_reading c.args.width c.args.octets.now) c.attrs.attrs _ c.attrs.left.now c.in_ok-attr.attr.now c.in_ok-attr.value.now c.in_ok-attr.rest.now c.in_ok-attr.ensures.gives c.in_ok-add_attr.ensures
     c.attrs.invariant
 
 pub returns : goal.returns
-returns c = attrs_end (attrs_reading c.args.octets.now) c.attrs.attrs c.attrs.left.now (none_left _ c.attrs-test.ensures) c.attrs.invariant
+returns c = attrs_end c.args.width (attrs_reading c.args.width c.args.octets.now) c.attrs.attrs c.attrs.left.now (none_left _ c.attrs-test.ensures) c.attrs.invariant

@@ -4,7 +4,7 @@ use Rattle.bgp_codec.specs.UpdateReading.{attrs_reading, attrs_from}
 use Rattle.bgp_codec.proofs.attr_reading.read_attrs.Given as goal
 
 abbrev pub invariant-attrs : goal.invariant-attrs
-invariant-attrs l = attrs_reading l.octets ≡ attrs_from l.attrs l.left
+invariant-attrs l = attrs_reading l.width l.octets ≡ attrs_from l.width l.attrs l.left
 
 abbrev pub decreases-attrs : goal.decreases-attrs
 decreases-attrs l = length l.left

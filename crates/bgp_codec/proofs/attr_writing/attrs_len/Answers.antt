@@ -10,10 +10,10 @@ returns c =
     let next_hop = rw c.is_some-2.ensures at c.given_len-2.ensures in
     let med = rw c.is_some-3.ensures at c.given_len-3.ensures in
     let local_pref = rw c.is_some-4.ensures at c.given_len-4.ensures in
-    let aggregator = rw c.is_some-5.ensures at c.given_len-6.ensures in
+    let aggregator = rw (c.is_some-5.ensures, c.asn_size.ensures) at c.given_len-6.ensures in
     omega (
       arith,
-      attrs_size c.args.attrs.now,
+      attrs_size c.args.width c.args.attrs.now,
       before,
       origin,
       next_hop,

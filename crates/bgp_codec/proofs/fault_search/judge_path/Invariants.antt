@@ -5,7 +5,7 @@ use Rattle.bgp_codec.proofs.JudgingLemmas.{Behind}
 use Rattle.bgp_codec.proofs.fault_search.judge_path.Given as goal
 
 abbrev pub invariant-segments : goal.invariant-segments
-invariant-segments l = Behind segment_at l.octets l.left
+invariant-segments l = Behind (segment_at l.width) l.octets l.left
 
 abbrev pub decreases-segments : goal.decreases-segments
 decreases-segments l = length l.left

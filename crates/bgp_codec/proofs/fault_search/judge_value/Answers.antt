@@ -7,7 +7,7 @@ use Rattle.bgp_codec.proofs.fault_search.judge_value.Goals.{else-code-eq-ORIGIN-
 
 pub returns : goal.returns
 returns c = λ a.
-    value_passed (slice_index c.args.attr.now 1) a c.args.attr.now c.args.value.now
+    value_passed c.args.width (slice_index c.args.attr.now 1) a c.args.attr.now c.args.value.now
     (λ e. elim c.else-code-eq-ORIGIN.branch [
       | else-code-eq-ORIGIN-via-then-code-eq-ORIGIN+else-octet_at-gt-INCOMPLETE w ↦ omega (arith, w.octet_at.ensures, w.if-octet_at-gt-INCOMPLETE.false)
       | else-code-eq-ORIGIN-via-else-code-eq-ORIGIN w ↦ absurd (omega (arith, e, c.octet_at-code.ensures, w.if-code-eq-ORIGIN.false))

@@ -6,4 +6,4 @@ use Rattle.bgp_codec.specs.Updates.{SegmentFits}
 use Rattle.bgp_codec.proofs.path.path_fits.Given as goal
 
 abbrev pub invariant-loop-segment : goal.invariant-loop-segment
-invariant-loop-segment l = AllByRecursion SegmentFits l.path ↔ AllByRecursion SegmentFits (drop l.segment-index l.path)
+invariant-loop-segment l = AllByRecursion (SegmentFits l.width) l.path ↔ AllByRecursion (SegmentFits l.width) (drop l.segment-index l.path)

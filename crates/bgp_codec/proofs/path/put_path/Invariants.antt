@@ -7,8 +7,8 @@ use Rattle.bgp_codec.proofs.path.put_path.Given as goal
 abbrev pub invariant-loop-segment : goal.invariant-loop-segment
 invariant-loop-segment l =
     record {
-      items : l.out.items ++ path_octets (drop l.segment-index l.path) ≡ l.fn.out.items ++ path_octets l.path;
-      room : vec_len l.out + length (path_octets (drop l.segment-index l.path)) ≤ vec_capacity l.out;
-      fit : AllByRecursion SegmentFits (drop l.segment-index l.path);
+      items : l.out.items ++ path_octets l.width (drop l.segment-index l.path) ≡ l.fn.out.items ++ path_octets l.width l.path;
+      room : vec_len l.out + length (path_octets l.width (drop l.segment-index l.path)) ≤ vec_capacity l.out;
+      fit : AllByRecursion (SegmentFits l.width) (drop l.segment-index l.path);
       capacity : vec_capacity l.fn.out ≤ vec_capacity l.out;
     }

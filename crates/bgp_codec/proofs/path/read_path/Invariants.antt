@@ -5,7 +5,7 @@ use Rattle.bgp_codec.proofs.EachLemmas.{with_front}
 use Rattle.bgp_codec.proofs.path.read_path.Given as goal
 
 abbrev pub invariant-segments : goal.invariant-segments
-invariant-segments l = path_reading l.octets ≡ with_front l.segments (path_reading l.left)
+invariant-segments l = path_reading l.width l.octets ≡ with_front l.segments (path_reading l.width l.left)
 
 abbrev pub decreases-segments : goal.decreases-segments
 decreases-segments l = length l.left
