@@ -1,8 +1,11 @@
 -- What each good line of a network text adds to the draft.
-use Rattle.std.proofs.Common.{◌≡◌, ℕ, ◌==◌, Bool, true, false, cond, List, [], ◌∷◌, map, length, Option, Some, None, Result, Ok, Err, refl, sym, ap, subst, ◌∙◌, inl, inr}
+use Rattle.std.proofs.Common.{◌≡◌, ℕ, ◌==◌, Bool, true, false, cond, List, [], ◌∷◌, map, length, Option, Some, None, Result, Ok, Err, refl, sym, ap, subst, ◌∙◌, inl, inr, ◌≤◌, arith}
 use Rattle.std.specs.Prelude.{codes, not, nat_le}
 use mathlib.Core.Logic.{◌⊎◌}
-use Rattle.std.proofs.lemmas.Bool.{eqb-true, and_parts}
+use Rattle.std.proofs.lemmas.Bool.{eqb-true, and_parts, leb-true, le-leb}
+use Rattle.bgp_values.specs.Ranges.{is_asn}
+use Rattle.bgp_values.specs.declared.width.Width.{Width}
+use Rattle.bgp_values.specs.declared.width.Width.TheVariants.{Two, Four}
 use Rattle.prefix_lanes.specs.Bits.{PrefixView}
 use Rattle.ranked_policy.specs.declared.network.Router.{Router}
 use Rattle.ranked_policy.specs.Adding.{with_link}
@@ -11,8 +14,8 @@ use Rattle.net_text.specs.declared.code.Code.TheVariants as kinds
 use Rattle.net_text.specs.declared.settings.Setting.{Setting}
 use Rattle.net_text.specs.declared.draft.Draft.{Draft}
 use Rattle.net_text.specs.Lexing.{Text, same, words_of, is_skipped, says_nothing, is_ascii}
-use Rattle.net_text.specs.Words.{◌>>=◌, number_word, asn_word, router_word, is_router, id_word, prefix_word, path_of, rule_path_words}
-use Rattle.net_text.specs.Lines.{setting_of, in_range, was_named, setting_line, with_router, is_taken, router_line, link_line, with_origin, origin_line, with_rule, rule_line, rule_fault, named_line, words_line, line_reading}
+use Rattle.net_text.specs.Words.{◌>>=◌, is_number, value_of, number_word, asn_word, router_word, is_router, id_word, prefix_word, path_of, rule_path_words}
+use Rattle.net_text.specs.Lines.{width_named, setting_of, in_range, was_named, setting_line, with_router, is_taken, router_line, link_line, with_origin, origin_line, with_rule, rule_line, rule_fault, named_line, words_line, line_reading}
 
 same_true : (a b : Text) → same a b ≡ true → a ≡ b
 same_true [] [] h = refl
@@ -36,11 +39,32 @@ known_by : (routers : List Router) (b : Bool) (u v : ℕ) → cond (not b) (Err 
 known_by routers true u v h = cc
 known_by routers false u v h = absurd cc
 
+-- ---- numbers that four octets hold, whatever the width of those that are read
+
+pub wider : (width : Width) (n : ℕ) → is_asn width n ≡ true → is_asn Four n ≡ true
+wider Two n h =
+    let parts = and_parts (nat_le 1 n) (nat_le n 65535) h in
+    let low : 1 ≤ n = leb-true 1 n parts.0 in
+    let high : n ≤ 65535 = leb-true n 65535 parts.1 in
+    let fits : nat_le n 4294967295 ≡ true = le-leb n 4294967295 (omega (arith, high)) in
+    rw (parts.0, fits) refl
+wider Four n h = h
+
+number_by : (a b c : Bool) (n u : ℕ) → (b ≡ true → c ≡ true) → cond (not a) (Err kinds.Unreadable) (cond (not b) (Err kinds.OutOfLimit) (Ok n)) ≡ Ok u
+    → cond (not a) (Err kinds.Unreadable) (cond (not c) (Err kinds.OutOfLimit) (Ok n)) ≡ Ok u
+number_by false b c n u on h = absurd cc
+number_by true false c n u on h = absurd cc
+number_by true true true n u on h = h
+number_by true true false n u on h = absurd (let k = on refl in cc)
+
+wide_asn : (width : Width) (a : Text) (u : ℕ) → asn_word width a ≡ Ok u → asn_word Four a ≡ Ok u
+wide_asn width a u h = number_by (is_number a) (is_asn width (value_of a)) (is_asn Four (value_of a)) (value_of a) u (wider width (value_of a)) h
+
 -- a known router is one that its number names
-known_asn : (routers : List Router) (a : Text) (u : ℕ) → router_word routers a ≡ Ok u → asn_word a ≡ Ok u
-known_asn routers a u h =
-    let b = bound (asn_word a) _ u h in
-    b.1 ∙ ap (λ (n : ℕ). Ok n) (known_by routers (is_router routers b.0) b.0 u b.2)
+known_asn : (width : Width) (routers : List Router) (a : Text) (u : ℕ) → router_word width routers a ≡ Ok u → asn_word Four a ≡ Ok u
+known_asn width routers a u h =
+    let b = bound (asn_word width a) _ u h in
+    wide_asn width a u (b.1 ∙ ap (λ (n : ℕ). Ok n) (known_by routers (is_router routers b.0) b.0 u b.2))
 
 -- ---- what a good line adds
 
@@ -50,7 +74,7 @@ pub record AddsRouter (d e : Draft) (words : List Text) : Type 0 where
   pub u : ℕ
   pub id : ℕ
   pub are : words ≡ codes "router" ∷ a ∷ b ∷ []
-  pub one : asn_word a ≡ Ok u
+  pub one : asn_word Four a ≡ Ok u
   pub other : id_word b ≡ Ok id
   pub new : with_router d u id ≡ e
 
@@ -60,8 +84,8 @@ pub record AddsLink (d e : Draft) (words : List Text) : Type 0 where
   pub u : ℕ
   pub v : ℕ
   pub are : words ≡ codes "link" ∷ a ∷ b ∷ []
-  pub one : asn_word a ≡ Ok u
-  pub other : asn_word b ≡ Ok v
+  pub one : asn_word Four a ≡ Ok u
+  pub other : asn_word Four b ≡ Ok v
   pub new : record d { net = with_link d.net u v } ≡ e
 
 pub record AddsOrigin (d e : Draft) (words : List Text) : Type 0 where
@@ -70,7 +94,7 @@ pub record AddsOrigin (d e : Draft) (words : List Text) : Type 0 where
   pub u : ℕ
   pub q : PrefixView
   pub are : words ≡ codes "origin" ∷ a ∷ b ∷ []
-  pub one : asn_word a ≡ Ok u
+  pub one : asn_word Four a ≡ Ok u
   pub other : prefix_word b ≡ Ok q
   pub new : with_origin d u q ≡ e
 
@@ -96,7 +120,7 @@ router_adds : (d e : Draft) (words : List Text) → router_line d words ≡ Ok e
 router_adds d e [] h = absurd cc
 router_adds d e (a ∷ []) h = absurd cc
 router_adds d e (a ∷ b ∷ []) h =
-    let one = bound (asn_word a) _ e h in
+    let one = bound (asn_word (width_named d.named) a) _ e h in
     let other = bound (id_word b) _ e one.2 in
     record {
       a = a;
@@ -104,7 +128,7 @@ router_adds d e (a ∷ b ∷ []) h =
       u = one.0;
       id = other.0;
       are = refl;
-      one = one.1;
+      one = wide_asn (width_named d.named) a one.0 one.1;
       other = other.1;
       new = passed (is_taken d.net.routers one.0 other.0) (nat_le 64 (length d.net.routers)) kinds.Repeated kinds.OutOfLimit (with_router d one.0 other.0) e other.2;
     }
@@ -114,16 +138,16 @@ link_adds : (d e : Draft) (words : List Text) → link_line d words ≡ Ok e →
 link_adds d e [] h = absurd cc
 link_adds d e (a ∷ []) h = absurd cc
 link_adds d e (a ∷ b ∷ []) h =
-    let one = bound (router_word d.net.routers a) _ e h in
-    let other = bound (router_word d.net.routers b) _ e one.2 in
+    let one = bound (router_word (width_named d.named) d.net.routers a) _ e h in
+    let other = bound (router_word (width_named d.named) d.net.routers b) _ e one.2 in
     record {
       a = a;
       b = b;
       u = one.0;
       v = other.0;
       are = refl;
-      one = known_asn d.net.routers a one.0 one.1;
-      other = known_asn d.net.routers b other.0 other.1;
+      one = known_asn (width_named d.named) d.net.routers a one.0 one.1;
+      other = known_asn (width_named d.named) d.net.routers b other.0 other.1;
       new = passed _ _ kinds.Repeated kinds.OutOfLimit (record d { net = with_link d.net one.0 other.0 }) e other.2;
     }
 link_adds d e (a ∷ b ∷ x ∷ words) h = absurd cc
@@ -132,7 +156,7 @@ origin_adds : (d e : Draft) (words : List Text) → origin_line d words ≡ Ok e
 origin_adds d e [] h = absurd cc
 origin_adds d e (a ∷ []) h = absurd cc
 origin_adds d e (a ∷ b ∷ []) h =
-    let one = bound (router_word d.net.routers a) _ e h in
+    let one = bound (router_word (width_named d.named) d.net.routers a) _ e h in
     let other = bound (prefix_word b) _ e one.2 in
     record {
       a = a;
@@ -140,7 +164,7 @@ origin_adds d e (a ∷ b ∷ []) h =
       u = one.0;
       q = other.0;
       are = refl;
-      one = known_asn d.net.routers a one.0 one.1;
+      one = known_asn (width_named d.named) d.net.routers a one.0 one.1;
       other = other.1;
       new = passed _ _ kinds.Repeated kinds.OutOfLimit (with_origin d one.0 other.0) e other.2;
     }
@@ -150,9 +174,9 @@ rule_adds : (d e : Draft) (words : List Text) → rule_line d words ≡ Ok e →
 rule_adds d e [] h = absurd cc
 rule_adds d e (a ∷ []) h = absurd cc
 rule_adds d e (a ∷ b ∷ words) h =
-    let one = bound (router_word d.net.routers a) _ e h in
+    let one = bound (router_word (width_named d.named) d.net.routers a) _ e h in
     let other = bound (prefix_word b) _ e one.2 in
-    let paths = bound (rule_path_words d.net.routers one.0 words) _ e other.2 in
+    let paths = bound (rule_path_words (width_named d.named) d.net.routers one.0 words) _ e other.2 in
     let free = bound (rule_fault d.net.routers one.0 other.0 words) _ e paths.2 in
     record {
       rest = a ∷ b ∷ words;

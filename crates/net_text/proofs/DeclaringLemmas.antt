@@ -8,6 +8,7 @@ use Rattle.ranked_policy.specs.declared.network.Link.{Link}
 use Rattle.ranked_policy.specs.declared.network.Origin.{Origin}
 use Rattle.ranked_policy.specs.declared.network.Rule.{Rule}
 use Rattle.ranked_policy.specs.Plans.{Plan}
+use Rattle.bgp_values.specs.declared.width.Width.TheVariants.{Four}
 use Rattle.net_text.specs.declared.code.Code.{Code}
 use Rattle.net_text.specs.declared.draft.Draft.{Draft}
 use Rattle.net_text.specs.Lexing.{Text, same, words_of}
@@ -133,7 +134,7 @@ module _ (u id : ℕ) where
   names_router line d e h = (
     λ k. (h.a, h.b, has_words line _ h.are, h.one ∙ ap (λ (n : ℕ). Ok n) k.0, h.other ∙ ap (λ (n : ℕ). Ok n) k.1),
     λ k. let same_words = two_words (codes "router") h.a h.b k.0 k.1 (sym h.are ∙ sym (here_words line _ k.2)) in
-        (one_reading asn_word h.a k.0 h.u u same_words.0 h.one k.3, one_reading id_word h.b k.1 h.id id same_words.1 h.other k.4),
+        (one_reading (asn_word Four) h.a k.0 h.u u same_words.0 h.one k.3, one_reading id_word h.b k.1 h.id id same_words.1 h.other k.4),
   )
 
   not_named : (line c : Text) (rest : List Text) → words_of line ≡ c ∷ rest → same c (codes "router") ≡ false → NamesRouter u id line → ⊥
@@ -171,7 +172,7 @@ module _ (u v : ℕ) where
   names_link line d e h = (
     λ k. (h.a, h.b, has_words line _ h.are, h.one ∙ ap (λ (n : ℕ). Ok n) k.0, h.other ∙ ap (λ (n : ℕ). Ok n) k.1),
     λ k. let same_words = two_words (codes "link") h.a h.b k.0 k.1 (sym h.are ∙ sym (here_words line _ k.2)) in
-        (one_reading asn_word h.a k.0 h.u u same_words.0 h.one k.3, one_reading asn_word h.b k.1 h.v v same_words.1 h.other k.4),
+        (one_reading (asn_word Four) h.a k.0 h.u u same_words.0 h.one k.3, one_reading (asn_word Four) h.b k.1 h.v v same_words.1 h.other k.4),
   )
 
   no_link : (line c : Text) (rest : List Text) → words_of line ≡ c ∷ rest → same c (codes "link") ≡ false → NamesLink u v line → ⊥
@@ -205,7 +206,7 @@ module _ (u : ℕ) (q : PrefixView) where
   names_origin line d e h = (
     λ k. (h.a, h.b, has_words line _ h.are, h.one ∙ ap (λ (n : ℕ). Ok n) k.0, h.other ∙ ap (λ (p : PrefixView). Ok p) k.1),
     λ k. let same_words = two_words (codes "origin") h.a h.b k.0 k.1 (sym h.are ∙ sym (here_words line _ k.2)) in
-        (one_reading asn_word h.a k.0 h.u u same_words.0 h.one k.3, one_reading prefix_word h.b k.1 h.q q same_words.1 h.other k.4),
+        (one_reading (asn_word Four) h.a k.0 h.u u same_words.0 h.one k.3, one_reading prefix_word h.b k.1 h.q q same_words.1 h.other k.4),
   )
 
   no_origin : (line c : Text) (rest : List Text) → words_of line ≡ c ∷ rest → same c (codes "origin") ≡ false → NamesOrigin u q line → ⊥

@@ -7,6 +7,7 @@ use Rattle.std.proofs.lemmas.List.{take_more_set}
 use mathlib.Core.Bool.{beq}
 use Rattle.net_text.specs.Lexing.{Text, same}
 use Rattle.net_text.specs.Words.{value_of}
+use Rattle.bgp_values.specs.declared.width.Width.{Width}
 use Rattle.bgp_values.specs.Ranges.{is_asn}
 use Rattle.net_text.specs.Taking.{parts_left}
 use Rattle.net_text.proofs.WordLemmas.{some_part}
@@ -27,8 +28,8 @@ taken_on numbers path count v left rest part lt l is w =
     ∙ ap (λ n. (take count numbers ++ n ∷ []) ++ map value_of rest) (sym is)
     ∙ ap (λ (ns : List ℕ). ns ++ map value_of rest) (sym (take_more_set numbers count v lt))
 
-pub fits_on : (left rest : List Text) (part : Text) → left ≡ part ∷ rest → list_all is_asn (map value_of left) ≡ true → list_all is_asn (map value_of rest) ≡ true
-fits_on left rest part l all = (and_parts (is_asn (value_of part)) (list_all is_asn (map value_of rest)) (subst (λ (ps : List Text). list_all is_asn (map value_of ps) ≡ true) l all)).1
+pub fits_on : (width : Width) (left rest : List Text) (part : Text) → left ≡ part ∷ rest → list_all (is_asn width) (map value_of left) ≡ true → list_all (is_asn width) (map value_of rest) ≡ true
+fits_on width left rest part l all = (and_parts (is_asn width (value_of part)) (list_all (is_asn width) (map value_of rest)) (subst (λ (ps : List Text). list_all (is_asn width) (map value_of ps) ≡ true) l all)).1
 
 pub count_on : (left rest : List Text) (part : Text) → left ≡ part ∷ rest → length left ≡ length rest + 1
 count_on left rest part l = ap length l ∙ omega arith

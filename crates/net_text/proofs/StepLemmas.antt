@@ -11,8 +11,11 @@ use Rattle.net_text.specs.declared.draft.Draft.{Draft}
 use Rattle.net_text.specs.Lexing.{Text}
 use Rattle.net_text.specs.Words.{◌>>=◌, path_of, path_word, is_from, router_word, prefix_word, rule_path_word, rule_path_words}
 use Rattle.ranked_policy.specs.Tests.{is_simple}
+use Rattle.bgp_values.specs.declared.width.Width.{Width}
+use Rattle.bgp_values.specs.declared.width.Width.TheVariants.{Two, Four}
+use Rattle.net_text.proofs.AddingLemmas.{wider}
 use Rattle.bgp_values.specs.Ranges.{is_asn}
-use Rattle.net_text.specs.Lines.{are_short, are_distinct, is_ruled, is_full, rule_fault, rule_line, with_rule}
+use Rattle.net_text.specs.Lines.{width_named, are_short, are_distinct, is_ruled, is_full, rule_fault, rule_line, with_rule}
 use Rattle.net_text.specs.Taking.{IsTakeable}
 use Rattle.net_text.specs.Steps.{RefusesOr}
 
@@ -44,18 +47,18 @@ unknown_no_memory e = cc
 not_simple_no_memory : {A : Type 0} → NoMemory {A = A} (Err codes.NotSimple)
 not_simple_no_memory e = cc
 
-pub path_no_memory : (routers : List Router) (word : Text) → NoMemory (path_word routers word)
-path_no_memory routers word = either_way _ _ _ unreadable_no_memory (either_way _ _ _ limit_no_memory (either_way _ _ _ unknown_no_memory (ok_no_memory tt)))
+pub path_no_memory : (width : Width) (routers : List Router) (word : Text) → NoMemory (path_word width routers word)
+path_no_memory width routers word = either_way _ _ _ unreadable_no_memory (either_way _ _ _ limit_no_memory (either_way _ _ _ unknown_no_memory (ok_no_memory tt)))
 
-rule_path_no_memory : (routers : List Router) (u : ℕ) (word : Text) → NoMemory (rule_path_word routers u word)
-rule_path_no_memory routers u word =
-    one_by_one (path_word routers word) (λ _. cond (is_from u (path_of word) && is_simple (path_of word)) (Ok tt) (Err codes.NotSimple)) (path_no_memory routers word)
+rule_path_no_memory : (width : Width) (routers : List Router) (u : ℕ) (word : Text) → NoMemory (rule_path_word width routers u word)
+rule_path_no_memory width routers u word =
+    one_by_one (path_word width routers word) (λ _. cond (is_from u (path_of word) && is_simple (path_of word)) (Ok tt) (Err codes.NotSimple)) (path_no_memory width routers word)
     (λ _. either_way _ _ _ (ok_no_memory tt) not_simple_no_memory)
 
-pub rule_paths_no_memory : (routers : List Router) (u : ℕ) (words : List Text) → NoMemory (rule_path_words routers u words)
-rule_paths_no_memory routers u [] = ok_no_memory tt
-rule_paths_no_memory routers u (word ∷ words) =
-    one_by_one (rule_path_word routers u word) (λ _. rule_path_words routers u words) (rule_path_no_memory routers u word) (λ _. rule_paths_no_memory routers u words)
+pub rule_paths_no_memory : (width : Width) (routers : List Router) (u : ℕ) (words : List Text) → NoMemory (rule_path_words width routers u words)
+rule_paths_no_memory width routers u [] = ok_no_memory tt
+rule_paths_no_memory width routers u (word ∷ words) =
+    one_by_one (rule_path_word width routers u word) (λ _. rule_path_words width routers u words) (rule_path_no_memory width routers u word) (λ _. rule_paths_no_memory width routers u words)
 
 -- a fault of judged words is the fault of the line
 pub refuses : {A S : Type 0} (allowed : Type 0) (code : Code) (judged : Result A Code) (read : Result S Code) → NoMemory judged → judged ≡ Err code → read ≡ Err code → RefusesOr allowed code read
@@ -80,33 +83,41 @@ pub then_ok : {A B : Type 0} (r : Result A Code) (f : A → Result B Code) (v : 
 then_ok (Ok x) f v e = (x, refl, e)
 then_ok (Err code) f v e = absurd (cc)
 
-pub path_asns : (routers : List Router) (word : Text) (u : Unit {0}) → path_word routers word ≡ Ok u → list_all is_asn (path_of word) ≡ true
-path_asns routers word u e = not-false _ (past _ codes.OutOfLimit _ u (past _ codes.Unreadable _ u e).1).0
+all_wider : (width : Width) (ns : List ℕ) → list_all (is_asn width) ns ≡ true → list_all (is_asn Four) ns ≡ true
+all_wider width [] h = refl
+all_wider width (n ∷ ns) h =
+    let parts = and_parts (is_asn width n) (list_all (is_asn width) ns) h in
+    let one = wider width n parts.0 in
+    let more = all_wider width ns parts.1 in
+    rw (one, more) refl
+
+pub path_asns : (width : Width) (routers : List Router) (word : Text) (u : Unit {0}) → path_word width routers word ≡ Ok u → list_all (is_asn Four) (path_of word) ≡ true
+path_asns width routers word u e = all_wider width (path_of word) (not-false _ (past _ codes.OutOfLimit _ u (past _ codes.Unreadable _ u e).1).0)
 
 pub is_short : (n : ℕ) → nat_le n 16 ≡ true → n ≤ 16
 is_short n t = leb-true n 16 t
 
-takeable_in : (routers : List Router) (u : ℕ) (words : List Text) (v : Unit {0}) → rule_path_words routers u words ≡ Ok v → are_short (map path_of words) ≡ true → All IsTakeable words
-takeable_in routers u [] v e s = All-nil IsTakeable
-takeable_in routers u (word ∷ words) v e s =
-    let first = then_ok (rule_path_word routers u word) (λ _. rule_path_words routers u words) v e in
-    let path = then_ok (path_word routers word) (λ _. cond (is_from u (path_of word) && is_simple (path_of word)) (Ok tt) (Err codes.NotSimple)) first.0 first.1 in
+takeable_in : (width : Width) (routers : List Router) (u : ℕ) (words : List Text) (v : Unit {0}) → rule_path_words width routers u words ≡ Ok v → are_short (map path_of words) ≡ true → All IsTakeable words
+takeable_in width routers u [] v e s = All-nil IsTakeable
+takeable_in width routers u (word ∷ words) v e s =
+    let first = then_ok (rule_path_word width routers u word) (λ _. rule_path_words width routers u words) v e in
+    let path = then_ok (path_word width routers word) (λ _. cond (is_from u (path_of word) && is_simple (path_of word)) (Ok tt) (Err codes.NotSimple)) first.0 first.1 in
     let both = and_parts (nat_le (length (path_of word)) 16) (are_short (map path_of words)) s in
-    All-cons IsTakeable word words (record { numbers = path_asns routers word path.0 path.1; short = is_short (length (path_of word)) both.0 }) (takeable_in routers u words v first.2 both.1)
+    All-cons IsTakeable word words (record { numbers = path_asns width routers word path.0 path.1; short = is_short (length (path_of word)) both.0 }) (takeable_in width routers u words v first.2 both.1)
 
 -- the paths of a good rule can be taken into memory
-pub takeable : (routers : List Router) (u : ℕ) (q : PrefixView) (words : List Text) (v w : Unit {0}) → rule_path_words routers u words ≡ Ok v → rule_fault routers u q words ≡ Ok w → All IsTakeable words
-takeable routers u q words v w e f =
+pub takeable : (width : Width) (routers : List Router) (u : ℕ) (q : PrefixView) (words : List Text) (v w : Unit {0}) → rule_path_words width routers u words ≡ Ok v → rule_fault routers u q words ≡ Ok w → All IsTakeable words
+takeable width routers u q words v w e f =
     let counts = past (is_ruled routers u q || not (are_distinct (map path_of words))) codes.Repeated _ w f in
     let limits = past (nat_lt 32 (length words) || is_full routers u || not (are_short (map path_of words))) codes.OutOfLimit (Ok tt) w counts.1 in
-    takeable_in routers u words v e (not-false _ (or_parts (nat_lt 32 (length words) || is_full routers u) (not (are_short (map path_of words))) limits.0).1)
+    takeable_in width routers u words v e (not-false _ (or_parts (nat_lt 32 (length words) || is_full routers u) (not (are_short (map path_of words))) limits.0).1)
 
 -- ---- a rule's line stops at a path, or goes on to its counts
 
-pub rule_stops : (d : Draft) (line words more : List Text) (a b : Text) (u : ℕ) (q : PrefixView) (code : Code) → line ≡ a ∷ more → more ≡ b ∷ words → Ok u ≡ router_word d.net.routers a → Ok q ≡ prefix_word b
-    → Err code ≡ rule_path_words d.net.routers u words → rule_line d line ≡ Err code
+pub rule_stops : (d : Draft) (line words more : List Text) (a b : Text) (u : ℕ) (q : PrefixView) (code : Code) → line ≡ a ∷ more → more ≡ b ∷ words → Ok u ≡ router_word (width_named d.named) d.net.routers a → Ok q ≡ prefix_word b
+    → Err code ≡ rule_path_words (width_named d.named) d.net.routers u words → rule_line d line ≡ Err code
 rule_stops d line words more a b u q code l m e f g =
     ap (rule_line d) (l ∙ ap (λ (ws : List Text). a ∷ ws) m)
-    ∙ ap (λ (r : Result ℕ Code). r >>= λ u. prefix_word b >>= λ q. rule_path_words d.net.routers u words >>= λ _. rule_fault d.net.routers u q words >>= λ _. Ok (with_rule d u q (map path_of words))) (sym e)
-    ∙ ap (λ (r : Result PrefixView Code). r >>= λ q. rule_path_words d.net.routers u words >>= λ _. rule_fault d.net.routers u q words >>= λ _. Ok (with_rule d u q (map path_of words))) (sym f)
+    ∙ ap (λ (r : Result ℕ Code). r >>= λ u. prefix_word b >>= λ q. rule_path_words (width_named d.named) d.net.routers u words >>= λ _. rule_fault d.net.routers u q words >>= λ _. Ok (with_rule d u q (map path_of words))) (sym e)
+    ∙ ap (λ (r : Result PrefixView Code). r >>= λ q. rule_path_words (width_named d.named) d.net.routers u words >>= λ _. rule_fault d.net.routers u q words >>= λ _. Ok (with_rule d u q (map path_of words))) (sym f)
     ∙ ap (λ (r : Result (Unit {0}) Code). r >>= λ _. rule_fault d.net.routers u q words >>= λ _. Ok (with_rule d u q (map path_of words))) (sym g)

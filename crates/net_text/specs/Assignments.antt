@@ -29,7 +29,7 @@ pub record AreGiven (given : BTreeSet Key) (entries : List Entry) : Type 0 where
 
 abbrev pub path_line : Plan → ℕ → List Entry → List Text → Result (List Entry) Code
 path_line net line entries (a ∷ b ∷ c ∷ []) =
-    router_word net.routers a >>= λ u. origin_word net.origins b >>= λ q. assigned_word net.routers c >>= λ _.
+    router_word net.settings.width net.routers a >>= λ u. origin_word net.origins b >>= λ q. assigned_word net.settings.width net.routers c >>= λ _.
     if list_any (gives u q) entries then Err kinds.Repeated
     else if nat_lt LONGEST_PATH (length (assigned_path c)) then Err kinds.OutOfLimit
     else Ok (entries ++ (record { line = line; router = u; prefix = q; path = assigned_path c }) ∷ [])

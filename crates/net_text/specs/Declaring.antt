@@ -3,6 +3,7 @@ use Rattle.std.specs.Prelude.{ℕ, ◌≡◌, ◌↔◌, List, [], ◌∷◌, Ok
 use mathlib.Core.Logic.{◌⊎◌}
 use Rattle.prefix_lanes.specs.Bits.{PrefixView}
 use Rattle.ranked_policy.specs.Plans.{Plan}
+use Rattle.bgp_values.specs.declared.width.Width.TheVariants.{Four}
 use Rattle.net_text.specs.Lexing.{Text}
 use Rattle.net_text.specs.Layout.{HasWords}
 use Rattle.net_text.specs.Words.{asn_word, id_word, prefix_word}
@@ -16,15 +17,15 @@ AnyOf Is (x ∷ xs) = Is x ⊎ AnyOf Is xs
 -- a line names a router with its identifier
 abbrev pub NamesRouter : ℕ → ℕ → Text → Type 0
 NamesRouter u id line =
-    (a : Text) × (b : Text) × HasWords line (codes "router" ∷ a ∷ b ∷ []) × (asn_word a ≡ Ok u) × (id_word b ≡ Ok id)
+    (a : Text) × (b : Text) × HasWords line (codes "router" ∷ a ∷ b ∷ []) × (asn_word Four a ≡ Ok u) × (id_word b ≡ Ok id)
 
 -- two routers that a link joins
 abbrev pub NamesLink : ℕ → ℕ → Text → Type 0
-NamesLink u v line = (a : Text) × (b : Text) × HasWords line (codes "link" ∷ a ∷ b ∷ []) × (asn_word a ≡ Ok u) × (asn_word b ≡ Ok v)
+NamesLink u v line = (a : Text) × (b : Text) × HasWords line (codes "link" ∷ a ∷ b ∷ []) × (asn_word Four a ≡ Ok u) × (asn_word Four b ≡ Ok v)
 
 -- a prefix and the router that originates it
 abbrev pub NamesOrigin : ℕ → PrefixView → Text → Type 0
-NamesOrigin u q line = (a : Text) × (b : Text) × HasWords line (codes "origin" ∷ a ∷ b ∷ []) × (asn_word a ≡ Ok u) × (prefix_word b ≡ Ok q)
+NamesOrigin u q line = (a : Text) × (b : Text) × HasWords line (codes "origin" ∷ a ∷ b ∷ []) × (asn_word Four a ≡ Ok u) × (prefix_word b ≡ Ok q)
 
 -- the network has what the lines name, and nothing else
 pub record HasWhatIsNamed (lines : List Text) (net : Plan) : Type 0 where

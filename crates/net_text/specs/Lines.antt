@@ -2,6 +2,8 @@
 use Rattle.std.specs.Prelude.{ℕ, ◌≡◌, ◌<◌, ◌==◌, ◌||◌, ◌&&◌, not, nat_lt, nat_le, Bool, true, false, List, [], ◌∷◌, ◌++◌, length, map, Option, Some, None, Result, Ok, Err, if◌then◌else◌, codes}
 use Rattle.std.specs.List.{list_all, list_any, count_by}
 use Rattle.prefix_lanes.specs.Bits.{PrefixView, is_prefix}
+use Rattle.bgp_values.specs.declared.width.Width.{Width}
+use Rattle.bgp_values.specs.declared.width.Width.TheVariants.{Two, Four}
 use Rattle.bgp_values.specs.Ranges.{is_hold_time}
 use Rattle.ranked_policy.specs.declared.network.Settings.{Settings}
 use Rattle.ranked_policy.specs.declared.network.Router.{Router}
@@ -15,13 +17,13 @@ use Rattle.net_text.specs.declared.code.Code.{Code}
 use Rattle.net_text.specs.declared.code.Code.TheVariants.{BadForm, Repeated, OutOfLimit}
 use Rattle.net_text.specs.declared.settings.TheConstants.{MOST_SECONDS, USUAL_HOLD, USUAL_RESTART, USUAL_PIPE}
 use Rattle.net_text.specs.declared.settings.Setting.{Setting}
-use Rattle.net_text.specs.declared.settings.Setting.TheVariants.{Hold, Restart, Cut, Pipe}
+use Rattle.net_text.specs.declared.settings.Setting.TheVariants.{Hold, Restart, Cut, Pipe, Octets}
 use Rattle.net_text.specs.declared.settings.Named.{Named}
 use Rattle.net_text.specs.declared.draft.Draft.{Draft}
 use Rattle.net_text.specs.Lexing.{Text, same, words_of, is_skipped, is_ascii}
 use Rattle.net_text.specs.Words.{◌>>=◌, is_number, value_of, number_word, asn_word, router_word, id_word, prefix_word, is_named, path_of, rule_path_words}
 
--- ---- settings: seconds of the hold time and until a restart, octets of a cut, items of a pipe
+-- ---- settings: seconds of the hold time and until a restart, octets of a cut, items of a pipe, octets of an AS number
 
 abbrev pub setting_of : Text → Option Setting
 setting_of word =
@@ -29,6 +31,7 @@ setting_of word =
     else if same word (codes "restart") then Some Restart
     else if same word (codes "cut") then Some Cut
     else if same word (codes "pipe") then Some Pipe
+    else if same word (codes "asn") then Some Octets
     else None
 
 abbrev pub in_range : Setting → ℕ → Bool
@@ -36,24 +39,32 @@ in_range Hold n = nat_le n MOST_SECONDS && is_hold_time n
 in_range Restart n = nat_le n MOST_SECONDS
 in_range Cut n = nat_le 1 n && nat_le n GREATEST_CUT
 in_range Pipe n = nat_le 1 n && nat_le n GREATEST_PIPE
+in_range Octets n = n == 4
 
 abbrev pub set_to : Setting → ℕ → Settings → Settings
 set_to Hold n s = record s { hold = n }
 set_to Restart n s = record s { restart = n }
 set_to Cut n s = record s { cut = n }
 set_to Pipe n s = record s { pipe = n }
+set_to Octets n s = record s { width = Four }
 
 abbrev pub was_named : Setting → Named → Bool
 was_named Hold named = named.hold
 was_named Restart named = named.restart
 was_named Cut named = named.cut
 was_named Pipe named = named.pipe
+was_named Octets named = named.octets
 
 abbrev pub naming : Setting → Named → Named
 naming Hold named = record named { hold = true }
 naming Restart named = record named { restart = true }
 naming Cut named = record named { cut = true }
 naming Pipe named = record named { pipe = true }
+naming Octets named = record named { octets = true }
+
+-- AS numbers have two octets until a line says that they have four
+abbrev pub width_named : Named → Width
+width_named named = if named.octets then Four else Two
 
 -- what a line says of the settings
 abbrev pub told_of : Option Setting → Text → Settings → Settings
@@ -70,7 +81,7 @@ settings_behind s [] = s
 settings_behind s (line ∷ lines) = settings_behind (told (words_of line) s) lines
 
 abbrev pub usual : Settings
-usual = record { hold = USUAL_HOLD; restart = USUAL_RESTART; cut = GREATEST_CUT; pipe = USUAL_PIPE }
+usual = record { hold = USUAL_HOLD; restart = USUAL_RESTART; cut = GREATEST_CUT; pipe = USUAL_PIPE; width = Two }
 
 abbrev pub settings_of : List Text → Settings
 settings_of lines = settings_behind usual lines
@@ -104,7 +115,7 @@ is_taken routers u id = list_any (λ r. (r.asn == u) || (r.id == id)) routers
 
 abbrev pub router_line : Draft → List Text → Result Draft Code
 router_line d (a ∷ b ∷ []) =
-    asn_word a >>= λ u. id_word b >>= λ id.
+    asn_word (width_named d.named) a >>= λ u. id_word b >>= λ id.
     if is_taken d.net.routers u id then Err Repeated
     else if nat_le MOST_ROUTERS (length d.net.routers) then Err OutOfLimit
     else Ok (with_router d u id)
@@ -117,7 +128,7 @@ joins u v link = ((link.one == u) && (link.other == v)) || ((link.one == v) && (
 
 abbrev pub link_line : Draft → List Text → Result Draft Code
 link_line d (a ∷ b ∷ []) =
-    router_word d.net.routers a >>= λ u. router_word d.net.routers b >>= λ v.
+    router_word (width_named d.named) d.net.routers a >>= λ u. router_word (width_named d.named) d.net.routers b >>= λ v.
     if (u == v) || list_any (joins u v) d.net.links then Err Repeated
     else if nat_le MOST_LINKS (count_by (touches u) d.net.links) || nat_le MOST_LINKS (count_by (touches v) d.net.links) then Err OutOfLimit
     else Ok (record d { net = with_link d.net u v })
@@ -137,7 +148,7 @@ with_origin d u q = record d { net = record d.net { origins = among comes_before
 
 abbrev pub origin_line : Draft → List Text → Result Draft Code
 origin_line d (a ∷ b ∷ []) =
-    router_word d.net.routers a >>= λ u. prefix_word b >>= λ q.
+    router_word (width_named d.named) d.net.routers a >>= λ u. prefix_word b >>= λ q.
     if is_named d.net.origins q then Err Repeated
     else if nat_le MOST_PREFIXES (length d.net.origins) then Err OutOfLimit
     else Ok (with_origin d u q)
@@ -173,7 +184,7 @@ rule_fault routers u q words =
 
 abbrev pub rule_line : Draft → List Text → Result Draft Code
 rule_line d (a ∷ b ∷ words) =
-    router_word d.net.routers a >>= λ u. prefix_word b >>= λ q. rule_path_words d.net.routers u words >>= λ _. rule_fault d.net.routers u q words >>= λ _.
+    router_word (width_named d.named) d.net.routers a >>= λ u. prefix_word b >>= λ q. rule_path_words (width_named d.named) d.net.routers u words >>= λ _. rule_fault d.net.routers u q words >>= λ _.
     Ok (with_rule d u q (map path_of words))
 rule_line d words = Err BadForm
 
@@ -185,9 +196,9 @@ pub record IsLongRule (d : Draft) (words : List Text) : Type 0 where
   pub asn : ℕ
   pub prefix : PrefixView
   pub parted : words ≡ first ∷ second ∷ paths
-  pub router : router_word d.net.routers first ≡ Ok asn
+  pub router : router_word (width_named d.named) d.net.routers first ≡ Ok asn
   pub covered : prefix_word second ≡ Ok prefix
-  pub good : rule_path_words d.net.routers asn paths ≡ Ok tt
+  pub good : rule_path_words (width_named d.named) d.net.routers asn paths ≡ Ok tt
   pub free : is_ruled d.net.routers asn prefix ≡ false
   pub long : MOST_PATHS < length paths
 

@@ -29,7 +29,7 @@ reading read before s (line ∷ lines) = then_on (before + 1) (read (before + 1)
 -- ---- networks
 
 abbrev pub nothing_named : Named
-nothing_named = record { hold = false; restart = false; cut = false; pipe = false }
+nothing_named = record { hold = false; restart = false; cut = false; pipe = false; octets = false }
 
 abbrev pub empty_draft : List Text → Draft
 empty_draft lines = record { named = nothing_named; net = empty_plan (settings_of lines) }

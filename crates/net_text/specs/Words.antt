@@ -2,6 +2,7 @@
 use Rattle.std.specs.Prelude.{ℕ, ◌+◌, ◌-◌, ◌*◌, ◌^◌, ◌==◌, ◌&&◌, not, nat_le, Bool, false, List, [], ◌∷◌, map, Option, Some, None, Result, Ok, Err, if◌then◌else◌, codes, min}
 use Rattle.std.specs.List.{list_all, list_any}
 use Rattle.prefix_lanes.specs.Bits.{PrefixView, masked, is_prefix}
+use Rattle.bgp_values.specs.declared.width.Width.{Width}
 use Rattle.bgp_values.specs.Ranges.{is_asn, is_unicast}
 use Rattle.ranked_policy.specs.Tests.{is_simple}
 use Rattle.ranked_policy.specs.declared.network.Router.{Router}
@@ -45,11 +46,11 @@ number_word test word =
 abbrev pub is_router : List Router → ℕ → Bool
 is_router routers u = list_any (λ r. r.asn == u) routers
 
-abbrev pub asn_word : Text → Result ℕ Code
-asn_word word = number_word is_asn word
+abbrev pub asn_word : Width → Text → Result ℕ Code
+asn_word width word = number_word (is_asn width) word
 
-abbrev pub router_word : List Router → Text → Result ℕ Code
-router_word routers word = asn_word word >>= λ u. if not (is_router routers u) then Err UnknownRouter else Ok u
+abbrev pub router_word : Width → List Router → Text → Result ℕ Code
+router_word width routers word = asn_word width word >>= λ u. if not (is_router routers u) then Err UnknownRouter else Ok u
 
 -- ---- addresses
 
@@ -113,10 +114,10 @@ abbrev pub path_of : Text → List ℕ
 path_of word = map value_of (parts 45 word)
 
 -- a word cannot be read anywhere in it, then is outside its limit anywhere in it, then names an unknown router anywhere in it
-abbrev pub path_word : List Router → Text → Result (Unit {0}) Code
-path_word routers word =
+abbrev pub path_word : Width → List Router → Text → Result (Unit {0}) Code
+path_word width routers word =
     if not (list_all is_number (parts 45 word)) then Err Unreadable
-    else if not (list_all is_asn (path_of word)) then Err OutOfLimit
+    else if not (list_all (is_asn width) (path_of word)) then Err OutOfLimit
     else if not (list_all (is_router routers) (path_of word)) then Err UnknownRouter
     else Ok tt
 
@@ -125,20 +126,20 @@ is_from u [] = false
 is_from u (v ∷ vs) = v == u
 
 -- a path of a rule of router u
-abbrev pub rule_path_word : List Router → ℕ → Text → Result (Unit {0}) Code
-rule_path_word routers u word = path_word routers word >>= λ _. if is_from u (path_of word) && is_simple (path_of word) then Ok tt else Err NotSimple
+abbrev pub rule_path_word : Width → List Router → ℕ → Text → Result (Unit {0}) Code
+rule_path_word width routers u word = path_word width routers word >>= λ _. if is_from u (path_of word) && is_simple (path_of word) then Ok tt else Err NotSimple
 
 -- the first fault of the paths of a rule of router u
-abbrev pub rule_path_words : List Router → ℕ → List Text → Result (Unit {0}) Code
-rule_path_words routers u [] = Ok tt
-rule_path_words routers u (word ∷ words) = rule_path_word routers u word >>= λ _. rule_path_words routers u words
+abbrev pub rule_path_words : Width → List Router → ℕ → List Text → Result (Unit {0}) Code
+rule_path_words width routers u [] = Ok tt
+rule_path_words width routers u (word ∷ words) = rule_path_word width routers u word >>= λ _. rule_path_words width routers u words
 
 -- a path, or the word none for the empty one
 abbrev pub is_none : Text → Bool
 is_none word = same word (codes "none")
 
-abbrev pub assigned_word : List Router → Text → Result (Unit {0}) Code
-assigned_word routers word = if is_none word then Ok tt else path_word routers word
+abbrev pub assigned_word : Width → List Router → Text → Result (Unit {0}) Code
+assigned_word width routers word = if is_none word then Ok tt else path_word width routers word
 
 abbrev pub assigned_path : Text → List ℕ
 assigned_path word = if is_none word then [] else path_of word

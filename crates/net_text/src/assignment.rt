@@ -53,9 +53,9 @@ fn read_path(
     let Some((router, prefix, path)) = three_words(words) else {
         return Err(Code::BadForm);
     };
-    let router = router_word(network.routers(), router)?;
+    let router = router_word(network.settings().width, network.routers(), router)?;
     let prefix = origin_word(network.origins(), prefix)?;
-    judge_assigned(network.routers(), path)?;
+    judge_assigned(network.settings().width, network.routers(), path)?;
     if entries.give(router, &prefix) {
         return Err(Code::Repeated);
     }

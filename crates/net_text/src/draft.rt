@@ -92,6 +92,7 @@ fn empty_draft(alloc: Global, text: &[u8]) -> Draft
         restart: false,
         cut: false,
         pipe: false,
+        octets: false,
     };
     match NetBuilder::new(alloc, settings_of(text)) {
         Ok(net) => Draft { named, net },

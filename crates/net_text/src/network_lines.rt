@@ -12,7 +12,7 @@ use crate::code::Code;
 use crate::draft::Draft;
 use crate::lexing::{is_ascii, is_skipped, next_word, one_word, same, two_words};
 use crate::paths::{are_distinct, are_short, count_words, judge_rule_paths, take_paths};
-use crate::settings::{Setting, judge_setting, naming, setting_of, was_named};
+use crate::settings::{Setting, judge_setting, naming, setting_of, was_named, width_named};
 use crate::words::{asn_word, id_word, is_named, prefix_word, router_word};
 use prefix_lanes::Prefix;
 use ranked_policy::{
@@ -50,7 +50,7 @@ fn read_router(draft: &mut Draft, words: &[u8]) -> Result<(), Code>
     let Some((asn, id)) = two_words(words) else {
         return Err(Code::BadForm);
     };
-    let asn = asn_word(asn)?;
+    let asn = asn_word(width_named(draft.named), asn)?;
     let id = id_word(id)?;
     if is_taken(draft.net.routers(), asn, id) {
         return Err(Code::Repeated);
@@ -84,8 +84,8 @@ fn read_link(draft: &mut Draft, words: &[u8]) -> Result<(), Code>
     let Some((a, b)) = two_words(words) else {
         return Err(Code::BadForm);
     };
-    let a = router_word(draft.net.routers(), a)?;
-    let b = router_word(draft.net.routers(), b)?;
+    let a = router_word(width_named(draft.named), draft.net.routers(), a)?;
+    let b = router_word(width_named(draft.named), draft.net.routers(), b)?;
     if a == b || is_linked(draft.net.links(), a, b) {
         return Err(Code::Repeated);
     }
@@ -103,7 +103,7 @@ fn read_origin(draft: &mut Draft, words: &[u8]) -> Result<(), Code>
     let Some((asn, prefix)) = two_words(words) else {
         return Err(Code::BadForm);
     };
-    let asn = router_word(draft.net.routers(), asn)?;
+    let asn = router_word(width_named(draft.named), draft.net.routers(), asn)?;
     let prefix = prefix_word(prefix)?;
     if is_named(draft.net.origins(), &prefix) {
         return Err(Code::Repeated);
@@ -172,9 +172,9 @@ fn read_rule(alloc: Global, draft: &mut Draft, words: &[u8]) -> Result<(), Code>
     let Some((prefix, words)) = next_word(words) else {
         return Err(Code::BadForm);
     };
-    let asn = router_word(draft.net.routers(), asn)?;
+    let asn = router_word(width_named(draft.named), draft.net.routers(), asn)?;
     let prefix = prefix_word(prefix)?;
-    judge_rule_paths(draft.net.routers(), asn, words)?;
+    judge_rule_paths(width_named(draft.named), draft.net.routers(), asn, words)?;
     judge_rule(alloc, draft.net.routers(), asn, &prefix, words)?;
     match take_paths(alloc, words) {
         Ok(paths) => draft.add_rule(asn, prefix, paths),

@@ -13,7 +13,7 @@ ghost use Rattle.net_text.specs.Taking.{parts_left, IsTakeable};
 use crate::code::Code;
 use crate::lexing::{cut, next_word, same};
 use crate::words::{is_number, is_router, value_of};
-use bgp_values::is_asn;
+use bgp_values::{Width, is_asn};
 use ranked_policy::{Asn, LONGEST_PATH, MOST_PATHS, Path, Router};
 use std::alloc::{AllocError, Global};
 use std::collections::BTreeSet;
@@ -46,13 +46,13 @@ fn are_numbers(word: &[u8]) -> bool
 }
 
 // Whether each number is one that an AS can have.
-fn are_asns(word: &[u8]) -> bool
-    ensures { result ≡ list_all is_asn (path_of word.now) }
+fn are_asns(width: Width, word: &[u8]) -> bool
+    ensures { result ≡ list_all (is_asn width) (path_of word.now) }
 {
     let (mut left, mut more) = (word, true);
     'parts: while more {
         let (part, rest, on) = next_part(left);
-        if !is_asn(value_of(part)) {
+        if !is_asn(width, value_of(part)) {
             return false;
         }
         left = rest;
@@ -78,13 +78,13 @@ fn are_routers(routers: &[Router], word: &[u8]) -> bool
 }
 
 // Judges a path of routers.
-fn judge_path(routers: &[Router], word: &[u8]) -> Result<(), Code>
-    ensures { result ≡ path_word routers.now word.now }
+fn judge_path(width: Width, routers: &[Router], word: &[u8]) -> Result<(), Code>
+    ensures { result ≡ path_word width routers.now word.now }
 {
     if !are_numbers(word) {
         return Err(Code::Unreadable);
     }
-    if !are_asns(word) {
+    if !are_asns(width, word) {
         return Err(Code::OutOfLimit);
     }
     if !are_routers(routers, word) {
@@ -134,10 +134,10 @@ fn is_from(asn: Asn, word: &[u8]) -> bool
 }
 
 // Judges a path of a rule of this router.
-fn judge_rule_path(routers: &[Router], asn: Asn, word: &[u8]) -> Result<(), Code>
-    ensures { result ≡ rule_path_word routers.now asn word.now }
+fn judge_rule_path(width: Width, routers: &[Router], asn: Asn, word: &[u8]) -> Result<(), Code>
+    ensures { result ≡ rule_path_word width routers.now asn word.now }
 {
-    judge_path(routers, word)?;
+    judge_path(width, routers, word)?;
     if is_from(asn, word) && is_simple(word) {
         Ok(())
     } else {
@@ -146,12 +146,17 @@ fn judge_rule_path(routers: &[Router], asn: Asn, word: &[u8]) -> Result<(), Code
 }
 
 // Judges the paths of a rule of this router, which are the words of a line.
-pub(crate) fn judge_rule_paths(routers: &[Router], asn: Asn, words: &[u8]) -> Result<(), Code>
-    ensures { result ≡ rule_path_words routers.now asn (words_of words.now) }
+pub(crate) fn judge_rule_paths(
+    width: Width,
+    routers: &[Router],
+    asn: Asn,
+    words: &[u8],
+) -> Result<(), Code>
+    ensures { result ≡ rule_path_words width routers.now asn (words_of words.now) }
 {
     let mut left = words;
     'words: while let Some((word, rest)) = next_word(left) {
-        judge_rule_path(routers, asn, word)?;
+        judge_rule_path(width, routers, asn, word)?;
         left = rest;
     }
     Ok(())
@@ -332,13 +337,13 @@ fn is_none(word: &[u8]) -> bool
 }
 
 // Judges the path of an assignment, or the word for the empty one.
-pub(crate) fn judge_assigned(routers: &[Router], word: &[u8]) -> Result<(), Code>
-    ensures { result ≡ assigned_word routers.now word.now }
+pub(crate) fn judge_assigned(width: Width, routers: &[Router], word: &[u8]) -> Result<(), Code>
+    ensures { result ≡ assigned_word width routers.now word.now }
 {
     if is_none(word) {
         return Ok(());
     }
-    judge_path(routers, word)
+    judge_path(width, routers, word)
 }
 
 // Whether the path of an assignment has no more routers than it may.

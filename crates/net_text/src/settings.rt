@@ -4,12 +4,12 @@ ghost use Rattle.std.specs.Prelude.{◌≡◌, IsTrue, true};
 ghost use Rattle.ranked_policy.specs.Plans.{IsSettings};
 ghost use Rattle.net_text.specs.Lexing.{lines_of, words_of};
 ghost use Rattle.net_text.specs.Words.{number_word};
-ghost use Rattle.net_text.specs.Lines.{setting_of, in_range, set_to, was_named, naming, told, settings_of};
+ghost use Rattle.net_text.specs.Lines.{setting_of, in_range, set_to, was_named, naming, width_named, told, settings_of};
 
 use crate::code::Code;
 use crate::lexing::{next_line, next_word, same};
 use crate::words::{is_number, value_of};
-use bgp_values::is_hold_time;
+use bgp_values::{Width, is_hold_time};
 use ranked_policy::{GREATEST_CUT, GREATEST_PIPE, Settings};
 
 /// The greatest hold time, and the greatest wait before a session starts again, in seconds: an OPEN has two
@@ -36,6 +36,8 @@ pub(crate) enum Setting {
     Cut,
     /// The items of a pipe.
     Pipe,
+    /// The octets of an AS number.
+    Octets,
 }
 
 /// Which settings lines have named.
@@ -49,6 +51,8 @@ pub(crate) struct Named {
     pub(crate) cut: bool,
     /// The items of a pipe.
     pub(crate) pipe: bool,
+    /// The octets of an AS number.
+    pub(crate) octets: bool,
 }
 
 // The setting that a first word names.
@@ -63,6 +67,8 @@ pub(crate) fn setting_of(word: &[u8]) -> Option<Setting>
         Some(Setting::Cut)
     } else if same(word, b"pipe") {
         Some(Setting::Pipe)
+    } else if same(word, b"asn") {
+        Some(Setting::Octets)
     } else {
         None
     }
@@ -77,6 +83,7 @@ fn in_range(setting: Setting, number: u64) -> bool
         Setting::Restart => number <= u64::from(MOST_SECONDS),
         Setting::Cut => 1 <= number && number <= GREATEST_CUT as u64,
         Setting::Pipe => 1 <= number && number <= GREATEST_PIPE as u64,
+        Setting::Octets => number == 4,
     }
 }
 
@@ -102,6 +109,7 @@ pub(crate) fn was_named(setting: Setting, named: Named) -> bool
         Setting::Restart => named.restart,
         Setting::Cut => named.cut,
         Setting::Pipe => named.pipe,
+        Setting::Octets => named.octets,
     }
 }
 
@@ -122,6 +130,21 @@ pub(crate) fn naming(setting: Setting, named: Named) -> Named
             pipe: true,
             ..named
         },
+        Setting::Octets => Named {
+            octets: true,
+            ..named
+        },
+    }
+}
+
+// How many octets AS numbers have where lines have named so much: two until a line says four.
+pub(crate) fn width_named(named: Named) -> Width
+    ensures { result ≡ width_named named }
+{
+    if named.octets {
+        Width::Four
+    } else {
+        Width::Two
     }
 }
 
@@ -145,6 +168,10 @@ fn set_to(setting: Setting, number: u64, settings: Settings) -> Settings
         },
         Setting::Pipe => Settings {
             pipe: number as usize,
+            ..settings
+        },
+        Setting::Octets => Settings {
+            width: Width::Four,
             ..settings
         },
     }
@@ -183,6 +210,7 @@ pub(crate) fn settings_of(text: &[u8]) -> Settings
         restart: USUAL_RESTART,
         cut: GREATEST_CUT,
         pipe: USUAL_PIPE,
+        width: Width::Two,
     };
     let mut left = text;
     'lines: while !left.is_empty() {

@@ -7,7 +7,7 @@ ghost use Rattle.bgp_values.specs.Ranges.{is_asn, is_unicast};
 
 use crate::code::Code;
 use crate::lexing::cut;
-use bgp_values::{is_asn, is_unicast};
+use bgp_values::{Width, is_asn, is_unicast};
 use prefix_lanes::Prefix;
 use ranked_policy::{Asn, Origin, Router};
 
@@ -44,15 +44,15 @@ pub fn value_of(word: &[u8]) -> u64
     value
 }
 
-// A number that an AS can have (RFC 4271 section 4.2, RFC 7607).
-pub(crate) fn asn_word(word: &[u8]) -> Result<Asn, Code>
-    ensures { result ≡ asn_word word.now }
+// A number that an AS can have, where numbers have so many octets (RFC 4271 section 4.2, RFC 7607).
+pub(crate) fn asn_word(width: Width, word: &[u8]) -> Result<Asn, Code>
+    ensures { result ≡ asn_word width word.now }
 {
     if !is_number(word) {
         return Err(Code::Unreadable);
     }
     let number = value_of(word);
-    if !is_asn(number) {
+    if !is_asn(width, number) {
         return Err(Code::OutOfLimit);
     }
     Ok(number as Asn)
@@ -65,10 +65,10 @@ pub(crate) fn is_router(routers: &[Router], number: u64) -> bool
 }
 
 /// The number of a router: `Unreadable`, then `OutOfLimit`, then `UnknownRouter` where it is none.
-pub fn router_word(routers: &[Router], word: &[u8]) -> Result<Asn, Code>
-    ensures { result ≡ router_word routers.now word.now }
+pub fn router_word(width: Width, routers: &[Router], word: &[u8]) -> Result<Asn, Code>
+    ensures { result ≡ router_word width routers.now word.now }
 {
-    let asn = asn_word(word)?;
+    let asn = asn_word(width, word)?;
     if !is_router(routers, u64::from(asn)) {
         return Err(Code::UnknownRouter);
     }

@@ -107,7 +107,7 @@ no_rules all u = record {
 }
 
 -- a router more
-pub plan_router : (net : Plan) (before behind : List Router) (u id : ℕ) → net.routers ≡ before ++ behind → IsPlan net → All (λ r. (r.asn ≢ u) × (r.id ≢ id)) net.routers → length net.routers < 64 → IsAsn u × IsUnicast id
+pub plan_router : (net : Plan) (before behind : List Router) (u id : ℕ) → net.routers ≡ before ++ behind → IsPlan net → All (λ r. (r.asn ≢ u) × (r.id ≢ id)) net.routers → length net.routers < 64 → IsAsn net.settings.width u × IsUnicast id
     → All (λ r. r.asn < u) before → All (λ r. u < r.asn) behind
     → IsPlan (record net { routers = before ++ (record { asn = u; id = id; rules = [] }) ∷ behind })
 plan_router net before behind u id was h new room good below above =
@@ -127,7 +127,7 @@ plan_router net before behind u id was h new room good below above =
       rising = subst (AllPairs (λ v w. v < w)) (sym new_numbers)
           (pairs_insert (λ v w. v < w) (numbers before) (numbers behind) u (subst (AllPairs (λ v w. v < w)) (ap numbers was ∙ old_numbers) h.rising)
           (All-map (λ v. v < u) (λ r. r.asn) before below) (All-map (λ v. u < v) (λ r. r.asn) behind above));
-      in_range = subst (All IsAsn) (sym new_numbers) (all_insert IsAsn (numbers before) (numbers behind) u (subst (All IsAsn) (ap numbers was ∙ old_numbers) h.in_range) good.0);
+      in_range = subst (All (IsAsn net.settings.width)) (sym new_numbers) (all_insert (IsAsn net.settings.width) (numbers before) (numbers behind) u (subst (All (IsAsn net.settings.width)) (ap numbers was ∙ old_numbers) h.in_range) good.0);
       distinct = subst (AllPairs (λ a b. a ≢ b)) (sym new_ids)
           (pairs_insert (λ a b. a ≢ b) (identifiers before) (identifiers behind) id (subst (AllPairs (λ a b. a ≢ b)) (ap identifiers was ∙ old_ids) h.distinct)
           (All-map (λ a. a ≢ id) (λ r. r.id) before (All-weaker (λ r. (r.asn ≢ u) × (r.id ≢ id)) (λ r. r.id ≢ id) (λ r k. k.1) before apart.0))
@@ -183,7 +183,7 @@ plan_rule net before behind r q paths was h canonical new room ranked =
       settings = h.settings;
       few = omega (arith, h.few, ap length was, length-append before (r ∷ behind), length-append before (r' ∷ behind));
       rising = subst (AllPairs (λ v w. v < w)) same h.rising;
-      in_range = subst (All IsAsn) same h.in_range;
+      in_range = subst (All (IsAsn net.settings.width)) same h.in_range;
       distinct = subst (AllPairs (λ a b. a ≢ b)) ids h.distinct;
       unicast = subst (All IsUnicast) ids h.unicast;
       links = subst (λ all. AreLinks all net.links) same h.links;

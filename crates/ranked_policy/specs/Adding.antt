@@ -13,6 +13,7 @@ use Rattle.ranked_policy.specs.declared.refusal.NetError.TheVariants.{NotSimple,
 use Rattle.ranked_policy.specs.Paths.{IsSimple, BeginsWith}
 use Rattle.ranked_policy.specs.declared.limits.TheConstants.{MOST_ROUTERS, MOST_LINKS, MOST_PREFIXES, MOST_RULES, MOST_PATHS, LONGEST_PATH}
 use Rattle.ranked_policy.specs.Plans.{Plan, Joins, touches, IsRouter, IsNamed, IsConnected, IsSettings}
+use Rattle.bgp_values.specs.declared.width.Width.{Width}
 use Rattle.bgp_values.specs.Ranges.{IsAsn, IsUnicast}
 
 -- the order in which refusals are judged: want of memory last
@@ -62,11 +63,11 @@ abbrev pub empty_plan : Settings → Plan
 empty_plan s = record { settings = s; routers = []; links = []; origins = [] }
 
 -- a router
-abbrev pub RouterMeets : List Router → ℕ → ℕ → NetError → Type 0
-RouterMeets routers u id Repeated = All (λ r. (r.asn ≢ u) × (r.id ≢ id)) routers
-RouterMeets routers u id Limit = length routers < MOST_ROUTERS
-RouterMeets routers u id BadNumber = IsAsn u × IsUnicast id
-RouterMeets routers u id e = Unit {0}
+abbrev pub RouterMeets : Width → List Router → ℕ → ℕ → NetError → Type 0
+RouterMeets width routers u id Repeated = All (λ r. (r.asn ≢ u) × (r.id ≢ id)) routers
+RouterMeets width routers u id Limit = length routers < MOST_ROUTERS
+RouterMeets width routers u id BadNumber = IsAsn width u × IsUnicast id
+RouterMeets width routers u id e = Unit {0}
 
 pub record AddsRouter (old new : Plan) (u id : ℕ) : Type 0 where
   pub routers : Gains old.routers new.routers (record { asn = u; id = id; rules = [] })

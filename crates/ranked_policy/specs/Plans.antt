@@ -104,7 +104,7 @@ pub record IsPlan (net : Plan) : Type 0 where
   pub settings : IsSettings net.settings
   pub few : length net.routers ≤ MOST_ROUTERS
   pub rising : AllPairs (λ u v. u < v) (numbers net.routers)
-  pub in_range : All IsAsn (numbers net.routers)
+  pub in_range : All (IsAsn net.settings.width) (numbers net.routers)
   pub distinct : AllPairs (λ a b. a ≢ b) (identifiers net.routers)
   pub unicast : All IsUnicast (identifiers net.routers)
   pub links : AreLinks (numbers net.routers) net.links

@@ -15,7 +15,7 @@ use crate::network::{Link, Origin, Router, Rule, Settings};
 use crate::path::{Asn, Path};
 use crate::policy::{begins_with, is_listed, is_simple};
 use crate::refusal::NetError;
-use bgp_values::{is_asn, is_hold_time, is_unicast};
+use bgp_values::{Width, is_asn, is_hold_time, is_unicast};
 use prefix_lanes::Prefix;
 
 // Whether each setting is in its range.
@@ -31,10 +31,10 @@ pub(crate) fn is_settings(settings: &Settings) -> bool
 }
 
 // Whether a router can have the number and the identifier.
-fn is_numbered(asn: Asn, id: u32) -> bool
-    ensures { IsTrue result ↔ (IsAsn asn × IsUnicast id) }
+fn is_numbered(width: Width, asn: Asn, id: u32) -> bool
+    ensures { IsTrue result ↔ (IsAsn width asn × IsUnicast id) }
 {
-    is_asn(u64::from(asn)) && is_unicast(id)
+    is_asn(width, u64::from(asn)) && is_unicast(id)
 }
 
 // Whether no router has the number or the identifier.
@@ -49,8 +49,13 @@ fn is_new_router(routers: &[Router], asn: Asn, id: u32) -> bool
     true
 }
 
-pub(crate) fn judge_router(routers: &[Router], asn: Asn, id: u32) -> Result<(), NetError>
-    ensures { IsJudged (RouterMeets routers.now asn id) result }
+pub(crate) fn judge_router(
+    width: Width,
+    routers: &[Router],
+    asn: Asn,
+    id: u32,
+) -> Result<(), NetError>
+    ensures { IsJudged (RouterMeets width routers.now asn id) result }
 {
     if !is_new_router(routers, asn, id) {
         return Err(NetError::Repeated);
@@ -58,7 +63,7 @@ pub(crate) fn judge_router(routers: &[Router], asn: Asn, id: u32) -> Result<(), 
     if routers.len() >= MOST_ROUTERS {
         return Err(NetError::Limit);
     }
-    if !is_numbered(asn, id) {
+    if !is_numbered(width, asn, id) {
         return Err(NetError::BadNumber);
     }
     Ok(())

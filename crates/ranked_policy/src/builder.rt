@@ -67,11 +67,11 @@ impl NetBuilder {
     /// Adds a router, with no link and no rule.
     pub fn push_router(&mut self, asn: Asn, id: u32) -> Result<(), NetError>
         ensures ok { OnOk result (AddsRouter self.old self.new asn id) }
-        ensures met { OnOk result (MeetsAll (RouterMeets self.old.routers asn id)) }
+        ensures met { OnOk result (MeetsAll (RouterMeets self.old.settings.width self.old.routers asn id)) }
         ensures err { OnErr result (self.new ≡ self.old) }
-        ensures refused { IfErr result (IsRefused (RouterMeets self.old.routers asn id)) }
+        ensures refused { IfErr result (IsRefused (RouterMeets self.old.settings.width self.old.routers asn id)) }
     {
-        if let Err(error) = judge_router(self.routers.as_slice(), asn, id) {
+        if let Err(error) = judge_router(self.settings.width, self.routers.as_slice(), asn, id) {
             return Err(error);
         }
         let Err(place) = place_of_router(self.routers.as_slice(), asn) else {

@@ -7,6 +7,7 @@ use crate::peers::peers_of;
 use crate::places::{find_prefix, find_router};
 use crate::rules::Rules;
 use crate::table::PolicyTable;
+use bgp_values::Width;
 use prefix_lanes::Prefix;
 use std::alloc::{AllocError, Global};
 use std::marker::Model;
@@ -22,6 +23,8 @@ pub struct Settings {
     pub cut: usize,
     /// How many items a one-way pipe of a link holds, 1 to [`GREATEST_PIPE`](crate::GREATEST_PIPE).
     pub pipe: usize,
+    /// How many octets AS numbers have in messages: no router has a number that they do not hold.
+    pub width: Width,
 }
 
 /// The paths that a router may use for the prefixes that a prefix covers, the best first.

@@ -12,37 +12,53 @@ ghost use Rattle.router_side.specs.SideOf.{side, side_opening};
 
 use crate::peers::Peer;
 use bgp_codec::laws::written_has_a_header;
-use bgp_codec::{Items, Message, Open};
+use bgp_codec::{Cap, Items, Message, Octets, Open};
+use bgp_values::{AS_TRANS, FOUR_OCTET_ASN, Width, greatest_asn};
 use ranked_policy::{Asn, Network};
 use router_side::SideEnd;
 use session_fsm::SessionConfig;
 use std::alloc::{AllocError, Global};
 
-// An OPEN without parameters.
-fn open_message(alloc: Global, asn: u16, hold: u16, id: u32) -> Message
-    requires hold { IsHoldTime hold }
-    requires id { IsUnicast id }
-    ensures open { result ≡ OpenMsg (record { asn = asn; hold = hold; id = id; params = [] }) }
-    ensures sayable { IsSayable result }
+// The field AS of an OPEN: the number, or AS_TRANS where two octets do not hold it (RFC 6793 section 9).
+fn asn_field(number: Asn) -> u16
+    ensures { result ≡ asn_field number }
 {
-    written_has_a_header();
-    Message::OpenMsg(Open {
-        asn,
-        hold,
-        id,
-        params: Items::new(alloc),
-    })
+    if number > greatest_asn(Width::Two) {
+        AS_TRANS
+    } else {
+        number as u16
+    }
+}
+
+// The parameters of an OPEN: none, or where AS numbers have four octets the capability that says the
+// number so (RFC 6793 section 3). It takes no memory.
+fn params(alloc: Global, width: Width, number: Asn) -> Items<Items<Cap>>
+    ensures { result ≡ params_of width number }
+{
+    match width {
+        Width::Two => Items::new(alloc),
+        Width::Four => Items::one(Items::one(Cap {
+            code: FOUR_OCTET_ASN,
+            value: Octets::short(alloc, &number.to_be_bytes()),
+        })),
+    }
 }
 
 /// What a router says of itself (RFC 4271 section 4.2). It takes no memory.
 pub(crate) fn own_open(alloc: Global, network: &Network, number: Asn) -> Message
     requires { IsRouter network.now.routers number }
     ensures open { result ≡ open_of network.now number }
-    ensures sayable { IsSayable result }
+    ensures sayable { IsSayable network.now.settings.width result }
 {
+    written_has_a_header();
     let settings = network.settings();
     let router = network.router(number).unwrap();
-    open_message(alloc, number as u16, settings.hold, router.id)
+    Message::OpenMsg(Open {
+        asn: asn_field(number),
+        hold: settings.hold,
+        id: router.id,
+        params: params(alloc, settings.width, number),
+    })
 }
 
 /// Whether a link joins two routers: each is the other's peer.

@@ -9,10 +9,11 @@ ghost use Rattle.router_side.specs.Sayings.{told_of, entries_of, all_entries, si
 ghost use Rattle.router_side.specs.Drafts.{hand};
 
 use crate::at_hand::Given;
+use crate::history::nobody;
 use crate::say::Say;
 use bgp_codec::laws::written_has_a_header;
-use bgp_codec::{Message, NOBODY, Notice, Octets};
-use bgp_values::{HEADER_LEN, LEAST_NOTIFICATION, UNSPECIFIC};
+use bgp_codec::{Message, Notice, Octets};
+use bgp_values::{HEADER_LEN, LEAST_NOTIFICATION, UNSPECIFIC, Width};
 use outbox::{Control, Outbox};
 use run_model::passing_appends;
 use std::alloc::Global;
@@ -70,7 +71,14 @@ fn notice(alloc: Global, code: u8) -> Message
 }
 
 #[tactic(auto, using(crate::proofs::Sizes::alive_len, crate::proofs::Sizes::notice_len))]
-fn append(alloc: Global, outbox: &mut Outbox, own_open: &Message, told: &Option<Message>, say: Say)
+fn append(
+    alloc: Global,
+    width: Width,
+    outbox: &mut Outbox,
+    own_open: &Message,
+    told: &Option<Message>,
+    say: Say,
+)
     requires own { IsSayable own_open.now }
     requires told { IsSayableWhere told.now }
     requires octets { size_of (length (written own_open.now)) (size_where told.now) say ≤ outbox.old.room }
@@ -83,15 +91,15 @@ fn append(alloc: Global, outbox: &mut Outbox, own_open: &Message, told: &Option<
     match say {
         Say::Dial(epoch) => outbox.push_control(Control::Dial(epoch)),
         Say::Shut(epoch) => outbox.push_control(Control::Shut(epoch)),
-        Say::Open(epoch) => outbox.push_message(epoch, own_open, &NOBODY),
-        Say::Alive(epoch) => outbox.push_message(epoch, &Message::AliveMsg, &NOBODY),
+        Say::Open(epoch) => outbox.push_message(epoch, own_open, &nobody(width)),
+        Say::Alive(epoch) => outbox.push_message(epoch, &Message::AliveMsg, &nobody(width)),
         Say::Notice(epoch, code) => {
             let message = notice(alloc, code);
-            outbox.push_message(epoch, &message, &NOBODY);
+            outbox.push_message(epoch, &message, &nobody(width));
         }
         Say::Given(epoch) => {
             if let Some(message) = told {
-                outbox.push_message(epoch, message, &NOBODY);
+                outbox.push_message(epoch, message, &nobody(width));
             }
         }
     }
@@ -100,6 +108,7 @@ fn append(alloc: Global, outbox: &mut Outbox, own_open: &Message, told: &Option<
 /// Appends all entries in their order, for which there is room. It takes no memory.
 pub(crate) fn append_all(
     alloc: Global,
+    width: Width,
     outbox: &mut Outbox,
     own_open: &Message,
     told: &Option<Message>,
@@ -113,6 +122,6 @@ pub(crate) fn append_all(
 {
     passing_appends::<Message>();
     for say in says {
-        append(alloc, outbox, own_open, told, *say);
+        append(alloc, width, outbox, own_open, told, *say);
     }
 }

@@ -10,7 +10,8 @@ ghost use Rattle.router_side.specs.Sayings.{acted_where, nobody, update_in, IsSa
 ghost use Rattle.router_side.specs.Histories.{history, octets_kept, updates_read, IsKept};
 
 use bgp_codec::laws::written_is_read;
-use bgp_codec::{Message, NOBODY, Update, decode, put_message};
+use bgp_codec::{Message, Rule, Update, decode, put_message};
+use bgp_values::Width;
 use std::alloc::{AllocError, Global};
 use std::marker::Model;
 
@@ -54,13 +55,24 @@ impl Model for History {
     ghost invariant = { λ h. AreKept h.places.items h.octets.items };
 }
 
+// The rule that names nobody.
+pub(crate) fn nobody(width: Width) -> Rule
+    ensures { result ≡ nobody width }
+{
+    Rule {
+        width,
+        peer: None,
+        own: None,
+    }
+}
+
 // The UPDATE that some octets spell. It is refused only where memory was: what is kept is an UPDATE.
-fn read(alloc: Global, epoch: u32, octets: &[u8]) -> Result<Told, AllocError>
+fn read(alloc: Global, width: Width, epoch: u32, octets: &[u8]) -> Result<Told, AllocError>
     requires { IsKept octets.now }
     ensures epoch { IfOk result (λ told. told.epoch ≡ epoch) }
-    ensures update { IfOk result (λ told. updates_read (reading nobody octets.now) ≡ told.update ∷ []) }
+    ensures update { IfOk result (λ told. updates_read (reading (nobody width) octets.now) ≡ told.update ∷ []) }
 {
-    match decode(alloc, octets, &NOBODY) {
+    match decode(alloc, octets, &nobody(width)) {
         Ok(Message::UpdateMsg(update)) => Ok(Told { epoch, update }),
         Ok(Message::OpenMsg(_) | Message::NoticeMsg(_) | Message::AliveMsg) | Err(_) => {
             Err(AllocError)
@@ -80,14 +92,14 @@ impl History {
     }
 
     /// The UPDATEs in their order, each with its incarnation. It is refused only where memory was.
-    pub fn told(&self, alloc: Global) -> Result<Vec<Told>, AllocError>
+    pub fn told(&self, alloc: Global, width: Width) -> Result<Vec<Told>, AllocError>
         ensures { IfOk result (λ told. told.items ≡ self.now.told) }
     {
         let mut all = Vec::new(alloc);
         let mut rest = self.octets.as_slice();
         for place in self.places.as_slice() {
             let (octets, behind) = rest.split_at(place.len);
-            all.push(read(alloc, place.epoch, octets)?)?;
+            all.push(read(alloc, width, place.epoch, octets)?)?;
             rest = behind;
         }
         Ok(all)
@@ -124,7 +136,7 @@ impl History {
     }
 
     // Puts an UPDATE behind the others, for which there is room; another message is none of them.
-    pub(crate) fn keep(&mut self, epoch: u32, message: &Message)
+    pub(crate) fn keep(&mut self, width: Width, epoch: u32, message: &Message)
         requires sayable { IsSayable message.now }
         requires room { length (written message.now) ≤ self.old.room }
         requires place { 1 ≤ self.old.places }
@@ -135,7 +147,7 @@ impl History {
             Message::UpdateMsg(_) => {
                 written_is_read();
                 let before = self.octets.len();
-                put_message(&mut self.octets, message, &NOBODY);
+                put_message(&mut self.octets, message, &nobody(width));
                 let len = self.octets.len() - before;
                 self.places.push_reserved(Place { epoch, len });
             }

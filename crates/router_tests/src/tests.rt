@@ -1,3 +1,4 @@
+use bgp_values::Width;
 use ranked_policy::{Asn, NetBuilder, Network, Settings};
 use router_core::Router;
 use std::alloc::Global;
@@ -79,6 +80,7 @@ fn star(alloc: Global, cut: usize, routers: u32) -> Result<Network, Fail> {
         restart: 0,
         cut,
         pipe: 64,
+        width: Width::Two,
     };
     let mut net = NetBuilder::new(alloc, settings)?;
     let pushed = push_all(&mut net, routers);

@@ -8,6 +8,7 @@ use Rattle.net_text.specs.declared.code.Code.{Code}
 use Rattle.net_text.specs.declared.code.Code.TheVariants as codes
 use Rattle.net_text.specs.Lexing.{Text, is_skipped, is_ascii, words_of}
 use Rattle.net_text.specs.Words.{◌>>=◌, number_word, is_router, asn_word, router_word, prefix_of, prefix_or_fault, is_named, origin_word}
+use Rattle.bgp_values.specs.declared.width.Width.{Width}
 use Rattle.bgp_values.specs.Ranges.{is_asn}
 use Rattle.schedule_text.specs.declared.operands.TheConstants.{MOST_COUNT}
 use Rattle.schedule_text.specs.declared.keyword.Keyword.{Keyword}
@@ -51,9 +52,9 @@ with_good r f h = onward r (λ x. Ok (f x)) h (λ x. good (f x))
 number : (test : ℕ → Bool) (word : Text) → NoMemory (number_word test word)
 number test word = either _ _ _ unreadable (either _ _ _ out_of_limit (good _))
 
-router : (routers : List Router) (word : Text) → NoMemory (router_word routers word)
-router routers word =
-    onward (asn_word word) (λ u. cond (not (is_router routers u)) (Err codes.UnknownRouter) (Ok u)) (number is_asn word) (λ u. either _ _ _ unknown (good u))
+router : (width : Width) (routers : List Router) (word : Text) → NoMemory (router_word width routers word)
+router width routers word =
+    onward (asn_word width word) (λ u. cond (not (is_router routers u)) (Err codes.UnknownRouter) (Ok u)) (number (is_asn width) word) (λ u. either _ _ _ unknown (good u))
 
 prefix : (q : Option PrefixView) → NoMemory (prefix_or_fault q)
 prefix None = bad_prefix
@@ -68,19 +69,19 @@ origin origins word =
 module _ (net : Plan) where
   of_router : (words : List Text) → NoMemory (router_operand net words)
   of_router [] = bad_form
-  of_router (a ∷ []) = router net.routers a
+  of_router (a ∷ []) = router net.settings.width net.routers a
   of_router (a ∷ b ∷ words) = bad_form
 
   abbrev both : {A : Type 0} → ℕ → A → ℕ × A
   both u x = (u, x)
 
-  of_two : {A : Type 0} (a b : Text) (second : Text → Result A Code) → NoMemory (second b) → NoMemory (router_word net.routers a >>= λ u. second b >>= λ x. Ok (both u x))
-  of_two a b second h = onward (router_word net.routers a) (λ u. second b >>= λ x. Ok (both u x)) (router net.routers a) (λ u. with_good (second b) (both u) h)
+  of_two : {A : Type 0} (a b : Text) (second : Text → Result A Code) → NoMemory (second b) → NoMemory (router_word net.settings.width net.routers a >>= λ u. second b >>= λ x. Ok (both u x))
+  of_two a b second h = onward (router_word net.settings.width net.routers a) (λ u. second b >>= λ x. Ok (both u x)) (router net.settings.width net.routers a) (λ u. with_good (second b) (both u) h)
 
   of_peers : (words : List Text) → NoMemory (peer_operands net words)
   of_peers [] = bad_form
   of_peers (a ∷ []) = bad_form
-  of_peers (a ∷ b ∷ []) = of_two a b (router_word net.routers) (router net.routers b)
+  of_peers (a ∷ b ∷ []) = of_two a b (router_word net.settings.width net.routers) (router net.settings.width net.routers b)
   of_peers (a ∷ b ∷ c ∷ words) = bad_form
 
   of_prefix : (words : List Text) → NoMemory (prefix_operands net words)

@@ -92,19 +92,19 @@ two r s p h =
 peers_said : (net : Plan) (name : Text) (words : List Text) (p : ℕ × ℕ) → peer_operands net words ≡ Ok p → NamesPeers net name p.0 p.1 (name ∷ words)
 peers_said net name [] p h = absurd cc
 peers_said net name (a ∷ []) p h = absurd cc
-peers_said net name (a ∷ b ∷ []) p h = (let both = two (router_word net.routers a) (router_word net.routers b) p h in (a, b, refl, both.0, both.1))
+peers_said net name (a ∷ b ∷ []) p h = (let both = two (router_word net.settings.width net.routers a) (router_word net.settings.width net.routers b) p h in (a, b, refl, both.0, both.1))
 peers_said net name (a ∷ b ∷ d ∷ words) p h = absurd cc
 
 prefix_said : (net : Plan) (name : Text) (words : List Text) (p : ℕ × PrefixView) → prefix_operands net words ≡ Ok p → NamesPrefix net name p.0 p.1 (name ∷ words)
 prefix_said net name [] p h = absurd cc
 prefix_said net name (a ∷ []) p h = absurd cc
-prefix_said net name (a ∷ b ∷ []) p h = (let both = two (router_word net.routers a) (origin_word net.origins b) p h in (a, b, refl, both.0, both.1))
+prefix_said net name (a ∷ b ∷ []) p h = (let both = two (router_word net.settings.width net.routers a) (origin_word net.origins b) p h in (a, b, refl, both.0, both.1))
 prefix_said net name (a ∷ b ∷ d ∷ words) p h = absurd cc
 
 number_said : (net : Plan) (name : Text) (words : List Text) (p : ℕ × ℕ) → number_operands net words ≡ Ok p → NamesNumber net name p.0 p.1 (name ∷ words)
 number_said net name [] p h = absurd cc
 number_said net name (a ∷ []) p h = absurd cc
-number_said net name (a ∷ b ∷ []) p h = (let both = two (router_word net.routers a) (number_word (is_within (2 ^ 32 - 1)) b) p h in (a, b, refl, both.0, both.1))
+number_said net name (a ∷ b ∷ []) p h = (let both = two (router_word net.settings.width net.routers a) (number_word (is_within (2 ^ 32 - 1)) b) p h in (a, b, refl, both.0, both.1))
 number_said net name (a ∷ b ∷ d ∷ words) p h = absurd cc
 
 -- operands that were read, and the order that was made of them
@@ -165,19 +165,19 @@ peers_back : (net : Plan) (name : Text) (words : List Text) (u v : ℕ) (f : ℕ
     → ((a b : Text) → words_order net (name ∷ a ∷ b ∷ []) ≡ ((peer_operands net (a ∷ b ∷ []) >>= λ p. Ok (f p)) >>= λ o. Ok (Some o))) → words_order net words ≡ Ok (Some (f (u, v)))
 peers_back net name words u v f h reads =
     ap (words_order net) h.2 ∙ reads h.0 h.1
-    ∙ one_back (peer_operands net (h.0 ∷ h.1 ∷ [])) (u, v) f (two_back (router_word net.routers h.0) (router_word net.routers h.1) u v h.3 h.4)
+    ∙ one_back (peer_operands net (h.0 ∷ h.1 ∷ [])) (u, v) f (two_back (router_word net.settings.width net.routers h.0) (router_word net.settings.width net.routers h.1) u v h.3 h.4)
 
 prefix_back : (net : Plan) (name : Text) (words : List Text) (u : ℕ) (q : PrefixView) (f : ℕ × PrefixView → Order) → NamesPrefix net name u q words
     → ((a b : Text) → words_order net (name ∷ a ∷ b ∷ []) ≡ ((prefix_operands net (a ∷ b ∷ []) >>= λ p. Ok (f p)) >>= λ o. Ok (Some o))) → words_order net words ≡ Ok (Some (f (u, q)))
 prefix_back net name words u q f h reads =
     ap (words_order net) h.2 ∙ reads h.0 h.1
-    ∙ one_back (prefix_operands net (h.0 ∷ h.1 ∷ [])) (u, q) f (two_back (router_word net.routers h.0) (origin_word net.origins h.1) u q h.3 h.4)
+    ∙ one_back (prefix_operands net (h.0 ∷ h.1 ∷ [])) (u, q) f (two_back (router_word net.settings.width net.routers h.0) (origin_word net.origins h.1) u q h.3 h.4)
 
 number_back : (net : Plan) (name : Text) (words : List Text) (u s : ℕ) (f : ℕ × ℕ → Order) → NamesNumber net name u s words
     → ((a b : Text) → words_order net (name ∷ a ∷ b ∷ []) ≡ ((number_operands net (a ∷ b ∷ []) >>= λ p. Ok (f p)) >>= λ o. Ok (Some o))) → words_order net words ≡ Ok (Some (f (u, s)))
 number_back net name words u s f h reads =
     ap (words_order net) h.2 ∙ reads h.0 h.1
-    ∙ one_back (number_operands net (h.0 ∷ h.1 ∷ [])) (u, s) f (two_back (router_word net.routers h.0) (number_word (is_within (2 ^ 32 - 1)) h.1) u s h.3 h.4)
+    ∙ one_back (number_operands net (h.0 ∷ h.1 ∷ [])) (u, s) f (two_back (router_word net.settings.width net.routers h.0) (number_word (is_within (2 ^ 32 - 1)) h.1) u s h.3 h.4)
 
 router_back : (net : Plan) (name : Text) (words : List Text) (u : ℕ) (f : ℕ → Order) → NamesRouter net name u words
     → ((a : Text) → words_order net (name ∷ a ∷ []) ≡ ((router_operand net (a ∷ []) >>= λ p. Ok (f p)) >>= λ o. Ok (Some o))) → words_order net words ≡ Ok (Some (f u))

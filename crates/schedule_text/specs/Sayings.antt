@@ -14,22 +14,22 @@ use Rattle.schedule_text.specs.Schedules.{is_within, line_order}
 
 -- a word, then a router
 abbrev pub NamesRouter : Plan → Text → ℕ → List Text → Type 0
-NamesRouter net name u words = (a : Text) × (words ≡ name ∷ a ∷ []) × (router_word net.routers a ≡ Ok u)
+NamesRouter net name u words = (a : Text) × (words ≡ name ∷ a ∷ []) × (router_word net.settings.width net.routers a ≡ Ok u)
 
 -- two routers
 abbrev pub NamesPeers : Plan → Text → ℕ → ℕ → List Text → Type 0
 NamesPeers net name u v words =
-    (a : Text) × (b : Text) × (words ≡ name ∷ a ∷ b ∷ []) × (router_word net.routers a ≡ Ok u) × (router_word net.routers b ≡ Ok v)
+    (a : Text) × (b : Text) × (words ≡ name ∷ a ∷ b ∷ []) × (router_word net.settings.width net.routers a ≡ Ok u) × (router_word net.settings.width net.routers b ≡ Ok v)
 
 -- a router and a prefix that an origin line names
 abbrev pub NamesPrefix : Plan → Text → ℕ → PrefixView → List Text → Type 0
 NamesPrefix net name u q words =
-    (a : Text) × (b : Text) × (words ≡ name ∷ a ∷ b ∷ []) × (router_word net.routers a ≡ Ok u) × (origin_word net.origins b ≡ Ok q)
+    (a : Text) × (b : Text) × (words ≡ name ∷ a ∷ b ∷ []) × (router_word net.settings.width net.routers a ≡ Ok u) × (origin_word net.origins b ≡ Ok q)
 
 -- a router and the number of a snapshot
 abbrev pub NamesNumber : Plan → Text → ℕ → ℕ → List Text → Type 0
 NamesNumber net name u s words =
-    (a : Text) × (b : Text) × (words ≡ name ∷ a ∷ b ∷ []) × (router_word net.routers a ≡ Ok u) × (number_word (is_within (2 ^ 32 - 1)) b ≡ Ok s)
+    (a : Text) × (b : Text) × (words ≡ name ∷ a ∷ b ∷ []) × (router_word net.settings.width net.routers a ≡ Ok u) × (number_word (is_within (2 ^ 32 - 1)) b ≡ Ok s)
 
 -- a count
 abbrev pub NamesCount : Text → ℕ → List Text → Type 0

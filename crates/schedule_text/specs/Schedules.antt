@@ -49,21 +49,21 @@ abbrev pub is_within : ℕ → ℕ → Bool
 is_within greatest n = nat_le 1 n && nat_le n greatest
 
 abbrev pub router_operand : Plan → List Text → Result ℕ Code
-router_operand net (a ∷ []) = router_word net.routers a
+router_operand net (a ∷ []) = router_word net.settings.width net.routers a
 router_operand net words = Err kinds.BadForm
 
 abbrev pub peer_operands : Plan → List Text → Result (ℕ × ℕ) Code
-peer_operands net (a ∷ b ∷ []) = router_word net.routers a >>= λ u. router_word net.routers b >>= λ v. Ok (u, v)
+peer_operands net (a ∷ b ∷ []) = router_word net.settings.width net.routers a >>= λ u. router_word net.settings.width net.routers b >>= λ v. Ok (u, v)
 peer_operands net words = Err kinds.BadForm
 
 -- a prefix that a router originates
 abbrev pub prefix_operands : Plan → List Text → Result (ℕ × PrefixView) Code
-prefix_operands net (a ∷ b ∷ []) = router_word net.routers a >>= λ u. origin_word net.origins b >>= λ q. Ok (u, q)
+prefix_operands net (a ∷ b ∷ []) = router_word net.settings.width net.routers a >>= λ u. origin_word net.origins b >>= λ q. Ok (u, q)
 prefix_operands net words = Err kinds.BadForm
 
 -- the number of a snapshot: 1 to 4294967295
 abbrev pub number_operands : Plan → List Text → Result (ℕ × ℕ) Code
-number_operands net (a ∷ b ∷ []) = router_word net.routers a >>= λ u. number_word (is_within (2 ^ 32 - 1)) b >>= λ s. Ok (u, s)
+number_operands net (a ∷ b ∷ []) = router_word net.settings.width net.routers a >>= λ u. number_word (is_within (2 ^ 32 - 1)) b >>= λ s. Ok (u, s)
 number_operands net words = Err kinds.BadForm
 
 abbrev pub count_operand : List Text → Result ℕ Code

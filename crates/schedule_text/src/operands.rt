@@ -35,7 +35,7 @@ pub(crate) fn router_operand(network: &Network, words: &[u8]) -> Result<Asn, Cod
     let Some(router) = one_word(words) else {
         return Err(Code::BadForm);
     };
-    router_word(network.routers(), router)
+    router_word(network.settings().width, network.routers(), router)
 }
 
 /// A router and a peer.
@@ -45,8 +45,8 @@ pub(crate) fn peer_operands(network: &Network, words: &[u8]) -> Result<(Asn, Asn
     let Some((router, peer)) = two_words(words) else {
         return Err(Code::BadForm);
     };
-    let router = router_word(network.routers(), router)?;
-    let peer = router_word(network.routers(), peer)?;
+    let router = router_word(network.settings().width, network.routers(), router)?;
+    let peer = router_word(network.settings().width, network.routers(), peer)?;
     Ok((router, peer))
 }
 
@@ -57,7 +57,7 @@ pub(crate) fn prefix_operands(network: &Network, words: &[u8]) -> Result<(Asn, P
     let Some((router, prefix)) = two_words(words) else {
         return Err(Code::BadForm);
     };
-    let router = router_word(network.routers(), router)?;
+    let router = router_word(network.settings().width, network.routers(), router)?;
     let prefix = origin_word(network.origins(), prefix)?;
     Ok((router, prefix))
 }
@@ -69,7 +69,7 @@ pub(crate) fn number_operands(network: &Network, words: &[u8]) -> Result<(Asn, u
     let Some((router, number)) = two_words(words) else {
         return Err(Code::BadForm);
     };
-    let router = router_word(network.routers(), router)?;
+    let router = router_word(network.settings().width, network.routers(), router)?;
     let number = number_word(number, u32::MAX)?;
     Ok((router, number))
 }

@@ -1,5 +1,6 @@
 //! What the tests share: networks, as they are built.
 
+use bgp_values::Width;
 use prefix_lanes::Prefix;
 use ranked_policy::{Asn, NetBuilder, NetError, Network, Path, Settings};
 use std::alloc::{AllocError, Global};
@@ -15,6 +16,7 @@ const SETTINGS: Settings = Settings {
     restart: 0,
     cut: 4096,
     pipe: 64,
+    width: Width::Two,
 };
 
 /// 10.0.0.0, of which the identifiers are the first addresses.

@@ -1,3 +1,4 @@
+use bgp_values::Width;
 use prefix_lanes::Prefix;
 use ranked_policy::{NetBuilder, NetError, Network, Settings};
 use std::alloc::Global;
@@ -27,6 +28,7 @@ fn new_network(alloc: Global) -> Result<NetBuilder, NetError> {
         restart: 0,
         cut: 4096,
         pipe: 64,
+        width: Width::Two,
     };
     NetBuilder::new(alloc, settings)
 }

@@ -16,7 +16,7 @@ ghost use Rattle.router_core.specs.Handling.{update_acted, copy_where, seen_wher
 
 use super::Router;
 use super::carry::{carry_front, close};
-use bgp_codec::{Message, Rule, Update, Width};
+use bgp_codec::{Message, Rule, Update};
 use ranked_policy::Asn;
 use rib_tables::Rib;
 use rib_tables::laws::the_word_follows;
@@ -90,6 +90,7 @@ fn record(marks: &mut MarkState, peer: Asn, left: Option<u32>, copy: Option<Upda
 // The message or fault in front of a side is handled. A refusal leaves all as it was.
 fn handle_front(
     alloc: Global,
+    rule: &Rule,
     end: &mut SideEnd,
     tables: &mut Rib<'_>,
     marks: &mut MarkState,
@@ -107,18 +108,15 @@ fn handle_front(
     ensures over { (peers : List ℕ) → IsOver peers marks.old.unfinished → IsOver peers marks.new.unfinished }
     ensures router { (u : ℕ) → AreOf u marks.old → AreOf u marks.new }
 {
-    let rule = Rule {
-        width: Width::Two,
-        peer: Some(peer),
-    };
-    let read = end.front(alloc, &rule)?;
+    let width = rule.width;
+    let read = end.front(alloc, rule)?;
     let (event, given) = opened(read);
     let made = end.handle(own_open, &given, event);
-    end.reserve(own_open, &given, &made)?;
+    end.reserve(width, own_open, &given, &made)?;
     let copy = copy_for(alloc, marks, peer, made.acts, &given)?;
     hear(tables, peer, made.acts, &given)?;
     record(marks, peer, made.left, copy);
-    carry_front(alloc, end, tables, peer, own_open, given, &made);
+    carry_front(alloc, width, end, tables, peer, own_open, given, &made);
     Ok(())
 }
 
@@ -147,9 +145,15 @@ impl Router<'_> {
             return Err(RouterError::StampEnd);
         }
         let alloc = *self.peers.allocator();
+        let rule = Rule {
+            width: self.network.settings().width,
+            peer: Some(peer),
+            own: Some(self.number),
+        };
         let end = &mut self.peers[at].end;
         match handle_front(
             alloc,
+            &rule,
             end,
             &mut self.tables,
             &mut self.marks,

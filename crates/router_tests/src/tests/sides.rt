@@ -6,6 +6,7 @@ ghost use Rattle.router_side.specs.Sayings.{IsSayable};
 use super::items::numbers;
 use bgp_codec::Message;
 use bgp_codec::laws::written_has_a_header;
+use bgp_values::Width;
 use link_epoch::Sign;
 use router_core::What;
 use router_side::{Given, History, SideEnd};
@@ -32,8 +33,8 @@ fn meets(
     requires good { IsGoodEvent event }
 {
     let made = side.meet(own_open, event);
-    side.reserve(own_open, &Given::Nothing, &made)?;
-    side.commit(alloc, own_open, &made);
+    side.reserve(Width::Two, own_open, &Given::Nothing, &made)?;
+    side.commit(alloc, Width::Two, own_open, &made);
     Ok(())
 }
 
@@ -47,8 +48,8 @@ fn is_given(
     requires { IsSayable own_open.now }
 {
     let made = side.sign(own_open, sign);
-    side.reserve(own_open, &Given::Nothing, &made)?;
-    side.commit(alloc, own_open, &made);
+    side.reserve(Width::Two, own_open, &Given::Nothing, &made)?;
+    side.commit(alloc, Width::Two, own_open, &made);
     Ok(())
 }
 

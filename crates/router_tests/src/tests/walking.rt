@@ -8,6 +8,7 @@ use super::items::{Sent, made};
 use super::offers::epoch;
 use super::steps::{ALIVE, OPEN_OF_ONE, UPDATE_OF_ONE};
 use super::*;
+use bgp_values::Width;
 use prefix_lanes::Prefix;
 use router_core::{Call, Command, What};
 use router_side::Told;
@@ -196,7 +197,7 @@ fn announced(alloc: Global, two: &Router<'_>, epoch: u32) -> Result<bool, AllocE
     let Some(history) = two.acted(1) else {
         return Ok(false);
     };
-    let told = history.told(alloc)?;
+    let told = history.told(alloc, Width::Two)?;
     let last = last_announces(told.as_slice(), epoch);
     forget(told);
     Ok(last)

@@ -1,6 +1,7 @@
 //! What a builder takes and refuses.
 
 use super::*;
+use bgp_values::Width;
 use ranked_policy::{Origin, Router};
 use std::process::Abort;
 use std::test::Fail;
@@ -49,6 +50,7 @@ fn settings(rt: HostRuntime) {
             restart: 7,
             cut,
             pipe,
+            width: Width::Two,
         };
         assert!(rt;
             are_judged(rt.alloc(), settings, good),

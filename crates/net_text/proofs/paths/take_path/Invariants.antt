@@ -2,12 +2,13 @@
 use Rattle.std.proofs.Common.{◌≡◌, ◌+◌, ◌++◌, true, cond, length, map, take}
 use Rattle.std.specs.List.{list_all}
 use Rattle.net_text.specs.Words.{value_of, path_of}
+use Rattle.bgp_values.specs.declared.width.Width.TheVariants.{Four}
 use Rattle.bgp_values.specs.Ranges.{is_asn}
 use Rattle.net_text.specs.Taking.{parts_left}
 use Rattle.net_text.proofs.paths.take_path.Given as goal
 
 abbrev pub invariant-parts : goal.invariant-parts
-invariant-parts l = record { room : length l.numbers ≡ 16; whole : path_of l.word ≡ take l.count l.numbers ++ map value_of (parts_left l.more l.left); counted : l.count + length (parts_left l.more l.left) ≡ length (path_of l.word); fits : list_all is_asn (map value_of (parts_left l.more l.left)) ≡ true }
+invariant-parts l = record { room : length l.numbers ≡ 16; whole : path_of l.word ≡ take l.count l.numbers ++ map value_of (parts_left l.more l.left); counted : l.count + length (parts_left l.more l.left) ≡ length (path_of l.word); fits : list_all (is_asn Four) (map value_of (parts_left l.more l.left)) ≡ true }
 
 abbrev pub decreases-parts : goal.decreases-parts
 decreases-parts l = cond l.more (1 + length l.left) 0
