@@ -9,7 +9,7 @@ use Rattle.net_text.specs.declared.code.Code.{Code}
 use Rattle.net_text.specs.declared.code.Code.TheVariants as codes
 use Rattle.net_text.specs.declared.draft.Draft.{Draft}
 use Rattle.net_text.specs.Lexing.{Text}
-use Rattle.net_text.specs.Words.{◌>>=◌, path_of, path_word, is_from, router_word, prefix_word, rule_path_word, rule_path_words}
+use Rattle.net_text.specs.Words.{◌>>=◌, path_of, path_word, is_from, router_word, prefix_word, rule_path_word, rule_path_words, is_none, assigned_word, assigned_path}
 use Rattle.ranked_policy.specs.Tests.{is_simple}
 use Rattle.bgp_values.specs.declared.width.Width.{Width}
 use Rattle.bgp_values.specs.declared.width.Width.TheVariants.{Two, Four}
@@ -111,6 +111,21 @@ takeable width routers u q words v w e f =
     let counts = past (is_ruled routers u q || not (are_distinct (map path_of words))) codes.Repeated _ w f in
     let limits = past (nat_lt 32 (length words) || is_full routers u || not (are_short (map path_of words))) codes.OutOfLimit (Ok tt) w counts.1 in
     takeable_in width routers u words v e (not-false _ (or_parts (nat_lt 32 (length words) || is_full routers u) (not (are_short (map path_of words))) limits.0).1)
+
+-- the path of a good assignment can be taken into memory, where it is no word for the empty one
+path_is : (b : Bool) (x y : Result (Unit {0}) Code) → b ≡ false → cond b x y ≡ Ok tt → y ≡ Ok tt
+path_is true x y e h = absurd cc
+path_is false x y e h = h
+
+short_is : (b : Bool) (word : Text) → b ≡ false → nat_le (length (cond b [] (path_of word))) 16 ≡ true → nat_le (length (path_of word)) 16 ≡ true
+short_is true word e h = absurd cc
+short_is false word e h = h
+
+pub assigned_takeable : (width : Width) (routers : List Router) (word : Text) → is_none word ≡ false → assigned_word width routers word ≡ Ok tt → nat_le (length (assigned_path word)) 16 ≡ true → IsTakeable word
+assigned_takeable width routers word named good short = record {
+  numbers = path_asns width routers word tt (path_is (is_none word) (Ok tt) (path_word width routers word) named good);
+  short = is_short (length (path_of word)) (short_is (is_none word) word named short);
+}
 
 -- ---- a rule's line stops at a path, or goes on to its counts
 

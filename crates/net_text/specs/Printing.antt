@@ -2,6 +2,7 @@
 use Rattle.std.specs.Prelude.{ℕ, ◌/◌, ◌%◌, ◌^◌, List, [], ◌∷◌, ◌++◌, codes, decimal, map, Option, Some, None, unwrap_or}
 use Rattle.std.specs.List.{flat_map, join_with_byte}
 use Rattle.prefix_lanes.specs.Bits.{PrefixView}
+use Rattle.bgp_values.specs.declared.width.Width.TheVariants.{Two}
 use Rattle.bgp_codec.specs.declared.attributes.Attrs.{Attrs}
 use Rattle.hex.specs.Hex.{encode_lower}
 use Rattle.bgp_codec.specs.declared.fault.Fault.{Fault}
@@ -113,7 +114,7 @@ notice_of fault = NoticeMsg (record { code = fault.code; sub = fault.sub; extra 
 
 -- the two lines of a fault: its name, and its NOTIFICATION in hex
 unfoldable pub fault_lines : Fault → List ℕ
-fault_lines fault = line (codes "fault " ++ (decimal fault.code ++ (codes " " ++ decimal fault.sub))) ++ line (encode_lower (written (notice_of fault)))
+fault_lines fault = line (codes "fault " ++ (decimal fault.code ++ (codes " " ++ decimal fault.sub))) ++ line (encode_lower (written Two (notice_of fault)))
 
 -- the line of a rest that is no whole message
 unfoldable pub truncated_line : ℕ → List ℕ

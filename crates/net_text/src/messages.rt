@@ -5,6 +5,7 @@
 ghost use Rattle.std.specs.Prelude.{◌≡◌, ◌++◌, ◌∷◌, [], ◌≤◌, length, IfOk, OnOk};
 ghost use Rattle.std.specs.List.{flat_map};
 ghost use Rattle.bgp_values.specs.declared.messages.TheConstants.{MOST_DATA};
+ghost use Rattle.bgp_values.specs.declared.width.Width.TheVariants.{Two};
 ghost use Rattle.bgp_codec.specs.Spelling.{written};
 ghost use Rattle.net_text.specs.Printing.{line, open_line, cap_text, param_text, notice_line, notice_of, fault_lines, truncated_line};
 
@@ -81,7 +82,7 @@ pub fn put_notice(out: &mut Tail, notice: &Notice) -> Result<(), AllocError>
 // The octets of the NOTIFICATION that tells of a fault.
 fn notice_octets(alloc: Global, fault: &Fault) -> Result<Vec<u8>, AllocError>
     requires { length fault.now.extra ≤ MOST_DATA }
-    ensures { IfOk result (λ octets. octets.items ≡ written (notice_of fault.now)) }
+    ensures { IfOk result (λ octets. octets.items ≡ written Two (notice_of fault.now)) }
 {
     let notice = notice_of(alloc, fault).map_err(|_| AllocError)?;
     let mut octets = Vec::new(alloc);

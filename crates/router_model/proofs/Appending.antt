@@ -28,17 +28,17 @@ use Rattle.snap_marker.specs.Recordings.{ends_channel}
 use Rattle.router_model.specs.Laws.{all_passes, StepsAppendWhatTheySay}
 
 -- a side whose draft is carried out, or is not
-one : (b : Bool) (h : AtHand) (s : Side) (a : Draft) → (cond b (carried h s a) s).outbox ≡ s.outbox ++ passing written (says_where b a.says)
+one : (b : Bool) (h : AtHand) (s : Side) (a : Draft) → (cond b (carried h s a) s).outbox ≡ s.outbox ++ passing (written s.width) (says_where b a.says)
 one true h s a = refl
 one false h s a = sym (append-nil s.outbox)
 
 behind_front : (b : Bool) (h : AtHand) (s t : Side) (a : Draft) → t.outbox ≡ s.outbox
-    → (cond b (carried h (cond b t s) a) (cond b t s)).outbox ≡ s.outbox ++ passing written (says_where b a.says)
-behind_front true h s t a e = ap (λ o. o ++ passing written a.says) e
+    → (cond b (carried h (cond b t s) a) (cond b t s)).outbox ≡ s.outbox ++ passing (written s.width) (says_where b a.says)
+behind_front true h s t a e = ap (λ o. o ++ passing (written s.width) a.says) e
 behind_front false h s t a e = sym (append-nil s.outbox)
 
-marker : (b : Bool) (number : ℕ) (s : Side) (x : Entry Message) → (marked number s).outbox ≡ s.outbox ++ passing written (x ∷ [])
-    → (cond b (marked number s) s).outbox ≡ s.outbox ++ passing written (says_where b (x ∷ []))
+marker : (b : Bool) (number : ℕ) (s : Side) (x : Entry Message) → (marked number s).outbox ≡ s.outbox ++ passing (written s.width) (x ∷ [])
+    → (cond b (marked number s) s).outbox ≡ s.outbox ++ passing (written s.width) (says_where b (x ∷ []))
 marker true number s x e = e
 marker false number s x e = sym (append-nil s.outbox)
 
@@ -75,12 +75,12 @@ put_at true v w i x e h =
     put_one true i (x.sides v) h.0 (subst (λ k. passes i ++ h.0 ≡ (x.sides k).outbox) same h.1)
 put_at false v w i x e h = sym (append-nil (x.sides v).outbox)
 
-told_one : (b : Bool) (s : Side) (u : Update) → (cond b (told s u) s).outbox ≡ s.outbox ++ passing written (says_where b (Says s.link.epoch (UpdateMsg u) ∷ []))
+told_one : (b : Bool) (s : Side) (u : Update) → (cond b (told s u) s).outbox ≡ s.outbox ++ passing (written s.width) (says_where b (Says s.link.epoch (UpdateMsg u) ∷ []))
 told_one true s u = refl
 told_one false s u = sym (append-nil s.outbox)
 
 by_command : (g : Setting) (u v : ℕ) (x : Router) (c : Command)
-    → ((obeyed g u x c).sides v).outbox ≡ (x.sides v).outbox ++ passing written (says_by g u x c v)
+    → ((obeyed g u x c).sides v).outbox ≡ (x.sides v).outbox ++ passing (written (x.sides v).width) (says_by g u x c v)
 by_command g u v x (command.Start w) = one (v == w) NoMessage (x.sides v) (meets_at g u x w ManualStart)
 by_command g u v x (command.Stop w) = one (v == w) NoMessage (x.sides v) (meets_at g u x w ManualStop)
 by_command g u v x (command.Reset w) = one (v == w) NoMessage (x.sides v) (resets_at g u x w)
@@ -91,21 +91,21 @@ by_command g u v x command.Restart = one (linked g.net u v) NoMessage (x.sides v
 
 by_marker : (g : Setting) (u v w s : ℕ) (x : Router) (b c : Bool)
     → ((cond b (cond c (records g u x s (Some w)) (record x { snapshots = ends_channel (peers g.net u) w s x.snapshots.unfinished x.snapshots })) x).sides v).outbox
-    ≡ (x.sides v).outbox ++ passing written (says_where (b && c) (says_markers g u x s v))
+    ≡ (x.sides v).outbox ++ passing (written (x.sides v).width) (says_where (b && c) (says_markers g u x s v))
 by_marker g u v w s x true true = marker (linked g.net u v && is_up (x.sides v)) s (x.sides v) (Mark (x.sides v).link.epoch s) refl
 by_marker g u v w s x true false = sym (append-nil (x.sides v).outbox)
 by_marker g u v w s x false c = sym (append-nil (x.sides v).outbox)
 
 by_item : (g : Setting) (u v w : ℕ) (x : Router) (i : What)
-    → ((taken g u x w i).sides v).outbox ≡ (x.sides v).outbox ++ passing written (says_of_taken g u x w i v)
+    → ((taken g u x w i).sides v).outbox ≡ (x.sides v).outbox ++ passing (written (x.sides v).width) (says_of_taken g u x w i v)
 by_item g u v w x (item.Dial e) = one (v == w) NoMessage (x.sides v) (signed_at g u x w (sign.Dial e))
 by_item g u v w x (item.Piece e octets) = at_fed (v == w) (uses (x.sides v).link e) (x.sides v) octets ∙ sym (append-nil (x.sides v).outbox)
 by_item g u v w x (item.Mark e s) = by_marker g u v w s x (heeds g u x w e) (is_greater x s)
 by_item g u v w x (item.Shut e) = one (v == w) NoMessage (x.sides v) (signed_at g u x w (sign.Shut e))
 
 by_telling : (g : Setting) (u v w : ℕ) (x : Router) (q : Option PrefixView)
-    → ((telling_to x w q (telling_of g u x)).sides v).outbox ≡ (x.sides v).outbox ++ passing written (says_where (v == w) (says_update g u x v q))
-by_telling g u v w x None = sym (ap (λ es. (x.sides v).outbox ++ passing written es) (put_says_nothing (v == w)) ∙ append-nil (x.sides v).outbox)
+    → ((telling_to x w q (telling_of g u x)).sides v).outbox ≡ (x.sides v).outbox ++ passing (written (x.sides v).width) (says_where (v == w) (says_update g u x v q))
+by_telling g u v w x None = sym (ap (λ es. (x.sides v).outbox ++ passing (written (x.sides v).width) es) (put_says_nothing (v == w)) ∙ append-nil (x.sides v).outbox)
 by_telling g u v w x (Some q) = told_one (v == w) (x.sides v) (telling_of g u x q)
 
 keeps_sides : (x : Router) (q : Option PrefixView) (path : PrefixView → List ℕ) (v : ℕ) → ((keeping x q path).sides v).outbox ≡ (x.sides v).outbox ++ []
@@ -113,10 +113,10 @@ keeps_sides x None path v = sym (append-nil (x.sides v).outbox)
 keeps_sides x (Some q) path v = sym (append-nil (x.sides v).outbox)
 
 by_event : (g : Setting) (u v : ℕ) (x : Router) (e : RouterEvent) → May g u x e
-    → all_passes (put_towards v e) ++ ((after g u x e).sides v).outbox ≡ (x.sides v).outbox ++ passing written (says g u x e v)
+    → all_passes (put_towards v e) ++ ((after g u x e).sides v).outbox ≡ (x.sides v).outbox ++ passing (written (x.sides v).width) (says g u x e v)
 by_event g u v x (alone (Obeys c)) may = by_command g u v x c
 by_event g u v x (alone Ticks) may = one (linked g.net u v) NoMessage (x.sides v) (second_at g u x v)
-by_event g u v x (alone (Handles w)) may = behind_front (v == w) (at_hand (front (rule_of w) (x.sides w).held)) (x.sides v) (without_front (x.sides v)) (handled_at g u x w) refl
+by_event g u v x (alone (Handles w)) may = behind_front (v == w) (at_hand (front (rule_of g.net u w) (x.sides w).held)) (x.sides v) (without_front (x.sides v)) (handled_at g u x w) refl
 by_event g u v x (alone Decides) may = keeps_sides x (undecided g u x) (route g u x) v
 by_event g u v x (alone (Advertises w)) may = by_telling g u v w x (untold g u x w)
 by_event g u v x (puts w i) may =
@@ -127,4 +127,4 @@ by_event g u v x (offers o) may = sym (append-nil (x.sides v).outbox)
 
 pub steps_append : StepsAppendWhatTheySay
 steps_append g u v x y e step =
-    subst (λ z. all_passes (put_towards v e) ++ (z.sides v).outbox ≡ (x.sides v).outbox ++ passing written (says g u x e v)) (sym step.leaves) (by_event g u v x e step.may)
+    subst (λ z. all_passes (put_towards v e) ++ (z.sides v).outbox ≡ (x.sides v).outbox ++ passing (written (x.sides v).width) (says g u x e v)) (sym step.leaves) (by_event g u v x e step.may)

@@ -47,18 +47,18 @@ nothing_out : (s : Side) (o : List (Passing Message)) → out s o ≡ out s (o +
 nothing_out s o = ap (out s) (sym (append-nil o))
 
 carry_one : (b : Bool) (h : AtHand) (s : Side) (o : List (Passing Message)) (a : Draft)
-    → cond b (carried h (out s o) a) (out s o) ≡ out (cond b (carried h s a) s) (o ++ passing written (says_where b a.says))
+    → cond b (carried h (out s o) a) (out s o) ≡ out (cond b (carried h s a) s) (o ++ passing (written s.width) (says_where b a.says))
 carry_one true h s o a = refl
 carry_one false h s o a = nothing_out s o
 
 handle_one : (b : Bool) (h : AtHand) (s : Side) (o : List (Passing Message)) (a : Draft)
     → cond b (carried h (cond b (without_front (out s o)) (out s o)) a) (cond b (without_front (out s o)) (out s o))
-    ≡ out (cond b (carried h (cond b (without_front s) s) a) (cond b (without_front s) s)) (o ++ passing written (says_where b a.says))
+    ≡ out (cond b (carried h (cond b (without_front s) s) a) (cond b (without_front s) s)) (o ++ passing (written s.width) (says_where b a.says))
 handle_one true h s o a = refl
 handle_one false h s o a = nothing_out s o
 
 mark_one : (b : Bool) (n e : ℕ) (s : Side) (o : List (Passing Message)) → s.link.epoch ≡ e
-    → cond b (marked n (out s o)) (out s o) ≡ out (cond b (marked n s) s) (o ++ passing written (says_where b (Mark e n ∷ [])))
+    → cond b (marked n (out s o)) (out s o) ≡ out (cond b (marked n s) s) (o ++ passing (written s.width) (says_where b (Mark e n ∷ [])))
 mark_one true n e s o is = rw is refl
 mark_one false n e s o is = nothing_out s o
 
@@ -78,34 +78,34 @@ put_one false s o i = refl
 module _ (g : Setting) (u : ℕ) (x : Router) where
   -- an outbox after an event
   abbrev pub outbox_by : RouterEvent → ℕ → List (Passing Message) → List (Passing Message)
-  outbox_by (alone e) y o = o ++ passing written (says g u x (alone e) y)
+  outbox_by (alone e) y o = o ++ passing (written (x.sides y).width) (says g u x (alone e) y)
   outbox_by (puts w j) y o = cond (y == w) (drop (length (passes j)) o) o
-  outbox_by (takes w j) y o = o ++ passing written (says g u x (takes w j) y)
-  outbox_by (offers made) y o = o ++ passing written (says g u x (offers made) y)
+  outbox_by (takes w j) y o = o ++ passing (written (x.sides y).width) (says g u x (takes w j) y)
+  outbox_by (offers made) y o = o ++ passing (written (x.sides y).width) (says g u x (offers made) y)
 
   moved_with : (o : ℕ → List (Passing Message)) (v : ℕ) (h : AtHand) (a : Draft)
-      → moved (with_outboxes x o) v h a ≡ with_outboxes (moved x v h a) (λ y. o y ++ passing written (says_where (y == v) a.says))
+      → moved (with_outboxes x o) v h a ≡ with_outboxes (moved x v h a) (λ y. o y ++ passing (written (x.sides y).width) (says_where (y == v) a.says))
   moved_with o v h a =
       same_sides (moved x v h a) _ _ (λ y. carry_one (y == v) h (x.sides y) (o y) a)
 
   handled_with : (o : ℕ → List (Passing Message)) (v : ℕ) (h : AtHand) (a : Draft)
-      → moved (with_side (with_outboxes x o) v without_front) v h a ≡ with_outboxes (moved (with_side x v without_front) v h a) (λ y. o y ++ passing written (says_where (y == v) a.says))
+      → moved (with_side (with_outboxes x o) v without_front) v h a ≡ with_outboxes (moved (with_side x v without_front) v h a) (λ y. o y ++ passing (written (x.sides y).width) (says_where (y == v) a.says))
   handled_with o v h a =
       same_sides (moved (with_side x v without_front) v h a) _ _ (λ y. handle_one (y == v) h (x.sides y) (o y) a)
 
   all_moved_with : (o : ℕ → List (Passing Message)) (drafts : ℕ → Draft)
-      → all_moved g u (with_outboxes x o) drafts ≡ with_outboxes (all_moved g u x drafts) (λ y. o y ++ passing written (says_where (linked g.net u y) (drafts y).says))
+      → all_moved g u (with_outboxes x o) drafts ≡ with_outboxes (all_moved g u x drafts) (λ y. o y ++ passing (written (x.sides y).width) (says_where (linked g.net u y) (drafts y).says))
   all_moved_with o drafts =
       same_sides (all_moved g u x drafts) _ _ (λ y. carry_one (linked g.net u y) NoMessage (x.sides y) (o y) (drafts y))
 
   records_with : (o : ℕ → List (Passing Message)) (s : ℕ) (first : Option ℕ)
-      → records g u (with_outboxes x o) s first ≡ with_outboxes (records g u x s first) (λ y. o y ++ passing written (says_markers g u x s y))
+      → records g u (with_outboxes x o) s first ≡ with_outboxes (records g u x s first) (λ y. o y ++ passing (written (x.sides y).width) (says_markers g u x s y))
   records_with o s first =
       same_sides (records g u x s first) _ _ (λ y. mark_one (linked g.net u y && is_up (x.sides y)) s (x.sides y).link.epoch (x.sides y) (o y) refl)
 
   marked_with : (o : ℕ → List (Passing Message)) (v s : ℕ) (b c : Bool) (n : Snapshots)
       → cond b (cond c (records g u (with_outboxes x o) s (Some v)) (record (with_outboxes x o) { snapshots = n })) (with_outboxes x o)
-      ≡ with_outboxes (cond b (cond c (records g u x s (Some v)) (record x { snapshots = n })) x) (λ y. o y ++ passing written (says_where (b && c) (says_markers g u x s y)))
+      ≡ with_outboxes (cond b (cond c (records g u x s (Some v)) (record x { snapshots = n })) x) (λ y. o y ++ passing (written (x.sides y).width) (says_where (b && c) (says_markers g u x s y)))
   marked_with o v s true true n = records_with o s (Some v)
   marked_with o v s true false n = nothing_more (record x { snapshots = n }) o
   marked_with o v s false c n = nothing_more x o
@@ -115,16 +115,16 @@ module _ (g : Setting) (u : ℕ) (x : Router) where
   keeping_with o (Some q) path = nothing_more (keeping x (Some q) path) o
 
   tell_one : (b : Bool) (q : PrefixView) (y : ℕ) (o : List (Passing Message))
-      → cond b (told (out (x.sides y) o) (telling_of g u x q)) (out (x.sides y) o) ≡ out (cond b (told (x.sides y) (telling_of g u x q)) (x.sides y)) (o ++ passing written (says_where b (says_update g u x y (Some q))))
+      → cond b (told (out (x.sides y) o) (telling_of g u x q)) (out (x.sides y) o) ≡ out (cond b (told (x.sides y) (telling_of g u x q)) (x.sides y)) (o ++ passing (written (x.sides y).width) (says_where b (says_update g u x y (Some q))))
   tell_one true q y o = refl
   tell_one false q y o = nothing_out (x.sides y) o
 
-  no_telling : (b : Bool) (y : ℕ) (o : List (Passing Message)) → o ≡ o ++ passing written (says_where b (says_update g u x y None))
+  no_telling : (b : Bool) (y : ℕ) (o : List (Passing Message)) → o ≡ o ++ passing (written (x.sides y).width) (says_where b (says_update g u x y None))
   no_telling true y o = sym (append-nil o)
   no_telling false y o = sym (append-nil o)
 
   telling_with : (o : ℕ → List (Passing Message)) (w : ℕ) (q : Option PrefixView)
-      → telling_to (with_outboxes x o) w q (telling_of g u x) ≡ with_outboxes (telling_to x w q (telling_of g u x)) (λ y. o y ++ passing written (says_where (y == w) (says_update g u x y q)))
+      → telling_to (with_outboxes x o) w q (telling_of g u x) ≡ with_outboxes (telling_to x w q (telling_of g u x)) (λ y. o y ++ passing (written (x.sides y).width) (says_where (y == w) (says_update g u x y q)))
   telling_with o w None = same_outboxes x o _ (λ y. no_telling (y == w) y (o y))
   telling_with o w (Some q) = same_sides (telling_to x w (Some q) (telling_of g u x)) _ _ (λ y. tell_one (y == w) q y (o y))
 
@@ -138,7 +138,7 @@ module _ (g : Setting) (u : ℕ) (x : Router) where
   after_with (alone (Obeys command.Restart)) o =
       ap (λ (r : Router). record r { kept = λ q. []; originated = λ q. false }) (all_moved_with o (λ v. meets_at g u x v ManualStop))
   after_with (alone Ticks) o = all_moved_with o (second_at g u x)
-  after_with (alone (Handles v)) o = handled_with o v (at_hand (front (rule_of v) (x.sides v).held)) (handled_at g u x v)
+  after_with (alone (Handles v)) o = handled_with o v (at_hand (front (rule_of g.net u v) (x.sides v).held)) (handled_at g u x v)
   after_with (alone Decides) o = keeping_with o (undecided g u x) (route g u x)
   after_with (alone (Advertises w)) o = telling_with o w (untold g u x w)
   after_with (puts w j) o = same_sides x _ _ (λ y. put_one (y == w) (x.sides y) (o y) j)
@@ -229,9 +229,9 @@ module _ (g : Setting) (u : ℕ) (x : Router) where
 
   -- what stands in front stays there, and what is dropped is the same
   front_stays : (v : ℕ) (e : RouterEvent) (p o : List (Passing Message)) → put_towards v e ≡ [] → IsPrefix p o → IsPrefix p (outbox_by e v o)
-  front_stays v (alone e) p o none h = (h.0 ++ passing written (says g u x (alone e) v), sym (append_assoc p h.0 (passing written (says g u x (alone e) v))) ∙ ap (λ k. k ++ passing written (says g u x (alone e) v)) h.1)
+  front_stays v (alone e) p o none h = (h.0 ++ passing (written (x.sides v).width) (says g u x (alone e) v), sym (append_assoc p h.0 (passing (written (x.sides v).width) (says g u x (alone e) v))) ∙ ap (λ k. k ++ passing (written (x.sides v).width) (says g u x (alone e) v)) h.1)
   front_stays v (puts w j) p o none h = (let k = other_way v w (not_towards (w == v) j none) in rw k h)
-  front_stays v (takes w j) p o none h = (h.0 ++ passing written (says g u x (takes w j) v), sym (append_assoc p h.0 (passing written (says g u x (takes w j) v))) ∙ ap (λ k. k ++ passing written (says g u x (takes w j) v)) h.1)
+  front_stays v (takes w j) p o none h = (h.0 ++ passing (written (x.sides v).width) (says g u x (takes w j) v), sym (append_assoc p h.0 (passing (written (x.sides v).width) (says g u x (takes w j) v))) ∙ ap (λ k. k ++ passing (written (x.sides v).width) (says g u x (takes w j) v)) h.1)
   front_stays v (offers made) p o none h = (h.0 ++ [], sym (append_assoc p h.0 []) ∙ ap (λ k. k ++ []) h.1)
 
   drop_behind : (p o more : List (Passing Message)) → IsPrefix p o → drop (length p) (o ++ more) ≡ drop (length p) o ++ more
@@ -240,9 +240,9 @@ module _ (g : Setting) (u : ℕ) (x : Router) where
       (ap (drop (length p)) (append_assoc p h.0 more) ∙ drop-append_seam p (h.0 ++ more) ∙ ap (λ k. k ++ more) (sym (drop-append_seam p h.0)))
 
   drop_stays : (v : ℕ) (e : RouterEvent) (p o : List (Passing Message)) → put_towards v e ≡ [] → IsPrefix p o → drop (length p) (outbox_by e v o) ≡ outbox_by e v (drop (length p) o)
-  drop_stays v (alone e) p o none h = drop_behind p o (passing written (says g u x (alone e) v)) h
+  drop_stays v (alone e) p o none h = drop_behind p o (passing (written (x.sides v).width) (says g u x (alone e) v)) h
   drop_stays v (puts w j) p o none h = (let k = other_way v w (not_towards (w == v) j none) in rw k refl)
-  drop_stays v (takes w j) p o none h = drop_behind p o (passing written (says g u x (takes w j) v)) h
+  drop_stays v (takes w j) p o none h = drop_behind p o (passing (written (x.sides v).width) (says g u x (takes w j) v)) h
   drop_stays v (offers made) p o none h = drop_behind p o [] h
 
   -- ---- the exchange, both ways

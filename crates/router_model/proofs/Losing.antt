@@ -190,11 +190,11 @@ module _ (g : Setting) (net : IsNetwork g.net) (u v s : ℕ) (x : Router) (r : I
   loses (alone (Obeys command.Restart)) down least = all_loses (λ w. meets_at g u x w ManualStop) (λ w. met_left (open_of g.net u) (x.sides w) ManualStop) down least
   loses (alone Ticks) down least = all_loses (second_at g u x) (λ w. second_left (open_of g.net u) (x.sides w)) down least
   loses (alone (Handles w)) down least =
-      let d = handled_down (v == w) (at_hand (front (rule_of w) (x.sides w).held)) (x.sides v) (handled_at g u x w) up down in
+      let d = handled_down (v == w) (at_hand (front (rule_of g.net u w) (x.sides w).held)) (x.sides v) (handled_at g u x w) up down in
       let here : is_up (x.sides w) ≡ true = subst (λ i. is_up (x.sides i) ≡ true) (same_number v w d.0) up in
-      one_loses x v w s (at_hand (front (rule_of w) (x.sides w).held)) (handled_at g u x w) r d.0
+      one_loses x v w s (at_hand (front (rule_of g.net u w) (x.sides w).held)) (handled_at g u x w) r d.0
       (by_equation (handled_at g u x w).left (is_up (x.sides w)) (is_established (handled_at g u x w).session.state) (x.sides w).link.epoch
-      (handled_left (open_of g.net u) (at_hand (front (rule_of w) (x.sides w).held)) (x.sides w) (event_of (front (rule_of w) (x.sides w).held))) here d.1)
+      (handled_left (open_of g.net u) (at_hand (front (rule_of g.net u w) (x.sides w).held)) (x.sides w) (event_of (front (rule_of g.net u w) (x.sides w).held))) here d.1)
   loses (alone Decides) down least = absurd (still_up (x.sides v) ((after g u x (alone Decides)).sides v) (kept_up x (undecided g u x) (route g u x) v) up down)
   loses (alone (Advertises w)) down least = absurd (still_up (x.sides v) ((after g u x (alone (Advertises w))).sides v) (telling_up x w (untold g u x w) (telling_of g u x) v) up down)
   loses (puts w i) down least = absurd (still_up (x.sides v) ((after g u x (puts w i)).sides v) (put_up (v == w) (x.sides v) i) up down)

@@ -185,7 +185,7 @@ by_event : (g : Setting) (u v n : ℕ) (x : Router) (e : RouterEvent) → ((afte
 by_event g u v n x (alone (Obeys c)) = by_command g u v n x c
 by_event g u v n x (alone Ticks) = one (linked g.net u v) n NoMessage (x.sides v) (second_at g u x v) (quiet_expires (open_of g.net u) (draft_of (ticked (x.sides v).session) (x.sides v).link) (runs_out (x.sides v).session) refl (λ k. refl))
 by_event g u v n x (alone (Handles w)) =
-    behind_front (v == w) n (at_hand (front (rule_of w) (x.sides w).held)) (x.sides v) (handled_at g u x w) (quiet_comes (open_of g.net u) _ _ _ refl (λ k. refl))
+    behind_front (v == w) n (at_hand (front (rule_of g.net u w) (x.sides w).held)) (x.sides v) (handled_at g u x w) (quiet_comes (open_of g.net u) _ _ _ refl (λ k. refl))
 by_event g u v n x (alone Decides) = same ((x.sides v).sent n) _ (keeps x _ _ v n)
 by_event g u v n x (alone (Advertises w)) = by_telling g u v w n x (untold g u x w)
 by_event g u v n x (puts w i) = same ((x.sides v).sent n) _ (put_one (v == w) n (x.sides v) i)

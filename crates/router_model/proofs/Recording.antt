@@ -202,7 +202,7 @@ module _ (g : Setting) (u : ℕ) (x : Router) where
   goes_after (alone (Obeys (command.Snapshot n))) may = records_goes n None may
   goes_after (alone (Obeys command.Restart)) may = close_goes x.snapshots (first_close (peers g.net u) (λ w. meets_at g u x w ManualStop))
   goes_after (alone Ticks) may = close_goes x.snapshots (first_close (peers g.net u) (second_at g u x))
-  goes_after (alone (Handles w)) may = moved_goes w (handled_at g u x w).acts (at_hand (front (rule_of w) (x.sides w).held)) (close_at w (handled_at g u x w).left)
+  goes_after (alone (Handles w)) may = moved_goes w (handled_at g u x w).acts (at_hand (front (rule_of g.net u w) (x.sides w).held)) (close_at w (handled_at g u x w).left)
   goes_after (alone Decides) may = kept_goes (undecided g u x) (route g u x)
   goes_after (alone (Advertises w)) may = told_goes w (untold g u x w) (telling_of g u x)
   goes_after (puts w i) may = stays x.snapshots

@@ -4,6 +4,7 @@ use Rattle.marker_lanes.specs.Marker.{marker}
 use Rattle.prefix_lanes.specs.Bits.{PrefixView}
 use Rattle.link_epoch.specs.declared.link_end.Phase.TheVariants.{Joined}
 use Rattle.session_fsm.specs.declared.state.State.TheVariants.{Idle, Active, OpenSent, OpenConfirm, Established}
+use Rattle.bgp_values.specs.declared.width.Width.TheVariants.{Two}
 use Rattle.ranked_policy.specs.Plans.{Plan}
 use Rattle.run_model.specs.Network.{alone, takes}
 use Rattle.outbox.specs.Items.{next_item}
@@ -26,7 +27,7 @@ p = record { addr = 167837696; len = 16 }
 
 abbrev pub pair : Plan
 pair = record {
-  settings = record { hold = 90; restart = 0; cut = 4096; pipe = 64 };
+  settings = record { hold = 90; restart = 0; cut = 4096; pipe = 64; width = Two };
   routers = record { asn = 1; id = 167772161; rules = [] } ∷ record { asn = 2; id = 167772162; rules = [] } ∷ [];
   links = record { one = 1; other = 2 } ∷ [];
   origins = record { prefix = p; router = 1 } ∷ [];

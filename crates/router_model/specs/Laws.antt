@@ -41,7 +41,7 @@ LinkedRoutersArePeers = (net : Plan) → IsNetwork net → (u v : ℕ) → linke
 abbrev pub StepsAppendWhatTheySay : Type 0
 StepsAppendWhatTheySay =
     (g : Setting) (u v : ℕ) (x y : Router) (e : RouterEvent) → Step g u x e y
-    → all_passes (put_towards v e) ++ (y.sides v).outbox ≡ (x.sides v).outbox ++ passing written (says g u x e v)
+    → all_passes (put_towards v e) ++ (y.sides v).outbox ≡ (x.sides v).outbox ++ passing (written (x.sides v).width) (says g u x e v)
 
 -- a step that a call answers is one, of an event that the call can be
 abbrev pub AnswersAreSteps : Type 0

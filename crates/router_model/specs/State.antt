@@ -1,6 +1,6 @@
 -- A router as plain data: its sides, its kept paths, what it originates and what it records, and what follows from these. It has
 -- no stamps, tables or buffers: words are those of the histories (RFC 4271 section 3.2), and routes those of the words.
-use Rattle.std.specs.Prelude.{ℕ, nat_eq, Bool, false, ◌&&◌, ◌||◌, not, cond, List, [], ◌∷◌, Option, None, Some}
+use Rattle.std.specs.Prelude.{ℕ, nat_eq, nat_le, Bool, false, ◌&&◌, ◌||◌, not, cond, List, [], ◌∷◌, Option, None, Some}
 use Rattle.std.specs.List.{find, list_any}
 use Rattle.std.specs.Cmp.Lexicographic.{pointwise}
 use Rattle.bgp_values.specs.declared.attributes.TheConstants.{IGP}
@@ -11,7 +11,14 @@ use Rattle.bgp_codec.specs.declared.message.Message.TheVariants.{OpenMsg}
 use Rattle.bgp_codec.specs.declared.update.Update.{Update}
 use Rattle.bgp_codec.specs.declared.path.SegmentKind.TheVariants.{AsSequence}
 use Rattle.bgp_codec.specs.declared.rule.Rule.{Rule}
-use Rattle.bgp_codec.specs.declared.rule.Width.TheVariants.{Two}
+use Rattle.bgp_values.specs.declared.width.Width.{Width}
+use Rattle.bgp_values.specs.declared.width.Width.TheVariants.{Two, Four}
+use Rattle.bgp_values.specs.declared.width.TheConstants.{AS_TRANS}
+use Rattle.bgp_values.specs.declared.messages.TheConstants.{FOUR_OCTET_ASN}
+use Rattle.bgp_values.specs.Ranges.{greatest_asn}
+use Rattle.bgp_codec.specs.Opens.{cap_of}
+use Rattle.bgp_codec.specs.declared.open.Cap.{Cap}
+use Rattle.std.specs.Int.{w32, to_be_bytes}
 use Rattle.link_epoch.specs.Ends as links
 use Rattle.session_fsm.specs.Table as sessions
 use Rattle.ranked_policy.specs.Plans.{Plan}
@@ -29,9 +36,18 @@ pub record Router : Type 0 where
 
 -- ---- the messages that a router says of itself
 
--- its OPEN has its number, the network's hold time, its identifier and no parameters (RFC 4271 section 4.2)
+-- the field AS of its OPEN: its number, or AS_TRANS where two octets do not hold it (RFC 6793 section 9)
+abbrev pub asn_field : ℕ → ℕ
+asn_field u = cond (nat_le u (greatest_asn Two)) u AS_TRANS
+
+-- its parameters: none, or where AS numbers have four octets the capability that says its number so (RFC 6793 section 3)
+abbrev pub params_of : Width → ℕ → List (List Cap)
+params_of Two u = []
+params_of Four u = (cap_of FOUR_OCTET_ASN (to_be_bytes w32 u) ∷ []) ∷ []
+
+-- its OPEN has these, the network's hold time and its identifier (RFC 4271 section 4.2)
 abbrev pub open_of : Plan → ℕ → Message
-open_of net u = OpenMsg (record { asn = u; hold = net.settings.hold; id = identifier net.routers u; params = [] })
+open_of net u = OpenMsg (record { asn = asn_field u; hold = net.settings.hold; id = identifier net.routers u; params = params_of net.settings.width u })
 
 -- one withdrawn prefix, and no attributes (section 4.3)
 abbrev pub withdrawal : PrefixView → Update
@@ -50,9 +66,9 @@ abbrev pub telling : ℕ → PrefixView → List ℕ → Update
 telling id q [] = withdrawal q
 telling id q (v ∷ path) = announcement id q (v ∷ path)
 
--- what a peer says is read as the peer's: its OPEN and its paths name its number (sections 6.2 and 6.3)
-abbrev pub rule_of : ℕ → Rule
-rule_of v = record { width = Two; peer = Some v }
+-- what peer v says is read by u as the peer's: its OPEN and its paths name its number (sections 6.2 and 6.3)
+abbrev pub rule_of : Plan → ℕ → ℕ → Rule
+rule_of net u v = record { width = net.settings.width; peer = Some v; own = Some u }
 
 -- ---- words
 
@@ -109,6 +125,7 @@ new_side g = record {
   held = [];
   acted = λ e. [];
   sent = λ e. [];
+  width = g.net.settings.width;
 }
 
 abbrev pub new_router : Setting → Router

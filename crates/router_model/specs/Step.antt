@@ -127,7 +127,7 @@ module _ (g : Setting) (u : ℕ) where
   signed_at x v s = signed (open_of g.net u) (x.sides v) s
 
   abbrev pub handled_at : Router → ℕ → Draft
-  handled_at x v = handled (open_of g.net u) (front (rule_of v) (x.sides v).held) (x.sides v)
+  handled_at x v = handled (open_of g.net u) (front (rule_of g.net u v) (x.sides v).held) (x.sides v)
 
   -- the drafts of all peers' sides are carried out
   abbrev pub all_moved : Router → (ℕ → Draft) → Router
@@ -216,7 +216,7 @@ module _ (g : Setting) (u : ℕ) where
   after x (alone (Obeys c)) = obeyed x c
   after x (alone Ticks) = all_moved x (second_at x)
   after x (alone (Handles v)) =
-      moved (with_side x v without_front) v (at_hand (front (rule_of v) (x.sides v).held)) (handled_at x v)
+      moved (with_side x v without_front) v (at_hand (front (rule_of g.net u v) (x.sides v).held)) (handled_at x v)
   after x (alone Decides) = keeping x (undecided g u x) (route g u x)
   after x (alone (Advertises v)) = telling_to x v (untold g u x v) (telling_of x)
   after x (puts v i) = with_side x v (λ s. put_from s i)
