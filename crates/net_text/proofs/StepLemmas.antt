@@ -12,7 +12,7 @@ use Rattle.net_text.specs.Lexing.{Text}
 use Rattle.net_text.specs.Words.{◌>>=◌, path_of, path_word, is_from, router_word, prefix_word, rule_path_word, rule_path_words, is_none, assigned_word, assigned_path}
 use Rattle.ranked_policy.specs.Tests.{is_simple}
 use Rattle.bgp_values.specs.declared.width.Width.{Width}
-use Rattle.bgp_values.specs.declared.width.Width.TheVariants.{Two, Four}
+use Rattle.bgp_values.specs.declared.width.Width.TheVariants.{Four}
 use Rattle.net_text.proofs.AddingLemmas.{wider}
 use Rattle.bgp_values.specs.Ranges.{is_asn}
 use Rattle.net_text.specs.Lines.{width_named, are_short, are_distinct, is_ruled, is_full, rule_fault, rule_line, with_rule}

@@ -84,7 +84,7 @@ pub(crate) fn new_peers(
         if !is_peer(network, number, router.asn) {
             continue;
         }
-        let end = SideEnd::new(alloc, config)?;
+        let end = SideEnd::new(alloc, config, network.settings().width)?;
         made.push(Peer {
             number: router.asn,
             end,

@@ -32,10 +32,10 @@ one : (b : Bool) (h : AtHand) (s : Side) (a : Draft) → (cond b (carried h s a)
 one true h s a = refl
 one false h s a = sym (append-nil s.outbox)
 
-behind_front : (b : Bool) (h : AtHand) (s t : Side) (a : Draft) → t.outbox ≡ s.outbox
+behind_front : (b : Bool) (h : AtHand) (s t : Side) (a : Draft) → t.outbox ≡ s.outbox → t.width ≡ s.width
     → (cond b (carried h (cond b t s) a) (cond b t s)).outbox ≡ s.outbox ++ passing (written s.width) (says_where b a.says)
-behind_front true h s t a e = ap (λ o. o ++ passing (written s.width) a.says) e
-behind_front false h s t a e = sym (append-nil s.outbox)
+behind_front true h s t a e w = ap (λ k. t.outbox ++ passing (written k) a.says) w ∙ ap (λ o. o ++ passing (written s.width) a.says) e
+behind_front false h s t a e w = sym (append-nil s.outbox)
 
 marker : (b : Bool) (number : ℕ) (s : Side) (x : Entry Message) → (marked number s).outbox ≡ s.outbox ++ passing (written s.width) (x ∷ [])
     → (cond b (marked number s) s).outbox ≡ s.outbox ++ passing (written s.width) (says_where b (x ∷ []))
@@ -116,7 +116,7 @@ by_event : (g : Setting) (u v : ℕ) (x : Router) (e : RouterEvent) → May g u 
     → all_passes (put_towards v e) ++ ((after g u x e).sides v).outbox ≡ (x.sides v).outbox ++ passing (written (x.sides v).width) (says g u x e v)
 by_event g u v x (alone (Obeys c)) may = by_command g u v x c
 by_event g u v x (alone Ticks) may = one (linked g.net u v) NoMessage (x.sides v) (second_at g u x v)
-by_event g u v x (alone (Handles w)) may = behind_front (v == w) (at_hand (front (rule_of g.net u w) (x.sides w).held)) (x.sides v) (without_front (x.sides v)) (handled_at g u x w) refl
+by_event g u v x (alone (Handles w)) may = behind_front (v == w) (at_hand (front (rule_of g.net u w) (x.sides w).held)) (x.sides v) (without_front (x.sides v)) (handled_at g u x w) refl refl
 by_event g u v x (alone Decides) may = keeps_sides x (undecided g u x) (route g u x) v
 by_event g u v x (alone (Advertises w)) may = by_telling g u v w x (untold g u x w)
 by_event g u v x (puts w i) may =

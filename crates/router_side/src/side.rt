@@ -13,8 +13,9 @@ mod hearing;
 mod putting;
 mod telling;
 
-use crate::history::History;
+use crate::history::{History, Told};
 use bgp_framing::Framer;
+use bgp_values::Width;
 use link_epoch::{LinkEnd, Phase};
 use outbox::Outbox;
 use session_fsm::{Session, SessionConfig, State};
@@ -30,14 +31,16 @@ pub struct SideEnd {
     // The UPDATEs that were acted on, and those that were sent, each once.
     acted: History,
     sent: History,
+    // How many octets AS numbers have in what is said here (RFC 6793).
+    width: Width,
 }
 
 impl SideEnd {
     /// A side whose session is Idle, and towards whose peer nothing was ever said. It is refused only
     /// where memory was.
-    pub fn new(alloc: Global, config: SessionConfig) -> Result<SideEnd, AllocError>
+    pub fn new(alloc: Global, config: SessionConfig, width: Width) -> Result<SideEnd, AllocError>
         requires { IsHoldTime config.hold }
-        ensures { IfOk result (λ made. side made ≡ side_opening config) }
+        ensures { IfOk result (λ made. side made ≡ side_opening config width) }
     {
         let framer = Framer::new(alloc)?;
         Ok(SideEnd {
@@ -47,6 +50,7 @@ impl SideEnd {
             outbox: Outbox::new(alloc),
             acted: History::new(alloc),
             sent: History::new(alloc),
+            width,
         })
     }
 
@@ -92,17 +96,19 @@ impl SideEnd {
         self.framer.is_waiting()
     }
 
-    /// The UPDATEs that were acted on, in their order, each with its incarnation.
-    pub fn acted(&self) -> &History
-        ensures { history result.now.told ≡ (side self.now).acted }
+    /// The UPDATEs that were acted on, in their order, each with its incarnation. It is refused only where
+    /// memory was.
+    pub fn acted(&self, alloc: Global) -> Result<Vec<Told>, AllocError>
+        ensures { IfOk result (λ told. history told.items ≡ (side self.now).acted) }
     {
-        &self.acted
+        self.acted.told(alloc, self.width)
     }
 
-    /// The UPDATEs that were sent, in their order, each with its incarnation.
-    pub fn sent(&self) -> &History
-        ensures { history result.now.told ≡ (side self.now).sent }
+    /// The UPDATEs that were sent, in their order, each with its incarnation. It is refused only where
+    /// memory was.
+    pub fn sent(&self, alloc: Global) -> Result<Vec<Told>, AllocError>
+        ensures { IfOk result (λ told. history told.items ≡ (side self.now).sent) }
     {
-        &self.sent
+        self.sent.told(alloc, self.width)
     }
 }

@@ -1,6 +1,7 @@
 -- DISAGREE (Griffin, Shepherd and Wilfong 2002, figure 3): routers 2 and 3 each prefer the way to router 1 through the other.
 use Rattle.std.specs.Prelude.{ℕ, ◌≡◌, ◌==◌, true, false, List, [], ◌∷◌, if◌then◌else◌}
 use Rattle.prefix_lanes.specs.Bits.{PrefixView}
+use Rattle.bgp_values.specs.declared.width.Width.TheVariants.{Two}
 use Rattle.ranked_policy.specs.declared.network.Rule.{Rule}
 use Rattle.ranked_policy.specs.Plans.{Plan}
 use Rattle.stable_paths.specs.ByRank.{best_by_rank}
@@ -14,7 +15,7 @@ ranks paths = record { prefix = ten; paths = paths } ∷ []
 
 abbrev pub disagree : Plan
 disagree = record {
-  settings = record { hold = 90; restart = 120; cut = 4096; pipe = 16 };
+  settings = record { hold = 90; restart = 120; cut = 4096; pipe = 16; width = Two };
   routers =
       record { asn = 1; id = 16843009; rules = [] }
       ∷ record { asn = 2; id = 33686018; rules = ranks ((2 ∷ 3 ∷ 1 ∷ []) ∷ (2 ∷ 1 ∷ []) ∷ []) }

@@ -16,7 +16,6 @@ use super::Router;
 use super::carry::{carry, close};
 use crate::peers::Peer;
 use bgp_codec::Message;
-use bgp_values::Width;
 use router_model::{RouterError, Stepped};
 use router_side::laws::sessions_keep_fresh;
 use router_side::{Given, SideEnd, Sketch};
@@ -59,7 +58,6 @@ pub(super) fn overflows(whole: Whole, peers: &[Peer], own_open: &Message) -> boo
 fn prepare_each(
     alloc: Global,
     whole: Whole,
-    width: Width,
     peers: &mut [Peer],
     own_open: &Message,
 ) -> Result<Vec<Sketch>, AllocError>
@@ -70,7 +68,7 @@ fn prepare_each(
     let mut drafts = Vec::new(alloc);
     for peer in peers.iter_mut() {
         let made = drafted(whole, &peer.end, own_open);
-        peer.end.reserve(width, own_open, &Given::Nothing, &made)?;
+        peer.end.reserve(own_open, &Given::Nothing, &made)?;
         drafts.push(made)?;
     }
     Ok(drafts)
@@ -80,7 +78,6 @@ fn prepare_each(
 fn prepare(
     alloc: Global,
     whole: Whole,
-    width: Width,
     peers: &mut Vec<Peer>,
     own_open: &Message,
 ) -> Result<Vec<Sketch>, AllocError>
@@ -88,7 +85,7 @@ fn prepare(
     ensures same { Become (λ s. s) peers.old.items peers.new.items }
     ensures ready { IfOk result (λ made. AreReady own_open.now (draft_by whole own_open.now) peers.new.items made.items) }
 {
-    prepare_each(alloc, whole, width, peers.as_mut_slice(), own_open)
+    prepare_each(alloc, whole, peers.as_mut_slice(), own_open)
 }
 
 impl Router<'_> {
@@ -102,17 +99,8 @@ impl Router<'_> {
         sessions_keep_fresh();
         let alloc = *self.peers.allocator();
         let peer = self.peers[at].number;
-        let width = self.network.settings().width;
         let end = &mut self.peers[at].end;
-        carry(
-            alloc,
-            width,
-            end,
-            &mut self.tables,
-            peer,
-            &self.own_open,
-            made,
-        );
+        carry(alloc, end, &mut self.tables, peer, &self.own_open, made);
         close(&mut self.marks, peer, made.left);
     }
 
@@ -143,8 +131,7 @@ impl Router<'_> {
             return Err(RouterError::EpochEnd);
         }
         let alloc = *self.peers.allocator();
-        let width = self.network.settings().width;
-        let Ok(made) = prepare(alloc, Whole::Second, width, &mut self.peers, &self.own_open) else {
+        let Ok(made) = prepare(alloc, Whole::Second, &mut self.peers, &self.own_open) else {
             return Err(RouterError::Memory);
         };
         self.move_all(Whole::Second, made.as_slice());
@@ -162,8 +149,7 @@ impl Router<'_> {
             return Err(RouterError::StampEnd);
         }
         let alloc = *self.peers.allocator();
-        let width = self.network.settings().width;
-        let Ok(made) = prepare(alloc, Whole::Stop, width, &mut self.peers, &self.own_open) else {
+        let Ok(made) = prepare(alloc, Whole::Stop, &mut self.peers, &self.own_open) else {
             return Err(RouterError::Memory);
         };
         self.move_all(Whole::Stop, made.as_slice());

@@ -17,7 +17,6 @@ ghost use Rattle.router_core.specs.Following.{standing, Followed};
 use super::Router;
 use crate::tables::follow;
 use bgp_codec::Message;
-use bgp_values::Width;
 use ranked_policy::Asn;
 use rib_tables::Rib;
 use router_model::{RouterError, Stepped};
@@ -37,7 +36,6 @@ fn standing(end: &SideEnd) -> Option<u32>
 /// follow the session. It takes no memory.
 pub(super) fn carry(
     alloc: Global,
-    width: Width,
     end: &mut SideEnd,
     tables: &mut Rib<'_>,
     peer: Asn,
@@ -51,7 +49,7 @@ pub(super) fn carry(
     ensures tables { Followed tables.old tables.new peer (standing (side end.old)) (standing (side end.new)) }
 {
     let was = standing(end);
-    end.commit(alloc, width, own_open, made);
+    end.commit(alloc, own_open, made);
     let now = standing(end);
     follow(tables, peer, was, now);
 }
@@ -60,7 +58,6 @@ pub(super) fn carry(
 /// the session. It takes no memory.
 pub(super) fn carry_front(
     alloc: Global,
-    width: Width,
     end: &mut SideEnd,
     tables: &mut Rib<'_>,
     peer: Asn,
@@ -78,7 +75,7 @@ pub(super) fn carry_front(
     ensures tables { Followed tables.old tables.new peer (standing (side end.old)) (standing (side end.new)) }
 {
     let was = standing(end);
-    end.commit_front(alloc, width, own_open, given, made);
+    end.commit_front(alloc, own_open, given, made);
     let now = standing(end);
     follow(tables, peer, was, now);
 }
@@ -117,21 +114,12 @@ impl Router<'_> {
             return Err(RouterError::EpochEnd);
         }
         let alloc = *self.peers.allocator();
-        let width = self.network.settings().width;
         let nothing = Given::Nothing;
         let end = &mut self.peers[at].end;
-        if end.reserve(width, &self.own_open, &nothing, made).is_err() {
+        if end.reserve(&self.own_open, &nothing, made).is_err() {
             return Err(RouterError::Memory);
         }
-        carry(
-            alloc,
-            width,
-            end,
-            &mut self.tables,
-            peer,
-            &self.own_open,
-            made,
-        );
+        carry(alloc, end, &mut self.tables, peer, &self.own_open, made);
         close(&mut self.marks, peer, made.left);
         self.stamp = stamp;
         Ok(Stepped::Did)

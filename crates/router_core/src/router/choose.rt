@@ -115,15 +115,14 @@ impl Router<'_> {
             return Err(RouterError::Memory);
         };
         let message = Message::UpdateMsg(update);
-        let width = self.network.settings().width;
         let Peer { number, end } = &mut self.peers[at];
-        let Ok(()) = end.reserve_telling(width, &message) else {
+        let Ok(()) = end.reserve_telling(&message) else {
             return Err(RouterError::Memory);
         };
         let Ok(()) = self.tables.tell(*number, prefix) else {
             return Err(RouterError::Memory);
         };
-        end.tell(width, &message);
+        end.tell(&message);
         self.stamp = stamp;
         Ok(Stepped::Did)
     }

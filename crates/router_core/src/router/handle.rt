@@ -108,15 +108,14 @@ fn handle_front(
     ensures over { (peers : List ℕ) → IsOver peers marks.old.unfinished → IsOver peers marks.new.unfinished }
     ensures router { (u : ℕ) → AreOf u marks.old → AreOf u marks.new }
 {
-    let width = rule.width;
     let read = end.front(alloc, rule)?;
     let (event, given) = opened(read);
     let made = end.handle(own_open, &given, event);
-    end.reserve(width, own_open, &given, &made)?;
+    end.reserve(own_open, &given, &made)?;
     let copy = copy_for(alloc, marks, peer, made.acts, &given)?;
     hear(tables, peer, made.acts, &given)?;
     record(marks, peer, made.left, copy);
-    carry_front(alloc, width, end, tables, peer, own_open, given, &made);
+    carry_front(alloc, end, tables, peer, own_open, given, &made);
     Ok(())
 }
 

@@ -9,25 +9,26 @@ ghost use Rattle.router_core.specs.Views.{plain_of, sides_of};
 
 use super::Router;
 use ranked_policy::Asn;
-use router_side::History;
+use router_side::Told;
+use std::alloc::{AllocError, Global};
 
 impl Router<'_> {
     /// The UPDATEs of a peer that were acted on, in their order, each once with its incarnation (RFC 4271
     /// section 9). None where no link leads to the peer.
-    pub fn acted(&self, peer: Asn) -> Option<&History>
-        ensures { MatchOption result (linked self.now.net self.now.number peer ≡ false) (λ told. history told.now.told ≡ (sides_of self.now peer).acted) }
+    pub fn acted(&self, alloc: Global, peer: Asn) -> Option<Result<Vec<Told>, AllocError>>
+        ensures { MatchOption result (linked self.now.net self.now.number peer ≡ false) (λ read. IfOk read (λ told. history told.items ≡ (sides_of self.now peer).acted)) }
     {
         let at = self.find(peer)?;
-        Some(self.peers[at].end.acted())
+        Some(self.peers[at].end.acted(alloc))
     }
 
     /// The UPDATEs that were sent to a peer, in their order, each once with its incarnation. None where
     /// no link leads to the peer.
-    pub fn sent(&self, peer: Asn) -> Option<&History>
-        ensures { MatchOption result (linked self.now.net self.now.number peer ≡ false) (λ told. history told.now.told ≡ (sides_of self.now peer).sent) }
+    pub fn sent(&self, alloc: Global, peer: Asn) -> Option<Result<Vec<Told>, AllocError>>
+        ensures { MatchOption result (linked self.now.net self.now.number peer ≡ false) (λ read. IfOk read (λ told. history told.items ≡ (sides_of self.now peer).sent)) }
     {
         let at = self.find(peer)?;
-        Some(self.peers[at].end.sent())
+        Some(self.peers[at].end.sent(alloc))
     }
 
     /// Whether an item of a peer may be taken: a link leads to it, and no whole message and no fault of

@@ -20,7 +20,7 @@ use crate::history::History;
 use bgp_codec::laws::header_is_its_front;
 use bgp_codec::{Message, written_len};
 use bgp_framing::{Framer, Next};
-use bgp_values::{MESSAGE_LIMIT, Width};
+use bgp_values::MESSAGE_LIMIT;
 use std::alloc::{AllocError, Global};
 
 impl SideEnd {
@@ -28,7 +28,6 @@ impl SideEnd {
     /// as it was.
     pub fn reserve(
         &mut self,
-        width: Width,
         own_open: &Message,
         given: &Given,
         made: &Sketch,
@@ -39,21 +38,14 @@ impl SideEnd {
         ensures room { OnOk result (HasRoom own_open.now (told_of (hand given.now)) made.now self.new) }
     {
         let says = made.says.as_slice();
-        let octets = size_of_all(says, written_len(own_open, width), size_told(given));
+        let octets = size_of_all(says, written_len(own_open, self.width), size_told(given));
         self.outbox.reserve(octets, says.len())?;
         self.acted.reserve(MESSAGE_LIMIT)?;
         Ok(())
     }
 
     // Carries a draft out, but for the UPDATE that it acts on.
-    fn carry(
-        &mut self,
-        alloc: Global,
-        width: Width,
-        own_open: &Message,
-        told: &Option<Message>,
-        made: &Sketch,
-    )
+    fn carry(&mut self, alloc: Global, own_open: &Message, told: &Option<Message>, made: &Sketch)
         requires own { IsSayable own_open.now }
         requires told { IsSayableWhere told.now }
         requires octets { all_sizes (length (written own_open.now)) (size_where told.now) made.now.says ≤ self.old.outbox.room }
@@ -69,7 +61,7 @@ impl SideEnd {
         self.link = made.link;
         append_all(
             alloc,
-            width,
+            self.width,
             &mut self.outbox,
             own_open,
             told,
@@ -82,24 +74,17 @@ impl SideEnd {
 
     /// Carries out a draft of an event that brings no message, for which there is room. It takes no
     /// memory, and cannot be refused.
-    pub fn commit(&mut self, alloc: Global, width: Width, own_open: &Message, made: &Sketch)
+    pub fn commit(&mut self, alloc: Global, own_open: &Message, made: &Sketch)
         requires own { IsSayable own_open.now }
         requires room { HasRoom own_open.now None made.now self.old }
         ensures { side self.new ≡ carried NoMessage (side self.old) (draft own_open.now NoMessage made.now) }
     {
-        self.carry(alloc, width, own_open, &None, made);
+        self.carry(alloc, own_open, &None, made);
     }
 
     /// Carries out a draft of the message or fault in front, for which there is room: a message is taken
     /// away, a fault stays. It takes no memory, and cannot be refused.
-    pub fn commit_front(
-        &mut self,
-        alloc: Global,
-        width: Width,
-        own_open: &Message,
-        given: Given,
-        made: &Sketch,
-    )
+    pub fn commit_front(&mut self, alloc: Global, own_open: &Message, given: Given, made: &Sketch)
         requires own { IsSayable own_open.now }
         requires told { IsSayableWhere (told_of (hand given)) }
         requires waits { is_waiting (side self.old).held ≡ true }
@@ -116,7 +101,7 @@ impl SideEnd {
         );
         self.drop_front();
         let told = telling(given);
-        self.carry(alloc, width, own_open, &told, made);
+        self.carry(alloc, own_open, &told, made);
     }
 
     // The message in front is taken away; a fault stays. It takes no memory.

@@ -9,19 +9,18 @@ use super::SideEnd;
 use crate::history::nobody;
 use bgp_codec::laws::written_has_a_header;
 use bgp_codec::{Message, written_len};
-use bgp_values::Width;
 use outbox::Control;
 use std::alloc::AllocError;
 
 impl SideEnd {
     /// Makes room for an UPDATE to be told. It is refused only where memory was, and the side stays as
     /// it was.
-    pub fn reserve_telling(&mut self, width: Width, message: &Message) -> Result<(), AllocError>
+    pub fn reserve_telling(&mut self, message: &Message) -> Result<(), AllocError>
         requires { IsSayable message.now }
         ensures side { side self.new ≡ side self.old }
         ensures room { OnOk result (HasRoomToTell message.now self.new) }
     {
-        let len = written_len(message, width);
+        let len = written_len(message, self.width);
         self.outbox.reserve(len, 1)?;
         self.sent.reserve(len)?;
         Ok(())
@@ -30,7 +29,7 @@ impl SideEnd {
     /// An UPDATE is told, for which there is room: it is appended, joins those that were sent, and sets the
     /// KeepaliveTimer again (RFC 4271 section 8.2.2). It takes no memory.
     #[tactic(auto, using(crate::proofs::Said::told_is))]
-    pub fn tell(&mut self, width: Width, message: &Message)
+    pub fn tell(&mut self, message: &Message)
         requires up { is_up (side self.old) ≡ true }
         requires sayable { IsSayable message.now }
         requires room { HasRoomToTell message.now self.old }
@@ -41,12 +40,13 @@ impl SideEnd {
         match message {
             Message::UpdateMsg(_) => {
                 let before = self.sent.octets().len();
-                self.sent.keep(width, epoch, message);
+                self.sent.keep(self.width, epoch, message);
                 let (_, octets) = self.sent.octets().split_at(before);
                 self.outbox.push_octets(epoch, octets);
             }
             Message::OpenMsg(_) | Message::NoticeMsg(_) | Message::AliveMsg => {
-                self.outbox.push_message(epoch, message, &nobody(width));
+                self.outbox
+                    .push_message(epoch, message, &nobody(self.width));
             }
         }
         self.session.update_sent();

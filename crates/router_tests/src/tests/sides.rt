@@ -33,8 +33,8 @@ fn meets(
     requires good { IsGoodEvent event }
 {
     let made = side.meet(own_open, event);
-    side.reserve(Width::Two, own_open, &Given::Nothing, &made)?;
-    side.commit(alloc, Width::Two, own_open, &made);
+    side.reserve(own_open, &Given::Nothing, &made)?;
+    side.commit(alloc, own_open, &made);
     Ok(())
 }
 
@@ -48,8 +48,8 @@ fn is_given(
     requires { IsSayable own_open.now }
 {
     let made = side.sign(own_open, sign);
-    side.reserve(Width::Two, own_open, &Given::Nothing, &made)?;
-    side.commit(alloc, Width::Two, own_open, &made);
+    side.reserve(own_open, &Given::Nothing, &made)?;
+    side.commit(alloc, own_open, &made);
     Ok(())
 }
 
@@ -104,7 +104,7 @@ fn is_quiet(alloc: Global, side: &SideEnd) -> bool {
 #[test]
 fn a_side_opens(rt: HostRuntime) -> Result<(), Fail> {
     written_has_a_header();
-    let mut side = SideEnd::new(rt.alloc(), SESSION)?;
+    let mut side = SideEnd::new(rt.alloc(), SESSION, Width::Two)?;
     a_side_opens_in(&rt, rt.alloc(), &Message::AliveMsg, &mut side)?;
     Ok(())
 }

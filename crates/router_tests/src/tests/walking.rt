@@ -8,7 +8,6 @@ use super::items::{Sent, made};
 use super::offers::epoch;
 use super::steps::{ALIVE, OPEN_OF_ONE, UPDATE_OF_ONE};
 use super::*;
-use bgp_values::Width;
 use prefix_lanes::Prefix;
 use router_core::{Call, Command, What};
 use router_side::Told;
@@ -194,10 +193,10 @@ fn last_announces(told: &[Told], epoch: u32) -> bool {
 }
 
 fn announced(alloc: Global, two: &Router<'_>, epoch: u32) -> Result<bool, AllocError> {
-    let Some(history) = two.acted(1) else {
+    let Some(read) = two.acted(alloc, 1) else {
         return Ok(false);
     };
-    let told = history.told(alloc, Width::Two)?;
+    let told = read?;
     let last = last_announces(told.as_slice(), epoch);
     forget(told);
     Ok(last)

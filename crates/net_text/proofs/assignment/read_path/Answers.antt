@@ -1,4 +1,4 @@
-use Rattle.std.proofs.Common.{◌≡◌, ◌∙◌, sym}
+use Rattle.std.proofs.Common.{◌∙◌, sym}
 use Rattle.net_text.proofs.StepLemmas.{assigned_takeable}
 use Rattle.net_text.proofs.assignment.read_path.Goals as goal
 
