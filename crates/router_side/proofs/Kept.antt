@@ -4,6 +4,7 @@ use Rattle.std.proofs.Math.Path.{fun_ext}
 use Rattle.std.proofs.Math.Seq.{take-length, drop-length}
 use Rattle.std.proofs.lemmas.List.{length-append, take-append-le, drop-append-le}
 use Rattle.std.specs.Prelude.{Result, Ok}
+use Rattle.bgp_values.specs.declared.width.Width.{Width}
 use Rattle.bgp_codec.specs.declared.fault.Fault.{Fault}
 use Rattle.bgp_codec.specs.declared.message.Message.{Message}
 use Rattle.bgp_codec.specs.declared.message.Message.TheVariants.{UpdateMsg}
@@ -14,7 +15,7 @@ use Rattle.bgp_codec.specs.Spelling.{written}
 use Rattle.router_model.specs.Sides.{with_update}
 use Rattle.router_side.specs.declared.history.Place.{Place}
 use Rattle.router_side.specs.declared.history.Told.{Told}
-use Rattle.router_side.specs.Histories.{history, updates_read, dated, told_in, IsKept, AreKept}
+use Rattle.router_side.specs.Histories.{history, updates_read, dated, told_in, AreKept}
 use Rattle.router_side.specs.Sayings.{nobody, IsSayable}
 
 under : (b c : Bool) (t u : Update) (us : List Update) → cond b (t ∷ cond c (us ++ u ∷ []) us) (cond c (us ++ u ∷ []) us) ≡ cond c (cond b (t ∷ us) us ++ u ∷ []) (cond b (t ∷ us) us)
@@ -37,47 +38,47 @@ kept_on [] octets new p none one = subst (λ (os : List ℕ). AreKept (p ∷ [])
 kept_on (q ∷ ps) octets new p (le, is, kept) one =
     let front = take-append-le q.len octets new le in
     let behind = drop-append-le q.len octets new le in
-    (longer le, subst IsKept (sym front) is, subst (AreKept (ps ++ p ∷ [])) (sym behind) (kept_on ps (drop q.len octets) new p kept one))
+    (longer le, subst IsFrame (sym front) is, subst (AreKept (ps ++ p ∷ [])) (sym behind) (kept_on ps (drop q.len octets) new p kept one))
   where
     longer : q.len ≤ length octets → q.len ≤ length (octets ++ new)
     longer le = omega (arith, le, length-append octets new)
 
-pub told_on : (ps : List Place) (octets new : List ℕ) (p : Place) → AreKept ps octets → told_in (ps ++ p ∷ []) (octets ++ new) ≡ told_in ps octets ++ told_in (p ∷ []) new
-told_on [] octets new p none = ap (λ (os : List ℕ). told_in (p ∷ []) (os ++ new)) none
-told_on (q ∷ ps) octets new p (le, is, kept) =
+pub told_on : (width : Width) (ps : List Place) (octets new : List ℕ) (p : Place) → AreKept ps octets → told_in width (ps ++ p ∷ []) (octets ++ new) ≡ told_in width ps octets ++ told_in width (p ∷ []) new
+told_on width [] octets new p none = ap (λ (os : List ℕ). told_in width (p ∷ []) (os ++ new)) none
+told_on width (q ∷ ps) octets new p (le, is, kept) =
     let front = take-append-le q.len octets new le in
     let behind = drop-append-le q.len octets new le in
-    let one = λ (os : List ℕ). dated q.epoch (updates_read (reading nobody os)) in
-    ap (λ (os : List ℕ). one os ++ told_in (ps ++ p ∷ []) (drop q.len (octets ++ new))) front
-    ∙ ap (λ (os : List ℕ). one (take q.len octets) ++ told_in (ps ++ p ∷ []) os) behind
-    ∙ ap (λ (ts : List Told). one (take q.len octets) ++ ts) (told_on ps (drop q.len octets) new p kept)
-    ∙ sym (append_assoc (one (take q.len octets)) (told_in ps (drop q.len octets)) (told_in (p ∷ []) new))
+    let one = λ (os : List ℕ). dated q.epoch (updates_read (reading (nobody width) os)) in
+    ap (λ (os : List ℕ). one os ++ told_in width (ps ++ p ∷ []) (drop q.len (octets ++ new))) front
+    ∙ ap (λ (os : List ℕ). one (take q.len octets) ++ told_in width (ps ++ p ∷ []) os) behind
+    ∙ ap (λ (ts : List Told). one (take q.len octets) ++ ts) (told_on width ps (drop q.len octets) new p kept)
+    ∙ sym (append_assoc (one (take q.len octets)) (told_in width ps (drop q.len octets)) (told_in width (p ∷ []) new))
 
 -- one UPDATE
-pub one_kept : (p : Place) (octets : List ℕ) → IsKept octets → p.len ≡ length octets → AreKept (p ∷ []) octets
+pub one_kept : (p : Place) (octets : List ℕ) → IsFrame octets → p.len ≡ length octets → AreKept (p ∷ []) octets
 one_kept p octets kept len =
     let whole = ap (λ (n : ℕ). take n octets) len ∙ take-length octets in
-    (omega (arith, len), subst IsKept (sym whole) kept, ap (λ (n : ℕ). drop n octets) len ∙ drop-length octets)
+    (omega (arith, len), subst IsFrame (sym whole) kept, ap (λ (n : ℕ). drop n octets) len ∙ drop-length octets)
 
-pub one_told : (p : Place) (octets : List ℕ) (u : Update) → reading nobody octets ≡ Ok (UpdateMsg u) → p.len ≡ length octets → told_in (p ∷ []) octets ≡ record { epoch = p.epoch; update = u } ∷ []
-one_told p octets u read len =
+pub one_told : (width : Width) (p : Place) (octets : List ℕ) (u : Update) → reading (nobody width) octets ≡ Ok (UpdateMsg u) → p.len ≡ length octets → told_in width (p ∷ []) octets ≡ record { epoch = p.epoch; update = u } ∷ []
+one_told width p octets u read len =
     let whole = ap (λ (n : ℕ). take n octets) len ∙ take-length octets in
-    ap (λ (os : List ℕ). dated p.epoch (updates_read (reading nobody os)) ++ []) whole
+    ap (λ (os : List ℕ). dated p.epoch (updates_read (reading (nobody width) os)) ++ []) whole
     ∙ ap (λ (r : Result Message Fault). dated p.epoch (updates_read r) ++ []) read
 
 -- what is written of it
-pub written_kept : WrittenIsRead → (octets : List ℕ) (u : Update) → IsSayable (UpdateMsg u) → octets ≡ written (UpdateMsg u) → IsFrame octets × (reading nobody octets ≡ Ok (UpdateMsg u))
-written_kept read octets u sayable is =
-    let w = read nobody (UpdateMsg u) refl sayable.0 sayable.1 in
-    (subst IsFrame (sym is) w.0, ap (reading nobody) is ∙ w.1)
+pub written_kept : (width : Width) → WrittenIsRead → (octets : List ℕ) (u : Update) → IsSayable width (UpdateMsg u) → octets ≡ written width (UpdateMsg u) → IsFrame octets × (reading (nobody width) octets ≡ Ok (UpdateMsg u))
+written_kept width read octets u sayable is =
+    let w = read (nobody width) (UpdateMsg u) refl refl sayable.0 sayable.1 in
+    (subst IsFrame (sym is) w.0, ap (reading (nobody width)) is ∙ w.1)
 
 -- the histories of all incarnations with one more
-pub history_grown : (ps : List Place) (octets new : List ℕ) (p : Place) (u : Update) → AreKept ps octets → reading nobody new ≡ Ok (UpdateMsg u) → p.len ≡ length new
-    → history (told_in (ps ++ p ∷ []) (octets ++ new)) ≡ with_update (history (told_in ps octets)) p.epoch u
-history_grown ps octets new p u kept read len =
+pub history_grown : (width : Width) (ps : List Place) (octets new : List ℕ) (p : Place) (u : Update) → AreKept ps octets → reading (nobody width) new ≡ Ok (UpdateMsg u) → p.len ≡ length new
+    → history (told_in width (ps ++ p ∷ []) (octets ++ new)) ≡ with_update (history (told_in width ps octets)) p.epoch u
+history_grown width ps octets new p u kept read len =
     let t : Told = record { epoch = p.epoch; update = u } in
-    ap history (told_on ps octets new p kept ∙ ap (λ (ts : List Told). told_in ps octets ++ ts) (one_told p new u read len)) ∙ history_on (told_in ps octets) t
+    ap history (told_on width ps octets new p kept ∙ ap (λ (ts : List Told). told_in width ps octets ++ ts) (one_told width p new u read len)) ∙ history_on (told_in width ps octets) t
 
 -- an UPDATE that is read at a place
-pub told_at : (octets : List ℕ) (t : Told) (epoch : ℕ) → t.epoch ≡ epoch → updates_read (reading nobody octets) ≡ t.update ∷ [] → dated epoch (updates_read (reading nobody octets)) ≡ t ∷ []
-told_at octets t epoch e u = ap (λ (us : List Update). dated epoch us) u ∙ ap (λ (n : ℕ). record { epoch = n; update = t.update } ∷ []) (sym e)
+pub told_at : (width : Width) (octets : List ℕ) (t : Told) (epoch : ℕ) → t.epoch ≡ epoch → updates_read (reading (nobody width) octets) ≡ t.update ∷ [] → dated epoch (updates_read (reading (nobody width) octets)) ≡ t ∷ []
+told_at width octets t epoch e u = ap (λ (us : List Update). dated epoch us) u ∙ ap (λ (n : ℕ). record { epoch = n; update = t.update } ∷ []) (sym e)

@@ -27,6 +27,6 @@ says_given (HasUpdate update) a = ap (λ (w : List (Entry Message)). record a { 
 
 -- an UPDATE that is told
 pub told_is : (s : Side) (m : Message) (session : SessionView) (outbox : List (Passing Message)) (sent : ℕ → List Update) → session ≡ kept_alive s.session
-    → outbox ≡ s.outbox ++ octets_of s.link.epoch (written m) → sent ≡ acted_where true (update_in m) s.link.epoch s.sent
+    → outbox ≡ s.outbox ++ octets_of s.link.epoch (written s.width m) → sent ≡ acted_where true (update_in m) s.link.epoch s.sent
     → record s { session = session; outbox = outbox; sent = sent } ≡ told_by s m
-told_is s m session outbox sent a b c = rw (a, b, c, append-nil (octets_of {M = Message} s.link.epoch (written m))) refl
+told_is s m session outbox sent a b c = rw (a, b, c, append-nil (octets_of {M = Message} s.link.epoch (written s.width m))) refl

@@ -1,5 +1,6 @@
 -- UPDATEs that were acted on or sent, in the octets that spell them.
 use Rattle.std.specs.Prelude.{ℕ, ◌≡◌, ◌≤◌, ◌==◌, cond, List, [], ◌∷◌, ◌++◌, length, take, drop, Result, Ok, Err}
+use Rattle.bgp_values.specs.declared.width.Width.{Width}
 use Rattle.bgp_codec.specs.declared.fault.Fault.{Fault}
 use Rattle.bgp_codec.specs.declared.message.Message.{Message}
 use Rattle.bgp_codec.specs.declared.message.Message.TheVariants.{OpenMsg, UpdateMsg, NoticeMsg, AliveMsg}
@@ -29,29 +30,29 @@ dated epoch [] = []
 dated epoch (u ∷ us) = record { epoch = epoch; update = u } ∷ dated epoch us
 
 -- each place takes the next octets
-abbrev pub told_in : List Place → List ℕ → List Told
-told_in [] octets = []
-told_in (p ∷ ps) octets = dated p.epoch (updates_read (reading nobody (take p.len octets))) ++ told_in ps (drop p.len octets)
+abbrev pub told_in : Width → List Place → List ℕ → List Told
+told_in width [] octets = []
+told_in width (p ∷ ps) octets = dated p.epoch (updates_read (reading (nobody width) (take p.len octets))) ++ told_in width ps (drop p.len octets)
 
--- these octets read as an UPDATE
-abbrev pub IsKept : List ℕ → Type 0
-IsKept octets = IsFrame octets × ((update : Update) × (reading nobody octets ≡ Ok (UpdateMsg update)))
-
--- those of each place are, and no others are there
+-- the octets of each place are a frame, and no others are there
 abbrev pub AreKept : List Place → List ℕ → Type 0
 AreKept [] octets = octets ≡ []
-AreKept (p ∷ ps) octets = (p.len ≤ length octets) × IsKept (take p.len octets) × AreKept ps (drop p.len octets)
+AreKept (p ∷ ps) octets = (p.len ≤ length octets) × IsFrame (take p.len octets) × AreKept ps (drop p.len octets)
 
 -- the octets of a message that is kept, where it is an UPDATE
-abbrev pub octets_kept : Message → List ℕ
-octets_kept (OpenMsg message) = []
-octets_kept (UpdateMsg update) = written (UpdateMsg update)
-octets_kept (NoticeMsg notice) = []
-octets_kept AliveMsg = []
+abbrev pub octets_kept : Width → Message → List ℕ
+octets_kept width (OpenMsg message) = []
+octets_kept width (UpdateMsg update) = written width (UpdateMsg update)
+octets_kept width (NoticeMsg notice) = []
+octets_kept width AliveMsg = []
 
--- what was told, its octets, and the room for more
+-- the places, their octets, and the room for more
 pub record Past : Type 0 where
-  pub told : List Told
+  pub entries : List Place
   pub octets : List ℕ
   pub room : ℕ
   pub places : ℕ
+
+-- what was told, where numbers have this width
+abbrev pub told_with : Width → Past → List Told
+told_with width p = told_in width p.entries p.octets

@@ -1,11 +1,11 @@
 -- What is said in short, as entries, and how many octets they have.
 use Rattle.std.specs.Prelude.{ℕ, ◌+◌, ◌≤◌, Bool, cond, List, [], ◌∷◌, ◌++◌, length, Option, None, Some}
+use Rattle.bgp_values.specs.declared.width.Width.{Width}
 use Rattle.bgp_values.specs.declared.messages.TheConstants.{MESSAGE_LIMIT, HEADER_LEN, LEAST_NOTIFICATION}
 use Rattle.bgp_codec.specs.declared.message.Message.{Message}
 use Rattle.bgp_codec.specs.declared.message.Message.TheVariants.{OpenMsg, UpdateMsg, NoticeMsg, AliveMsg}
 use Rattle.bgp_codec.specs.declared.update.Update.{Update}
 use Rattle.bgp_codec.specs.declared.rule.Rule.{Rule}
-use Rattle.bgp_codec.specs.declared.rule.Width.TheVariants.{Two}
 use Rattle.bgp_codec.specs.Spelling.{IsWritable, written}
 use Rattle.run_model.specs.Links.{Entry, Dial, Says, Shut}
 use Rattle.router_side.specs.declared.say.Say.{Say}
@@ -34,9 +34,9 @@ abbrev pub all_entries : Message → Option Message → List Say → List (Entry
 all_entries own_open told [] = []
 all_entries own_open told (x ∷ xs) = entries_of own_open told x ++ all_entries own_open told xs
 
-abbrev pub size_where : Option Message → ℕ
-size_where None = 0
-size_where (Some m) = length (written m)
+abbrev pub size_where : Width → Option Message → ℕ
+size_where width None = 0
+size_where width (Some m) = length (written width m)
 
 -- the octets of what is said, where the OPEN has so many, and the message that tells of what is at hand so many
 abbrev pub size_of : ℕ → ℕ → Say → ℕ
@@ -52,15 +52,15 @@ all_sizes own_open told [] = 0
 all_sizes own_open told (x ∷ xs) = size_of own_open told x + all_sizes own_open told xs
 
 -- a message that a router can say
-abbrev pub nobody : Rule
-nobody = record { width = Two; peer = None }
+abbrev pub nobody : Width → Rule
+nobody width = record { width = width; peer = None; own = None }
 
-abbrev pub IsSayable : Message → Type 0
-IsSayable m = IsWritable nobody m × (length (written m) ≤ MESSAGE_LIMIT)
+abbrev pub IsSayable : Width → Message → Type 0
+IsSayable width m = IsWritable (nobody width) m × (length (written width m) ≤ MESSAGE_LIMIT)
 
-abbrev pub IsSayableWhere : Option Message → Type 0
-IsSayableWhere None = Unit {0}
-IsSayableWhere (Some m) = IsSayable m
+abbrev pub IsSayableWhere : Width → Option Message → Type 0
+IsSayableWhere width None = Unit {0}
+IsSayableWhere width (Some m) = IsSayable width m
 
 abbrev pub acted_where : Bool → Option Update → ℕ → (ℕ → List Update) → ℕ → List Update
 acted_where acts None e history = history

@@ -1,7 +1,9 @@
 -- A side of the code as a side of the definitions, and the room that a change of it needs.
-use Rattle.std.specs.Prelude.{ℕ, ◌≡◌, ◌≤◌, true, List, [], length, Option}
+use Rattle.std.specs.Prelude.{ℕ, ◌≡◌, ◌≤◌, true, List, [], length, Option, Some}
+use Rattle.bgp_values.specs.declared.width.Width.{Width}
 use Rattle.bgp_values.specs.declared.messages.TheConstants.{MESSAGE_LIMIT}
 use Rattle.bgp_codec.specs.declared.message.Message.{Message}
+use Rattle.bgp_codec.specs.declared.rule.Rule.{Rule}
 use Rattle.bgp_codec.specs.Spelling.{written}
 use Rattle.link_epoch.specs.Ends as links
 use Rattle.session_fsm.specs.Table as sessions
@@ -9,10 +11,9 @@ use Rattle.session_fsm.specs.declared.config.SessionConfig.{SessionConfig}
 use Rattle.run_model.specs.Links.{Says}
 use Rattle.outbox.specs.Items.{next_item, left_behind}
 use Rattle.router_model.specs.Sides.{Side, AtHand, appended, at_hand, front}
-use Rattle.router_model.specs.State.{rule_of}
 use Rattle.router_side.specs.declared.draft.Sketch.{Sketch}
 use Rattle.router_side.specs.declared.side.SideEnd.{SideEnd}
-use Rattle.router_side.specs.Histories.{history}
+use Rattle.router_side.specs.Histories.{history, told_with}
 use Rattle.router_side.specs.Sayings.{size_where, all_sizes, update_in, acted_where}
 
 abbrev pub side : SideEnd → Side
@@ -21,21 +22,26 @@ side s = record {
   link = s.link;
   outbox = s.outbox.passing;
   held = s.framer.octets;
-  acted = history s.acted.told;
-  sent = history s.sent.told;
+  acted = history (told_with s.width s.acted);
+  sent = history (told_with s.width s.sent);
+  width = s.width;
 }
 
 -- the opening: Idle, and nothing was dialled, said, taken, acted on or sent
-abbrev pub side_opening : SessionConfig → Side
-side_opening config = record { session = sessions.opening config; link = links.opening; outbox = []; held = []; acted = λ e. []; sent = λ e. [] }
+abbrev pub side_opening : SessionConfig → Width → Side
+side_opening config width = record { session = sessions.opening config; link = links.opening; outbox = []; held = []; acted = λ e. []; sent = λ e. []; width = width }
 
--- this is at hand with the message or fault in front of these octets, of some peer
-abbrev pub IsInFront : List ℕ → AtHand → Type 0
-IsInFront octets g = (peer : ℕ) × (g ≡ at_hand (front (rule_of peer) octets))
+-- the rule that names a peer, and the router itself
+abbrev pub naming : Width → ℕ → ℕ → Rule
+naming width own peer = record { width = width; peer = Some peer; own = Some own }
+
+-- this is at hand with the message or fault in front of these octets, of some peer of some router
+abbrev pub IsInFront : Width → List ℕ → AtHand → Type 0
+IsInFront width octets g = (own : ℕ) × (peer : ℕ) × (g ≡ at_hand (front (naming width own peer) octets))
 
 -- a draft can be carried out without memory
 pub record HasRoom (own_open : Message) (told : Option Message) (a : Sketch) (s : SideEnd) : Type 0 where
-  pub octets : all_sizes (length (written own_open)) (size_where told) a.says ≤ s.outbox.room
+  pub octets : all_sizes (length (written s.width own_open)) (size_where s.width told) a.says ≤ s.outbox.room
   pub places : length a.says ≤ s.outbox.places
   pub acted : MESSAGE_LIMIT ≤ s.acted.room
   pub acted_places : 1 ≤ s.acted.places
@@ -50,9 +56,9 @@ told_by s m = record (appended s (Says s.link.epoch m)) { session = sessions.kep
 
 -- a message can be told without memory
 pub record HasRoomToTell (m : Message) (s : SideEnd) : Type 0 where
-  pub octets : length (written m) ≤ s.outbox.room
+  pub octets : length (written s.width m) ≤ s.outbox.room
   pub places : 1 ≤ s.outbox.places
-  pub sent : length (written m) ≤ s.sent.room
+  pub sent : length (written s.width m) ≤ s.sent.room
   pub sent_places : 1 ≤ s.sent.places
 
 -- a marker can be appended without memory

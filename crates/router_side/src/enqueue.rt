@@ -48,9 +48,9 @@ pub(crate) fn size_of_all(says: &[Say], own_open: usize, told: usize) -> usize
 
 #[tactic(auto, using(crate::proofs::Sizes::told_len))]
 /// How many octets the message has that tells of what is at hand.
-pub(crate) fn size_told(given: &Given) -> usize
-    requires { IsSayableWhere (told_of (hand given.now)) }
-    ensures { result ≡ size_where (told_of (hand given.now)) }
+pub(crate) fn size_told(given: &Given, width: Width) -> usize
+    requires { IsSayableWhere width (told_of (hand given.now)) }
+    ensures { result ≡ size_where width (told_of (hand given.now)) }
 {
     written_has_a_header();
     match given {
@@ -79,12 +79,12 @@ fn append(
     told: &Option<Message>,
     say: Say,
 )
-    requires own { IsSayable own_open.now }
-    requires told { IsSayableWhere told.now }
-    requires octets { size_of (length (written own_open.now)) (size_where told.now) say ≤ outbox.old.room }
+    requires own { IsSayable width own_open.now }
+    requires told { IsSayableWhere width told.now }
+    requires octets { size_of (length (written width own_open.now)) (size_where width told.now) say ≤ outbox.old.room }
     requires place { 1 ≤ outbox.old.places }
-    ensures passing { outbox.new.passing ≡ outbox.old.passing ++ passing written (entries_of own_open.now told.now say) }
-    ensures room { outbox.old.room ≤ outbox.new.room + size_of (length (written own_open.now)) (size_where told.now) say }
+    ensures passing { outbox.new.passing ≡ outbox.old.passing ++ passing (written width) (entries_of own_open.now told.now say) }
+    ensures room { outbox.old.room ≤ outbox.new.room + size_of (length (written width own_open.now)) (size_where width told.now) say }
     ensures places { outbox.old.places ≤ outbox.new.places + 1 }
 {
     written_has_a_header();
@@ -114,11 +114,11 @@ pub(crate) fn append_all(
     told: &Option<Message>,
     says: &[Say],
 )
-    requires own { IsSayable own_open.now }
-    requires told { IsSayableWhere told.now }
-    requires octets { all_sizes (length (written own_open.now)) (size_where told.now) says.now ≤ outbox.old.room }
+    requires own { IsSayable width own_open.now }
+    requires told { IsSayableWhere width told.now }
+    requires octets { all_sizes (length (written width own_open.now)) (size_where width told.now) says.now ≤ outbox.old.room }
     requires places { length says.now ≤ outbox.old.places }
-    ensures { outbox.new.passing ≡ outbox.old.passing ++ passing written (all_entries own_open.now told.now says.now) }
+    ensures { outbox.new.passing ≡ outbox.old.passing ++ passing (written width) (all_entries own_open.now told.now says.now) }
 {
     passing_appends::<Message>();
     for say in says {

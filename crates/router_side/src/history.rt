@@ -3,11 +3,13 @@
 ghost use Rattle.std.specs.Prelude.{◌≡◌, ◌≤◌, ◌∷◌, ◌++◌, [], true, length, Ok, IfOk, OnOk};
 ghost use Rattle.bgp_codec.specs.declared.message.Message.TheVariants.{UpdateMsg};
 ghost use Rattle.bgp_codec.specs.declared.update.Update as update;
+ghost use Rattle.bgp_codec.specs.Header.{IsFrame};
+ghost use Rattle.bgp_values.specs.declared.width.Width as widths;
 ghost use Rattle.bgp_codec.specs.Faults.{reading};
 ghost use Rattle.bgp_codec.specs.Spelling.{written};
 ghost use Rattle.router_model.specs.Sides.{with_update};
 ghost use Rattle.router_side.specs.Sayings.{acted_where, nobody, update_in, IsSayable};
-ghost use Rattle.router_side.specs.Histories.{history, octets_kept, updates_read, IsKept};
+ghost use Rattle.router_side.specs.Histories.{history, octets_kept, told_with, updates_read};
 
 use bgp_codec::laws::written_is_read;
 use bgp_codec::{Message, Rule, Update, decode, put_message};
@@ -41,12 +43,12 @@ pub struct History {
 
 impl Model for History {
     ghost use Rattle.std.specs.Prelude.{◌-◌, vec_len, vec_capacity};
-    ghost use Rattle.router_side.specs.Histories.{Past, told_in, AreKept};
+    ghost use Rattle.router_side.specs.Histories.{Past, AreKept};
 
     ghost Value = { Past };
 
     ghost view = { λ h. record {
-      told = told_in h.places.items h.octets.items;
+      entries = h.places.items;
       octets = h.octets.items;
       room = vec_capacity h.octets - vec_len h.octets;
       places = vec_capacity h.places - vec_len h.places;
@@ -68,7 +70,7 @@ pub(crate) fn nobody(width: Width) -> Rule
 
 // The UPDATE that some octets spell. It is refused only where memory was: what is kept is an UPDATE.
 fn read(alloc: Global, width: Width, epoch: u32, octets: &[u8]) -> Result<Told, AllocError>
-    requires { IsKept octets.now }
+    requires { IsFrame octets.now }
     ensures epoch { IfOk result (λ told. told.epoch ≡ epoch) }
     ensures update { IfOk result (λ told. updates_read (reading (nobody width) octets.now) ≡ told.update ∷ []) }
 {
@@ -83,7 +85,7 @@ fn read(alloc: Global, width: Width, epoch: u32, octets: &[u8]) -> Result<Told, 
 impl History {
     /// No UPDATE yet. It takes no memory.
     pub fn new(alloc: Global) -> History
-        ensures { result.told ≡ [] }
+        ensures { result.entries ≡ [] }
     {
         History {
             octets: Vec::new(alloc),
@@ -93,7 +95,7 @@ impl History {
 
     /// The UPDATEs in their order, each with its incarnation. It is refused only where memory was.
     pub fn told(&self, alloc: Global, width: Width) -> Result<Vec<Told>, AllocError>
-        ensures { IfOk result (λ told. told.items ≡ self.now.told) }
+        ensures { IfOk result (λ told. told.items ≡ told_with width self.now) }
     {
         let mut all = Vec::new(alloc);
         let mut rest = self.octets.as_slice();
@@ -114,7 +116,8 @@ impl History {
 
     // Makes room for an UPDATE of so many octets.
     pub(crate) fn reserve(&mut self, octets: usize) -> Result<(), AllocError>
-        ensures told { self.new.told ≡ self.old.told }
+        ensures entries { self.new.entries ≡ self.old.entries }
+        ensures octets { self.new.octets ≡ self.old.octets }
         ensures room { OnOk result (octets ≤ self.new.room) }
         ensures places { OnOk result (1 ≤ self.new.places) }
     {
@@ -123,12 +126,12 @@ impl History {
         Ok(())
     }
 
-    // Puts the UPDATE of a frame behind the others, for which there is room.
+    // Puts the UPDATE of a frame behind the others, for which there is room, whatever the width.
     pub(crate) fn keep_frame(&mut self, epoch: u32, frame: &[u8])
-        requires kept { IsKept frame.now }
+        requires frame { IsFrame frame.now }
         requires room { length frame.now ≤ self.old.room }
         requires place { 1 ≤ self.old.places }
-        ensures { (u : update.Update) → reading nobody frame.now ≡ Ok (UpdateMsg u) → history self.new.told ≡ with_update (history self.old.told) epoch u }
+        ensures { (w : widths.Width) (u : update.Update) → reading (nobody w) frame.now ≡ Ok (UpdateMsg u) → history (told_with w self.new) ≡ with_update (history (told_with w self.old)) epoch u }
     {
         self.octets.extend_from_slice(frame).unwrap();
         let len = frame.len();
@@ -137,11 +140,11 @@ impl History {
 
     // Puts an UPDATE behind the others, for which there is room; another message is none of them.
     pub(crate) fn keep(&mut self, width: Width, epoch: u32, message: &Message)
-        requires sayable { IsSayable message.now }
-        requires room { length (written message.now) ≤ self.old.room }
+        requires sayable { IsSayable width message.now }
+        requires room { length (written width message.now) ≤ self.old.room }
         requires place { 1 ≤ self.old.places }
-        ensures told { history self.new.told ≡ acted_where true (update_in message.now) epoch (history self.old.told) }
-        ensures octets { self.new.octets ≡ self.old.octets ++ octets_kept message.now }
+        ensures told { history (told_with width self.new) ≡ acted_where true (update_in message.now) epoch (history (told_with width self.old)) }
+        ensures octets { self.new.octets ≡ self.old.octets ++ octets_kept width message.now }
     {
         match message {
             Message::UpdateMsg(_) => {

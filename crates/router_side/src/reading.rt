@@ -31,7 +31,7 @@ fn read_frame(
     requires { IsFrame frame.now }
     ensures read { IfOk result (λ read. read ≡ reading rule.now frame.now) }
     ensures good { IfOk result (λ read. IsGoodEvent (event_of read)) }
-    ensures told { IfOk result (λ read. IsSayableWhere (told_of (at_hand read))) }
+    ensures told { IfOk result (λ read. IsSayableWhere rule.now.width (told_of (at_hand read))) }
     ensures writable { IfOk result (λ read. IfOk read (IsWritable rule.now)) }
 {
     spelt_is_writable();
@@ -56,7 +56,7 @@ pub fn read_front(
     requires { is_waiting framer.now.octets ≡ true }
     ensures read { IfOk result (λ read. read ≡ front rule.now framer.now.octets) }
     ensures good { IfOk result (λ read. IsGoodEvent (event_of read)) }
-    ensures told { IfOk result (λ read. IsSayableWhere (told_of (at_hand read))) }
+    ensures told { IfOk result (λ read. IsSayableWhere rule.now.width (told_of (at_hand read))) }
     ensures writable { IfOk result (λ read. IfOk read (IsWritable rule.now)) }
 {
     header_is_its_front();

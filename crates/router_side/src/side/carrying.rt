@@ -2,6 +2,7 @@
 
 ghost use Rattle.std.specs.Prelude.{◌≡◌, ◌≤◌, ◌++◌, [], true, cond, length, None, OnOk};
 ghost use Rattle.bgp_values.specs.declared.messages.TheConstants.{MESSAGE_LIMIT};
+ghost use Rattle.bgp_values.specs.declared.width.Width as widths;
 ghost use Rattle.bgp_codec.specs.Header.{header_fault};
 ghost use Rattle.bgp_codec.specs.Spelling.{written};
 ghost use Rattle.bgp_framing.specs.Held.{is_waiting};
@@ -9,7 +10,7 @@ ghost use Rattle.run_model.specs.Octets.{passing};
 ghost use Rattle.router_model.specs.Sides.{carried, acted_with, rest_behind, without_front, NoMessage};
 ghost use Rattle.router_side.specs.Sayings.{told_of, all_entries, all_sizes, size_where, IsSayable, IsSayableWhere};
 ghost use Rattle.router_side.specs.Drafts.{draft, hand};
-ghost use Rattle.router_side.specs.Histories.{history};
+ghost use Rattle.router_side.specs.Histories.{history, told_with};
 ghost use Rattle.router_side.specs.SideOf.{side, IsInFront, HasRoom};
 
 use super::SideEnd;
@@ -32,13 +33,17 @@ impl SideEnd {
         given: &Given,
         made: &Sketch,
     ) -> Result<(), AllocError>
-        requires own { IsSayable own_open.now }
-        requires told { IsSayableWhere (told_of (hand given.now)) }
+        requires own { IsSayable self.old.width own_open.now }
+        requires told { IsSayableWhere self.old.width (told_of (hand given.now)) }
         ensures side { side self.new ≡ side self.old }
         ensures room { OnOk result (HasRoom own_open.now (told_of (hand given.now)) made.now self.new) }
     {
         let says = made.says.as_slice();
-        let octets = size_of_all(says, written_len(own_open, self.width), size_told(given));
+        let octets = size_of_all(
+            says,
+            written_len(own_open, self.width),
+            size_told(given, self.width),
+        );
         self.outbox.reserve(octets, says.len())?;
         self.acted.reserve(MESSAGE_LIMIT)?;
         Ok(())
@@ -46,16 +51,17 @@ impl SideEnd {
 
     // Carries a draft out, but for the UPDATE that it acts on.
     fn carry(&mut self, alloc: Global, own_open: &Message, told: &Option<Message>, made: &Sketch)
-        requires own { IsSayable own_open.now }
-        requires told { IsSayableWhere told.now }
-        requires octets { all_sizes (length (written own_open.now)) (size_where told.now) made.now.says ≤ self.old.outbox.room }
+        requires own { IsSayable self.old.width own_open.now }
+        requires told { IsSayableWhere self.old.width told.now }
+        requires octets { all_sizes (length (written self.old.width own_open.now)) (size_where self.old.width told.now) made.now.says ≤ self.old.outbox.room }
         requires places { length made.now.says ≤ self.old.outbox.places }
         ensures session { self.new.session ≡ made.now.session }
         ensures link { self.new.link ≡ made.now.link }
-        ensures outbox { self.new.outbox.passing ≡ self.old.outbox.passing ++ passing written (all_entries own_open.now told.now made.now.says) }
+        ensures outbox { self.new.outbox.passing ≡ self.old.outbox.passing ++ passing (written self.old.width) (all_entries own_open.now told.now made.now.says) }
         ensures held { self.new.framer.octets ≡ cond made.now.drops [] self.old.framer.octets }
         ensures acted { self.new.acted ≡ self.old.acted }
         ensures sent { self.new.sent ≡ self.old.sent }
+        ensures width { self.new.width ≡ self.old.width }
     {
         self.session = made.session;
         self.link = made.link;
@@ -75,7 +81,7 @@ impl SideEnd {
     /// Carries out a draft of an event that brings no message, for which there is room. It takes no
     /// memory, and cannot be refused.
     pub fn commit(&mut self, alloc: Global, own_open: &Message, made: &Sketch)
-        requires own { IsSayable own_open.now }
+        requires own { IsSayable self.old.width own_open.now }
         requires room { HasRoom own_open.now None made.now self.old }
         ensures { side self.new ≡ carried NoMessage (side self.old) (draft own_open.now NoMessage made.now) }
     {
@@ -85,10 +91,10 @@ impl SideEnd {
     /// Carries out a draft of the message or fault in front, for which there is room: a message is taken
     /// away, a fault stays. It takes no memory, and cannot be refused.
     pub fn commit_front(&mut self, alloc: Global, own_open: &Message, given: Given, made: &Sketch)
-        requires own { IsSayable own_open.now }
-        requires told { IsSayableWhere (told_of (hand given)) }
+        requires own { IsSayable self.old.width own_open.now }
+        requires told { IsSayableWhere self.old.width (told_of (hand given)) }
         requires waits { is_waiting (side self.old).held ≡ true }
-        requires front { IsInFront (side self.old).held (hand given) }
+        requires front { IsInFront self.old.width (side self.old).held (hand given) }
         requires room { HasRoom own_open.now (told_of (hand given)) made.now self.old }
         ensures { side self.new ≡ carried (hand given) (without_front (side self.old)) (draft own_open.now (hand given) made.now) }
     {
@@ -113,6 +119,7 @@ impl SideEnd {
         ensures outbox { self.new.outbox ≡ self.old.outbox }
         ensures acted { self.new.acted ≡ self.old.acted }
         ensures sent { self.new.sent ≡ self.old.sent }
+        ensures width { self.new.width ≡ self.old.width }
     {
         header_is_its_front();
         if let Next::Whole(..) = self.framer.next() {
@@ -135,10 +142,10 @@ fn telling(given: Given) -> Option<Message>
 // its frame. It takes no memory.
 fn count_front(acted: &mut History, framer: &Framer, acts: bool, given: &Given, epoch: u32)
     requires waits { is_waiting framer.now.octets ≡ true }
-    requires front { IsInFront framer.now.octets (hand given.now) }
+    requires front { (w : widths.Width) × IsInFront w framer.now.octets (hand given.now) }
     requires room { MESSAGE_LIMIT ≤ acted.old.room }
     requires place { 1 ≤ acted.old.places }
-    ensures { history acted.new.told ≡ acted_with acts (hand given.now) epoch (history acted.old.told) }
+    ensures { (w : widths.Width) → IsInFront w framer.now.octets (hand given.now) → history (told_with w acted.new) ≡ acted_with acts (hand given.now) epoch (history (told_with w acted.old)) }
 {
     header_is_its_front();
     if !acts {

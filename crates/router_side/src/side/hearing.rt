@@ -32,7 +32,7 @@ impl SideEnd {
         requires { is_waiting (side self.now).held ≡ true }
         ensures read { IfOk result (λ read. read ≡ front rule.now (side self.now).held) }
         ensures good { IfOk result (λ read. IsGoodEvent (event_of read)) }
-        ensures told { IfOk result (λ read. IsSayableWhere (told_of (at_hand read))) }
+        ensures told { IfOk result (λ read. IsSayableWhere rule.now.width (told_of (at_hand read))) }
         ensures writable { IfOk result (λ read. IfOk read (IsWritable rule.now)) }
     {
         read_front(alloc, &self.framer, rule)

@@ -16,7 +16,7 @@ impl SideEnd {
     /// Makes room for an UPDATE to be told. It is refused only where memory was, and the side stays as
     /// it was.
     pub fn reserve_telling(&mut self, message: &Message) -> Result<(), AllocError>
-        requires { IsSayable message.now }
+        requires { IsSayable self.old.width message.now }
         ensures side { side self.new ≡ side self.old }
         ensures room { OnOk result (HasRoomToTell message.now self.new) }
     {
@@ -31,7 +31,7 @@ impl SideEnd {
     #[tactic(auto, using(crate::proofs::Said::told_is))]
     pub fn tell(&mut self, message: &Message)
         requires up { is_up (side self.old) ≡ true }
-        requires sayable { IsSayable message.now }
+        requires sayable { IsSayable self.old.width message.now }
         requires room { HasRoomToTell message.now self.old }
         ensures { side self.new ≡ told_by (side self.old) message.now }
     {

@@ -1,6 +1,7 @@
 //! One side of a router (`router_side`).
 
 ghost use Rattle.session_fsm.specs.Table.{IsGoodEvent};
+ghost use Rattle.bgp_values.specs.declared.width.Width as widths;
 ghost use Rattle.router_side.specs.Sayings.{IsSayable};
 
 use super::items::numbers;
@@ -29,7 +30,7 @@ fn meets(
     own_open: &Message,
     event: FsmEvent,
 ) -> Result<(), AllocError>
-    requires own { IsSayable own_open.now }
+    requires own { (w : widths.Width) → IsSayable w own_open.now }
     requires good { IsGoodEvent event }
 {
     let made = side.meet(own_open, event);
@@ -45,7 +46,7 @@ fn is_given(
     own_open: &Message,
     sign: Sign,
 ) -> Result<(), AllocError>
-    requires { IsSayable own_open.now }
+    requires { (w : widths.Width) → IsSayable w own_open.now }
 {
     let made = side.sign(own_open, sign);
     side.reserve(own_open, &Given::Nothing, &made)?;
@@ -115,7 +116,7 @@ fn a_side_opens_in(
     own_open: &Message,
     side: &mut SideEnd,
 ) -> Result<(), AllocError>
-    requires { IsSayable own_open.now }
+    requires { (w : widths.Width) → IsSayable w own_open.now }
 {
     meets(alloc, side, own_open, FsmEvent::ManualStart)?;
     assert!(rt; is_in(side, State::Connect, 1));

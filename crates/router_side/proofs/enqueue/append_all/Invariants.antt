@@ -7,7 +7,7 @@ use Rattle.router_side.proofs.enqueue.append_all.Given as goal
 
 abbrev pub invariant-loop-say : goal.invariant-loop-say
 invariant-loop-say l = record {
-  all : l.outbox.passing ++ passing written (all_entries l.own_open l.told (drop l.say-index l.says)) ≡ l.fn.outbox.passing ++ passing written (all_entries l.own_open l.told l.says);
-  octets : all_sizes (length (written l.own_open)) (size_where l.told) (drop l.say-index l.says) ≤ l.outbox.room;
+  all : l.outbox.passing ++ passing (written l.fn.width) (all_entries l.own_open l.told (drop l.say-index l.says)) ≡ l.fn.outbox.passing ++ passing (written l.fn.width) (all_entries l.own_open l.told l.says);
+  octets : all_sizes (length (written l.fn.width l.own_open)) (size_where l.fn.width l.told) (drop l.say-index l.says) ≤ l.outbox.room;
   places : length (drop l.say-index l.says) ≤ l.outbox.places;
 }

@@ -1,5 +1,4 @@
 use Rattle.router_side.proofs.history.read.Goals as goal
 
--- what is kept is a frame
 pub decode-requires : goal.decode-requires
-decode-requires c = c.requires.0
+decode-requires c = c.requires

@@ -2,10 +2,11 @@ use Rattle.std.proofs.Common.{◌≡◌, ◌++◌, ◌∷◌, ◌∙◌, ◌-◌
 use Rattle.std.proofs.lemmas.List.{length-append}
 use Rattle.bgp_codec.specs.declared.message.Message.{Message}
 use Rattle.bgp_codec.specs.declared.message.Message.TheVariants.{UpdateMsg}
+use Rattle.bgp_codec.specs.declared.rule.Rule.{Rule}
 use Rattle.bgp_codec.specs.declared.update.Update.{Update}
 use Rattle.bgp_codec.specs.Spelling.{written}
 use Rattle.router_side.specs.declared.history.Place.{Place}
-use Rattle.router_side.specs.Histories.{history, told_in, AreKept}
+use Rattle.router_side.specs.Histories.{history, told_in, told_with, AreKept}
 use Rattle.router_side.specs.Sayings.{acted_where, update_in, IsSayable}
 use Rattle.router_side.proofs.Kept.{kept_on, one_kept, written_kept, history_grown}
 use Rattle.router_side.proofs.history.History.keep.Goals as goal
@@ -15,28 +16,30 @@ pub invariant_of-self : goal.invariant_of-self
 invariant_of-self c =
     let m = c.in-UpdateMsg.is in
     let u = c.in-UpdateMsg.field-0 in
-    let new = written c.args.message.now in
+    let new = written c.args.width c.args.message.now in
     let p : Place = record { epoch = c.args.epoch; len = c.len.result - c.len-before.result } in
-    let grown = ap length c.put_message.ensures.items ∙ length-append c.self.inside.octets.items new in
+    let items = c.put_message.ensures.items ∙ ap (λ (r : Rule). c.self.inside.octets.items ++ written r.width c.args.message.now) c.nobody.ensures in
+    let grown = ap length items ∙ length-append c.self.inside.octets.items new in
     let len : p.len ≡ length new = omega (arith, grown, c.len.ensures, c.len-before.ensures, c.put_message.new.out.ok.0, c.self.inside.octets.ok.0) in
-    let w = written_kept c.written_is_read.ensures new u (subst IsSayable m c.requires.sayable) (ap written m) in
-    let all = kept_on c.self.inside.places.items c.self.inside.octets.items new p c.self.invariant (one_kept p new (w.0, (u, w.1)) len) in
+    let w = written_kept c.args.width c.written_is_read.ensures new u (subst (IsSayable c.args.width) m c.requires.sayable) (ap (written c.args.width) m) in
+    let all = kept_on c.self.inside.places.items c.self.inside.octets.items new p c.self.invariant (one_kept p new w.0 len) in
     subst (λ (ps : List Place). AreKept ps c.put_message.new.out.items) (sym c.push_reserved.ensures.items)
-    (subst (λ (os : List ℕ). AreKept (c.self.inside.places.items ++ p ∷ []) os) (sym c.put_message.ensures.items) all)
+    (subst (λ (os : List ℕ). AreKept (c.self.inside.places.items ++ p ∷ []) os) (sym items) all)
 
 pub returns-in-UpdateMsg-clause-told : goal.returns-in-UpdateMsg-clause-told
 returns-in-UpdateMsg-clause-told c =
     let m = c.in-UpdateMsg.is in
     let u = c.in-UpdateMsg.field-0 in
-    let new = written c.args.message.now in
+    let new = written c.args.width c.args.message.now in
     let ps = c.self.inside.places.items in
     let os = c.self.inside.octets.items in
     let p : Place = record { epoch = c.args.epoch; len = c.len.result - c.len-before.result } in
-    let grown = ap length c.put_message.ensures.items ∙ length-append os new in
+    let items = c.put_message.ensures.items ∙ ap (λ (r : Rule). c.self.inside.octets.items ++ written r.width c.args.message.now) c.nobody.ensures in
+    let grown = ap length items ∙ length-append os new in
     let len : p.len ≡ length new = omega (arith, grown, c.len.ensures, c.len-before.ensures, c.put_message.new.out.ok.0, c.self.inside.octets.ok.0) in
-    let w = written_kept c.written_is_read.ensures new u (subst IsSayable m c.requires.sayable) (ap written m) in
-    ap history (ap (λ (xs : List Place). told_in xs c.put_message.new.out.items) c.push_reserved.ensures.items
-    ∙ ap (λ (xs : List ℕ). told_in (ps ++ p ∷ []) xs) c.put_message.ensures.items)
-    ∙ history_grown ps os new p u c.self.invariant w.1 len
-    ∙ ap (λ (h : ℕ → List Update). acted_where true (update_in (UpdateMsg u)) c.args.epoch h) (ap (λ v. history v.told) c.self.view_is)
-    ∙ sym (ap (λ (k : Message). acted_where true (update_in k) c.args.epoch (history c.args.self.now.told)) m)
+    let w = written_kept c.args.width c.written_is_read.ensures new u (subst (IsSayable c.args.width) m c.requires.sayable) (ap (written c.args.width) m) in
+    ap history (ap (λ (xs : List Place). told_in c.args.width xs c.put_message.new.out.items) c.push_reserved.ensures.items
+    ∙ ap (λ (xs : List ℕ). told_in c.args.width (ps ++ p ∷ []) xs) items)
+    ∙ history_grown c.args.width ps os new p u c.self.invariant w.1 len
+    ∙ ap (λ (h : ℕ → List Update). acted_where true (update_in (UpdateMsg u)) c.args.epoch h) (ap (λ v. history (told_with c.args.width v)) c.self.view_is)
+    ∙ sym (ap (λ (k : Message). acted_where true (update_in k) c.args.epoch (history (told_with c.args.width c.args.self.now))) m)

@@ -3,7 +3,7 @@ use Rattle.std.specs.Prelude.{is_ok, if◌then◌else◌}
 use Rattle.bgp_codec.specs.declared.update.Update.{Update}
 use Rattle.router_model.specs.Sides.{with_update}
 use Rattle.router_side.specs.declared.history.Place.{Place}
-use Rattle.router_side.specs.Histories.{history, told_in, AreKept}
+use Rattle.router_side.specs.Histories.{history, told_in, told_with, AreKept}
 use Rattle.router_side.proofs.Kept.{kept_on, one_kept, history_grown}
 use Rattle.router_side.proofs.history.History.keep_frame.Goals as goal
 
@@ -15,18 +15,18 @@ invariant_of-self c =
     let new = c.args.frame.now in
     let p : Place = record { epoch = c.args.epoch; len = length new } in
     let grown = c.extend_from_slice.ensures.items ∙ ap (λ r. if is_ok r then os ++ new else os) c.unwrap.ensures in
-    let all = kept_on ps os new p c.self.invariant (one_kept p new c.requires.kept refl) in
+    let all = kept_on ps os new p c.self.invariant (one_kept p new c.requires.frame refl) in
     subst (λ (xs : List Place). AreKept xs c.extend_from_slice.new.self.items) (sym c.push_reserved.ensures.items)
     (subst (λ (xs : List ℕ). AreKept (ps ++ p ∷ []) xs) (sym grown) all)
 
 pub returns : goal.returns
-returns c = λ u read.
+returns c = λ width u read.
     let ps = c.self.inside.places.items in
     let os = c.self.inside.octets.items in
     let new = c.args.frame.now in
     let p : Place = record { epoch = c.args.epoch; len = length new } in
     let grown = c.extend_from_slice.ensures.items ∙ ap (λ r. if is_ok r then os ++ new else os) c.unwrap.ensures in
-    ap history (ap (λ (xs : List Place). told_in xs c.extend_from_slice.new.self.items) c.push_reserved.ensures.items
-    ∙ ap (λ (xs : List ℕ). told_in (ps ++ p ∷ []) xs) grown)
-    ∙ history_grown ps os new p u c.self.invariant read refl
-    ∙ ap (λ (h : ℕ → List Update). with_update h c.args.epoch u) (ap (λ v. history v.told) c.self.view_is)
+    ap history (ap (λ (xs : List Place). told_in width xs c.extend_from_slice.new.self.items) c.push_reserved.ensures.items
+    ∙ ap (λ (xs : List ℕ). told_in width (ps ++ p ∷ []) xs) grown)
+    ∙ history_grown width ps os new p u c.self.invariant read refl
+    ∙ ap (λ (h : ℕ → List Update). with_update h c.args.epoch u) (ap (λ v. history (told_with width v)) c.self.view_is)

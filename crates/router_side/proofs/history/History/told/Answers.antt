@@ -1,9 +1,10 @@
 use Rattle.std.proofs.Common.{◌≡◌, ◌++◌, ◌∷◌, ◌+◌, ◌∙◌, ℕ, List, [], drop, get_or, append_assoc, sym, ap, subst}
 use Rattle.std.proofs.lemmas.List.{append-nil, drop_more, drop_all}
+use Rattle.bgp_codec.specs.Header.{IsFrame}
 use Rattle.bgp_codec.specs.Faults.{reading}
 use Rattle.router_side.specs.declared.history.Place.{Place}
 use Rattle.router_side.specs.declared.history.Told.{Told}
-use Rattle.router_side.specs.Histories.{updates_read, dated, told_in, IsKept, AreKept}
+use Rattle.router_side.specs.Histories.{updates_read, dated, told_in, told_with, AreKept}
 use Rattle.router_side.specs.Sayings.{nobody}
 use Rattle.router_side.proofs.Kept.{told_at}
 use Rattle.router_side.proofs.history.History.told.Goals as goal
@@ -16,10 +17,10 @@ loop-place-init c =
     record {
       kept = subst (λ (xs : List Place). AreKept xs octets) (sym ps) (subst (AreKept c.self.inside.places.items) (sym os) c.self.invariant);
       all =
-          ap (λ (ts : List Told). ts ++ told_in c.as_slice-place-items.result.now octets) c.new-all.ensures.items
-          ∙ ap (λ (xs : List Place). told_in xs octets) ps
-          ∙ ap (told_in c.self.inside.places.items) os
-          ∙ ap (λ v. v.told) c.self.view_is;
+          ap (λ (ts : List Told). ts ++ told_in c.args.width c.as_slice-place-items.result.now octets) c.new-all.ensures.items
+          ∙ ap (λ (xs : List Place). told_in c.args.width xs octets) ps
+          ∙ ap (told_in c.args.width c.self.inside.places.items) os
+          ∙ ap (λ v. told_with c.args.width v) c.self.view_is;
     }
 
 -- each place has its octets
@@ -30,7 +31,7 @@ split_at-requires c =
 
 pub read-requires : goal.read-requires
 read-requires c =
-    subst IsKept (sym c.split_at.ensures.front)
+    subst IsFrame (sym c.split_at.ensures.front)
     (subst (λ (xs : List Place). AreKept xs c.loop-place.rest.now)
     (drop_more c.as_slice-place-items.result.now c.loop-place.place-index (record { epoch = 0; len = 0 }) c.loop-place-test.true) c.loop-place.invariant.kept).1
 
@@ -44,18 +45,18 @@ loop-place-preserved c =
     let step = drop_more xs i none c.loop-place-test.true in
     let kept = subst (λ (ys : List Place). AreKept ys octets) step c.loop-place.invariant.kept in
     let rest = drop (i + 1) xs in
-    let behind : (c.in_ok-read.field-0 ∷ []) ++ told_in rest c.split_at.result.1.now ≡ (c.in_ok-read.field-0 ∷ []) ++ told_in rest (drop p.len octets) =
-    ap (λ (os : List ℕ). (c.in_ok-read.field-0 ∷ []) ++ told_in rest os) c.split_at.ensures.back in
-    let whole : told_in (p ∷ rest) octets ≡ told_in (drop i xs) octets = ap (λ (ys : List Place). told_in ys octets) (sym step) in
-    let one = told_at c.split_at.result.0.now c.in_ok-read.field-0 p.epoch c.in_ok-read.ensures.epoch c.in_ok-read.ensures.update in
-    let front : (c.in_ok-read.field-0 ∷ []) ++ told_in rest (drop p.len octets) ≡ told_in (p ∷ rest) octets =
-    ap (λ (ts : List Told). ts ++ told_in rest (drop p.len octets)) (sym one)
-    ∙ ap (λ (os : List ℕ). dated p.epoch (updates_read (reading nobody os)) ++ told_in rest (drop p.len octets)) c.split_at.ensures.front in
+    let behind : (c.in_ok-read.field-0 ∷ []) ++ told_in c.args.width rest c.split_at.result.1.now ≡ (c.in_ok-read.field-0 ∷ []) ++ told_in c.args.width rest (drop p.len octets) =
+    ap (λ (os : List ℕ). (c.in_ok-read.field-0 ∷ []) ++ told_in c.args.width rest os) c.split_at.ensures.back in
+    let whole : told_in c.args.width (p ∷ rest) octets ≡ told_in c.args.width (drop i xs) octets = ap (λ (ys : List Place). told_in c.args.width ys octets) (sym step) in
+    let one = told_at c.args.width c.split_at.result.0.now c.in_ok-read.field-0 p.epoch c.in_ok-read.ensures.epoch c.in_ok-read.ensures.update in
+    let front : (c.in_ok-read.field-0 ∷ []) ++ told_in c.args.width rest (drop p.len octets) ≡ told_in c.args.width (p ∷ rest) octets =
+    ap (λ (ts : List Told). ts ++ told_in c.args.width rest (drop p.len octets)) (sym one)
+    ∙ ap (λ (os : List ℕ). dated p.epoch (updates_read (reading (nobody c.args.width) os)) ++ told_in c.args.width rest (drop p.len octets)) c.split_at.ensures.front in
     record {
       kept = subst (AreKept (drop (i + 1) xs)) (sym c.split_at.ensures.back) kept.2;
       all =
-          ap (λ (ts : List Told). ts ++ told_in (drop (i + 1) xs) c.split_at.result.1.now) c.in_ok-push.ensures.items
-          ∙ append_assoc c.loop-place.all.items (c.in_ok-read.field-0 ∷ []) (told_in (drop (i + 1) xs) c.split_at.result.1.now)
+          ap (λ (ts : List Told). ts ++ told_in c.args.width (drop (i + 1) xs) c.split_at.result.1.now) c.in_ok-push.ensures.items
+          ∙ append_assoc c.loop-place.all.items (c.in_ok-read.field-0 ∷ []) (told_in c.args.width (drop (i + 1) xs) c.split_at.result.1.now)
           ∙ ap (λ (ts : List Told). c.loop-place.all.items ++ ts) (behind ∙ front ∙ whole)
           ∙ c.loop-place.invariant.all;
     }
@@ -65,5 +66,5 @@ returns c =
     let xs = c.as_slice-place-items.result.now in
     let none = drop_all c.loop-place.place-index xs c.loop-place-test.false in
     sym (append-nil c.loop-place.all.items)
-    ∙ ap (λ (ys : List Place). c.loop-place.all.items ++ told_in ys c.loop-place.rest.now) (sym none)
+    ∙ ap (λ (ys : List Place). c.loop-place.all.items ++ told_in c.args.width ys c.loop-place.rest.now) (sym none)
     ∙ c.loop-place.invariant.all
