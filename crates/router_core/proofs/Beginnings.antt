@@ -1,20 +1,23 @@
 -- What a router says of itself can be said, and its peers are those of the network.
-use Rattle.std.proofs.Common.{◌≡◌, ℕ, zero, suc, ◌<◌, ◌≤◌, ◌^◌, ◌==◌, Bool, true, false, ◌&&◌, ◌||◌, List, [], ◌∷◌, length, map, refl, sym, ap, ◌∙◌, arith, ◌↔◌, inl, inr, get_or}
+use Rattle.std.proofs.Common.{◌≡◌, ℕ, zero, suc, ◌<◌, ◌≤◌, ◌^◌, ◌==◌, Bool, true, false, cond, ◌&&◌, ◌||◌, List, [], ◌∷◌, length, map, refl, sym, ap, ◌∙◌, arith, ◌↔◌, inl, inr, get_or}
 use Rattle.std.specs.Prelude.{◌⊎◌, ◌/◌, IsTrue, nat_le}
-use Rattle.std.specs.List.{Contains, AllPairs}
+use Rattle.std.specs.List.{Contains, AllPairs, AllByRecursion, flat_map}
 use Rattle.std.proofs.lemmas.Bool.{eqb-true, eq-eqb, ne_eqb}
 use Rattle.std.proofs.lemmas.Bool.Decides.{nat_tests}
 use Rattle.std.proofs.lemmas.List.Elements.{All-contains}
 use Rattle.std.proofs.lemmas.List.{length-map}
 use Rattle.std.proofs.lemmas.List.Folds.{Any-from_list_any, list_any-from_Any}
 use Rattle.bgp_codec.specs.declared.message.Message.TheVariants.{OpenMsg}
-use Rattle.bgp_codec.specs.Opens.{OpenFits}
-use Rattle.bgp_values.specs.Ranges.{is_hold_time, is_unicast, IsUnicast, IsAsn}
+use Rattle.bgp_codec.specs.Opens.{OpenFits, ParamFits, param_octets}
+use Rattle.bgp_values.specs.declared.width.Width.{Width}
+use Rattle.bgp_values.specs.declared.width.Width.TheVariants.{Two, Four}
+use Rattle.bgp_values.specs.Ranges.{is_hold_time, is_unicast, IsUnicast, IsAsn, greatest_asn}
 use Rattle.bgp_codec.specs.Spelling.{WrittenHasAHeader}
 use Rattle.ranked_policy.specs.declared.network.Link.{Link}
 use Rattle.ranked_policy.specs.declared.network.Router.{Router}
 use Rattle.ranked_policy.specs.Plans.{Plan, IsNetwork, Joins, Linked, IsRouter, numbers, identifiers}
 use Rattle.router_model.specs.Settings.{joins, linked, identifier}
+use Rattle.router_model.specs.State.{asn_field, params_of}
 use Rattle.router_side.specs.Sayings.{IsSayable}
 
 -- ---- links
@@ -73,13 +76,25 @@ unicast_is id h =
     let high : nat_le (id / 2 ^ 24) 223 ≡ true = grind (arith, nat_tests, h.1) in
     rw (low, high) refl
 
-pub open_sayable : WrittenHasAHeader → (asn hold id : ℕ) → asn ≤ 65535 → hold < 2 ^ 16 → (hold ≡ 0) ⊎ (3 ≤ hold) → id < 2 ^ 32 → IsUnicast id
-    → IsSayable (OpenMsg (record { asn = asn; hold = hold; id = id; params = [] }))
-open_sayable header asn hold id a h t i n =
-    let fits : OpenFits (record { asn = asn; hold = hold; id = id; params = [] }) =
-    record { asn = omega arith; hold = h; hold_time = hold_is hold t; id = i; unicast = unicast_is id n; params = tt; all = omega arith } in
-    let all = header (OpenMsg (record { asn = asn; hold = hold; id = id; params = [] })) in
-    (fits, omega (arith, all))
+by_field : (b : Bool) (u : ℕ) → nat_le u 65535 ≡ b → cond b u 23456 < 2 ^ 16
+by_field true u e = grind (arith, nat_tests, e)
+by_field false u e = omega arith
+
+pub field_fits : (u : ℕ) → asn_field u < 2 ^ 16
+field_fits u = by_field (nat_le u 65535) u refl
+
+params_fit : (width : Width) (u : ℕ) → AllByRecursion ParamFits (params_of width u) × (length (flat_map param_octets (params_of width u)) < 256)
+params_fit Two u = (tt, omega arith)
+params_fit Four u = ((((omega arith, tt), omega arith), tt), omega arith)
+
+pub open_sayable : WrittenHasAHeader → (w width : Width) (u hold id : ℕ) → hold < 2 ^ 16 → (hold ≡ 0) ⊎ (3 ≤ hold) → id < 2 ^ 32 → IsUnicast id
+    → IsSayable w (OpenMsg (record { asn = asn_field u; hold = hold; id = id; params = params_of width u }))
+open_sayable header w width u hold id h t i n =
+    let params = params_fit width u in
+    let fits : OpenFits (record { asn = asn_field u; hold = hold; id = id; params = params_of width u }) =
+    record { asn = field_fits u; hold = h; hold_time = hold_is hold t; id = i; unicast = unicast_is id n; params = params.0; all = params.1 } in
+    let all = header w (OpenMsg (record { asn = asn_field u; hold = hold; id = id; params = params_of width u })) in
+    (fits, omega (arith, all, params.1))
 
 -- ---- the identifier of a router
 
@@ -107,5 +122,5 @@ is_unicast_host net n r c =
     let at : get_or (identifiers net.routers) c.0 r.id ≡ r.id = map_at (λ (w : Router). w.id) net.routers c.0 r ∙ ap (λ (w : Router). w.id) c.2 in
     All-contains IsUnicast (identifiers net.routers) r.id n.plan.unicast (c.0, omega (arith, len, c.1), at)
 
-pub asn_fits : (net : Plan) → IsNetwork net → (u : ℕ) → IsRouter net.routers u → u ≤ 65535
-asn_fits net n u c = (All-contains IsAsn (numbers net.routers) u n.plan.in_range c).1
+pub asn_fits : (net : Plan) → IsNetwork net → (u : ℕ) → IsRouter net.routers u → u ≤ greatest_asn net.settings.width
+asn_fits net n u c = (All-contains (IsAsn net.settings.width) (numbers net.routers) u n.plan.in_range c).1

@@ -2,11 +2,12 @@
 
 ghost use Rattle.std.specs.Prelude.{◌≡◌, [], map, IfOk};
 ghost use Rattle.std.specs.List.{AllByRecursion};
+ghost use Rattle.bgp_values.specs.declared.width.Width as widths;
 ghost use Rattle.bgp_values.specs.Ranges.{IsHoldTime, IsUnicast};
 ghost use Rattle.bgp_codec.specs.declared.message.Message.TheVariants.{OpenMsg};
 ghost use Rattle.ranked_policy.specs.Plans.{IsRouter};
 ghost use Rattle.router_model.specs.Settings.{linked, peers};
-ghost use Rattle.router_model.specs.State.{open_of};
+ghost use Rattle.router_model.specs.State.{asn_field, params_of, open_of};
 ghost use Rattle.router_side.specs.Sayings.{IsSayable};
 ghost use Rattle.router_side.specs.SideOf.{side, side_opening};
 
@@ -44,21 +45,31 @@ fn params(alloc: Global, width: Width, number: Asn) -> Items<Items<Cap>>
     }
 }
 
+// An OPEN of this number; its spelling has no width.
+fn open_message(alloc: Global, width: Width, number: Asn, hold: u16, id: u32) -> Message
+    requires hold { IsHoldTime hold }
+    requires id { IsUnicast id }
+    ensures open { result ≡ OpenMsg (record { asn = asn_field number; hold = hold; id = id; params = params_of width number }) }
+    ensures sayable { (w : widths.Width) → IsSayable w result }
+{
+    written_has_a_header();
+    Message::OpenMsg(Open {
+        asn: asn_field(number),
+        hold,
+        id,
+        params: params(alloc, width, number),
+    })
+}
+
 /// What a router says of itself (RFC 4271 section 4.2). It takes no memory.
 pub(crate) fn own_open(alloc: Global, network: &Network, number: Asn) -> Message
     requires { IsRouter network.now.routers number }
     ensures open { result ≡ open_of network.now number }
-    ensures sayable { IsSayable network.now.settings.width result }
+    ensures sayable { (w : widths.Width) → IsSayable w result }
 {
-    written_has_a_header();
     let settings = network.settings();
     let router = network.router(number).unwrap();
-    Message::OpenMsg(Open {
-        asn: asn_field(number),
-        hold: settings.hold,
-        id: router.id,
-        params: params(alloc, settings.width, number),
-    })
+    open_message(alloc, settings.width, number, settings.hold, router.id)
 }
 
 /// Whether a link joins two routers: each is the other's peer.
@@ -77,7 +88,7 @@ pub(crate) fn new_peers(
 ) -> Result<Vec<Peer>, AllocError>
     requires { IsHoldTime config.hold }
     ensures numbers { IfOk result (λ made. map (λ p. p.number) made.items ≡ peers network.now number) }
-    ensures sides { IfOk result (λ made. AllByRecursion (λ p. side p.end ≡ side_opening config) made.items) }
+    ensures sides { IfOk result (λ made. AllByRecursion (λ p. side p.end ≡ side_opening config network.now.settings.width) made.items) }
 {
     let mut made = Vec::new(alloc);
     for router in network.routers() {

@@ -9,5 +9,5 @@ abbrev pub invariant-loop-router : goal.invariant-loop-router
 invariant-loop-router l =
     record {
       numbers : map (λ p. p.number) l.made.items ++ filter (linked l.fn.network l.fn.number) (map (λ r. r.asn) (drop l.router-index l.router-items)) ≡ peers l.fn.network l.fn.number;
-      sides : AllByRecursion (λ p. side p.end ≡ side_opening l.fn.config) l.made.items;
+      sides : AllByRecursion (λ p. side p.end ≡ side_opening l.fn.config l.fn.network.settings.width) l.made.items;
     }

@@ -1,9 +1,6 @@
 use Rattle.std.proofs.Common.{◌∙◌, arith, refl}
-use Rattle.router_core.proofs.Beginnings.{identifier_is, is_unicast_host, asn_fits}
+use Rattle.router_core.proofs.Beginnings.{identifier_is, is_unicast_host}
 use Rattle.router_core.proofs.opening.own_open.Goals as goal
-
-pub overflow_cast-number : goal.overflow_cast-number
-overflow_cast-number c = let few = asn_fits c.args.network.now c.settings-settings.ensures.network c.args.number c.requires in omega (arith, few)
 
 pub open_message-requires-clause-hold : goal.open_message-requires-clause-hold
 open_message-requires-clause-hold c = rw c.settings-settings.ensures.value c.settings-settings.ensures.network.plan.settings.hold
