@@ -3,6 +3,9 @@ use Rattle.std.proofs.Common.{◌≡◌, ℕ, zero, suc, ◌+◌, ◌*◌, ◌^�
 use Rattle.std.specs.Prelude.{nat_le}
 use Rattle.std.specs.List.{flat_map}
 use Rattle.std.specs.Int.{w16, w32, to_be_bytes}
+use Rattle.bgp_values.specs.declared.width.Width.{Width}
+use Rattle.bgp_values.specs.declared.width.Width.TheVariants.{Two, Four}
+use Rattle.bgp_codec.specs.AsNumbers.{asn_octets}
 use Rattle.prefix_lanes.specs.Bits.{PrefixView, IsCanonical}
 use Rattle.bgp_codec.specs.declared.message.Message.TheVariants.{UpdateMsg}
 use Rattle.bgp_codec.specs.declared.path.SegmentKind.TheVariants.{AsSequence}
@@ -40,12 +43,13 @@ three_length a b c =
     let last = length-append (raw_octets c) [] in
     omega (arith, first, next, last, attr_length a, attr_length b, attr_length c)
 
-numbers_length : (ns : List ℕ) → length (flat_map (to_be_bytes w16) ns) ≡ 2 * length ns
-numbers_length [] = refl
-numbers_length (n ∷ ns) = omega (arith, numbers_length ns)
+numbers_length : (width : Width) (ns : List ℕ) → length (flat_map (asn_octets width) ns) ≤ 4 * length ns
+numbers_length width [] = omega arith
+numbers_length Two (n ∷ ns) = (let rest = numbers_length Two ns in omega (arith, rest))
+numbers_length Four (n ∷ ns) = (let rest = numbers_length Four ns in omega (arith, rest))
 
-path_length : (ns : List ℕ) → length (path_octets (record { kind = AsSequence; numbers = ns } ∷ [])) ≡ 2 + 2 * length ns
-path_length ns = (let whole = length-append (flat_map (to_be_bytes w16) ns) [] in omega (arith, whole, numbers_length ns))
+path_length : (width : Width) (ns : List ℕ) → length (path_octets width (record { kind = AsSequence; numbers = ns } ∷ [])) ≤ 2 + 4 * length ns
+path_length width ns = (let whole = length-append (flat_map (asn_octets width) ns) [] in omega (arith, whole, numbers_length width ns))
 
 body_length : (a b c : List ℕ) → length (long_string a ++ (long_string b ++ c)) ≡ 4 + length a + length b + length c
 body_length a b c =
@@ -58,29 +62,29 @@ one_prefix q = (let whole = length-append (prefix_octets q) [] in omega (arith, 
 
 -- ---- a withdrawal
 
-pub withdrawal_sayable : WrittenHasAHeader → (q : PrefixView) → IsCanonical q → IsSayable (UpdateMsg (withdrawal q))
-withdrawal_sayable header q canonical =
+pub withdrawal_sayable : WrittenHasAHeader → (w : Width) (q : PrefixView) → IsCanonical q → IsSayable w (UpdateMsg (withdrawal q))
+withdrawal_sayable header w q canonical =
     let u : Update = withdrawal q in
-    let all = header (UpdateMsg u) in
-    let body = body_length (flat_map prefix_octets (q ∷ [])) (attrs_octets u.attrs) [] in
+    let all = header w (UpdateMsg u) in
+    let body = body_length (flat_map prefix_octets (q ∷ [])) (attrs_octets w u.attrs) [] in
     let one = one_prefix q in
-    let attrs : AttrsFit u.attrs = record { origin = tt; path = tt; next_hop = tt; med = tt; local_pref = tt; aggregator = tt; other = tt; rising = tt } in
-    let fits : UpdateFits u = record { withdrawn = (canonical, tt); attrs = attrs; nlri = tt; mandatory = λ some. absurd (some refl); withdrawn_size = omega (arith, one); attrs_size = omega arith } in
+    let attrs : AttrsFit w u.attrs = record { origin = tt; path = tt; next_hop = tt; med = tt; local_pref = tt; aggregator = tt; other = tt; rising = tt } in
+    let fits : UpdateFits w u = record { withdrawn = (canonical, tt); attrs = attrs; nlri = tt; mandatory = λ some. absurd (some refl); withdrawn_size = omega (arith, one); attrs_size = omega arith } in
     (fits, omega (arith, all, body, one))
 
 -- ---- an announcement
 
-pub announcement_sayable : WrittenHasAHeader → (id : ℕ) (q : PrefixView) (path : List ℕ) → id < 2 ^ 32 → IsUnicast id → IsCanonical q → IsTellable path → 1 ≤ length path
-    → IsSayable (UpdateMsg (announcement id q path))
-announcement_sayable header id q path fit unicast canonical tells some =
+pub announcement_sayable : WrittenHasAHeader → (w : Width) (id : ℕ) (q : PrefixView) (path : List ℕ) → id < 2 ^ 32 → IsUnicast id → IsCanonical q → IsTellable w path → 1 ≤ length path
+    → IsSayable w (UpdateMsg (announcement id q path))
+announcement_sayable header w id q path fit unicast canonical tells some =
     let u : Update = announcement id q path in
     let few = tells.few in
-    let all = header (UpdateMsg u) in
-    let octets = path_length path in
-    let size = three_length (raw_of 64 1 (0 ∷ [])) (raw_of 64 2 (path_octets (record { kind = AsSequence; numbers = path } ∷ []))) (raw_of 64 3 (to_be_bytes w32 id)) in
-    let body = body_length [] (attrs_octets u.attrs) (flat_map prefix_octets (q ∷ [])) in
+    let all = header w (UpdateMsg u) in
+    let octets = path_length w path in
+    let size = three_length (raw_of 64 1 (0 ∷ [])) (raw_of 64 2 (path_octets w (record { kind = AsSequence; numbers = path } ∷ []))) (raw_of 64 3 (to_be_bytes w32 id)) in
+    let body = body_length [] (attrs_octets w u.attrs) (flat_map prefix_octets (q ∷ [])) in
     let one = one_prefix q in
-    let attrs : AttrsFit u.attrs = record {
+    let attrs : AttrsFit w u.attrs = record {
       origin = omega arith;
       path = ((some, (omega (arith, few), tells.short)), tt);
       next_hop = (fit, unicast_is id unicast);
@@ -90,8 +94,8 @@ announcement_sayable header id q path fit unicast canonical tells some =
       other = tt;
       rising = tt;
     } in
-    let short : length (attrs_octets u.attrs) ≤ 60 = omega (arith, size, octets, few) in
-    let fits : UpdateFits u = record { withdrawn = tt; attrs = attrs; nlri = (canonical, tt); mandatory = λ there. refl; withdrawn_size = omega arith; attrs_size = omega (arith, short) } in
+    let short : length (attrs_octets w u.attrs) ≤ 96 = omega (arith, size, octets, few) in
+    let fits : UpdateFits w u = record { withdrawn = tt; attrs = attrs; nlri = (canonical, tt); mandatory = λ there. refl; withdrawn_size = omega arith; attrs_size = omega (arith, short) } in
     (fits, omega (arith, all, body, one, short))
 
 pub telling_some : (id : ℕ) (q : PrefixView) (path : List ℕ) → 1 ≤ length path → telling id q path ≡ announcement id q path

@@ -1,7 +1,8 @@
 -- A router of the code as a router of the definitions: its list of peers as a function of numbers, its tables as what its sides say.
 use Rattle.std.specs.Prelude.{ℕ, zero, suc, ◌≡◌, ◌≢◌, ◌≤◌, ◌<◌, ◌==◌, ◌^◌, nat_lt, Bool, true, false, cond, List, [], ◌∷◌, length, map, Option, None, Some, Result, Ok, Err, MatchResult, ◌+◌}
 use Rattle.ranked_policy.specs.declared.limits.TheConstants.{LONGEST_PATH}
-use Rattle.bgp_codec.specs.Updates.{AreShort}
+use Rattle.bgp_values.specs.declared.width.Width.{Width}
+use Rattle.bgp_codec.specs.AsNumbers.{AsnFits}
 use Rattle.bgp_codec.specs.declared.message.Message.{Message}
 use Rattle.session_fsm.specs.declared.config.SessionConfig.{SessionConfig}
 use Rattle.ranked_policy.specs.Plans.{Plan, IsNetwork, IsRouter}
@@ -78,7 +79,7 @@ config_of net = record { hold = net.settings.hold; restart = net.settings.restar
 
 -- the sides of a router, by peer; towards what is no peer nothing was ever said
 abbrev pub sides_of : RouterView → ℕ → Side
-sides_of x = side_at (side_opening (config_of x.net)) x.peers
+sides_of x = side_at (side_opening (config_of x.net) x.net.settings.width) x.peers
 
 -- the router as the definitions have it, with the stamp of its last event
 abbrev pub plain_of : RouterView → Stamped
@@ -102,10 +103,10 @@ pub record Follows (origins : List Origin) (t : RibView) (v : ℕ) (s : Side) : 
   pub heard : (q : PrefixView) → IsNamed origins q → word_of t.heard v q ≡ heard_now s q
   pub told : (q : PrefixView) → IsNamed origins q → word_of t.sent v q ≡ told_now s q
 
--- a path that can be told: of at most so many numbers, each of two octets
-pub record IsTellable (path : List ℕ) : Type 0 where
+-- a path that can be told: of at most so many numbers, each of which fits the width
+pub record IsTellable (width : Width) (path : List ℕ) : Type 0 where
   pub few : length path ≤ LONGEST_PATH
-  pub short : AreShort path
+  pub short : AllByRecursion (AsnFits width) path
 
 -- the word is a path, and no AS_PATH of another kind
 abbrev pub IsPathWord : Word → Type 0
@@ -117,10 +118,10 @@ pub record IsTabled (x : RouterView) : Type 0 where
   pub router : x.tables.router ≡ x.number
   pub peers : (v : ℕ) → linked x.net x.number v ≡ true → Follows x.net.origins x.tables v (sides_of x v)
   pub fresh : (v : ℕ) → IsFresh (sides_of x v)
-  pub short : (v : ℕ) (q : PrefixView) → AreShort (path_in (word_of x.tables.heard v q))
+  pub short : (v : ℕ) (q : PrefixView) → AllByRecursion (AsnFits x.net.settings.width) (path_in (word_of x.tables.heard v q))
   pub sent : (v : ℕ) (q : PrefixView) → IsPathWord (word_of x.tables.sent v q)
   pub kept : (q : PrefixView) → (IsNamed x.net.origins q → ⊥) → path_of x.tables.kept q ≡ []
-  pub tellable : (q : PrefixView) → IsTellable (path_of x.tables.kept q)
+  pub tellable : (q : PrefixView) → IsTellable x.net.settings.width (path_of x.tables.kept q)
   pub originated : (q : PrefixView) → lists x.tables.originated q ≡ true → IsNamed x.net.origins q
 
 -- what is recorded and offered is this router's, over its links
@@ -136,7 +137,7 @@ pub record IsSound (x : RouterView) : Type 0 where
   pub numbers : map (λ p. p.number) x.peers ≡ peers x.net x.number
   pub links : (v : ℕ) → listed v x.peers ≡ linked x.net x.number v
   pub own_open : x.own_open ≡ open_of x.net x.number
-  pub sayable : IsSayable x.own_open
+  pub sayable : (w : Width) → IsSayable w x.own_open
   pub stamp : x.stamp ≤ GREATEST_STAMP
   pub tabled : IsTabled x
   pub marked : IsMarked x

@@ -1,6 +1,7 @@
 //! The UPDATEs that tell of a kept path (RFC 4271 sections 4.3 and 5.1).
 
 ghost use Rattle.std.specs.Prelude.{◌≡◌, ◌≤◌, IfOk, length};
+ghost use Rattle.bgp_values.specs.declared.width.Width as widths;
 ghost use Rattle.prefix_lanes.specs.Bits.{IsCanonical};
 ghost use Rattle.bgp_codec.specs.declared.message.Message.TheVariants.{UpdateMsg};
 ghost use Rattle.ranked_policy.specs.Plans.{IsNetwork, IsRouter, IsNamed};
@@ -21,7 +22,7 @@ use std::alloc::{AllocError, Global};
 fn withdrawal(alloc: Global, prefix: &Prefix) -> Update
     requires { IsCanonical prefix.now }
     ensures update { result ≡ withdrawal prefix.now }
-    ensures sayable { IsSayable (UpdateMsg result) }
+    ensures sayable { (w : widths.Width) → IsSayable w (UpdateMsg result) }
 {
     written_has_a_header();
     Update {
@@ -35,10 +36,9 @@ fn withdrawal(alloc: Global, prefix: &Prefix) -> Update
 fn announcement(alloc: Global, id: u32, prefix: &Prefix, path: &[Asn]) -> Result<Update, AllocError>
     requires id { IsUnicast id }
     requires prefix { IsCanonical prefix.now }
-    requires tellable { IsTellable path.now }
     requires some { 1 ≤ length path.now }
     ensures update { IfOk result (λ update. update ≡ announcement id prefix.now path.now) }
-    ensures sayable { IfOk result (λ update. IsSayable (UpdateMsg update)) }
+    ensures sayable { IfOk result (λ update. (w : widths.Width) → IsTellable w path.now → IsSayable w (UpdateMsg update)) }
 {
     written_has_a_header();
     let segment = Segment {
@@ -69,9 +69,9 @@ pub(crate) fn telling(
     requires network { IsNetwork network.now }
     requires router { IsRouter network.now.routers number }
     requires named { IsNamed network.now.origins prefix.now }
-    requires tellable { IsTellable path.now }
+    requires tellable { IsTellable network.now.settings.width path.now }
     ensures update { IfOk result (λ update. update ≡ telling (identifier network.now.routers number) prefix.now path.now) }
-    ensures sayable { IfOk result (λ update. IsSayable (UpdateMsg update)) }
+    ensures sayable { IfOk result (λ update. IsSayable network.now.settings.width (UpdateMsg update)) }
 {
     if path.is_empty() {
         return Ok(withdrawal(alloc, prefix));
