@@ -96,7 +96,7 @@ module _ (r : RouterView) (v i : ℕ) (p q : Peer) (c : Changes r v i p q) where
   named = c.number ∙ ap (λ (w : Peer). w.number) c.here ∙ number_here r.peers v i p c.place
 
   pub found : side p.end ≡ sides_of r v
-  found = ap (λ (w : Peer). side w.end) c.here ∙ sym (side_here (side_opening (config_of r.net)) r.peers v i p c.place)
+  found = ap (λ (w : Peer). side w.end) c.here ∙ sym (side_here (side_opening (config_of r.net) r.net.settings.width) r.peers v i p c.place)
 
   -- what is known of its side
   pub is_peer : IsSound r → linked r.net r.number v ≡ true
@@ -112,20 +112,20 @@ module _ (r : RouterView) (v i : ℕ) (p q : Peer) (c : Changes r v i p q) where
     follows_at : IsSound r → Tracks r v q t → (y : ℕ) (b : Bool) → (y == v) ≡ b → linked r.net r.number y ≡ true → Follows r.net.origins t y (sides_of (with_peer r i q t m stamp) y)
     follows_at s k y true e l =
         let same : y ≡ v = eqb-true y v e in
-        subst (λ n. Follows r.net.origins t n (side_at (side_opening (config_of r.net)) (set r.peers i q) n)) (sym same)
-        (subst (Follows r.net.origins t v) (sym (set_here (side_opening (config_of r.net)) r.peers v i q c.place named)) k.follows)
+        subst (λ n. Follows r.net.origins t n (side_at (side_opening (config_of r.net) r.net.settings.width) (set r.peers i q) n)) (sym same)
+        (subst (Follows r.net.origins t v) (sym (set_here (side_opening (config_of r.net) r.net.settings.width) r.peers v i q c.place named)) k.follows)
     follows_at s k y false e l =
         let other = eqb-false y v e in
-        subst (Follows r.net.origins t y) (sym (set_there (side_opening (config_of r.net)) r.peers v i q y c.place named other))
+        subst (Follows r.net.origins t y) (sym (set_there (side_opening (config_of r.net) r.net.settings.width) r.peers v i q y c.place named other))
         (follows_there r.net.origins r.tables t v y (sides_of r y) k.leaves other (s.tabled.peers y l))
 
     fresh_at : IsSound r → Tracks r v q t → (y : ℕ) (b : Bool) → (y == v) ≡ b → IsFresh (sides_of (with_peer r i q t m stamp) y)
     fresh_at s k y true e =
         let same : y ≡ v = eqb-true y v e in
-        subst (λ n. IsFresh (side_at (side_opening (config_of r.net)) (set r.peers i q) n)) (sym same)
-        (subst IsFresh (sym (set_here (side_opening (config_of r.net)) r.peers v i q c.place named)) k.fresh)
+        subst (λ n. IsFresh (side_at (side_opening (config_of r.net) r.net.settings.width) (set r.peers i q) n)) (sym same)
+        (subst IsFresh (sym (set_here (side_opening (config_of r.net) r.net.settings.width) r.peers v i q c.place named)) k.fresh)
     fresh_at s k y false e =
-        subst IsFresh (sym (set_there (side_opening (config_of r.net)) r.peers v i q y c.place named (eqb-false y v e))) (s.tabled.fresh y)
+        subst IsFresh (sym (set_there (side_opening (config_of r.net) r.net.settings.width) r.peers v i q y c.place named (eqb-false y v e))) (s.tabled.fresh y)
 
     tabled : IsSound r → Tracks r v q t → IsTabled (with_peer r i q t m stamp)
     tabled s k = record {
@@ -160,7 +160,7 @@ module _ (r : RouterView) (v i : ℕ) (p q : Peer) (c : Changes r v i p q) where
     }
 
     sides_now : (f : Side → Side) → side q.end ≡ f (side p.end) → sides_of (with_peer r i q t m stamp) ≡ changed (sides_of r) v f
-    sides_now f is = sides_set (side_opening (config_of r.net)) r.peers v i q f c.place named (is ∙ ap f found)
+    sides_now f is = sides_set (side_opening (config_of r.net) r.net.settings.width) r.peers v i q f c.place named (is ∙ ap f found)
 
     -- the plain router, by its sides, tables and recording
     plain_by : (sides : ℕ → Side) (x : Snapshots) → sides_of (with_peer r i q t m stamp) ≡ sides → Leaves r.tables t v → snapshots_of m ≡ x
@@ -254,14 +254,14 @@ ends_give g u false false r x y z call e is h = rw is h
 pub drafted : (g : Setting) (r : RouterView) (v i : ℕ) (p : Peer) (F : Message → Side → Draft) (a : Draft) → IsOf g r → IsAt r.peers v i → p ≡ get_or r.peers i p
     → a ≡ F r.own_open (side p.end) → a ≡ F (open_of g.net r.number) (sides_of r v)
 drafted g r v i p F a of at here made =
-    let s : side p.end ≡ sides_of r v = ap (λ (w : Peer). side w.end) here ∙ sym (side_here (side_opening (config_of r.net)) r.peers v i p at) in
+    let s : side p.end ≡ sides_of r v = ap (λ (w : Peer). side w.end) here ∙ sym (side_here (side_opening (config_of r.net) r.net.settings.width) r.peers v i p at) in
     made ∙ ap (λ (m : Message). F m (side p.end)) of.own_open ∙ ap (F (open_of g.net r.number)) s
 
 -- and it keeps histories fresh where the definitions' does
 pub keeps_here : (r : RouterView) (v i : ℕ) (p : Peer) → IsAt r.peers v i → p ≡ get_or r.peers i p → IsSound r → (a b : Draft) → a ≡ b
     → (IsFresh (side p.end) → KeepsFresh (side p.end) NoMessage b) → KeepsFresh (sides_of r v) NoMessage a
 keeps_here r v i p at here s a b e k =
-    let f : side p.end ≡ sides_of r v = ap (λ (w : Peer). side w.end) here ∙ sym (side_here (side_opening (config_of r.net)) r.peers v i p at) in
+    let f : side p.end ≡ sides_of r v = ap (λ (w : Peer). side w.end) here ∙ sym (side_here (side_opening (config_of r.net) r.net.settings.width) r.peers v i p at) in
     subst (λ (y : Side). KeepsFresh y NoMessage a) f (subst (KeepsFresh (side p.end) NoMessage) (sym e) (k (subst IsFresh (sym f) (s.tabled.fresh v))))
 
 -- a call whose event is the draft of one side, carried out

@@ -109,7 +109,7 @@ module _ (x : RouterView) (sound : IsSound x) where
         (subst (λ (n : ℕ). Linked x.net.links n p.number) (sym sound.tabled.router) ((decides_linked x.net x.number p.number).0 link))
 
     here : side p.end ≡ sides_of x p.number
-    here = ap (λ (w : Peer). side w.end) is ∙ sym (side_here (side_opening (config_of x.net)) x.peers p.number i p at)
+    here = ap (λ (w : Peer). side w.end) is ∙ sym (side_here (side_opening (config_of x.net) x.net.settings.width) x.peers p.number i p at)
 
     octets : octets_waiting (sides_of x p.number).outbox ≡ octets_waiting (side p.end).outbox
     octets = ap (λ s. octets_waiting s.outbox) (sym here)

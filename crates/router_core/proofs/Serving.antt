@@ -38,7 +38,7 @@ none_is (Some i) h = absurd cc
 
 module _ (g : Setting) (r : RouterView) (v i : ℕ) (p : Peer) (of : IsOf g r) (at : IsAt r.peers v i) (here : p ≡ get_or r.peers i p) (l : listed v r.peers ≡ true) where
   stands : sides_of r v ≡ side p.end
-  stands = side_here (side_opening (config_of r.net)) r.peers v i p at ∙ ap (λ (w : Peer). side w.end) (sym here)
+  stands = side_here (side_opening (config_of r.net) r.net.settings.width) r.peers v i p at ∙ ap (λ (w : Peer). side w.end) (sym here)
 
   -- ---- a put
 
@@ -135,7 +135,7 @@ has_next r v s h =
 -- what is put next towards a peer, by its place
 pub item_here : (r : RouterView) (v i : ℕ) (p : Peer) → IsAt r.peers v i → p ≡ get_or r.peers i p → next_item r.net.settings.cut (side p.end).outbox ≡ next_item r.net.settings.cut (sides_of r v).outbox
 item_here r v i p at here =
-    ap (λ (s : Side). next_item r.net.settings.cut s.outbox) (ap (λ (w : Peer). side w.end) here ∙ sym (side_here (side_opening (config_of r.net)) r.peers v i p at))
+    ap (λ (s : Side). next_item r.net.settings.cut s.outbox) (ap (λ (w : Peer). side w.end) here ∙ sym (side_here (side_opening (config_of r.net) r.net.settings.width) r.peers v i p at))
 
 -- towards what is no peer nothing is put
 pub shows_no_peer : (g : Setting) (r : RouterView) (v : ℕ) → g.net ≡ r.net → linked r.net r.number v ≡ false → Shows (r.stamp + 1) (Err error.NoSuchPeer) (answer g r.number (plain_of r) (Put v))
@@ -153,7 +153,7 @@ module _ (g : Setting) (r : RouterView) (v : ℕ) (of : IsOf g r) where
 
   module _ (i : ℕ) (p : Peer) (at : IsAt r.peers v i) (here : p ≡ get_or r.peers i p) (l : listed v r.peers ≡ true) where
     waits : next_item r.net.settings.cut (sides_of r v).outbox ≡ next_item r.net.settings.cut (side p.end).outbox
-    waits = ap (λ (s : Side). next_item r.net.settings.cut s.outbox) (side_here (side_opening (config_of r.net)) r.peers v i p at ∙ ap (λ (w : Peer). side w.end) (sym here))
+    waits = ap (λ (s : Side). next_item r.net.settings.cut s.outbox) (side_here (side_opening (config_of r.net) r.net.settings.width) r.peers v i p at ∙ ap (λ (w : Peer). side w.end) (sym here))
 
     pub shows_nothing : is_some (next_item r.net.settings.cut (side p.end).outbox) ≡ false → Shows (r.stamp + 1) (Ok None) (answer g r.number (plain_of r) (Put v))
     shows_nothing h = seen_is (Ok None) true None (nat_lt GREATEST_STAMP (r.stamp + 1)) l (waits ∙ none_is (next_item r.net.settings.cut (side p.end).outbox) h) refl refl

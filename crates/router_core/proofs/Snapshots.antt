@@ -101,7 +101,7 @@ module _ (r : RouterView) (qs : List Peer) (m : MarkView) (stamp : ℕ) (f : Sid
 -- nothing changed but the room
 pub same_sides : (r : RouterView) (qs : List Peer) → Become (λ s. s) r.peers qs → sides_of (with_peers r qs r.marks r.stamp) ≡ sides_of r
 same_sides r qs b =
-    fun_ext (λ v. become_sides (λ s. s) (side_opening (config_of r.net)) r.peers qs b v ∙ either (listed v r.peers) (sides_of r v))
+    fun_ext (λ v. become_sides (λ s. s) (side_opening (config_of r.net) r.net.settings.width) r.peers qs b v ∙ either (listed v r.peers) (sides_of r v))
   where
     either : (c : Bool) (s : Side) → cond c s s ≡ s
     either true s = refl
@@ -137,7 +137,7 @@ module _ (over : BestOverWords) (one : OneBest) (law : LinkedRoutersArePeers) (g
   own_same = ap originated_in k.originated ∙ own_as r.net.origins r.tables.originated c.sound.tabled.originated
 
   epochs_same : epoch_in p.channels.items ≡ (λ (v : ℕ). (x.sides v).link.epoch)
-  epochs_same = fun_ext (λ v. epochs_as (side_opening (config_of r.net)) first p.channels.items r.peers refl k.channels v)
+  epochs_same = fun_ext (λ v. epochs_as (side_opening (config_of r.net) r.net.settings.width) first p.channels.items r.peers refl k.channels v)
 
   channels_same : channel_in p.channels.items ≡ (λ (v : ℕ). [])
   channels_same = fun_ext (λ v. channels_as first p.channels.items r.peers k.channels v)
@@ -176,7 +176,7 @@ module _ (over : BestOverWords) (one : OneBest) (law : LinkedRoutersArePeers) (g
 
   down_same : (d : Option ℕ) → d ≡ down_in r.peers → d ≡ find (λ v. not (is_up (x.sides v))) (peers r.net r.number)
   down_same d e =
-      e ∙ down_is (side_opening (config_of r.net)) r.peers (rises r.net c.sound.network r.number r.peers c.sound.numbers)
+      e ∙ down_is (side_opening (config_of r.net) r.net.settings.width) r.peers (rises r.net c.sound.network r.number r.peers c.sound.numbers)
       ∙ ap (find (λ (v : ℕ). not (is_up (x.sides v)))) c.sound.numbers
 
   pub begun_same : (d : Option ℕ) → d ≡ down_in r.peers
@@ -188,9 +188,9 @@ module _ (over : BestOverWords) (one : OneBest) (law : LinkedRoutersArePeers) (g
       ∙ ap (λ (n : Plan). begun (peers n r.number) (λ (v : ℕ). is_up (x.sides v)) (recording_of g r.number x s first) x.snapshots) (sym c.net)
 
   sides_same : (qs : List Peer) → Become (marked_if_up s) r.peers qs
-      → side_at (side_opening (config_of r.net)) qs ≡ (λ (v : ℕ). cond (linked g.net r.number v && is_up (x.sides v)) (marked s (x.sides v)) (x.sides v))
+      → side_at (side_opening (config_of r.net) r.net.settings.width) qs ≡ (λ (v : ℕ). cond (linked g.net r.number v && is_up (x.sides v)) (marked s (x.sides v)) (x.sides v))
   sides_same qs b =
-      fun_ext (λ v. marked_sides (side_opening (config_of r.net)) s r.peers qs b v
+      fun_ext (λ v. marked_sides (side_opening (config_of r.net) r.net.settings.width) s r.peers qs b v
       ∙ ap (λ (l : Bool). cond (l && is_up (x.sides v)) (marked s (x.sides v)) (x.sides v)) (c.sound.links v ∙ ap (λ (n : Plan). linked n r.number v) (sym c.net)))
 
   pub recorded : (qs : List Peer) (m : MarkView) (d : Option ℕ) (stamp : ℕ) → Become (marked_if_up s) r.peers qs → d ≡ down_in r.peers

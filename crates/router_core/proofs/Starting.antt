@@ -26,15 +26,15 @@ use Rattle.router_core.proofs.PeerLemmas.{all_none}
 fresh_opening : (config : SessionConfig) → IsFresh (side_opening config)
 fresh_opening config = record { later = λ n h. (refl, refl); opening = λ h. (refl, refl); away = λ h. refl }
 
-module _ (net : Plan) (number : ℕ) (own_open : Message) (ps : List Peer) (t : RibView) (m : MarkView) (all : AllByRecursion (λ p. side p.end ≡ side_opening (config_of net)) ps)
+module _ (net : Plan) (number : ℕ) (own_open : Message) (ps : List Peer) (t : RibView) (m : MarkView) (all : AllByRecursion (λ p. side p.end ≡ side_opening (config_of net) net.settings.width) ps)
     (n : IsNew net number t) where
   abbrev made : RouterView
   made = record { net = net; number = number; own_open = own_open; peers = ps; tables = t; marks = m; stamp = 0 }
 
-  none : (v : ℕ) → side_at (side_opening (config_of net)) ps v ≡ side_opening (config_of net)
-  none v = all_none (side_opening (config_of net)) ps v all
+  none : (v : ℕ) → side_at (side_opening (config_of net) net.settings.width) ps v ≡ side_opening (config_of net)
+  none v = all_none (side_opening (config_of net) net.settings.width) ps v all
 
-  follows_opening : (v : ℕ) → Follows net.origins t v (side_opening (config_of net))
+  follows_opening : (v : ℕ) → Follows net.origins t v (side_opening (config_of net) net.settings.width)
   follows_opening v = record {
     up = ((λ h. absurd (n.established v h)), (λ h. absurd cc));
     heard = λ q k. n.heard v q;
@@ -59,8 +59,8 @@ module _ (net : Plan) (number : ℕ) (own_open : Message) (ps : List Peer) (t : 
 
   pub opens : snapshots_of m ≡ no_snapshots → (g : Setting) → g.net ≡ net → plain_of made ≡ record { router = new_router g; stamp = 0 }
   opens marks g e =
-      let sides : side_at (side_opening (config_of net)) ps ≡ (λ (v : ℕ). side_opening (config_of g.net)) =
-      fun_ext (λ v. none v ∙ ap (λ (k : Plan). side_opening (config_of k)) (sym e)) in
+      let sides : side_at (side_opening (config_of net) net.settings.width) ps ≡ (λ (v : ℕ). side_opening (config_of g.net) g.net.settings.width) =
+      fun_ext (λ v. none v ∙ ap (λ (k : Plan). side_opening (config_of k) k.settings.width) (sym e)) in
       let kept : path_of t.kept ≡ (λ (q : PrefixView). []) = fun_ext (λ q. n.kept q) in
       let own : lists t.originated ≡ (λ (q : PrefixView). false) = fun_ext (λ q. false_from_ne_true (lists t.originated q) (λ h. n.originated q ((decides_lists t.originated q).0 h))) in
       ap (λ (s : ℕ → Side). record { router = record { sides = s; kept = path_of t.kept; originated = lists t.originated; snapshots = snapshots_of m }; stamp = 0 }) sides

@@ -74,7 +74,7 @@ fed_is s e octets = fed_by (uses s.link e) s (s.held ++ octets)
 module _ (g : Setting) (r : RouterView) (v i : ℕ) (p : Peer) (of : IsOf g r) (at : IsAt r.peers v i) (here : p ≡ get_or r.peers i p) (l : listed v r.peers ≡ true)
     (stamp : ℕ) where
   stands : sides_of r v ≡ side p.end
-  stands = side_here (side_opening (config_of r.net)) r.peers v i p at ∙ ap (λ (w : Peer). side w.end) (sym here)
+  stands = side_here (side_opening (config_of r.net) r.net.settings.width) r.peers v i p at ∙ ap (λ (w : Peer). side w.end) (sym here)
 
   abbrev pub next : ℕ
   next = max r.stamp stamp + 1

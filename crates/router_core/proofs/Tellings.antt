@@ -103,7 +103,7 @@ module _ (x : RouterView) (sound : IsSound x) (v i : ℕ) (place : IsAt x.peers 
   }
 
   sides_with : (f : Side → Side) → side peer.end ≡ f (sides_of x v) → (t : RibView) (stamp : ℕ) → sides_of (with_peer_and_tables x i peer t stamp) ≡ changed (sides_of x) v f
-  sides_with f is t stamp = sides_set (side_opening (config_of x.net)) x.peers v i peer f place named is
+  sides_with f is t stamp = sides_set (side_opening (config_of x.net) x.net.settings.width) x.peers v i peer f place named is
 
   -- ---- nothing changes but the room
 

@@ -111,13 +111,13 @@ module _ (g : Setting) (r y : RouterView) (D : Side → Draft) (e : g.net ≡ r.
 
   sides_moved : sides_of y ≡ (λ v. cond (linked g.net r.number v) (carried NoMessage (sides_of r v) (drafts v)) (sides_of r v))
   sides_moved =
-      ap (λ (n : Plan). side_at (side_opening (config_of n)) y.peers) m.rest.net
-      ∙ fun_ext (λ v. become_sides (λ k. carried NoMessage k (D k)) (side_opening (config_of r.net)) r.peers y.peers m.peers v
+      ap (λ (n : Plan). side_at (side_opening (config_of n) n.settings.width) y.peers) m.rest.net
+      ∙ fun_ext (λ v. become_sides (λ k. carried NoMessage k (D k)) (side_opening (config_of r.net) r.net.settings.width) r.peers y.peers m.peers v
       ∙ ap (λ (l : Bool). cond l (carried NoMessage (sides_of r v) (drafts v)) (sides_of r v)) (s.links v ∙ ap (λ (n : Plan). linked n r.number v) (sym e)))
 
   left_moved : first_left D r.peers ≡ first_close (peers g.net r.number) drafts
   left_moved =
-      left_is D (side_opening (config_of r.net)) r.peers (rises r.net s.network r.number r.peers s.numbers)
+      left_is D (side_opening (config_of r.net) r.net.settings.width) r.peers (rises r.net s.network r.number r.peers s.numbers)
       ∙ ap (λ ns. first_close ns drafts) (s.numbers ∙ ap (λ (n : Plan). peers n r.number) (sym e))
 
   pub moved_all : plain_of y ≡ record { router = all_moved g r.number (plain_of r).router drafts; stamp = r.stamp }
@@ -145,7 +145,7 @@ module _ (g : Setting) (r : RouterView) (e : g.net ≡ r.net) (s : IsSound r) wh
 
   overflow_same : overflow_in (second r.own_open) r.peers ≡ list_any (λ v. (second (open_of g.net r.number) (sides_of r v)).overflows) (peers g.net r.number)
   overflow_same =
-      overflow_is (second r.own_open) (side_opening (config_of r.net)) r.peers (rises r.net s.network r.number r.peers s.numbers)
+      overflow_is (second r.own_open) (side_opening (config_of r.net) r.net.settings.width) r.peers (rises r.net s.network r.number r.peers s.numbers)
       ∙ ap (list_any (λ v. (second r.own_open (sides_of r v)).overflows)) (s.numbers ∙ ap (λ (n : Plan). peers n r.number) (sym e))
       ∙ ap (λ (o : Message). list_any (λ v. (second o (sides_of r v)).overflows) (peers g.net r.number)) own_same
 

@@ -55,7 +55,7 @@ module _ (x : RouterView) (sound : IsSound x) (i : ℕ) (q : PrefixView) (may : 
     place = subst (λ (n : ℕ). IsAt x.peers n i) same may.place
 
     pub here : side p.end ≡ sides_of x p.number
-    here = ap (λ (w : Peer). side w.end) is ∙ sym (side_here (side_opening (config_of x.net)) x.peers p.number i p place)
+    here = ap (λ (w : Peer). side w.end) is ∙ sym (side_here (side_opening (config_of x.net) x.net.settings.width) x.peers p.number i p place)
 
     pub is_linked : Linked x.tables.net.links x.tables.router p.number
     is_linked =

@@ -1,5 +1,6 @@
 //! What comes to all peers of a router: a second that passes, and a restart.
 
+ghost use Rattle.bgp_values.specs.declared.width.Width as widths;
 ghost use Rattle.std.specs.Prelude.{◌≡◌, ◌<◌, ℕ, false, length, get_or, IfOk};
 ghost use Rattle.router_model.specs.Sides.{NoMessage};
 ghost use Rattle.router_model.specs.declared.command.Command.TheVariants.{Restart};
@@ -61,7 +62,7 @@ fn prepare_each(
     peers: &mut [Peer],
     own_open: &Message,
 ) -> Result<Vec<Sketch>, AllocError>
-    requires { IsSayable own_open.now }
+    requires { (w : widths.Width) → IsSayable w own_open.now }
     ensures same { Become (λ s. s) peers.old peers.new }
     ensures ready { IfOk result (λ made. AreReady own_open.now (draft_by whole own_open.now) peers.new made.items) }
 {
@@ -81,7 +82,7 @@ fn prepare(
     peers: &mut Vec<Peer>,
     own_open: &Message,
 ) -> Result<Vec<Sketch>, AllocError>
-    requires { IsSayable own_open.now }
+    requires { (w : widths.Width) → IsSayable w own_open.now }
     ensures same { Become (λ s. s) peers.old.items peers.new.items }
     ensures ready { IfOk result (λ made. AreReady own_open.now (draft_by whole own_open.now) peers.new.items made.items) }
 {

@@ -1,5 +1,6 @@
 //! Drafts that are carried out.
 
+ghost use Rattle.bgp_values.specs.declared.width.Width as widths;
 ghost use Rattle.std.specs.Prelude.{◌≡◌, true, false, ℕ, List, None};
 ghost use Rattle.bgp_framing.specs.Held.{is_waiting};
 ghost use Rattle.ranked_policy.specs.Plans.{Linked};
@@ -43,7 +44,7 @@ pub(super) fn carry(
     made: &Sketch,
 )
     requires linked { Linked tables.old.net.links tables.old.router peer }
-    requires own { IsSayable own_open.now }
+    requires own { (w : widths.Width) → IsSayable w own_open.now }
     requires room { HasRoom own_open.now None made.now end.old }
     ensures side { side end.new ≡ carried NoMessage (side end.old) (draft own_open.now NoMessage made.now) }
     ensures tables { Followed tables.old tables.new peer (standing (side end.old)) (standing (side end.new)) }
@@ -66,10 +67,10 @@ pub(super) fn carry_front(
     made: &Sketch,
 )
     requires linked { Linked tables.old.net.links tables.old.router peer }
-    requires own { IsSayable own_open.now }
-    requires told { IsSayableWhere (told_of (hand given)) }
+    requires own { (w : widths.Width) → IsSayable w own_open.now }
+    requires told { IsSayableWhere (side end.old).width (told_of (hand given)) }
     requires waits { is_waiting (side end.old).held ≡ true }
-    requires front { IsInFront (side end.old).held (hand given) }
+    requires front { IsInFront (side end.old).width (side end.old).held (hand given) }
     requires room { HasRoom own_open.now (told_of (hand given)) made.now end.old }
     ensures side { side end.new ≡ carried (hand given) (without_front (side end.old)) (draft own_open.now (hand given) made.now) }
     ensures tables { Followed tables.old tables.new peer (standing (side end.old)) (standing (side end.new)) }

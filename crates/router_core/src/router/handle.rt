@@ -1,5 +1,6 @@
 //! Messages and faults that a router handles.
 
+ghost use Rattle.bgp_values.specs.declared.width.Width as widths;
 ghost use Rattle.std.specs.Prelude.{◌≡◌, true, IfOk, IfSome, OnOk, OnErr, ℕ, List, Option};
 ghost use Rattle.bgp_codec.specs.declared.update.Update as update;
 ghost use Rattle.bgp_framing.specs.Held.{is_waiting};
@@ -98,7 +99,7 @@ fn handle_front(
     peer: Asn,
 ) -> Result<(), AllocError>
     requires linked { Linked tables.old.net.links tables.old.router peer }
-    requires own { IsSayable own_open.now }
+    requires own { (w : widths.Width) → IsSayable w own_open.now }
     requires waits { is_waiting (side end.old).held ≡ true }
     requires link { IsLink marks.old.unfinished peer }
     ensures ok { OnOk result (HandlesFront own_open.now peer (side end.old) (side end.new) tables.old tables.new (snapshots_of marks.old) (snapshots_of marks.new)) }

@@ -15,7 +15,7 @@ returns-then-not-has_item c =
     let v = c.args.peer in
     let place = subst (λ (x : RouterView). IsFound x.peers v c.in-Some.at) (sym c.self.view_is) c.in-Some.ensures.place in
     let stands : sides_of r v ≡ side c.index.result.now.end =
-    side_here (side_opening (config_of r.net)) r.peers v c.in-Some.at c.index.result.now place.2 ∙ ap (λ (w : Peer). side w.end) (sym c.index.ensures) in
+    side_here (side_opening (config_of r.net) r.net.settings.width) r.peers v c.in-Some.at c.index.result.now place.2 ∙ ap (λ (w : Peer). side w.end) (sym c.index.ensures) in
     let now : sides_of c.args.self.now v ≡ side c.index.result.now.end = ap (λ (x : RouterView). sides_of x v) (sym c.self.view_is) ∙ stands in
     λ cut.
     let puts = ap (λ (s : Side). is_some (next_item cut s.outbox)) now ∙ sym (c.has_item.ensures cut) ∙ c.if-not-has_item.true in
@@ -28,7 +28,7 @@ returns-else-not-has_item c =
     let v = c.args.peer in
     let place = subst (λ (x : RouterView). IsFound x.peers v c.in-Some.at) (sym c.self.view_is) c.in-Some.ensures.place in
     let stands : sides_of r v ≡ side c.index.result.now.end =
-    side_here (side_opening (config_of r.net)) r.peers v c.in-Some.at c.index.result.now place.2 ∙ ap (λ (w : Peer). side w.end) (sym c.index.ensures) in
+    side_here (side_opening (config_of r.net) r.net.settings.width) r.peers v c.in-Some.at c.index.result.now place.2 ∙ ap (λ (w : Peer). side w.end) (sym c.index.ensures) in
     let now : sides_of c.args.self.now v ≡ side c.index.result.now.end = ap (λ (x : RouterView). sides_of x v) (sym c.self.view_is) ∙ stands in
     λ cut.
     let puts = ap (λ (s : Side). is_some (next_item cut s.outbox)) now ∙ sym (c.has_item.ensures cut) ∙ c.if-not-has_item.false in

@@ -14,6 +14,6 @@ returns-in-Some c =
     let v = c.args.peer in
     let place = subst (λ (x : RouterView). IsFound x.peers v c.in-Some.at) (sym c.self.view_is) c.in-Some.ensures.place in
     let stands : sides_of r v ≡ side c.index.result.now.end =
-    side_here (side_opening (config_of r.net)) r.peers v c.in-Some.at c.index.result.now place.2 ∙ ap (λ (w : Peer). side w.end) (sym c.index.ensures) in
+    side_here (side_opening (config_of r.net) r.net.settings.width) r.peers v c.in-Some.at c.index.result.now place.2 ∙ ap (λ (w : Peer). side w.end) (sym c.index.ensures) in
     let waits = c.is_waiting.ensures ∙ ap (λ (s : Side). is_waiting s.held) (sym stands) ∙ ap (λ (x : RouterView). is_waiting (sides_of x v).held) c.self.view_is in
     rw (c.in-Some.ensures.none, waits) refl

@@ -9,7 +9,7 @@ use Rattle.router_core.proofs.router.Router.new.Goals as goal
 pub invariant_of-result : goal.invariant_of-result
 invariant_of-result c =
     let net = c.settings-settings.ensures.network in
-    let sides : AllByRecursion (λ p. side p.end ≡ side_opening (config_of c.args.network.now)) c.in-Ok.peers.items = rw (sym c.settings-settings.ensures.value) c.in-Ok.ensures.sides in
+    let sides : AllByRecursion (λ p. side p.end ≡ side_opening (config_of c.args.network.now) c.args.network.now.settings.width) c.in-Ok.peers.items = rw (sym c.settings-settings.ensures.value) c.in-Ok.ensures.sides in
     record {
       network = net;
       router = c.requires;

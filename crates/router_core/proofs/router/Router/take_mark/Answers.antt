@@ -19,7 +19,7 @@ returns-then-not-heeds-clause-takes c =
     let r : RouterView = record { net = c.self.inside.network.now; number = c.self.inside.number; own_open = c.self.inside.own_open; peers = c.self.inside.peers.items; tables = c.self.inside.tables; marks = c.self.inside.marks; stamp = c.self.inside.stamp } in
     let place = subst (λ (x : RouterView). IsFound x.peers c.args.peer c.args.at) (sym c.self.view_is) c.requires.place in
     let stands : sides_of r c.args.peer ≡ side c.index.result.now.end =
-    side_here (side_opening (config_of r.net)) r.peers c.args.peer c.args.at c.index.result.now place.2 ∙ ap (λ (w : Peer). side w.end) (sym c.index.ensures) in
+    side_here (side_opening (config_of r.net) r.net.settings.width) r.peers c.args.peer c.args.at c.index.result.now place.2 ∙ ap (λ (w : Peer). side w.end) (sym c.index.ensures) in
     let heeds : (is_up (sides_of r c.args.peer) && uses (sides_of r c.args.peer).link c.args.epoch) ≡ c.heeds.result = ap (λ (s : Side). is_up s && uses s.link c.args.epoch) stands ∙ sym c.heeds.ensures in
     subst (λ (x : RouterView). TakesMark (Ok stepped.Did) x c.args.peer c.args.epoch c.args.number c.args.stamp (at_stamp r r.marks c.args.stamp)) c.self.view_is
     (takes_nothing r c.args.peer c.args.epoch c.args.number c.args.stamp (heeds ∙ c.if-not-heeds.true))
@@ -29,7 +29,7 @@ returns-then-number-last-clause-takes c =
     let r : RouterView = record { net = c.self.inside.network.now; number = c.self.inside.number; own_open = c.self.inside.own_open; peers = c.self.inside.peers.items; tables = c.self.inside.tables; marks = c.self.inside.marks; stamp = c.self.inside.stamp } in
     let place = subst (λ (x : RouterView). IsFound x.peers c.args.peer c.args.at) (sym c.self.view_is) c.requires.place in
     let stands : sides_of r c.args.peer ≡ side c.index.result.now.end =
-    side_here (side_opening (config_of r.net)) r.peers c.args.peer c.args.at c.index.result.now place.2 ∙ ap (λ (w : Peer). side w.end) (sym c.index.ensures) in
+    side_here (side_opening (config_of r.net) r.net.settings.width) r.peers c.args.peer c.args.at c.index.result.now place.2 ∙ ap (λ (w : Peer). side w.end) (sym c.index.ensures) in
     let heeds : (is_up (sides_of r c.args.peer) && uses (sides_of r c.args.peer).link c.args.epoch) ≡ c.heeds.result = ap (λ (s : Side). is_up s && uses s.link c.args.epoch) stands ∙ sym c.heeds.ensures in
     let greater : nat_lt r.marks.last c.args.number ≡ true = grind (arith, nat_tests, c.if-number-last.true, c.last.ensures) in
     subst (λ (x : RouterView). TakesMark c.records.result x c.args.peer c.args.epoch c.args.number c.args.stamp c.records.new.self) c.self.view_is
@@ -59,7 +59,7 @@ returns-clause-takes c =
     let r : RouterView = record { net = c.self.inside.network.now; number = c.self.inside.number; own_open = c.self.inside.own_open; peers = c.self.inside.peers.items; tables = c.self.inside.tables; marks = c.self.inside.marks; stamp = c.self.inside.stamp } in
     let place = subst (λ (x : RouterView). IsFound x.peers c.args.peer c.args.at) (sym c.self.view_is) c.requires.place in
     let stands : sides_of r c.args.peer ≡ side c.index.result.now.end =
-    side_here (side_opening (config_of r.net)) r.peers c.args.peer c.args.at c.index.result.now place.2 ∙ ap (λ (w : Peer). side w.end) (sym c.index.ensures) in
+    side_here (side_opening (config_of r.net) r.net.settings.width) r.peers c.args.peer c.args.at c.index.result.now place.2 ∙ ap (λ (w : Peer). side w.end) (sym c.index.ensures) in
     let heeds : (is_up (sides_of r c.args.peer) && uses (sides_of r c.args.peer).link c.args.epoch) ≡ c.heeds.result = ap (λ (s : Side). is_up s && uses s.link c.args.epoch) stands ∙ sym c.heeds.ensures in
     let less : nat_lt r.marks.last c.args.number ≡ false = grind (arith, nat_tests, c.if-number-last.false, c.last.ensures) in
     subst (λ (x : RouterView). TakesMark (Ok stepped.Did) x c.args.peer c.args.epoch c.args.number c.args.stamp (at_stamp r c.on_mark.new.self c.args.stamp)) c.self.view_is
