@@ -12,7 +12,6 @@ ghost use Rattle.text_engines.specs.declared.status.TheConstants.{STOPPED};
 mod helps;
 mod words;
 
-use bgp_codec::{Rule, Width};
 pub use helps::{CHECK_HELP, CUT_HELP, DECODE_HELP, PLAY_HELP, RUN_HELP};
 use play_engine::{cut_stream, play_stream};
 use run_engine::run_stream;
@@ -43,13 +42,7 @@ where
     ensures silent { S.failed reader.old ≡ false → S.failed reader.new ≡ true → T.contents writer.new ≡ T.contents writer.old }
 {
     match read_words(alloc, words) {
-        Ok(Asked::Decode(peer)) => {
-            let rule = Rule {
-                width: Width::Two,
-                peer: peer.map(u32::from),
-            };
-            decode_stream(alloc, &rule, reader, writer)
-        }
+        Ok(Asked::Decode(rule)) => decode_stream(alloc, &rule, reader, writer),
         Ok(Asked::Check) => check_stream(alloc, reader, writer),
         Ok(Asked::Play) => play_stream(alloc, reader, writer),
         Ok(Asked::Cut(number)) => cut_stream(alloc, number, reader, writer),

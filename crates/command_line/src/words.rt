@@ -5,6 +5,8 @@ ghost use Rattle.std.specs.List.{list_all};
 ghost use Rattle.net_text.specs.Words.{is_digit};
 
 use crate::helps::{CHECK_HELP, CUT_HELP, DECODE_HELP, PLAY_HELP, RUN_HELP};
+use bgp_codec::{NOBODY, Rule};
+use bgp_values::{Width, greatest_asn};
 use clap::error::ErrorKind;
 use clap::{Arg, ArgMatches, Command, Error};
 use run_engine::RunOptions;
@@ -14,8 +16,8 @@ use text_engines::status::{DONE, USAGE};
 /// What the words ask for.
 #[derive(Drop)]
 pub enum Asked {
-    /// Decode, with the speaker's number where `--peer` names it.
-    Decode(Option<u16>),
+    /// Decode under a rule: the width of AS numbers, and the speaker's number where `--peer` names it.
+    Decode(Rule),
     /// Check an assignment.
     Check,
     /// Play a schedule.
@@ -67,10 +69,37 @@ fn sign_of(
     }
 }
 
+// What is said of a speaker's number that is above those of a width.
+fn above(alloc: Global, width: Width, peer: u32) -> Result<String, AllocError> {
+    let greatest = greatest_asn(width);
+    let text = format!(in alloc;
+        "error: invalid value '{peer}' for '--peer <AS>': {peer} is not in 1..={greatest}\n\n\
+        For more information, try '--help'.\n"
+    )?;
+    Ok(text)
+}
+
 fn asked_decode(alloc: Global, found: &ArgMatches) -> Result<Asked, AllocError> {
-    match sign_of(alloc, found, "peer", "--peer <AS>")? {
-        Some(text) => Ok(Asked::Text(text, USAGE)),
-        None => Ok(Asked::Decode(found.get_one::<u16>("peer"))),
+    if let Some(text) = sign_of(alloc, found, "peer", "--peer <AS>")? {
+        return Ok(Asked::Text(text, USAGE));
+    }
+    if let Some(text) = sign_of(alloc, found, "asn", "--asn <4>")? {
+        return Ok(Asked::Text(text, USAGE));
+    }
+    let width = match found.get_one::<u32>("asn") {
+        Some(_) => Width::Four,
+        None => Width::Two,
+    };
+    let peer = found.get_one::<u32>("peer");
+    match peer {
+        Some(peer) if peer > greatest_asn(width) => {
+            Ok(Asked::Text(above(alloc, width, peer)?, USAGE))
+        }
+        Some(_) | None => Ok(Asked::Decode(Rule {
+            width,
+            peer,
+            own: None,
+        })),
     }
 }
 
@@ -105,12 +134,21 @@ fn decode_command<'a>(alloc: Global) -> Result<Command<'a>, AllocError> {
     let peer = Arg::new(alloc, "peer")
         .long("peer")
         .value_name("AS")
-        .value_parser(clap::value_parser!(u16).range(1..))
-        .help("The speaker's number, 1 to 65535, that its messages are checked against");
+        .value_parser(clap::value_parser!(u32).range(1..))
+        .help(
+            "The speaker's number, 1 to 65535, or to 4294967295 with --asn 4, that its messages are \
+            checked against",
+        );
+    let asn = Arg::new(alloc, "asn")
+        .long("asn")
+        .value_name("4")
+        .value_parser(clap::value_parser!(u32).range(4..5))
+        .help("AS numbers have four octets: both speakers said capability 65 (RFC 6793)");
     Command::new(alloc, "decode")
         .about("Prints the messages of a stream in hex")
         .after_help(DECODE_HELP)
-        .arg(peer)
+        .arg(peer)?
+        .arg(asn)
 }
 
 fn cut_command<'a>(alloc: Global) -> Result<Command<'a>, AllocError> {
@@ -180,7 +218,7 @@ fn asked_by(alloc: Global, matches: &ArgMatches) -> Result<Asked, AllocError> {
     }
     match matches.subcommand_matches("decode") {
         Some(found) => asked_decode(alloc, found),
-        None => Ok(Asked::Decode(None)),
+        None => Ok(Asked::Decode(NOBODY)),
     }
 }
 

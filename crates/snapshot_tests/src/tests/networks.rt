@@ -1,5 +1,6 @@
 //! Small networks, whose prefix is 10.1.0.0/16.
 
+use bgp_values::Width;
 use prefix_lanes::Prefix;
 use ranked_policy::{Asn, NetBuilder, NetError, Network, Path, Settings};
 use std::alloc::{AllocError, Global};
@@ -9,6 +10,7 @@ const SETTINGS: Settings = Settings {
     restart: 0,
     cut: 4096,
     pipe: 64,
+    width: Width::Two,
 };
 
 /// Routers 1 to `routers` with these links. Router 1 is the origin of the prefix.

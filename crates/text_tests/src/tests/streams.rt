@@ -1,6 +1,7 @@
 //! Streams in hex that are made: blanks at every place, every beginning, and long ones.
 
-use bgp_codec::{Rule, Width};
+use bgp_codec::Rule;
+use bgp_values::Width;
 use std::alloc::{AllocError, Global};
 use std::process::Abort;
 use std::test::Fail;
@@ -23,6 +24,7 @@ fn is_decoded(alloc: Global, input: &[u8], text: &[u8], status: u8) -> bool {
     let rule = Rule {
         width: Width::Two,
         peer: None,
+        own: None,
     };
     let got = decode_stream(alloc, &rule, &mut reader, &mut writer).ok();
     let out: Vec<u8> = writer.into_inner();

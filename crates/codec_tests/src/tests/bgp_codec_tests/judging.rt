@@ -2,8 +2,9 @@
 //! their own, so `rt try --test --fail-alloc N` refuses the reader's.
 
 use super::is_fault;
-use bgp_codec::{Asn, CodecError, Message, Rule, Width, decode};
+use bgp_codec::{Asn, CodecError, Message, Rule, decode};
 use bgp_framing::{Next, next_message};
+use bgp_values::Width;
 use std::alloc::Global;
 
 // A fault: its code, its subcode and its data.
@@ -60,6 +61,7 @@ fn is_answered(alloc: Global, case: &Case) -> bool {
     let rule = Rule {
         width: Width::Two,
         peer: case.peer,
+        own: None,
     };
     answers(alloc, &framed(case.kind, case.body), &rule, case.fault)
 }
