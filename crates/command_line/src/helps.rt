@@ -19,11 +19,12 @@ Each message is a line, up to the first fault: its code and subcode (RFC 4271 se
 the NOTIFICATION that tells of it. 'truncated N': the stream ends with N octets of a message. Alone
 stand 'bad hex', where the input has more than digits and blanks or half an octet, and 'refused 0 N6',
 where it has more than 16777216 octets. An UPDATE's other attributes than AS_PATH and NEXT_HOP are
-checked, and not printed. AS numbers have two octets: where both OPENs print 'cap 65' they have
-four, and an UPDATE with a path mostly reads as 'fault 3 11'.
+checked, and not printed. AS numbers have two octets. Where the OPENs of both speakers print 'cap 65'
+they have four: an UPDATE with a path then mostly reads as 'fault 3 11', and is read by --asn 4.
 
-With --peer the number of an OPEN, and the first one in the path of an UPDATE that announces, has to
-be AS, else they read as 'fault 2 2' and 'fault 3 11'.
+With --peer the number that an OPEN says, and the first one in the path of an UPDATE that announces,
+have to be AS, else they read as 'fault 2 2' and 'fault 3 11'. With --asn 4 an OPEN says its number by
+capability 65, where it has one.
 
 Status 0: all was read. 1: a fault, a truncated end, or a refused input. 2: other words than these.
 3: memory was refused ('memory'). 4: a read or a write failed.";
