@@ -1,5 +1,5 @@
 -- What each step of a router says, and the paths that it keeps.
-use Rattle.std.proofs.Common.{◌≡◌, ℕ, suc, ◌<◌, ◌==◌, Bool, true, false, ◌&&◌, cond, List, [], ◌∷◌, ◌++◌, refl, ap, sym, ◌∙◌, subst, arith, Option, None, Some, inl, inr}
+use Rattle.std.proofs.Common.{◌≡◌, ℕ, suc, ◌≤◌, ◌==◌, Bool, true, false, ◌&&◌, cond, List, [], ◌∷◌, ◌++◌, refl, ap, sym, ◌∙◌, subst, arith, Option, None, Some, inl, inr}
 use Rattle.std.specs.Prelude.{Ok, map, Result}
 use Rattle.std.specs.List.{AllByRecursion, find}
 use Rattle.prefix_lanes.specs.Bits.{PrefixView, is_prefix}

@@ -1,5 +1,5 @@
 -- A step of a router leaves the width of AS numbers on each of its sides.
-use Rattle.std.proofs.Common.{◌≡◌, ℕ, ◌==◌, Bool, true, false, ◌&&◌, cond, List, ◌++◌, refl, ap, ◌∙◌, Option, None, Some}
+use Rattle.std.proofs.Common.{◌≡◌, ℕ, ◌==◌, Bool, true, false, ◌&&◌, cond, ◌++◌, refl, ap, ◌∙◌, Option, None, Some}
 use Rattle.prefix_lanes.specs.Bits.{PrefixView}
 use Rattle.bgp_codec.specs.declared.update.Update.{Update}
 use Rattle.link_epoch.specs.declared.link_end.Sign.TheVariants as sign

@@ -1,5 +1,5 @@
 -- What routers say: each message of a run is one of these, and can be read by every peer.
-use Rattle.std.specs.Prelude.{ℕ, ◌≡◌, true, false, ◌≤◌, ◌<◌, ◌^◌, List, [], length}
+use Rattle.std.specs.Prelude.{ℕ, ◌≡◌, true, false, ◌≤◌, List, [], length}
 use Rattle.std.specs.List.{AllByRecursion}
 use mathlib.Core.Logic.{◌⊎◌}
 use Rattle.ranked_policy.specs.declared.limits.TheConstants.{LONGEST_PATH}
