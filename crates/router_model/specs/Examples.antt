@@ -1,10 +1,13 @@
 -- Small cases that show what the definitions say: two routers of one link, and a router whose peer is hostile.
-use Rattle.std.specs.Prelude.{ℕ, ◌+◌, ◌≡◌, ◌==◌, false, cond, List, [], ◌∷◌, ◌++◌, length, Option, Some, replicate}
+use Rattle.std.specs.Prelude.{ℕ, ◌+◌, ◌≡◌, ◌==◌, false, cond, List, [], ◌∷◌, ◌++◌, length, Option, Some, Ok, Err, replicate}
 use Rattle.marker_lanes.specs.Marker.{marker}
 use Rattle.prefix_lanes.specs.Bits.{PrefixView}
 use Rattle.link_epoch.specs.declared.link_end.Phase.TheVariants.{Joined}
 use Rattle.session_fsm.specs.declared.state.State.TheVariants.{Idle, Active, OpenSent, OpenConfirm, Established}
-use Rattle.bgp_values.specs.declared.width.Width.TheVariants.{Two}
+use Rattle.bgp_values.specs.declared.width.Width.TheVariants.{Two, Four}
+use Rattle.bgp_codec.specs.declared.fault.Fault.{Fault}
+use Rattle.bgp_codec.specs.Faults.{reading}
+use Rattle.bgp_codec.specs.Spelling.{written}
 use Rattle.ranked_policy.specs.Plans.{Plan}
 use Rattle.run_model.specs.Network.{alone, takes}
 use Rattle.outbox.specs.Items.{next_item}
@@ -16,7 +19,7 @@ use Rattle.rib_tables.specs.declared.word.Word.TheVariants.{Sequence}
 use Rattle.run_model.specs.Octets.{octets_of}
 use Rattle.router_model.specs.Settings.{Setting}
 use Rattle.router_model.specs.Sides.{Side}
-use Rattle.router_model.specs.State.{new_side, new_router, heard}
+use Rattle.router_model.specs.State.{open_of, rule_of, new_side, new_router, heard}
 use Rattle.router_model.specs.Step.{Obeys, Ticks, Handles, Decides, Advertises}
 use Rattle.router_model.specs.Calls.{Stamped, Call, Obey, Tick, Put, Take, Handle, Decide, Advertise, Answer, Steps, Refuses, answer, stamped_after}
 use Rattle.router_model.specs.Calls as calls
@@ -266,3 +269,30 @@ abbrev pub TellsBelowTheLimit : Type 0
 TellsBelowTheLimit =
     (answer setting 1 (waiting_behind 65535) Advertise ≡ Steps (alone (Advertises 2)))
     × (answer setting 1 (waiting_behind 65536) Advertise ≡ Refuses (error.Blocked 2))
+
+-- ---- AS numbers of four octets: routers 1 and 70000, linked (RFC 6793)
+
+abbrev pub wide : Plan
+wide = record {
+  settings = record { hold = 90; restart = 0; cut = 4096; pipe = 64; width = Four };
+  routers = record { asn = 1; id = 167772161; rules = [] } ∷ record { asn = 70000; id = 167772162; rules = [] } ∷ [];
+  links = record { one = 1; other = 70000 } ∷ [];
+  origins = [];
+}
+
+-- AS_TRANS stands in the field AS, and the number in a capability
+abbrev pub open_wide : List ℕ
+open_wide = marker ++ 0 ∷ 37 ∷ 1 ∷ 4 ∷ 91 ∷ 160 ∷ 0 ∷ 90 ∷ 10 ∷ 0 ∷ 0 ∷ 2 ∷ 8 ∷ 2 ∷ 6 ∷ 65 ∷ 4 ∷ 0 ∷ 1 ∷ 17 ∷ 112 ∷ []
+
+-- an OPEN without it, and the fault that router 1 tells of: the capability that it says itself
+abbrev pub open_unsaid : List ℕ
+open_unsaid = marker ++ 0 ∷ 29 ∷ 1 ∷ 4 ∷ 91 ∷ 160 ∷ 0 ∷ 90 ∷ 10 ∷ 0 ∷ 0 ∷ 2 ∷ 0 ∷ []
+
+abbrev pub unsaid : Fault
+unsaid = record { code = 2; sub = 7; extra = 65 ∷ 4 ∷ 0 ∷ 0 ∷ 0 ∷ 1 ∷ [] }
+
+abbrev pub WideNumberIsSaid : Type 0
+WideNumberIsSaid =
+    (written Four (open_of wide 70000) ≡ open_wide)
+    × (reading (rule_of wide 1 70000) open_wide ≡ Ok (open_of wide 70000))
+    × (reading (rule_of wide 1 70000) open_unsaid ≡ Err unsaid)

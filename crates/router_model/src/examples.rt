@@ -1,7 +1,7 @@
 //! Small cases that show what the definitions say, each computed: two routers of one link, and a router whose peer is
 //! hostile.
 
-ghost use Rattle.router_model.specs.Examples.{OriginatesOnce, StartsAndSaysOpen, FaultyHeaderCloses, StrayItemsAreDropped, NoIncarnationIsLeft, OldOctetsAreGone, NoStampIsLeft, WrongNumberCloses, StrangePathCloses, NothingBesideTheLastStamp, TellingSetsTheTimer, AnnouncementWins, TellsBelowTheLimit};
+ghost use Rattle.router_model.specs.Examples.{OriginatesOnce, StartsAndSaysOpen, FaultyHeaderCloses, StrayItemsAreDropped, NoIncarnationIsLeft, OldOctetsAreGone, NoStampIsLeft, WrongNumberCloses, StrangePathCloses, NothingBesideTheLastStamp, TellingSetsTheTimer, AnnouncementWins, TellsBelowTheLimit, WideNumberIsSaid};
 
 /// A prefix is originated once and decided once; there is nobody to tell; a router that is no peer, and a router that is
 /// no origin, are refused.
@@ -64,4 +64,10 @@ pub fn announcement_wins()
 /// With 65,535 octets waiting a peer is told; with 65,536 it is not.
 pub fn tells_below_the_limit()
     ensures { TellsBelowTheLimit }
+{}
+
+/// Where AS numbers have four octets, an OPEN says a greater number than 65535 in its capability, and one without the
+/// capability is refused.
+pub fn wide_number_is_said()
+    ensures { WideNumberIsSaid }
 {}

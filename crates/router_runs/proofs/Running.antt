@@ -5,6 +5,7 @@ use mathlib.Core.List.{IsPrefix}
 use Rattle.std.proofs.lemmas.List.{append-nil}
 use Rattle.std.proofs.lemmas.Bool.Decides.{nat_tests}
 use Rattle.bgp_codec.specs.Spelling.{written}
+use Rattle.bgp_values.specs.declared.width.Width.{Width}
 use Rattle.bgp_codec.specs.declared.message.Message.{Message}
 use Rattle.link_epoch.specs.declared.link_end.Phase.TheVariants as phase
 use Rattle.ranked_policy.specs.Plans.{IsNetwork}
@@ -22,14 +23,13 @@ use Rattle.router_model.specs.State.{Router}
 use Rattle.router_model.specs.Step.{Own, RouterEvent, Step, after, says}
 use Rattle.outbox.specs.Items.{passes}
 use Rattle.router_model.specs.Laws.{all_passes}
-use Rattle.bgp_values.specs.declared.width.Width.{Width}
-use Rattle.router_runs.proofs.Widths.{keeps_width}
 use Rattle.router_runs.specs.Runs.{Logged, LoggedStep, RunState, logged_steps, written_in}
 use Rattle.router_runs.specs.Runs.{side_of, log_of}
 use Rattle.router_runs.specs.Reading.{MayComeAll, sides_after, phase_of, model_side}
 use Rattle.router_runs.specs.Kept.{IsGood, Holds, Advances, SideKept, LinkKept, LinkAt, PutsItsLog, Reached, AllAreGood}
 use Rattle.router_runs.proofs.Stepping.{Before}
 use Rattle.router_runs.proofs.Events.{step_side}
+use Rattle.router_runs.proofs.Widths.{keeps_width}
 use Rattle.router_runs.proofs.Lower.{Laws, joined_heard, passing_more, session_runs_go_on, sessions_make_a_link_run, steps_append}
 use Rattle.router_runs.proofs.Entries.{prefix_trans}
 

@@ -4,6 +4,7 @@ use Rattle.std.specs.Prelude.{Ok, map, Result}
 use Rattle.std.specs.List.{AllByRecursion, find}
 use Rattle.prefix_lanes.specs.Bits.{PrefixView, is_prefix}
 use Rattle.bgp_codec.specs.declared.fault.Fault.{Fault}
+use Rattle.bgp_values.specs.Ranges.{greatest_asn}
 use Rattle.bgp_codec.specs.declared.message.Message.{Message}
 use Rattle.bgp_codec.specs.declared.message.Message.TheVariants.{OpenMsg, UpdateMsg, NoticeMsg, AliveMsg}
 use Rattle.bgp_codec.specs.declared.update.Update.{Update}
@@ -38,7 +39,6 @@ use Rattle.router_model.specs.State.{Router, rule_of, open_of, telling, route, u
 use Rattle.router_model.specs.Step.{RouterEvent, Obeys, Ticks, Handles, Decides, Advertises, after, says, says_where, says_by, says_update, says_markers, keeping, telling_to, telling_of, heeds, is_greater, records, meets_at, resets_at, second_at, signed_at, handled_at}
 use Rattle.snap_marker.specs.Recordings.{ends_channel}
 use Rattle.router_model.specs.Messages.{updates_in}
-use Rattle.bgp_values.specs.Ranges.{greatest_asn}
 use Rattle.router_runs.specs.Said.{MayKeep, IsToldBy, IsSaid, NumbersFit}
 use Rattle.router_runs.proofs.Lower.{Laws}
 

@@ -50,7 +50,8 @@ pub(crate) fn laws_below()
     stable_is_the_models::<Message>();
 }
 
-/// Every message that a router may say is written as a frame, and each of its peers reads it back.
+/// Every message that a router may say is written as a frame, and each of its peers reads it back,
+/// whether AS numbers have two octets or four.
 pub fn what_is_said_is_good()
     ensures { SaidIsGood }
 {

@@ -1,0 +1,13 @@
+-- By computation.
+use Rattle.std.proofs.Common.{refl}
+use Rattle.marker_lanes.specs.Marker as lanes
+use Rattle.bgp_codec.specs.Faults.{reading}
+use Rattle.bgp_codec.specs.Header.{begins_with_marker, header_fault}
+use Rattle.bgp_codec.specs.Opens.{open_reading}
+use Rattle.bgp_codec.specs.Reading.{all_in}
+use Rattle.bgp_codec.specs.Spelling.{header_of, framed}
+use Rattle.router_model.proofs.examples.wide_number_is_said.Goals as goal
+
+pub returns : goal.returns
+unfolding header_of framed header_fault begins_with_marker reading open_reading all_in lanes.marker
+returns c = (refl, refl, refl)
