@@ -1,5 +1,5 @@
 -- The settings of a network that lines spell are those that they name, and its hold time has two octets.
-use Rattle.std.proofs.Common.{◌≡◌, ℕ, ◌+◌, ◌≤◌, ◌&&◌, Bool, true, false, cond, List, [], ◌∷◌, Option, Some, None, Result, Ok, Err, refl, sym, ap, ◌∙◌, inl, inr, arith}
+use Rattle.std.proofs.Common.{◌≡◌, ℕ, ◌+◌, ◌≤◌, ◌&&◌, nat_le, Bool, true, false, cond, List, [], ◌∷◌, Option, Some, None, Result, Ok, Err, refl, sym, ap, ◌∙◌, inl, inr, arith}
 use Rattle.std.proofs.lemmas.Bool.{leb-true}
 use Rattle.ranked_policy.specs.Plans.{Plan}
 use Rattle.ranked_policy.specs.declared.network.Settings.{Settings}
@@ -8,7 +8,10 @@ use Rattle.net_text.specs.declared.draft.Draft.{Draft}
 use Rattle.net_text.specs.declared.settings.Setting.{Setting}
 use Rattle.net_text.specs.declared.settings.Setting.TheVariants.{Hold, Restart, Cut, Pipe, Octets}
 use Rattle.net_text.specs.Lexing.{Text, words_of}
-use Rattle.net_text.specs.Lines.{line_reading, setting_of, told_of, told, settings_behind, settings_of, usual}
+use Rattle.bgp_values.specs.declared.width.Width.TheVariants.{Four}
+use Rattle.bgp_values.specs.Ranges.{is_hold_time}
+use Rattle.net_text.specs.Words.{is_number, value_of}
+use Rattle.net_text.specs.Lines.{line_reading, in_range, setting_of, told_of, told, settings_behind, settings_of, usual}
 use Rattle.net_text.specs.Networks.{reading, then_on, empty_draft}
 use Rattle.net_text.specs.Laws.{SettingsAreNamed, HoldTimesFit}
 use Rattle.net_text.proofs.AddingLemmas.{adds}
@@ -61,11 +64,11 @@ other_by false s t e h = h
 
 told_of_fits : (setting : Option Setting) (word : Text) (s : Settings) → s.hold ≤ 65535 → (told_of setting word s).hold ≤ 65535
 told_of_fits None word s h = h
-told_of_fits (Some Hold) word s h = hold_by _ _ _ _ s (λ t. leb-true _ 65535 t) h
-told_of_fits (Some Restart) word s h = other_by _ s _ refl h
-told_of_fits (Some Cut) word s h = other_by _ s _ refl h
-told_of_fits (Some Pipe) word s h = other_by _ s _ refl h
-told_of_fits (Some Octets) word s h = other_by _ s _ refl h
+told_of_fits (Some Hold) word s h = hold_by (is_number word) (nat_le (value_of word) 65535) (is_hold_time (value_of word)) (value_of word) s (λ t. leb-true (value_of word) 65535 t) h
+told_of_fits (Some Restart) word s h = other_by (is_number word && in_range Restart (value_of word)) s (record s { restart = value_of word }) refl h
+told_of_fits (Some Cut) word s h = other_by (is_number word && in_range Cut (value_of word)) s (record s { cut = value_of word }) refl h
+told_of_fits (Some Pipe) word s h = other_by (is_number word && in_range Pipe (value_of word)) s (record s { pipe = value_of word }) refl h
+told_of_fits (Some Octets) word s h = other_by (is_number word && in_range Octets (value_of word)) s (record s { width = Four }) refl h
 
 told_fits : (words : List Text) (s : Settings) → s.hold ≤ 65535 → (told words s).hold ≤ 65535
 told_fits [] s h = h
