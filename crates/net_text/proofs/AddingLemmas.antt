@@ -17,7 +17,7 @@ use Rattle.net_text.specs.Lexing.{Text, same, words_of, is_skipped, says_nothing
 use Rattle.net_text.specs.Words.{◌>>=◌, is_number, value_of, number_word, asn_word, router_word, is_router, id_word, prefix_word, path_of, rule_path_words}
 use Rattle.net_text.specs.Lines.{width_named, setting_of, in_range, was_named, setting_line, with_router, is_taken, router_line, link_line, with_origin, origin_line, with_rule, rule_line, rule_fault, named_line, words_line, line_reading}
 
-same_true : (a b : Text) → same a b ≡ true → a ≡ b
+pub same_true : (a b : Text) → same a b ≡ true → a ≡ b
 same_true [] [] h = refl
 same_true [] (y ∷ ys) h = absurd cc
 same_true (x ∷ xs) [] h = absurd cc

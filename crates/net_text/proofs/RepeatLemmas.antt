@@ -13,13 +13,13 @@ use Rattle.net_text.specs.Lines.{are_distinct}
 use Rattle.net_text.proofs.EntryLemmas.{same_number, any_on}
 
 -- lists of numbers that compare as equal are the same
-same_list : (xs ys : List ℕ) → is_eq (slice_cmp nat_cmp xs ys) ≡ same xs ys
+pub same_list : (xs ys : List ℕ) → is_eq (slice_cmp nat_cmp xs ys) ≡ same xs ys
 same_list [] [] = refl
 same_list [] (y ∷ ys) = refl
 same_list (x ∷ xs) [] = refl
 same_list (x ∷ xs) (y ∷ ys) = sym (tied_then (nat_cmp x y) (slice_cmp nat_cmp xs ys)) ∙ rw (same_number x y, same_list xs ys) refl
 
-same_back : (xs ys : List ℕ) → same xs ys ≡ same ys xs
+pub same_back : (xs ys : List ℕ) → same xs ys ≡ same ys xs
 same_back [] [] = refl
 same_back [] (y ∷ ys) = refl
 same_back (x ∷ xs) [] = refl
@@ -36,7 +36,7 @@ pub record IsCame {K : Type 0} (items : K → List ℕ) (came : BTreeSet K) (lef
   pub has : (q : K) → contains (λ a b. slice_cmp nat_cmp (items a) (items b)) came q ≡ list_any (same (items q)) seen
 
 -- one path more that is not among distinct ones
-distinct_on : (seen : List (List ℕ)) (p : List ℕ) → are_distinct seen ≡ true → list_any (same p) seen ≡ false → are_distinct (seen ++ p ∷ []) ≡ true
+pub distinct_on : (seen : List (List ℕ)) (p : List ℕ) → are_distinct seen ≡ true → list_any (same p) seen ≡ false → are_distinct (seen ++ p ∷ []) ≡ true
 distinct_on [] p d n = refl
 distinct_on (x ∷ xs) p d n =
     let apart = and_parts (not (list_any (same x) xs)) (are_distinct xs) d in

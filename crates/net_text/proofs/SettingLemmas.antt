@@ -11,7 +11,7 @@ use Rattle.net_text.specs.Lexing.{Text, words_of}
 use Rattle.bgp_values.specs.declared.width.Width.TheVariants.{Four}
 use Rattle.bgp_values.specs.Ranges.{is_hold_time}
 use Rattle.net_text.specs.Words.{is_number, value_of}
-use Rattle.net_text.specs.Lines.{line_reading, in_range, setting_of, told_of, told, settings_behind, settings_of, usual}
+use Rattle.net_text.specs.Lines.{line_reading, in_range, setting_of, told_of, told, settings_behind, usual}
 use Rattle.net_text.specs.Networks.{reading, then_on, empty_draft}
 use Rattle.net_text.specs.Laws.{SettingsAreNamed, HoldTimesFit}
 use Rattle.net_text.proofs.AddingLemmas.{adds}

@@ -3,6 +3,7 @@ pub mod Layout
 pub mod Words
 pub mod Taking
 pub mod Lines
+pub mod Repeating
 pub mod Steps
 pub mod Networks
 pub mod Declaring

@@ -34,6 +34,7 @@ mod messages;
 mod network_lines;
 mod paths;
 mod prefix_texts;
+mod repeats;
 mod sections;
 mod settings;
 mod tail;

@@ -1,7 +1,7 @@
 //! Words that are paths. They are judged as they stand in the text, and taken into memory only once
 //! their whole line is good.
 
-ghost use Rattle.std.specs.Prelude.{◌≡◌, ◌<◌, ◌≤◌, ◌==◌, ◌∷◌, [], true, false, not, nat_le, length, map, IfOk, IfErr, if◌then◌else◌};
+ghost use Rattle.std.specs.Prelude.{◌≡◌, ◌<◌, ◌≤◌, ◌==◌, ◌∷◌, [], true, false, not, nat_le, length, map, IfOk, if◌then◌else◌};
 ghost use Rattle.std.specs.List.{list_all, list_any, All};
 ghost use Rattle.net_text.specs.Lexing.{parts, same, words_of};
 ghost use Rattle.net_text.specs.Words.{is_number, is_router, value_of, path_of, path_word, is_from, rule_path_word, rule_path_words, is_none, assigned_word, assigned_path};
@@ -12,6 +12,7 @@ ghost use Rattle.net_text.specs.Taking.{parts_left, IsTakeable};
 
 use crate::code::Code;
 use crate::lexing::{cut, next_word, same};
+use crate::repeats::come_twice;
 use crate::words::{is_number, is_router, value_of};
 use bgp_values::{Width, is_asn};
 use ranked_policy::{Asn, LONGEST_PATH, MOST_PATHS, Path, Router};
@@ -19,7 +20,7 @@ use std::alloc::{AllocError, Global};
 use std::collections::BTreeSet;
 
 // The first part of a path, what is behind it, and whether that is a part or more.
-fn next_part(word: &[u8]) -> (&[u8], &[u8], bool)
+pub(crate) fn next_part(word: &[u8]) -> (&[u8], &[u8], bool)
     ensures parts { parts 45 word.now ≡ result.0.now ∷ parts_left result.2 result.1.now }
     ensures shorter { result.2 ≡ true → length result.1.now < length word.now }
 {
@@ -241,7 +242,7 @@ fn has_repeat(alloc: Global, words: &[u8]) -> Result<bool, AllocError>
 }
 
 // Whether no path is there twice. More of them than a rule may have are looked up, since compared in
-// pairs they could take hours.
+// pairs they could take hours: all of them in memory, or some at a time where there is none.
 pub(crate) fn are_distinct(alloc: Global, words: &[u8]) -> bool
     ensures { result ≡ are_distinct (map path_of (words_of words.now)) }
 {
@@ -250,7 +251,7 @@ pub(crate) fn are_distinct(alloc: Global, words: &[u8]) -> bool
     }
     match has_repeat(alloc, words) {
         Ok(repeats) => !repeats,
-        Err(_) => are_apart(words),
+        Err(_) => !come_twice(words),
     }
 }
 
