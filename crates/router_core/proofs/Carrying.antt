@@ -26,7 +26,7 @@ use Rattle.router_model.specs.declared.refusal.Stepped.{Stepped}
 use Rattle.router_model.specs.declared.refusal.Stepped.TheVariants as stepped
 use Rattle.router_model.specs.Settings.{Setting, linked, peers}
 use Rattle.router_model.specs.Sides.{Side, AtHand, NoMessage, Draft, carried, acted_with, is_up, without_front, met, reset}
-use Rattle.router_model.specs.State.{open_of}
+use Rattle.router_model.specs.State.{open_of, rule_of}
 use Rattle.router_model.specs.Step.{RouterEvent, Obeys, with_side, moved, seen, close_at}
 use Rattle.router_model.specs.Calls.{Stamped, Call, Obey, Gives, answer, judged, unless, stamped_after}
 use Rattle.run_model.specs.declared.stamps.TheConstants.{GREATEST_STAMP}
@@ -80,8 +80,9 @@ pub record Tracks (r : RouterView) (v : ℕ) (q : Peer) (t : RibView) : Type 0 w
   pub leaves : Leaves r.tables t v
   pub follows : Follows r.net.origins t v (side q.end)
   pub fresh : IsFresh (side q.end)
+  pub width : (side q.end).width ≡ r.net.settings.width
   pub sent : (y : ℕ) (x : PrefixView) → IsPathWord (word_of t.sent y x)
-  pub short : (y : ℕ) (x : PrefixView) → IsShort (word_of t.heard y x)
+  pub short : (y : ℕ) (x : PrefixView) → IsShort r.net.settings.width (word_of t.heard y x)
 
 -- and what is recorded is this router's
 pub record Records (r : RouterView) (m : MarkView) : Type 0 where
@@ -105,6 +106,9 @@ module _ (r : RouterView) (v i : ℕ) (p q : Peer) (c : Changes r v i p q) where
   pub is_fresh : IsSound r → IsFresh (side p.end)
   is_fresh s = subst IsFresh (sym found) (s.tabled.fresh v)
 
+  pub has_width : IsSound r → (side p.end).width ≡ r.net.settings.width
+  has_width s = ap (λ (y : Side). y.width) found ∙ s.tabled.width v
+
   pub is_followed : IsSound r → Follows r.net.origins r.tables v (side p.end)
   is_followed s = subst (Follows r.net.origins r.tables v) (sym found) (s.tabled.peers v (is_peer s))
 
@@ -127,16 +131,24 @@ module _ (r : RouterView) (v i : ℕ) (p q : Peer) (c : Changes r v i p q) where
     fresh_at s k y false e =
         subst IsFresh (sym (set_there (side_opening (config_of r.net) r.net.settings.width) r.peers v i q y c.place named (eqb-false y v e))) (s.tabled.fresh y)
 
+    width_at : IsSound r → Tracks r v q t → (y : ℕ) (b : Bool) → (y == v) ≡ b → (sides_of (with_peer r i q t m stamp) y).width ≡ r.net.settings.width
+    width_at s k y true e =
+        ap (λ n. (side_at (side_opening (config_of r.net) r.net.settings.width) (set r.peers i q) n).width) (eqb-true y v e)
+        ∙ ap (λ (s : Side). s.width) (set_here (side_opening (config_of r.net) r.net.settings.width) r.peers v i q c.place named) ∙ k.width
+    width_at s k y false e =
+        ap (λ (s : Side). s.width) (set_there (side_opening (config_of r.net) r.net.settings.width) r.peers v i q y c.place named (eqb-false y v e)) ∙ s.tabled.width y
+
     tabled : IsSound r → Tracks r v q t → IsTabled (with_peer r i q t m stamp)
     tabled s k = record {
       net = k.leaves.net ∙ s.tabled.net;
       router = k.leaves.router ∙ s.tabled.router;
       peers = λ y l. follows_at s k y (y == v) refl l;
       fresh = λ y. fresh_at s k y (y == v) refl;
+      width = λ y. width_at s k y (y == v) refl;
       sent = k.sent;
       short = k.short;
       kept = λ x n. ap (λ (ps : Paths). path_of ps x) k.leaves.kept ∙ s.tabled.kept x n;
-      tellable = λ x. subst (λ (ps : Paths). IsTellable (path_of ps x)) (sym k.leaves.kept) (s.tabled.tellable x);
+      tellable = λ x. subst (λ (ps : Paths). IsTellable r.net.settings.width (path_of ps x)) (sym k.leaves.kept) (s.tabled.tellable x);
       originated = λ x h. s.tabled.originated x (ap (λ (ps : List PrefixView). lists ps x) (sym k.leaves.originated) ∙ h);
     }
 
@@ -195,11 +207,12 @@ module _ (r : RouterView) (v i : ℕ) (p q : Peer) (c : Changes r v i p q) where
 
   -- octets that are held or wait to be put are nothing to the tables
   pub tracks_alike : IsSound r → (side q.end).session ≡ (side p.end).session → (side q.end).link ≡ (side p.end).link → (side q.end).acted ≡ (side p.end).acted → (side q.end).sent ≡ (side p.end).sent
-      → Tracks r v q r.tables
-  tracks_alike s x l a b = record {
+      → (side q.end).width ≡ (side p.end).width → Tracks r v q r.tables
+  tracks_alike s x l a b w = record {
     leaves = leaves_same r.tables v;
     follows = follows_alike r.net.origins r.tables v (side p.end) (side q.end) x l a b (is_followed s);
     fresh = fresh_alike (side p.end) (side q.end) x l a b (is_fresh s);
+    width = w ∙ has_width s;
     sent = s.tabled.sent;
     short = s.tabled.short;
   }
@@ -219,8 +232,9 @@ module _ (r : RouterView) (v i : ℕ) (p q : Peer) (c : Changes r v i p q) where
             (follows_by r.net.origins v (side p.end) z none refl r.tables t (is_up (side p.end)) (is_up z) refl refl h.onward
             (λ up b. let n = h.up up b in (ap (λ (us : ℕ → List Update). us a.link.epoch) none ∙ n.0, n.1)) (is_followed s) on);
         fresh = subst IsFresh (sym is) h.fresh;
+        width = ap (λ (y : Side). y.width) is ∙ has_width s;
         sent = all_sent IsPathWord refl r.tables t v (standing (side p.end)) (standing (side q.end)) f s.tabled.sent;
-        short = all_heard IsShort tt r.tables t v (standing (side p.end)) (standing (side q.end)) f s.tabled.short;
+        short = all_heard (IsShort r.net.settings.width) tt r.tables t v (standing (side p.end)) (standing (side q.end)) f s.tabled.short;
       }
 
 -- ---- a router in a setting of its network
@@ -229,12 +243,14 @@ pub record IsOf (g : Setting) (r : RouterView) : Type 0 where
   pub links : (v : ℕ) → listed v r.peers ≡ linked g.net r.number v
   pub own_open : r.own_open ≡ open_of g.net r.number
   pub cut : g.net.settings.cut ≡ r.net.settings.cut
+  pub rule : (v : ℕ) → rule_of g.net r.number v ≡ rule_of r.net r.number v
 
 pub of_sound : (g : Setting) (r : RouterView) → IsSound r → g.net ≡ r.net → IsOf g r
 of_sound g r s e = record {
   links = λ v. s.links v ∙ ap (λ (n : Plan). linked n r.number v) (sym e);
   own_open = s.own_open ∙ ap (λ (n : Plan). open_of n r.number) (sym e);
   cut = ap (λ (n : Plan). n.settings.cut) e;
+  rule = λ v. ap (λ (n : Plan). rule_of n r.number v) e;
 }
 
 -- how a call ends, by the two tests

@@ -1,7 +1,7 @@
 -- A decision of the tables as a step of the router.
-use Rattle.std.proofs.Common.{◌≡◌, ℕ, ◌+◌, ◌≤◌, ◌<◌, ◌^◌, Bool, true, false, cond, List, [], ◌∷◌, length, Option, None, Some, refl, sym, ap, subst, ◌∙◌, arith, inl, inr}
+use Rattle.std.proofs.Common.{◌≡◌, ℕ, ◌+◌, ◌≤◌, Bool, true, false, cond, List, [], ◌∷◌, length, Option, None, Some, refl, sym, ap, subst, ◌∙◌, arith, inl, inr}
 use Rattle.std.specs.Prelude.{nat_lt, Ok, Err}
-use Rattle.std.specs.List.{Contains}
+use Rattle.std.specs.List.{Contains, AllByRecursion}
 use Rattle.std.proofs.Math.Path.{fun_ext}
 use Rattle.std.proofs.lemmas.Bool.Decides.{not_from_Decides}
 use Rattle.prefix_lanes.specs.Bits.{PrefixView, is_prefix}
@@ -22,7 +22,7 @@ use Rattle.router_model.specs.Step.{keeping}
 use Rattle.router_model.specs.Calls.{Decide, Gives, answer}
 use Rattle.run_model.specs.declared.stamps.TheConstants.{GREATEST_STAMP}
 use Rattle.router_core.specs.Views.{RouterView, IsSound, IsTabled, IsTellable, plain_of}
-use Rattle.bgp_codec.specs.Updates.{AreShort}
+use Rattle.bgp_codec.specs.AsNumbers.{AsnFits}
 use Rattle.router_core.proofs.Naming.{is_prefix-true, is_prefix-from}
 use Rattle.router_core.proofs.Beginnings.{asn_fits}
 use Rattle.router_core.proofs.Originations.{with_tables, stays_sound}
@@ -31,34 +31,34 @@ use Rattle.router_core.proofs.Choosing.{Chooses, undecided_is, best_is_route}
 -- ---- the best can be told
 
 module _ (x : RouterView) (sound : IsSound x) where
-  number_short : x.number < 2 ^ 16
-  number_short = let le = asn_fits x.net sound.network x.number sound.router in omega (arith, le)
+  number_fits : AsnFits x.net.settings.width x.number
+  number_fits = asn_fits x.net sound.network x.number sound.router
 
-  alone_tellable : (u : ℕ) → u ≡ x.number → (path : List ℕ) → path ≡ u ∷ [] → IsTellable path
-  alone_tellable u e path is = subst IsTellable (sym is) (record { few = omega arith; short = (subst (λ (n : ℕ). n < 2 ^ 16) (sym e) number_short, tt) })
+  alone_tellable : (u : ℕ) → u ≡ x.number → (path : List ℕ) → path ≡ u ∷ [] → IsTellable x.net.settings.width path
+  alone_tellable u e path is = subst (IsTellable x.net.settings.width) (sym is) (record { few = omega arith; short = (subst (AsnFits x.net.settings.width) (sym e) number_fits, tt) })
 
-  none_tellable : (path : List ℕ) → path ≡ [] → IsTellable path
-  none_tellable path is = subst IsTellable (sym is) (record { few = omega arith; short = tt })
+  none_tellable : (path : List ℕ) → path ≡ [] → IsTellable x.net.settings.width path
+  none_tellable path is = subst (IsTellable x.net.settings.width) (sym is) (record { few = omega arith; short = tt })
 
   permitted_few : (table : Table) (q : PrefixView) (path : List ℕ) → IsPermitted table q path → length path ≤ 16
   permitted_few table q path (inl h) = (let e = ap length h.1 in omega (arith, e))
   permitted_few table q path (inr h) = h.1.short
 
-  own_tellable : (P : Type 0) (u : ℕ) → u ≡ x.number → (path : List ℕ) → IsOwn P u path → IsTellable path
+  own_tellable : (P : Type 0) (u : ℕ) → u ≡ x.number → (path : List ℕ) → IsOwn P u path → IsTellable x.net.settings.width path
   own_tellable P u e path (inl h) = alone_tellable u e path h.1
   own_tellable P u e path (inr h) = none_tellable path h.1
 
-  first_tellable : (table : Table) → table.router ≡ x.number → (q : PrefixView) (path : List ℕ) → IsFirstOrNone (Hears x.tables.heard x.tables.established q) table q path → IsTellable path
+  first_tellable : (table : Table) → table.router ≡ x.number → (q : PrefixView) (path : List ℕ) → IsFirstOrNone (Hears x.tables.heard x.tables.established q) table q path → IsTellable x.net.settings.width path
   first_tellable table e q path (inl f) =
       let c = f.choice in
-      let rest : AreShort c.rest = subst AreShort (ap path_in c.heard.1) (sound.tabled.short c.peer q) in
+      let rest : AllByRecursion (AsnFits x.net.settings.width) c.rest = subst (AllByRecursion (AsnFits x.net.settings.width)) (ap path_in c.heard.1) (sound.tabled.short c.peer q) in
       record {
         few = permitted_few table q path c.permitted;
-        short = subst AreShort (sym c.goes_on) (subst (λ (n : ℕ). n < 2 ^ 16) (sym e) number_short, rest);
+        short = subst (AllByRecursion (AsnFits x.net.settings.width)) (sym c.goes_on) (subst (AsnFits x.net.settings.width) (sym e) number_fits, rest);
       }
   first_tellable table e q path (inr h) = none_tellable path h.0
 
-  best_tellable : (q : PrefixView) (path : List ℕ) → IsBest (sources_of x.tables) q path → IsTellable path
+  best_tellable : (q : PrefixView) (path : List ℕ) → IsBest (sources_of x.tables) q path → IsTellable x.net.settings.width path
   best_tellable q path (table, (own, origins, rules), inl h) = own_tellable (Contains x.tables.originated q) table.router (own ∙ sound.tabled.router) path h.1
   best_tellable q path (table, (own, origins, rules), inr h) = first_tellable table (own ∙ sound.tabled.router) q path h.1
 
@@ -71,11 +71,11 @@ module _ (x : RouterView) (sound : IsSound x) where
   kept_by t q path k p true e = ap (path_of t.kept) (sym (is_prefix-true q p e)) ∙ k.paths.kept
   kept_by t q path k p false e = k.paths.others p (λ same. not_from_Decides (is_prefix q p) (is_prefix-true q p, is_prefix-from q p) e (sym same))
 
-  tellable_by : (t : RibView) (q : PrefixView) (path : List ℕ) → KeepsPath x.tables t q path → IsTellable path → (p : PrefixView) (b : Bool) → is_prefix q p ≡ b → IsTellable (path_of t.kept p)
-  tellable_by t q path k tells p true e = subst IsTellable (sym (kept_by t q path k p true e)) tells
-  tellable_by t q path k tells p false e = subst IsTellable (sym (kept_by t q path k p false e)) (sound.tabled.tellable p)
+  tellable_by : (t : RibView) (q : PrefixView) (path : List ℕ) → KeepsPath x.tables t q path → IsTellable x.net.settings.width path → (p : PrefixView) (b : Bool) → is_prefix q p ≡ b → IsTellable x.net.settings.width (path_of t.kept p)
+  tellable_by t q path k tells p true e = subst (IsTellable x.net.settings.width) (sym (kept_by t q path k p true e)) tells
+  tellable_by t q path k tells p false e = subst (IsTellable x.net.settings.width) (sym (kept_by t q path k p false e)) (sound.tabled.tellable p)
 
-  tabled_kept : (t : RibView) (q : PrefixView) (path : List ℕ) → KeepsPath x.tables t q path → IsTellable path → IsNamed x.net.origins q → (stamp : ℕ) → IsTabled (with_tables x (with_kept x.tables t.kept) stamp)
+  tabled_kept : (t : RibView) (q : PrefixView) (path : List ℕ) → KeepsPath x.tables t q path → IsTellable x.net.settings.width path → IsNamed x.net.origins q → (stamp : ℕ) → IsTabled (with_tables x (with_kept x.tables t.kept) stamp)
   tabled_kept t q path k tells named stamp =
       let h = sound.tabled in
       record {
@@ -83,6 +83,7 @@ module _ (x : RouterView) (sound : IsSound x) where
         router = h.router;
         peers = λ v l. let f = h.peers v l in record { up = f.up; heard = f.heard; told = f.told };
         fresh = h.fresh;
+        width = h.width;
         short = h.short;
         sent = h.sent;
         kept = λ p none. k.paths.others p (λ same. none (subst (IsNamed x.net.origins) (sym same) named)) ∙ h.kept p none;

@@ -1,7 +1,7 @@
 -- Tables that follow a session have of its peer what its side says, and of every other peer what they had.
 use Rattle.std.proofs.Common.{◌≡◌, ℕ, ◌==◌, ◌<◌, ◌≤◌, [], Bool, true, false, cond, List, Option, None, Some, refl, sym, ap, ◌∙◌, subst, arith, inl, inr}
 use Rattle.std.specs.Prelude.{◌≢◌, ◌↔◌, ◌⊎◌}
-use Rattle.std.specs.List.{Contains}
+use Rattle.std.specs.List.{Contains, AllByRecursion}
 use Rattle.std.proofs.lemmas.Bool.{eqb-true, eqb-false}
 use Rattle.prefix_lanes.specs.Bits.{PrefixView}
 use Rattle.bgp_codec.specs.declared.update.Update.{Update}
@@ -14,7 +14,8 @@ use Rattle.router_model.specs.Sides.{Side, is_up}
 use Rattle.router_model.specs.State.{heard, last_told}
 use Rattle.router_side.specs.Freshness.{IsUnsaid}
 use Rattle.router_core.specs.Views.{Follows}
-use Rattle.bgp_codec.specs.Updates.{AreShort}
+use Rattle.bgp_values.specs.declared.width.Width.{Width}
+use Rattle.bgp_codec.specs.AsNumbers.{AsnFits}
 use Rattle.router_core.specs.Following.{Followed, ComesUpAgain}
 
 -- ---- all but one peer is as it was
@@ -134,8 +135,8 @@ module _ (Holds : Word → Type 0) (none : Holds nothing) (old new : RibView) (v
   pub all_heard : ((y : ℕ) (q : PrefixView) → Holds (word_of old.heard y q)) → (y : ℕ) (q : PrefixView) → Holds (word_of new.heard y q)
   all_heard h y q = holds_still (word_of old.heard y q) (word_of new.heard y q) (stay old new v was now f y q (y == v) refl).0 (h y q)
 
-abbrev pub IsShort : Word → Type 0
-IsShort word = AreShort (path_in word)
+abbrev pub IsShort : Width → Word → Type 0
+IsShort width word = AllByRecursion (AsnFits width) (path_in word)
 
 -- ---- what the tables have of a peer
 

@@ -13,7 +13,9 @@ use Rattle.bgp_codec.specs.declared.rule.Rule.{Rule}
 use Rattle.bgp_codec.specs.declared.path.Segment.{Segment}
 use Rattle.bgp_codec.specs.declared.path.SegmentKind.{SegmentKind}
 use Rattle.bgp_codec.specs.declared.path.SegmentKind.TheVariants.{AsSet, AsSequence}
-use Rattle.bgp_codec.specs.Updates.{SegmentFits, AreShort}
+use Rattle.bgp_values.specs.declared.width.Width.{Width}
+use Rattle.bgp_codec.specs.AsNumbers.{AsnFits}
+use Rattle.bgp_codec.specs.Updates.{SegmentFits}
 use Rattle.bgp_codec.specs.Spelling.{IsWritable}
 use Rattle.bgp_codec.specs.declared.update.Update.{Update}
 use Rattle.ranked_policy.specs.declared.network.Origin.{Origin}
@@ -39,7 +41,7 @@ use Rattle.router_core.specs.Handling.{update_acted, seen_where, Hears, HandlesF
 use Rattle.router_core.proofs.Naming.{is_prefix-true, is_prefix-from}
 use Rattle.router_core.proofs.PeerLemmas.{listed_any}
 use Rattle.router_core.proofs.Following.{Leaves, IsShort, leaves_same, leaves_heard, leaves_then, leaves, all_sent, all_heard, follows_by}
-use Rattle.router_core.proofs.Carrying.{Changes, Tracks, is_followed}
+use Rattle.router_core.proofs.Carrying.{Changes, Tracks, is_followed, has_width}
 
 -- ---- the links of what is recorded
 
@@ -90,37 +92,37 @@ sent_hearing : (old new : RibView) (v : ℕ) (o : Option Update) → Hears old n
 sent_hearing old new v None e y q = ap (λ (t : RibView). word_of t.sent y q) e
 sent_hearing old new v (Some u) h y q = ap (λ (t : RibView). word_of t.sent y q) h.rest
 
--- ---- the numbers of what was read are of two octets
+-- ---- the numbers of what was read fit its width
 
-abbrev IsShortAt : AtHand → Type 0
-IsShortAt NoMessage = Unit {0}
-IsShortAt (HasFault fault) = Unit {0}
-IsShortAt (HasUpdate u) = IsShort (announced_word u.attrs)
+abbrev IsShortAt : Width → AtHand → Type 0
+IsShortAt width NoMessage = Unit {0}
+IsShortAt width (HasFault fault) = Unit {0}
+IsShortAt width (HasUpdate u) = IsShort width (announced_word u.attrs)
 
-segment_short : (kind : SegmentKind) (numbers : List ℕ) → AreShort numbers → IsShort (segment_word kind numbers)
-segment_short AsSequence numbers h = h
-segment_short AsSet numbers h = tt
+segment_short : (width : Width) (kind : SegmentKind) (numbers : List ℕ) → AllByRecursion (AsnFits width) numbers → IsShort width (segment_word kind numbers)
+segment_short width AsSequence numbers h = h
+segment_short width AsSet numbers h = tt
 
-segments_short : (ss : List Segment) → AllByRecursion SegmentFits ss → IsShort (segments_word ss)
-segments_short [] h = tt
-segments_short (s ∷ []) h = segment_short s.kind s.numbers h.0.1.1
-segments_short (s ∷ t ∷ rest) h = tt
+segments_short : (width : Width) (ss : List Segment) → AllByRecursion (SegmentFits width) ss → IsShort width (segments_word ss)
+segments_short width [] h = tt
+segments_short width (s ∷ []) h = segment_short width s.kind s.numbers h.0.1.1
+segments_short width (s ∷ t ∷ rest) h = tt
 
-path_short : (o : Option (List Segment)) → IfSome o (AllByRecursion SegmentFits) → IsShort (path_word o)
-path_short None h = tt
-path_short (Some ss) h = segments_short ss h
+path_short : (width : Width) (o : Option (List Segment)) → IfSome o (AllByRecursion (SegmentFits width)) → IsShort width (path_word o)
+path_short width None h = tt
+path_short width (Some ss) h = segments_short width ss h
 
-short_at : (rule : Rule) (m : Result Message Fault) → IfOk m (IsWritable rule) → IsShortAt (at_hand m)
+short_at : (rule : Rule) (m : Result Message Fault) → IfOk m (IsWritable rule) → IsShortAt rule.width (at_hand m)
 short_at rule (Ok (OpenMsg o)) h = tt
-short_at rule (Ok (UpdateMsg u)) h = path_short u.attrs.path h.attrs.path
+short_at rule (Ok (UpdateMsg u)) h = path_short rule.width u.attrs.path h.attrs.path
 short_at rule (Ok (NoticeMsg n)) h = tt
 short_at rule (Ok AliveMsg) h = tt
 short_at rule (Err fault) h = tt
 
-short_after : (b d : Bool) (announced word : Word) → IsShort announced → IsShort word → IsShort (cond b announced (cond d nothing word))
-short_after true d announced word a w = a
-short_after false true announced word a w = tt
-short_after false false announced word a w = w
+short_after : (width : Width) (b d : Bool) (announced word : Word) → IsShort width announced → IsShort width word → IsShort width (cond b announced (cond d nothing word))
+short_after width true d announced word a w = a
+short_after width false true announced word a w = tt
+short_after width false false announced word a w = w
 
 -- ---- what the network names
 
@@ -132,27 +134,27 @@ named_by origins q true e = inl (let found = Any-from_list_any (names_it q) orig
 named_by origins q false e =
     inr (λ found. clash (sym (list_any-from_Any (names_it q) origins (found.0, found.1, found.2, found.3, is_prefix-from found.1.prefix q found.4)) ∙ e))
 
-module _ (word_follows : WordFollows) (old new : RibView) (v : ℕ) (u : Update) (h : HearsUpdate old new v u) (announced : IsShort (announced_word u.attrs))
-    (short : (y : ℕ) (q : PrefixView) → IsShort (word_of old.heard y q)) where
-  short_there : (q : PrefixView) → IsShort (word_of new.heard v q)
+module _ (word_follows : WordFollows) (width : Width) (old new : RibView) (v : ℕ) (u : Update) (h : HearsUpdate old new v u) (announced : IsShort width (announced_word u.attrs))
+    (short : (y : ℕ) (q : PrefixView) → IsShort width (word_of old.heard y q)) where
+  short_there : (q : PrefixView) → IsShort width (word_of new.heard v q)
   short_there q =
       elim (named_by old.net.origins q (list_any (names_it q) old.net.origins) refl) [
         | inl named ↦
-            subst IsShort (sym (word_follows old.net.origins old.heard new.heard v u h.words q named))
-            (short_after (lists u.nlri q) (lists u.withdrawn q) (announced_word u.attrs) (word_of old.heard v q) announced (short v q))
-        | inr other ↦ subst IsShort (sym (h.words.unnamed q other)) (short v q)
+            subst (IsShort width) (sym (word_follows old.net.origins old.heard new.heard v u h.words q named))
+            (short_after width (lists u.nlri q) (lists u.withdrawn q) (announced_word u.attrs) (word_of old.heard v q) announced (short v q))
+        | inr other ↦ subst (IsShort width) (sym (h.words.unnamed q other)) (short v q)
       ]
 
-  short_update : (y : ℕ) (q : PrefixView) (b : Bool) → (y == v) ≡ b → IsShort (word_of new.heard y q)
-  short_update y q true e = subst (λ n. IsShort (word_of new.heard n q)) (sym (eqb-true y v e)) (short_there q)
-  short_update y q false e = subst IsShort (sym (h.words.others y q (eqb-false y v e))) (short y q)
+  short_update : (y : ℕ) (q : PrefixView) (b : Bool) → (y == v) ≡ b → IsShort width (word_of new.heard y q)
+  short_update y q true e = subst (λ n. IsShort width (word_of new.heard n q)) (sym (eqb-true y v e)) (short_there q)
+  short_update y q false e = subst (IsShort width) (sym (h.words.others y q (eqb-false y v e))) (short y q)
 
-short_hearing : WordFollows → (old new : RibView) (v : ℕ) (b : Bool) (h : AtHand) → Hears old new v (update_acted b h) → IsShortAt h
-    → ((y : ℕ) (q : PrefixView) → IsShort (word_of old.heard y q)) → (y : ℕ) (q : PrefixView) → IsShort (word_of new.heard y q)
-short_hearing law old new v b NoMessage e a short y q = subst (λ (t : RibView). IsShort (word_of t.heard y q)) (sym e) (short y q)
-short_hearing law old new v b (HasFault fault) e a short y q = subst (λ (t : RibView). IsShort (word_of t.heard y q)) (sym e) (short y q)
-short_hearing law old new v true (HasUpdate u) h a short y q = short_update law old new v u h a short y q (y == v) refl
-short_hearing law old new v false (HasUpdate u) e a short y q = subst (λ (t : RibView). IsShort (word_of t.heard y q)) (sym e) (short y q)
+short_hearing : WordFollows → (width : Width) (old new : RibView) (v : ℕ) (b : Bool) (h : AtHand) → Hears old new v (update_acted b h) → IsShortAt width h
+    → ((y : ℕ) (q : PrefixView) → IsShort width (word_of old.heard y q)) → (y : ℕ) (q : PrefixView) → IsShort width (word_of new.heard y q)
+short_hearing law width old new v b NoMessage e a short y q = subst (λ (t : RibView). IsShort width (word_of t.heard y q)) (sym e) (short y q)
+short_hearing law width old new v b (HasFault fault) e a short y q = subst (λ (t : RibView). IsShort width (word_of t.heard y q)) (sym e) (short y q)
+short_hearing law width old new v true (HasUpdate u) h a short y q = short_update law width old new v u h a short y q (y == v) refl
+short_hearing law width old new v false (HasUpdate u) e a short y q = subst (λ (t : RibView). IsShort width (word_of t.heard y q)) (sym e) (short y q)
 
 module _ (word_follows : WordFollows) (origins : List Origin) (v : ℕ) (s : Side) (e : ℕ) where
   history_on : (u : Update) → e ≡ s.link.epoch → with_update s.acted e u s.link.epoch ≡ s.acted s.link.epoch ++ u ∷ []
@@ -198,7 +200,7 @@ module _ (s : Side) (h : AtHand) (a : Draft) (up : ComesUpUnsaid s a) (acts : Ac
 module _ (word_follows : WordFollows) (r : RouterView) (v i : ℕ) (p q : Peer) (c : Changes r v i p q) (sound : IsSound r) (t : RibView) (x y : Snapshots) where
   tracks_draft : (h : AtHand) (a : Draft) (between : RibView) → side q.end ≡ carried h (without_front (side p.end)) a → Hears r.tables between v (update_acted a.acts h)
       → Followed between t v (standing (side p.end)) (standing (side q.end)) → IsFresh (carried h (without_front (side p.end)) a) → ComesUpUnsaid (side p.end) a
-      → (side p.end).link.epoch ≤ a.link.epoch → ActsWhereUp (side p.end) a → IsShortAt h → Tracks r v q t
+      → (side p.end).link.epoch ≤ a.link.epoch → ActsWhereUp (side p.end) a → IsShortAt r.net.settings.width h → Tracks r v q t
   tracks_draft h a between is hears f fresh up onward acts short =
       let s = side p.end in
       let z = carried h (without_front s) a in
@@ -212,14 +214,15 @@ module _ (word_follows : WordFollows) (r : RouterView) (v i : ℕ) (p q : Peer) 
             subst (Follows r.net.origins t v) (sym is)
             (follows_by r.net.origins v l z refl refl between t (is_up l) (is_up z) refl refl onward (λ k d. unsaid_by s h a up acts a.acts refl k d) heard on);
         fresh = subst IsFresh (sym is) fresh;
-        short = all_heard IsShort tt between t v (standing s) (standing (side q.end)) f (short_hearing word_follows r.tables between v a.acts h hears short sound.tabled.short);
+        width = ap (λ (y : Side). y.width) is ∙ has_width r v i p q c sound;
+        short = all_heard (IsShort r.net.settings.width) tt between t v (standing s) (standing (side q.end)) f (short_hearing word_follows r.net.settings.width r.tables between v a.acts h hears short sound.tabled.short);
         sent = all_sent IsPathWord refl between t v (standing s) (standing (side q.end)) f (λ w k. subst IsPathWord (sym (sent_hearing r.tables between v (update_acted a.acts h) hears w k)) (sound.tabled.sent w k));
       }
 
-  pub tracks_handled : HandlingKeepsFresh r.own_open (front (rule_of v) (side p.end).held) (side p.end) → HandlesFront r.own_open v (side p.end) (side q.end) r.tables t x y → Tracks r v q t
+  pub tracks_handled : HandlingKeepsFresh r.own_open (front (rule_of r.net r.number v) (side p.end).held) (side p.end) → HandlesFront r.own_open (rule_of r.net r.number v) v (side p.end) (side q.end) r.tables t x y → Tracks r v q t
   tracks_handled k h =
       let s = side p.end in
-      let m = front (rule_of v) s.held in
+      let m = front (rule_of r.net r.number v) s.held in
       let d = handled r.own_open m s in
       let back : d ≡ h.draft = sym h.draft_is in
       tracks_draft h.hand h.draft h.between h.side h.hears h.follows
@@ -227,8 +230,8 @@ module _ (word_follows : WordFollows) (r : RouterView) (v i : ℕ) (p q : Peer) 
       (subst (λ (a : Draft). ComesUpUnsaid s a) back k.up)
       (subst (λ (a : Draft). s.link.epoch ≤ a.link.epoch) back k.onward)
       (subst (λ (a : Draft). ActsWhereUp s a) back k.acts)
-      (subst IsShortAt (sym h.hand_is) (short_at (rule_of v) m h.writable))
+      (subst (IsShortAt r.net.settings.width) (sym h.hand_is) (short_at (rule_of r.net r.number v) m h.writable))
 
-  pub leaves_handled : HandlesFront r.own_open v (side p.end) (side q.end) r.tables t x y → Leaves r.tables t v
+  pub leaves_handled : HandlesFront r.own_open (rule_of r.net r.number v) v (side p.end) (side q.end) r.tables t x y → Leaves r.tables t v
   leaves_handled h =
       leaves_then r.tables h.between t v (leaves_hearing r.tables h.between v (update_acted h.draft.acts h.hand) h.hears) (leaves h.between t v (standing (side p.end)) (standing (side q.end)) h.follows)

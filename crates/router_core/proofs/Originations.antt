@@ -58,6 +58,7 @@ module _ (x : RouterView) (stamp : ℕ) (sound : IsSound x) (few : stamp ≤ GRE
         router = t.router;
         peers = λ v l. let f = t.peers v l in record { up = f.up; heard = f.heard; told = f.told };
         fresh = t.fresh;
+        width = t.width;
         short = t.short;
         sent = t.sent;
         kept = t.kept;

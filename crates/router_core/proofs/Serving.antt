@@ -1,6 +1,7 @@
 -- A put, and a front that is handled, as steps of the router.
 use Rattle.std.proofs.Common.{◌≡◌, ℕ, ◌+◌, Bool, true, false, [], Option, None, Some, refl, ap, sym, ◌∙◌, subst, get_or}
 use Rattle.std.specs.Prelude.{nat_lt, is_some, Result, Ok, Err}
+use Rattle.bgp_codec.specs.declared.rule.Rule.{Rule}
 use Rattle.bgp_framing.specs.Held.{is_waiting}
 use Rattle.run_model.specs.Network.{alone}
 use Rattle.outbox.specs.declared.item.What.{What}
@@ -93,15 +94,16 @@ module _ (g : Setting) (r : RouterView) (v i : ℕ) (p : Peer) (of : IsOf g r) (
       → Gives g r.number (Err error.Memory) (answer g r.number (plain_of r) (Handle v)) (plain_of r) (Handle v) y
   hands_refused y same h late = hand_is (Err error.Memory) y true false h late (refl, same)
 
-  pub hands_front : (q : Peer) (c : Changes r v i p q) (t : RibView) (m : MarkView) (h : AtHand) (a : Draft) → h ≡ at_hand (front (rule_of v) (side p.end).held)
-      → a ≡ handled r.own_open (front (rule_of v) (side p.end).held) (side p.end) → side q.end ≡ carried h (without_front (side p.end)) a → Leaves r.tables t v
+  pub hands_front : (q : Peer) (c : Changes r v i p q) (t : RibView) (m : MarkView) (h : AtHand) (a : Draft) → h ≡ at_hand (front (rule_of r.net r.number v) (side p.end).held)
+      → a ≡ handled r.own_open (front (rule_of r.net r.number v) (side p.end).held) (side p.end) → side q.end ≡ carried h (without_front (side p.end)) a → Leaves r.tables t v
       → snapshots_of m ≡ seen a.acts h v (closed (close_at v a.left) (snapshots_of r.marks)) → is_waiting (side p.end).held ≡ true → nat_lt GREATEST_STAMP (r.stamp + 1) ≡ false
       → Gives g r.number (Ok stepped.Did) (answer g r.number (plain_of r) (Handle v)) (plain_of r) (Handle v) (plain_of (with_peer r i q t m (r.stamp + 1)))
   hands_front q c t m h a eh ea is l x w late =
-      let n = front (rule_of v) (sides_of r v).held in
+      let n = front (rule_of g.net r.number v) (sides_of r v).held in
       let b = handled (open_of g.net r.number) n (sides_of r v) in
-      let same : a ≡ b = drafted g r v i p (λ o s. handled o (front (rule_of v) s.held) s) a of at here ea in
-      let hand : h ≡ at_hand n = eh ∙ ap (λ (s : Side). at_hand (front (rule_of v) s.held)) (sym stands) in
+      let same : a ≡ b =
+      drafted g r v i p (λ o s. handled o (front (rule_of g.net r.number v) s.held) s) a of at here (ea ∙ ap (λ (k : Rule). handled r.own_open (front k (side p.end).held) (side p.end)) (sym (of.rule v))) in
+      let hand : h ≡ at_hand n = eh ∙ ap (λ (k : Rule). at_hand (front k (side p.end).held)) (sym (of.rule v)) ∙ ap (λ (s : Side). at_hand (front (rule_of g.net r.number v) s.held)) (sym stands) in
       let done = fronts r v i p q c t m (r.stamp + 1) h a is l x in
       hand_is (Ok stepped.Did) (plain_of (with_peer r i q t m (r.stamp + 1))) true false w late (
         refl,

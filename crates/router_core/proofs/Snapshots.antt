@@ -36,9 +36,10 @@ pub record Alike (f : Side → Side) : Type 0 where
   pub link : (s : Side) → (f s).link ≡ s.link
   pub acted : (s : Side) → (f s).acted ≡ s.acted
   pub sent : (s : Side) → (f s).sent ≡ s.sent
+  pub width : (s : Side) → (f s).width ≡ s.width
 
 pub same_alike : Alike (λ s. s)
-same_alike = record { session = λ s. refl; link = λ s. refl; acted = λ s. refl; sent = λ s. refl }
+same_alike = record { session = λ s. refl; link = λ s. refl; acted = λ s. refl; sent = λ s. refl; width = λ s. refl }
 
 by_up : {X : Type 0} (get : Side → X) (s : ℕ) → ((x : Side) → get (marked s x) ≡ get x) → (x : Side) (b : Bool) → is_up x ≡ b → get (cond b (marked s x) x) ≡ get x
 by_up get s h x true e = h x
@@ -50,6 +51,7 @@ marked_alike s = record {
   link = λ x. by_up (λ y. y.link) s (λ y. refl) x (is_up x) refl;
   acted = λ x. by_up (λ y. y.acted) s (λ y. refl) x (is_up x) refl;
   sent = λ x. by_up (λ y. y.sent) s (λ y. refl) x (is_up x) refl;
+  width = λ x. by_up (λ y. y.width) s (λ y. refl) x (is_up x) refl;
 }
 
 abbrev pub with_peers : RouterView → List Peer → MarkView → ℕ → RouterView
@@ -62,7 +64,7 @@ pub record Marks (r : RouterView) (m : MarkView) : Type 0 where
 
 module _ (r : RouterView) (qs : List Peer) (m : MarkView) (stamp : ℕ) (f : Side → Side) (al : Alike f) (b : Become f r.peers qs) where
   abbrev none : Side
-  none = side_opening (config_of r.net)
+  none = side_opening (config_of r.net) r.net.settings.width
 
   by_listed : {X : Type 0} (get : Side → X) → ((s : Side) → get (f s) ≡ get s) → (v : ℕ) (c : Bool) → get (cond c (f (sides_of r v)) (sides_of r v)) ≡ get (sides_of r v)
   by_listed get h v true = h (sides_of r v)
@@ -89,6 +91,7 @@ module _ (r : RouterView) (qs : List Peer) (m : MarkView) (stamp : ℕ) (f : Sid
               (same_at (λ y. y.sent) al.sent v) (t.peers v l);
           fresh = λ v. fresh_alike (sides_of r v) (side_at none qs v) (same_at (λ y. y.session) al.session v) (same_at (λ y. y.link) al.link v) (same_at (λ y. y.acted) al.acted v)
               (same_at (λ y. y.sent) al.sent v) (t.fresh v);
+          width = λ v. same_at (λ y. y.width) al.width v ∙ t.width v;
           short = t.short;
           sent = t.sent;
           kept = t.kept;

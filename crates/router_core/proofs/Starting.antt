@@ -4,6 +4,7 @@ use Rattle.std.specs.List.{AllByRecursion}
 use Rattle.std.proofs.Math.Path.{fun_ext}
 use Rattle.std.proofs.lemmas.Bool.{false_from_ne_true}
 use Rattle.prefix_lanes.specs.Bits.{PrefixView}
+use Rattle.bgp_values.specs.declared.width.Width.{Width}
 use Rattle.bgp_codec.specs.declared.message.Message.{Message}
 use Rattle.session_fsm.specs.declared.config.SessionConfig.{SessionConfig}
 use Rattle.ranked_policy.specs.Plans.{Plan}
@@ -23,15 +24,15 @@ use Rattle.router_core.proofs.Following.{IsShort}
 use Rattle.router_core.proofs.Naming.{decides_lists}
 use Rattle.router_core.proofs.PeerLemmas.{all_none}
 
-fresh_opening : (config : SessionConfig) → IsFresh (side_opening config)
-fresh_opening config = record { later = λ n h. (refl, refl); opening = λ h. (refl, refl); away = λ h. refl }
+fresh_opening : (config : SessionConfig) (width : Width) → IsFresh (side_opening config width)
+fresh_opening config width = record { later = λ n h. (refl, refl); opening = λ h. (refl, refl); away = λ h. refl }
 
 module _ (net : Plan) (number : ℕ) (own_open : Message) (ps : List Peer) (t : RibView) (m : MarkView) (all : AllByRecursion (λ p. side p.end ≡ side_opening (config_of net) net.settings.width) ps)
     (n : IsNew net number t) where
   abbrev made : RouterView
   made = record { net = net; number = number; own_open = own_open; peers = ps; tables = t; marks = m; stamp = 0 }
 
-  none : (v : ℕ) → side_at (side_opening (config_of net) net.settings.width) ps v ≡ side_opening (config_of net)
+  none : (v : ℕ) → side_at (side_opening (config_of net) net.settings.width) ps v ≡ side_opening (config_of net) net.settings.width
   none v = all_none (side_opening (config_of net) net.settings.width) ps v all
 
   follows_opening : (v : ℕ) → Follows net.origins t v (side_opening (config_of net) net.settings.width)
@@ -46,11 +47,12 @@ module _ (net : Plan) (number : ℕ) (own_open : Message) (ps : List Peer) (t : 
     net = n.network;
     router = n.number;
     peers = λ v l. subst (Follows net.origins t v) (sym (none v)) (follows_opening v);
-    fresh = λ v. subst IsFresh (sym (none v)) (fresh_opening (config_of net));
+    fresh = λ v. subst IsFresh (sym (none v)) (fresh_opening (config_of net) net.settings.width);
+    width = λ v. ap (λ (s : Side). s.width) (none v);
     sent = λ v q. subst IsPathWord (sym (n.sent v q)) refl;
-    short = λ v q. subst IsShort (sym (n.heard v q)) tt;
+    short = λ v q. subst (IsShort net.settings.width) (sym (n.heard v q)) tt;
     kept = λ q k. n.kept q;
-    tellable = λ q. subst IsTellable (sym (n.kept q)) (record { few = omega arith; short = tt });
+    tellable = λ q. subst (IsTellable net.settings.width) (sym (n.kept q)) (record { few = omega arith; short = tt });
     originated = λ q h. absurd (n.originated q ((decides_lists t.originated q).0 h));
   }
 

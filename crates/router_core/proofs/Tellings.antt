@@ -118,6 +118,7 @@ module _ (x : RouterView) (sound : IsSound x) (v i : ℕ) (place : IsAt x.peers 
         router = tabled.router;
         peers = λ w l. subst (λ (f : ℕ → Side). Follows x.net.origins x.tables w (f w)) (sym sides) (tabled.peers w l);
         fresh = λ w. subst (λ (f : ℕ → Side). IsFresh (f w)) (sym sides) (tabled.fresh w);
+        width = λ w. ap (λ (f : ℕ → Side). (f w).width) sides ∙ tabled.width w;
         short = tabled.short;
         sent = tabled.sent;
         kept = tabled.kept;
@@ -160,6 +161,10 @@ module _ (x : RouterView) (sound : IsSound x) (v i : ℕ) (place : IsAt x.peers 
     fresh_by w true e = (let same : w ≡ v = eqb-true w v e in fresh_told (sides_of x w) (ap (λ (n : ℕ). is_up (sides_of x n)) same ∙ up) u (tabled.fresh w))
     fresh_by w false e = tabled.fresh w
 
+    width_by : (w : ℕ) (b : Bool) → (cond b (told (sides_of x w) u) (sides_of x w)).width ≡ x.net.settings.width
+    width_by w true = tabled.width w
+    width_by w false = tabled.width w
+
     path_told : (a b : Word) → a ≡ b → IsPathWord b → IsPathWord a
     path_told a b e h = subst IsPathWord (sym e) h
 
@@ -184,6 +189,7 @@ module _ (x : RouterView) (sound : IsSound x) (v i : ℕ) (place : IsAt x.peers 
             router = tabled.router;
             peers = λ w l. subst (λ (f : ℕ → Side). Follows x.net.origins (with_sent x.tables t.sent) w (f w)) (sym now) (follows_by w (w == v) refl (tabled.peers w l));
             fresh = λ w. subst (λ (f : ℕ → Side). IsFresh (f w)) (sym now) (fresh_by w (w == v) refl);
+            width = λ w. ap (λ (f : ℕ → Side). (f w).width) now ∙ width_by w (w == v);
             short = tabled.short;
             sent = λ w p. sent_by w p (w == v) (is_prefix q p) refl refl;
             kept = tabled.kept;

@@ -63,6 +63,7 @@ stamped_sound x stamp s few =
         router = t.router;
         peers = t.peers;
         fresh = t.fresh;
+        width = t.width;
         short = t.short;
         sent = t.sent;
         kept = t.kept;
@@ -94,10 +95,11 @@ cleared_sound x t stamp s few c =
               told = λ q n. ap (λ (k : RibView). word_of k.sent v q) c.rest ∙ f.told q n;
             };
         fresh = h.fresh;
-        short = λ v q. subst IsShort (sym (ap (λ (k : RibView). word_of k.heard v q) c.rest)) (h.short v q);
+        width = h.width;
+        short = λ v q. subst (IsShort x.net.settings.width) (sym (ap (λ (k : RibView). word_of k.heard v q) c.rest)) (h.short v q);
         sent = λ v q. subst IsPathWord (sym (ap (λ (k : RibView). word_of k.sent v q) c.rest)) (h.sent v q);
         kept = λ q n. c.kept q;
-        tellable = λ q. subst IsTellable (sym (c.kept q)) (record { few = omega arith; short = tt });
+        tellable = λ q. subst (IsTellable x.net.settings.width) (sym (c.kept q)) (record { few = omega arith; short = tt });
         originated = λ q n. absurd (c.originated q ((decides_lists t.originated q).0 n));
       };
       marked = record { over = s.marked.over; unfinished = s.marked.unfinished; queue = s.marked.queue };

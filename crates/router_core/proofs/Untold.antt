@@ -6,7 +6,7 @@ use Rattle.prefix_lanes.specs.Bits.{PrefixView}
 use Rattle.ranked_policy.specs.declared.network.Origin.{Origin}
 use Rattle.ranked_policy.specs.Plans.{Plan, IsNamed, Linked}
 use Rattle.router_model.specs.Settings.{linked, prefixes}
-use Rattle.router_model.specs.Sides.{is_up}
+use Rattle.router_model.specs.Sides.{Side, is_up}
 use Rattle.router_model.specs.State.{is_untold}
 use Rattle.router_side.specs.SideOf.{side, side_opening}
 use Rattle.router_core.specs.declared.peers.Peer.{Peer}
@@ -56,6 +56,9 @@ module _ (x : RouterView) (sound : IsSound x) (i : ℕ) (q : PrefixView) (may : 
 
     pub here : side p.end ≡ sides_of x p.number
     here = ap (λ (w : Peer). side w.end) is ∙ sym (side_here (side_opening (config_of x.net) x.net.settings.width) x.peers p.number i p place)
+
+    pub has_width : (side p.end).width ≡ x.net.settings.width
+    has_width = ap (λ (s : Side). s.width) here ∙ sound.tabled.width p.number
 
     pub is_linked : Linked x.tables.net.links x.tables.router p.number
     is_linked =

@@ -3,13 +3,13 @@ use Rattle.std.specs.Prelude.{ℕ, ◌≡◌, Bool, cond, Option, None, Some, If
 use Rattle.bgp_codec.specs.Spelling.{IsWritable}
 use Rattle.bgp_codec.specs.declared.message.Message.{Message}
 use Rattle.bgp_codec.specs.declared.message.Message.TheVariants.{UpdateMsg}
+use Rattle.bgp_codec.specs.declared.rule.Rule.{Rule}
 use Rattle.bgp_codec.specs.declared.update.Update.{Update}
 use Rattle.rib_tables.specs.Owners.{RibView, HearsUpdate}
 use Rattle.snap_marker.specs.declared.part.Part.{Part}
 use Rattle.snap_marker.specs.Parts.{copy_for}
 use Rattle.snap_marker.specs.Recordings.{Snapshots, acted_on, closed}
 use Rattle.router_model.specs.Sides.{Side, AtHand, NoMessage, HasFault, HasUpdate, Draft, carried, at_hand, front, without_front, handled}
-use Rattle.router_model.specs.State.{rule_of}
 use Rattle.router_model.specs.Step.{close_at}
 use Rattle.router_core.specs.Following.{standing, Followed}
 
@@ -34,15 +34,15 @@ abbrev pub seen_where : ℕ → Option Update → Snapshots → Snapshots
 seen_where v None x = x
 seen_where v (Some u) x = acted_on v (UpdateMsg u) x
 
--- the front of a side is handled: its draft is carried out, the tables take the UPDATE and follow the session, and what is recorded sees both
-pub record HandlesFront (own_open : Message) (v : ℕ) (s z : Side) (old new : RibView) (x y : Snapshots) : Type 0 where
+-- the front of a side, read under this rule, is handled: its draft is carried out, the tables take the UPDATE and follow the session, and what is recorded sees both
+pub record HandlesFront (own_open : Message) (rule : Rule) (v : ℕ) (s z : Side) (old new : RibView) (x y : Snapshots) : Type 0 where
   pub hand : AtHand
   pub draft : Draft
   pub between : RibView
-  pub hand_is : hand ≡ at_hand (front (rule_of v) s.held)
-  pub draft_is : draft ≡ handled own_open (front (rule_of v) s.held) s
+  pub hand_is : hand ≡ at_hand (front rule s.held)
+  pub draft_is : draft ≡ handled own_open (front rule s.held) s
   pub side : z ≡ carried hand (without_front s) draft
   pub hears : Hears old between v (update_acted draft.acts hand)
   pub follows : Followed between new v (standing s) (standing z)
-  pub writable : IfOk (front (rule_of v) s.held) (IsWritable (rule_of v))
+  pub writable : IfOk (front rule s.held) (IsWritable rule)
   pub sees : y ≡ seen_where v (update_acted draft.acts hand) (closed (close_at v draft.left) x)

@@ -112,12 +112,13 @@ pub record IsTellable (width : Width) (path : List ℕ) : Type 0 where
 abbrev pub IsPathWord : Word → Type 0
 IsPathWord word = word ≡ Sequence (path_in word)
 
--- the tables of a router are those of its sides, and name what the network names
+-- the tables of a router are those of its sides, which have the network's width, and name what the network names
 pub record IsTabled (x : RouterView) : Type 0 where
   pub net : x.tables.net ≡ x.net
   pub router : x.tables.router ≡ x.number
   pub peers : (v : ℕ) → linked x.net x.number v ≡ true → Follows x.net.origins x.tables v (sides_of x v)
   pub fresh : (v : ℕ) → IsFresh (sides_of x v)
+  pub width : (v : ℕ) → (sides_of x v).width ≡ x.net.settings.width
   pub short : (v : ℕ) (q : PrefixView) → AllByRecursion (AsnFits x.net.settings.width) (path_in (word_of x.tables.heard v q))
   pub sent : (v : ℕ) (q : PrefixView) → IsPathWord (word_of x.tables.sent v q)
   pub kept : (q : PrefixView) → (IsNamed x.net.origins q → ⊥) → path_of x.tables.kept q ≡ []

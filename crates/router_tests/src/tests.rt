@@ -21,6 +21,7 @@ mod steps;
 mod strays;
 mod walking;
 mod whole;
+mod wide;
 
 use beginnings::Beginning;
 use steps::{Named, Step, plays, prefix};

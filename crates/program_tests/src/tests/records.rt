@@ -32,8 +32,16 @@ fn are_alike(
         }
     }
     for peer in network.routers() {
-        let first = format!(in alloc; "{:?} {:?}", one.acted(peer.asn), one.sent(peer.asn))?;
-        let second = format!(in alloc; "{:?} {:?}", other.acted(peer.asn), other.sent(peer.asn))?;
+        let first = format!(in alloc;
+            "{:?} {:?}",
+            one.acted(alloc, peer.asn),
+            one.sent(alloc, peer.asn)
+        )?;
+        let second = format!(in alloc;
+            "{:?} {:?}",
+            other.acted(alloc, peer.asn),
+            other.sent(alloc, peer.asn)
+        )?;
         if first.as_str() != second.as_str() {
             return Ok(false);
         }

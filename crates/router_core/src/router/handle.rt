@@ -11,7 +11,7 @@ ghost use Rattle.router_model.specs.Step.{close_at};
 ghost use Rattle.router_model.specs.Calls.{Handle};
 ghost use Rattle.router_side.specs.Drafts.{hand};
 ghost use Rattle.router_side.specs.Sayings.{IsSayable};
-ghost use Rattle.router_side.specs.SideOf.{side};
+ghost use Rattle.router_side.specs.SideOf.{side, naming};
 ghost use Rattle.router_core.specs.Views.{IsSame, Answers};
 ghost use Rattle.router_core.specs.Handling.{update_acted, copy_where, seen_where, Hears, HandlesFront};
 
@@ -88,7 +88,7 @@ fn record(marks: &mut MarkState, peer: Asn, left: Option<u32>, copy: Option<Upda
     }
 }
 
-// The message or fault in front of a side is handled. A refusal leaves all as it was.
+// The message or fault in front of a side is handled, as what its peer says. A refusal leaves all as it was.
 fn handle_front(
     alloc: Global,
     rule: &Rule,
@@ -100,9 +100,10 @@ fn handle_front(
 ) -> Result<(), AllocError>
     requires linked { Linked tables.old.net.links tables.old.router peer }
     requires own { (w : widths.Width) → IsSayable w own_open.now }
+    requires rule { (own : ℕ) × (rule.now ≡ naming (side end.old).width own peer) }
     requires waits { is_waiting (side end.old).held ≡ true }
     requires link { IsLink marks.old.unfinished peer }
-    ensures ok { OnOk result (HandlesFront own_open.now peer (side end.old) (side end.new) tables.old tables.new (snapshots_of marks.old) (snapshots_of marks.new)) }
+    ensures ok { OnOk result (HandlesFront own_open.now rule.now peer (side end.old) (side end.new) tables.old tables.new (snapshots_of marks.old) (snapshots_of marks.new)) }
     ensures end { OnErr result (side end.new ≡ side end.old) }
     ensures tables { OnErr result (tables.new ≡ tables.old) }
     ensures marks { OnErr result (snapshots_of marks.new ≡ snapshots_of marks.old) }

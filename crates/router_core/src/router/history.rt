@@ -1,6 +1,6 @@
 //! What a router acted on and sent, and whether it waits for a peer.
 
-ghost use Rattle.std.specs.Prelude.{ℕ, ◌≡◌, ◌&&◌, false, not, is_some, MatchOption};
+ghost use Rattle.std.specs.Prelude.{ℕ, ◌≡◌, ◌&&◌, false, not, is_some, IfOk, MatchOption};
 ghost use Rattle.bgp_framing.specs.Held.{is_waiting};
 ghost use Rattle.outbox.specs.Items.{next_item};
 ghost use Rattle.router_side.specs.Histories.{history};

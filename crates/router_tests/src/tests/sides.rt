@@ -10,7 +10,7 @@ use bgp_codec::laws::written_has_a_header;
 use bgp_values::Width;
 use link_epoch::Sign;
 use router_core::What;
-use router_side::{Given, History, SideEnd};
+use router_side::{Given, SideEnd, Told};
 use session_fsm::{FsmEvent, SessionConfig, State};
 use std::alloc::{AllocError, Global};
 use std::process::Abort;
@@ -84,9 +84,9 @@ fn has_octets(side: &SideEnd, count: usize) -> bool {
     side.octets_waiting() == count
 }
 
-// Whether a history tells of no UPDATE.
-fn tells_nothing(alloc: Global, history: &History) -> bool {
-    match history.told(alloc) {
+// Whether no UPDATE was told.
+fn tells_nothing(told: Result<Vec<Told>, AllocError>) -> bool {
+    match told {
         Ok(told) => told.is_empty(),
         Err(_) => false,
     }
@@ -96,8 +96,8 @@ fn tells_nothing(alloc: Global, history: &History) -> bool {
 fn is_quiet(alloc: Global, side: &SideEnd) -> bool {
     !side.has_item()
         && !side.is_up()
-        && tells_nothing(alloc, side.acted())
-        && tells_nothing(alloc, side.sent())
+        && tells_nothing(side.acted(alloc))
+        && tells_nothing(side.sent(alloc))
 }
 
 // A start dials. The peer's Dial of the same number joins, so that the router's OPEN is said; here a

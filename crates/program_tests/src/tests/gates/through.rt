@@ -14,11 +14,11 @@ use world_core::{Event, World, play, through_cut};
 
 // What a router acted on and sent with a peer.
 fn told(alloc: Global, router: &Router<'_>, peer: Asn) -> Result<String, AllocError> {
-    let (Some(acted), Some(sent)) = (router.acted(peer), router.sent(peer)) else {
+    let (Some(acted), Some(sent)) = (router.acted(alloc, peer), router.sent(alloc, peer)) else {
         return Err(AllocError);
     };
-    let acted = acted.told(alloc)?;
-    let sent = sent.told(alloc)?;
+    let acted = acted?;
+    let sent = sent?;
     format!(in alloc; "{acted:?} {sent:?}")
 }
 

@@ -18,6 +18,9 @@ use Rattle.router_core.proofs.Carrying.{Changes, with_peer, stays, kept, moves, 
 use Rattle.router_core.proofs.Following.{leaves}
 use Rattle.router_core.proofs.router.Router.carry_out.Goals as goal
 
+pub reserve-requires-clause-own : goal.reserve-requires-clause-own
+reserve-requires-clause-own c = c.self.invariant.sayable c.index_mut.result.now.end.width
+
 -- room was wanting: the peer is as it was
 pub invariant_of-self : goal.invariant_of-self
 invariant_of-self c =
@@ -28,7 +31,7 @@ invariant_of-self c =
     let place = subst (λ (x : RouterView). IsFound x.peers v c.args.at) (sym c.self.view_is) c.requires.place in
     let ch : Changes r v c.args.at p q = record { place = place.2; here = c.index_mut.ensures.value; number = refl } in
     let same = c.reserve.ensures.side in
-    let tracks = tracks_alike r v c.args.at p q ch c.self.invariant (ap (λ (s : Side). s.session) same) (ap (λ (s : Side). s.link) same) (ap (λ (s : Side). s.acted) same) (ap (λ (s : Side). s.sent) same) in
+    let tracks = tracks_alike r v c.args.at p q ch c.self.invariant (ap (λ (s : Side). s.session) same) (ap (λ (s : Side). s.link) same) (ap (λ (s : Side). s.acted) same) (ap (λ (s : Side). s.sent) same) (ap (λ (s : Side). s.width) same) in
     stays r v c.args.at p q ch r.tables r.marks r.stamp c.self.invariant c.self.invariant.stamp tracks (records_same r)
 
 pub returns-then-is_err-clause-carries : goal.returns-then-is_err-clause-carries

@@ -2,15 +2,18 @@ use Rattle.std.proofs.Common.{◌≡◌, ◌∙◌, ◌+◌, ◌≤◌, ap, sym,
 use Rattle.std.specs.Prelude.{nat_lt, Ok, Err}
 use Rattle.std.proofs.lemmas.Bool.Decides.{nat_tests}
 use Rattle.bgp_framing.specs.Held.{is_waiting}
+use Rattle.bgp_values.specs.declared.width.Width.{Width}
+use Rattle.ranked_policy.specs.declared.network.Settings.{Settings}
 use Rattle.router_model.specs.declared.refusal.RouterError.TheVariants as error
 use Rattle.router_model.specs.declared.refusal.Stepped.TheVariants as stepped
 use Rattle.router_model.specs.Calls.{Handle}
 use Rattle.run_model.specs.declared.stamps.TheConstants.{GREATEST_STAMP}
-use Rattle.router_side.specs.SideOf.{side}
+use Rattle.router_side.specs.SideOf.{side, naming}
 use Rattle.router_core.specs.declared.peers.Peer.{Peer}
 use Rattle.router_core.specs.Views.{RouterView, IsFound, Answers, plain_of}
+use Rattle.router_core.specs.Handling.{HandlesFront}
 use Rattle.router_core.proofs.PeerLemmas.{here_same}
-use Rattle.router_core.proofs.Carrying.{Changes, Tracks, with_peer, of_sound, stays, kept, is_fresh, tracks_alike}
+use Rattle.router_core.proofs.Carrying.{Changes, Tracks, with_peer, of_sound, stays, kept, is_fresh, has_width, tracks_alike}
 use Rattle.router_core.proofs.Handling.{link_of, seen_is, tracks_handled, leaves_handled}
 use Rattle.router_core.proofs.Beginnings.{linked_to}
 use Rattle.rib_tables.specs.Owners.{RibView}
@@ -54,6 +57,17 @@ handle_front-requires-clause-link c =
     let found = subst (λ (x : RouterView). IsFound x.peers c.args.peer c.in-Some.at) (sym c.self.view_is) c.in-Some.ensures.place in
     link_of r.marks.unfinished v r.peers (peers r.net r.number) c.self.invariant.numbers c.self.invariant.marked.over found.1
 
+-- what the peer says is read at the width of its side
+pub handle_front-requires-clause-rule : goal.handle_front-requires-clause-rule
+handle_front-requires-clause-rule c =
+    let r : RouterView = record { net = c.self.inside.network.now; number = c.self.inside.number; own_open = c.self.inside.own_open; peers = c.self.inside.peers.items; tables = c.self.inside.tables; marks = c.self.inside.marks; stamp = c.self.inside.stamp } in
+    let v = c.args.peer in
+    let found = subst (λ (x : RouterView). IsFound x.peers c.args.peer c.in-Some.at) (sym c.self.view_is) c.in-Some.ensures.place in
+    let p = c.index_mut.result.now in
+    let ch : Changes r v c.in-Some.at p p = record { place = found.2; here = c.index_mut.ensures.value; number = refl } in
+    let width = ap (λ (s : Settings). s.width) c.settings.ensures.value ∙ sym (has_width r v c.in-Some.at p p ch c.self.invariant) in
+    (r.number, ap (λ (w : Width). naming w r.number v) width)
+
 -- it is handled
 pub invariant_of-self : goal.invariant_of-self
 invariant_of-self c =
@@ -66,8 +80,9 @@ invariant_of-self c =
     let t = c.handle_front.new.tables in
     let m = c.handle_front.new.marks in
     let few : r.stamp + 1 ≤ GREATEST_STAMP = omega (arith, c.if-stamp-gt-GREATEST_STAMP.false) in
-    let keeps = c.what_comes_keeps_fresh.ensures.messages r.own_open (front (rule_of v) (side p.end).held) (side p.end) (is_fresh r v c.in-Some.at p q ch c.self.invariant) in
-    let tracks = tracks_handled c.the_word_follows.ensures r v c.in-Some.at p q ch c.self.invariant t (snapshots_of r.marks) (snapshots_of m) keeps c.in-Ok.ensures.ok in
+    let h = subst (λ (s : Settings). HandlesFront r.own_open (naming s.width r.number v) v (side p.end) (side q.end) r.tables t (snapshots_of r.marks) (snapshots_of m)) c.settings.ensures.value c.in-Ok.ensures.ok in
+    let keeps = c.what_comes_keeps_fresh.ensures.messages r.own_open (front (rule_of r.net r.number v) (side p.end).held) (side p.end) (is_fresh r v c.in-Some.at p q ch c.self.invariant) in
+    let tracks = tracks_handled c.the_word_follows.ensures r v c.in-Some.at p q ch c.self.invariant t (snapshots_of r.marks) (snapshots_of m) keeps h in
     stays r v c.in-Some.at p q ch t m (r.stamp + 1) c.self.invariant few tracks (record { over = c.handle_front.ensures.over; router = c.handle_front.ensures.router })
 
 pub returns-in-Ok-clause-answers : goal.returns-in-Ok-clause-answers
@@ -83,7 +98,7 @@ returns-in-Ok-clause-answers c =
     let same : p ≡ c.index.result.now = c.index_mut.ensures.value ∙ here_same r.peers v c.in-Some.at p c.index.result.now found.2 ∙ sym c.index.ensures in
     let waits = ap (λ (w : Peer). is_waiting (side w.end).held) same ∙ sym c.is_waiting.ensures ∙ c.if-not-is_waiting.false in
     let late : nat_lt GREATEST_STAMP (r.stamp + 1) ≡ false = grind (arith, nat_tests, c.if-stamp-gt-GREATEST_STAMP.false) in
-    let h = c.in-Ok.ensures.ok in
+    let h = subst (λ (s : Settings). HandlesFront r.own_open (naming s.width r.number v) v (side p.end) (side q.end) r.tables t (snapshots_of r.marks) (snapshots_of m)) c.settings.ensures.value c.in-Ok.ensures.ok in
     let leaves = leaves_handled c.the_word_follows.ensures r v c.in-Some.at p q ch c.self.invariant t (snapshots_of r.marks) (snapshots_of m) h in
     let sees = h.sees ∙ seen_is h.draft.acts h.hand v (closed (close_at v h.draft.left) (snapshots_of r.marks)) in
     subst (λ (x : RouterView). Answers (Ok stepped.Did) x (Handle v) (with_peer r c.in-Some.at q t m (r.stamp + 1))) c.self.view_is (λ g e ranks.
@@ -101,7 +116,7 @@ invariant_of-self-in-Err c =
     let t = c.handle_front.new.tables in
     let m = c.handle_front.new.marks in
     let is = c.in-Err.ensures.end in
-    let alike = tracks_alike r v c.in-Some.at p q ch c.self.invariant (ap (λ (s : Side). s.session) is) (ap (λ (s : Side). s.link) is) (ap (λ (s : Side). s.acted) is) (ap (λ (s : Side). s.sent) is) in
+    let alike = tracks_alike r v c.in-Some.at p q ch c.self.invariant (ap (λ (s : Side). s.session) is) (ap (λ (s : Side). s.link) is) (ap (λ (s : Side). s.acted) is) (ap (λ (s : Side). s.sent) is) (ap (λ (s : Side). s.width) is) in
     stays r v c.in-Some.at p q ch t m r.stamp c.self.invariant c.self.invariant.stamp (subst (Tracks r v q) (sym c.in-Err.ensures.tables) alike)
     (record { over = c.handle_front.ensures.over; router = c.handle_front.ensures.router })
 

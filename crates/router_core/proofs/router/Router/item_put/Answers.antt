@@ -32,7 +32,7 @@ invariant_of-self c =
     let ch : Changes r c.args.peer c.unwrap-at.result p q = record { place = found.2; here = c.index_mut.ensures.value; number = refl } in
     let few : r.stamp + 1 ≤ GREATEST_STAMP = grind (arith, nat_tests, has.2) in
     let tracks = tracks_alike r c.args.peer c.unwrap-at.result p q ch c.self.invariant (ap (λ (z : Side). z.session) c.item_put.ensures) (ap (λ (z : Side). z.link) c.item_put.ensures)
-    (ap (λ (z : Side). z.acted) c.item_put.ensures) (ap (λ (z : Side). z.sent) c.item_put.ensures) in
+    (ap (λ (z : Side). z.acted) c.item_put.ensures) (ap (λ (z : Side). z.sent) c.item_put.ensures) (ap (λ (z : Side). z.width) c.item_put.ensures) in
     stays r c.args.peer c.unwrap-at.result p q ch r.tables r.marks (r.stamp + 1) c.self.invariant few tracks (records_same r)
 
 pub returns-clause-answers : goal.returns-clause-answers

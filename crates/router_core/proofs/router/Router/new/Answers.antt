@@ -1,5 +1,6 @@
-use Rattle.std.proofs.Common.{◌≡◌, sym, refl, arith}
+use Rattle.std.proofs.Common.{◌≡◌, refl, subst, arith}
 use Rattle.std.specs.List.{AllByRecursion}
+use Rattle.ranked_policy.specs.declared.network.Settings.{Settings}
 use Rattle.router_side.specs.SideOf.{side, side_opening}
 use Rattle.router_core.specs.Views.{config_of}
 use Rattle.router_core.proofs.PeerLemmas.{listed_is}
@@ -9,7 +10,9 @@ use Rattle.router_core.proofs.router.Router.new.Goals as goal
 pub invariant_of-result : goal.invariant_of-result
 invariant_of-result c =
     let net = c.settings-settings.ensures.network in
-    let sides : AllByRecursion (λ p. side p.end ≡ side_opening (config_of c.args.network.now) c.args.network.now.settings.width) c.in-Ok.peers.items = rw (sym c.settings-settings.ensures.value) c.in-Ok.ensures.sides in
+    let sides : AllByRecursion (λ p. side p.end ≡ side_opening (config_of c.args.network.now) c.args.network.now.settings.width) c.in-Ok.peers.items =
+    subst (λ (s : Settings). AllByRecursion (λ p. side p.end ≡ side_opening (record { hold = s.hold; restart = s.restart }) c.args.network.now.settings.width) c.in-Ok.peers.items) c.settings-settings.ensures.value
+    c.in-Ok.ensures.sides in
     record {
       network = net;
       router = c.requires;
@@ -23,9 +26,11 @@ invariant_of-result c =
     }
 
 pub returns : goal.returns
-returns c = (
-  refl,
-  refl,
-  λ g e.
-      opens c.args.network.now c.args.number c.own_open.result c.in-Ok.peers.items c.in-Ok-new.tables c.new-2.result (rw (sym c.settings-settings.ensures.value) c.in-Ok.ensures.sides) c.in-Ok-new.ensures c.new-2.ensures.none g e,
-)
+returns c =
+    let sides : AllByRecursion (λ p. side p.end ≡ side_opening (config_of c.args.network.now) c.args.network.now.settings.width) c.in-Ok.peers.items =
+    subst (λ (s : Settings). AllByRecursion (λ p. side p.end ≡ side_opening (record { hold = s.hold; restart = s.restart }) c.args.network.now.settings.width) c.in-Ok.peers.items) c.settings-settings.ensures.value
+    c.in-Ok.ensures.sides in (
+      refl,
+      refl,
+      λ g e. opens c.args.network.now c.args.number c.own_open.result c.in-Ok.peers.items c.in-Ok-new.tables c.new-2.result sides c.in-Ok-new.ensures c.new-2.ensures.none g e,
+    )

@@ -45,7 +45,7 @@ invariant_of-self c =
     let ch : Changes r c.args.peer c.in-Some.at p q = record { place = found.2; here = c.index_mut.ensures.value; number = refl } in
     let few : c.saturating_add-stamp.result ≤ GREATEST_STAMP = omega (arith, c.if-stamp-gt-GREATEST_STAMP.false) in
     let on = c.take_piece.ensures ∙ fed_is (side p.end) c.in-Piece.epoch c.as_slice.result.now in
-    let tracks = tracks_alike r c.args.peer c.in-Some.at p q ch c.self.invariant (ap (λ (z : Side). z.session) on) (ap (λ (z : Side). z.link) on) (ap (λ (z : Side). z.acted) on) (ap (λ (z : Side). z.sent) on) in
+    let tracks = tracks_alike r c.args.peer c.in-Some.at p q ch c.self.invariant (ap (λ (z : Side). z.session) on) (ap (λ (z : Side). z.link) on) (ap (λ (z : Side). z.acted) on) (ap (λ (z : Side). z.sent) on) (ap (λ (z : Side). z.width) on) in
     stays r c.args.peer c.in-Some.at p q ch r.tables r.marks c.saturating_add-stamp.result c.self.invariant few tracks (records_same r)
 
 pub returns-in-Dial-clause-answers : goal.returns-in-Dial-clause-answers

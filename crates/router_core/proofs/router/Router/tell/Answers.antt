@@ -1,6 +1,8 @@
 use Rattle.std.proofs.Common.{◌≡◌, ℕ, ◌+◌, ◌<◌, ◌≤◌, false, length, arith, rules, refl, ap, sym, subst, ◌∙◌}
 use Rattle.std.specs.Prelude.{nat_lt, Ok, Err}
 use Rattle.std.proofs.lemmas.Bool.Decides.{nat_tests}
+use Rattle.bgp_values.specs.declared.width.Width.{Width}
+use Rattle.bgp_codec.specs.declared.message.Message.TheVariants.{UpdateMsg}
 use Rattle.rib_tables.specs.Tables.{path_of}
 use Rattle.router_model.specs.declared.refusal.RouterError.TheVariants as error
 use Rattle.router_model.specs.declared.refusal.Stepped.TheVariants as stepped
@@ -8,10 +10,11 @@ use Rattle.router_model.specs.Settings.{identifier}
 use Rattle.router_model.specs.Sides.{Side, is_up, told}
 use Rattle.router_model.specs.State.{telling}
 use Rattle.run_model.specs.declared.stamps.TheConstants.{GREATEST_STAMP}
+use Rattle.router_side.specs.Sayings.{IsSayable}
 use Rattle.router_side.specs.SideOf.{side}
 use Rattle.router_core.specs.declared.peers.Peer.{Peer}
 use Rattle.router_core.specs.Views.{RouterView, IsAt, MayTell, Tells, sides_of}
-use Rattle.router_core.proofs.Untold.{below, named, named_there, place, here, is_linked, up, number_is}
+use Rattle.router_core.proofs.Untold.{below, named, named_there, place, here, has_width, is_linked, up, number_is}
 use Rattle.router_core.proofs.Tellings.{with_peer_and_tables, sound_still, plain_still, sound_told, plain_told}
 use Rattle.router_core.proofs.router.Router.tell.Goals as goal
 
@@ -29,6 +32,16 @@ index_mut-requires c =
     let may = subst (λ (x : RouterView). MayTell x c.args.at q) (sym c.self.view_is) c.requires in
     let lt : c.args.at < length r.peers = below r c.self.invariant c.args.at q may in
     search rules
+
+-- the UPDATE can be said at the width of the side
+pub reserve_telling-requires : goal.reserve_telling-requires
+reserve_telling-requires c =
+    let r : RouterView = record { net = c.self.inside.network.now; number = c.self.inside.number; own_open = c.self.inside.own_open; peers = c.self.inside.peers.items; tables = c.self.inside.tables; marks = c.self.inside.marks; stamp = c.self.inside.stamp } in
+    let q = c.args.prefix.now in
+    let may = subst (λ (x : RouterView). MayTell x c.args.at q) (sym c.self.view_is) c.requires in
+    let p = c.index_mut.result.now in
+    let width = has_width r c.self.invariant c.args.at q may p c.index_mut.ensures.value in
+    subst (λ (w : Width). IsSayable w (UpdateMsg c.in-Ok.update)) (sym width) c.in-Ok.ensures.sayable
 
 pub invariant_of-self : goal.invariant_of-self
 invariant_of-self c =
@@ -105,6 +118,15 @@ tell-requires-2-clause-up c =
     let kept : Peer = record { number = p.number; end = c.reserve_telling.new.self } in
     let still : side kept.end ≡ sides_of r p.number = c.reserve_telling.ensures.side ∙ here r c.self.invariant c.args.at q may p is in
     ap is_up still ∙ up r c.self.invariant c.args.at q may p is
+
+pub tell-requires-2-clause-sayable : goal.tell-requires-2-clause-sayable
+tell-requires-2-clause-sayable c =
+    let r : RouterView = record { net = c.self.inside.network.now; number = c.self.inside.number; own_open = c.self.inside.own_open; peers = c.self.inside.peers.items; tables = c.self.inside.tables; marks = c.self.inside.marks; stamp = c.self.inside.stamp } in
+    let q = c.args.prefix.now in
+    let may = subst (λ (x : RouterView). MayTell x c.args.at q) (sym c.self.view_is) c.requires in
+    let p = c.index_mut.result.now in
+    let width : (side c.reserve_telling.new.self).width ≡ r.net.settings.width = ap (λ (s : Side). s.width) c.reserve_telling.ensures.side ∙ has_width r c.self.invariant c.args.at q may p c.index_mut.ensures.value in
+    subst (λ (w : Width). IsSayable w (UpdateMsg c.in-Ok.update)) (sym width) c.in-Ok.ensures.sayable
 
 pub invariant_of-self-2 : goal.invariant_of-self-2
 invariant_of-self-2 c =
