@@ -7,13 +7,14 @@
 //!
 //! The definitions stand in `specs/`: `Header` (the header and its checks), `Spelling` (how each
 //! message is spelt, and the one spelling that is written), `Opens` (the body of an OPEN),
-//! `AsNumbers` (AS numbers of either width), `Updates` (the body of an UPDATE, as it is spelt and written), `AttrTable` (the attributes that
-//! are known), `UpdateReading` (what reading an UPDATE answers), `Reading` (what a reader answers),
-//! `Faults` (the first fault of a frame), `Judging` (what a search for that fault remembers, where a
-//! growth was refused).
+//! `AsNumbers` (AS numbers of either width), `Updates` (the body of an UPDATE, as it is spelt and
+//! written), `AttrTable` (the attributes that are known), `UpdateReading` (what reading an UPDATE
+//! answers), `Reading` (what a reader answers), `Faults` (the first fault of a frame), `Judging` (what
+//! a search for that fault remembers, where a growth was refused).
 //! The laws that tie them together are the public functions of [`laws`].
 //!
-//! Numbers of autonomous systems have two octets in messages, or four (RFC 6793): a [`Rule`] says which.
+//! Numbers of autonomous systems have two octets in messages, or four (RFC 6793): a [`Rule`] says
+//! which.
 //! Left out: framing (which octets are one message), sessions, and every use of a message.
 #![tactic(auto)]
 

@@ -29,7 +29,8 @@ pub struct Cap {
 /// What an OPEN says (RFC 4271 section 4.2).
 #[derive(Debug, Drop)]
 pub struct Open {
-    /// The speaker's number.
+    /// The speaker's number, or AS_TRANS, 23456, in place of one that two octets do not hold: then a
+    /// capability 65 has it (RFC 6793).
     pub asn: u16,
     /// The hold time that it offers, in seconds: 0, or 3 and more.
     pub hold: u16,

@@ -12,8 +12,9 @@ pub struct Rule {
     pub width: Width,
     /// The speaker's number, where its OPEN and its paths are to be checked against it.
     pub peer: Option<Asn>,
-    /// The reader's own number, where an OPEN has to say its speaker's number in four octets (RFC 6793 section 3).
-    /// Numbers of two octets make no use of it.
+    /// The reader's own number, where an OPEN has to say its speaker's number in four octets (RFC 6793
+    /// section 3): it is the data of the fault of one that does not. Under [`Width::Two`] it has no
+    /// effect.
     pub own: Option<Asn>,
 }
 

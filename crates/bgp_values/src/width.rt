@@ -21,7 +21,7 @@ pub const GREATEST_OF_FOUR: u32 = 4_294_967_295;
 /// The number that stands in an OPEN for one that two octets do not hold: AS_TRANS (RFC 6793 section 9).
 pub const AS_TRANS: u16 = 23_456;
 
-/// The greatest AS number that so many octets hold.
+/// The greatest AS number that so many octets hold: 65535 or 4294967295.
 pub fn greatest_asn(width: Width) -> u32
     ensures { result ≡ greatest_asn width }
 {

@@ -2,6 +2,7 @@ pub mod LexLemmas
 pub mod LayoutLemmas
 pub mod AddingLemmas
 pub mod DeclaringLemmas
+pub mod SettingLemmas
 pub mod WordLemmas
 pub mod PathLemmas
 pub mod DraftLemmas

@@ -9,10 +9,10 @@ use Rattle.net_text.specs.declared.code.Code.TheVariants as codes
 use Rattle.net_text.specs.declared.draft.Draft.{Draft}
 use Rattle.net_text.specs.declared.assignment.Entry.{Entry}
 use Rattle.net_text.specs.Lexing.{Text, lines_of}
-use Rattle.net_text.specs.Lines.{line_reading, IsLongLine}
-use Rattle.net_text.specs.Networks.{empty_draft, draft_reading, last_line, SpellsNetwork, FailsAsNetwork, IsNoNetwork, IsLongAt, RefusesNetwork}
+use Rattle.net_text.specs.Lines.{line_reading}
+use Rattle.net_text.specs.Networks.{empty_draft, draft_reading, last_line, SpellsNetwork, FailsAsNetwork, IsNoNetwork, RefusesNetwork}
 use Rattle.net_text.specs.Assignments.{entry_reading, RefusesAssignment}
-use Rattle.net_text.specs.Steps.{Refuses, RefusesOr}
+use Rattle.net_text.specs.Steps.{Refuses}
 use Rattle.net_text.proofs.TextLemmas.{Reached, reached_fault, reached_memory}
 
 abbrev pub network_line : ℕ → Draft → Text → Result Draft Code
@@ -21,28 +21,10 @@ network_line line d words = line_reading d words
 abbrev pub NetworkReached : List Text → ℕ → Draft → List Text → Type 0
 NetworkReached lines line made left = Reached (λ line d words. line_reading d words) 0 (empty_draft lines) lines line made left
 
--- a long rule behind good lines
-long_at : (lines left rest : List Text) (line : ℕ) (made : Draft) (next : Text) → left ≡ next ∷ rest → NetworkReached lines line made left → IsLongLine made next → IsLongAt lines (line + 1)
-long_at lines left rest line made next l h long =
-    record {
-      front = h.front;
-      rule = next;
-      behind = rest;
-      made = made;
-      parted = h.parted ∙ ap (λ (ls : List Text). h.front ++ ls) l;
-      counted = omega (arith, h.counted);
-      good = h.good;
-      long = long;
-    }
-
 -- a line's refusal is the text's
 pub refuses_network : (lines left rest : List Text) (line : ℕ) (made : Draft) (next : Text) (code : Code) → left ≡ next ∷ rest → NetworkReached lines line made left
-    → RefusesOr (IsOk (line_reading made next) ⊎ IsLongLine made next) code (line_reading made next) → RefusesNetwork lines (line + 1) code
-refuses_network lines left rest line made next codes.Memory l h e =
-    elim e [
-      | inl ok ↦ inl (reached_memory (λ line d words. line_reading d words) 0 (empty_draft lines) made lines left rest line next l h ok)
-      | inr long ↦ inr (long_at lines left rest line made next l h long)
-    ]
+    → Refuses code (line_reading made next) → RefusesNetwork lines (line + 1) code
+refuses_network lines left rest line made next codes.Memory l h e = reached_memory (λ line d words. line_reading d words) 0 (empty_draft lines) made lines left rest line next l h e
 refuses_network lines left rest line made next codes.BadForm l h e = inl (reached_fault (λ line d words. line_reading d words) 0 (empty_draft lines) made lines left rest line next codes.BadForm l h e)
 refuses_network lines left rest line made next codes.Unreadable l h e = inl (reached_fault (λ line d words. line_reading d words) 0 (empty_draft lines) made lines left rest line next codes.Unreadable l h e)
 refuses_network lines left rest line made next codes.UnknownRouter l h e = inl (reached_fault (λ line d words. line_reading d words) 0 (empty_draft lines) made lines left rest line next codes.UnknownRouter l h e)

@@ -17,7 +17,7 @@ use Rattle.net_text.proofs.AddingLemmas.{wider}
 use Rattle.bgp_values.specs.Ranges.{is_asn}
 use Rattle.net_text.specs.Lines.{width_named, are_short, are_distinct, is_ruled, is_full, rule_fault, rule_line, with_rule}
 use Rattle.net_text.specs.Taking.{IsTakeable}
-use Rattle.net_text.specs.Steps.{RefusesOr}
+use Rattle.net_text.specs.Steps.{Refuses}
 
 -- ---- want of memory is no fault
 
@@ -61,17 +61,17 @@ rule_paths_no_memory width routers u (word ∷ words) =
     one_by_one (rule_path_word width routers u word) (λ _. rule_path_words width routers u words) (rule_path_no_memory width routers u word) (λ _. rule_paths_no_memory width routers u words)
 
 -- a fault of judged words is the fault of the line
-pub refuses : {A S : Type 0} (allowed : Type 0) (code : Code) (judged : Result A Code) (read : Result S Code) → NoMemory judged → judged ≡ Err code → read ≡ Err code → RefusesOr allowed code read
-refuses allowed codes.Memory judged read h e f = absurd (h e)
-refuses allowed codes.BadForm judged read h e f = f
-refuses allowed codes.Unreadable judged read h e f = f
-refuses allowed codes.UnknownRouter judged read h e f = f
-refuses allowed codes.Repeated judged read h e f = f
-refuses allowed codes.NotConnected judged read h e f = f
-refuses allowed codes.OutOfLimit judged read h e f = f
-refuses allowed codes.NotSimple judged read h e f = f
-refuses allowed codes.BadPrefix judged read h e f = f
-refuses allowed codes.NotPermitted judged read h e f = f
+pub refuses : {A S : Type 0} (code : Code) (judged : Result A Code) (read : Result S Code) → NoMemory judged → judged ≡ Err code → read ≡ Err code → Refuses code read
+refuses codes.Memory judged read h e f = absurd (h e)
+refuses codes.BadForm judged read h e f = f
+refuses codes.Unreadable judged read h e f = f
+refuses codes.UnknownRouter judged read h e f = f
+refuses codes.Repeated judged read h e f = f
+refuses codes.NotConnected judged read h e f = f
+refuses codes.OutOfLimit judged read h e f = f
+refuses codes.NotSimple judged read h e f = f
+refuses codes.BadPrefix judged read h e f = f
+refuses codes.NotPermitted judged read h e f = f
 
 -- ---- what good words are
 

@@ -1,10 +1,10 @@
 -- What the definitions say together.
-use Rattle.std.specs.Prelude.{ℕ, ◌≡◌, ◌≢◌, ◌+◌, ◌↔◌, List, ◌∷◌, ◌++◌, length, Result, Ok, Err}
+use Rattle.std.specs.Prelude.{ℕ, ◌≡◌, ◌≢◌, ◌+◌, ◌^◌, ◌<◌, ◌↔◌, List, ◌∷◌, ◌++◌, length, Result, Ok, Err}
 use Rattle.net_text.specs.declared.code.Code.{Code}
 use Rattle.net_text.specs.declared.code.Code.TheVariants as codes
 use Rattle.net_text.specs.Lexing.{Text}
 use Rattle.net_text.specs.Networks.{refused_at, reading, SpellsNetwork, RefusesNetwork}
-use Rattle.net_text.specs.Lines.{line_reading}
+use Rattle.net_text.specs.Lines.{line_reading, settings_of}
 use Rattle.net_text.specs.Assignments.{entry_reading}
 use Rattle.net_text.specs.declared.draft.Draft.{Draft}
 use Rattle.net_text.specs.declared.assignment.Entry.{Entry}
@@ -37,6 +37,14 @@ FirstFaultDecidesAssignments = (net : Plan) (before : ℕ) (entries : List Entry
 -- a text spells one network at most
 abbrev pub OneNetwork : Type 0
 OneNetwork = (lines : List Text) (one other : Plan) → SpellsNetwork lines one → SpellsNetwork lines other → one ≡ other
+
+-- its settings are those that its lines name, wherever they stand, and the usual ones where none does
+abbrev pub SettingsAreNamed : Type 0
+SettingsAreNamed = (lines : List Text) (net : Plan) → SpellsNetwork lines net → net.settings ≡ settings_of lines
+
+-- its hold time has two octets, as that of an OPEN
+abbrev pub HoldTimesFit : Type 0
+HoldTimesFit = (lines : List Text) (net : Plan) → SpellsNetwork lines net → net.settings.hold < 2 ^ 16
 
 -- one that spells a network is refused only for want of memory
 abbrev pub SpeltIsNotRefused : Type 0

@@ -188,32 +188,6 @@ rule_line d (a ∷ b ∷ words) =
     Ok (with_rule d u q (map path_of words))
 rule_line d words = Err BadForm
 
--- a rule of more than 32 paths with no fault before the question whether two of them are one: its router is known, its prefix can be read, each path is good, and the router has no rule for the prefix yet
-pub record IsLongRule (d : Draft) (words : List Text) : Type 0 where
-  pub first : Text
-  pub second : Text
-  pub paths : List Text
-  pub asn : ℕ
-  pub prefix : PrefixView
-  pub parted : words ≡ first ∷ second ∷ paths
-  pub router : router_word (width_named d.named) d.net.routers first ≡ Ok asn
-  pub covered : prefix_word second ≡ Ok prefix
-  pub good : rule_path_words (width_named d.named) d.net.routers asn paths ≡ Ok tt
-  pub free : is_ruled d.net.routers asn prefix ≡ false
-  pub long : MOST_PATHS < length paths
-
--- the words of a line say such a rule
-pub record HasLongRule (d : Draft) (line : List Text) : Type 0 where
-  pub name : Text
-  pub words : List Text
-  pub parted : line ≡ name ∷ words
-  pub named : same name (codes "rank") ≡ true
-  pub rule : IsLongRule d words
-
--- a line that says such a rule
-abbrev pub IsLongLine : Draft → Text → Type 0
-IsLongLine d line = (is_skipped line ≡ false) × (is_ascii line ≡ true) × HasLongRule d (words_of line)
-
 -- ---- a line
 
 abbrev pub named_line : Option Setting → Draft → List Text → Result Draft Code

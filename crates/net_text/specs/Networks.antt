@@ -9,7 +9,7 @@ use Rattle.net_text.specs.declared.code.Refused.{Refused}
 use Rattle.net_text.specs.declared.settings.Named.{Named}
 use Rattle.net_text.specs.declared.draft.Draft.{Draft}
 use Rattle.net_text.specs.Lexing.{Text, is_skipped}
-use Rattle.net_text.specs.Lines.{settings_of, line_reading, IsLongLine}
+use Rattle.net_text.specs.Lines.{settings_of, line_reading}
 
 -- ---- any reading of line by line, over what the lines before have made
 
@@ -71,18 +71,7 @@ pub record AreGood {S : Type 0} (read : ℕ → S → Text → Result S Code) (b
   pub counted : before + length front ≡ count
   pub good : IsOk (reading read before s front)
 
--- the line is a rule of more than 32 paths with no fault before the question whether two of them are one, and no line before it has a fault
-pub record IsLongAt (lines : List Text) (line : ℕ) : Type 0 where
-  pub front : List Text
-  pub rule : Text
-  pub behind : List Text
-  pub made : Draft
-  pub parted : lines ≡ front ++ rule ∷ behind
-  pub counted : length front + 1 ≡ line
-  pub good : reading (λ line d words. line_reading d words) 0 (empty_draft lines) front ≡ Ok made
-  pub long : IsLongLine made rule
-
--- a text is refused for its first faulty line, or as a whole; or memory ran out at a line, where no line so far has a fault, or at a rule of more than 32 paths, before it was known whether two of them are one
+-- a text is refused for its first faulty line, or as a whole; or memory ran out at a line, where no line so far has a fault
 abbrev pub RefusesNetwork : List Text → ℕ → Code → Type 0
-RefusesNetwork lines line codes.Memory = AreGood (λ line d words. line_reading d words) 0 (empty_draft lines) lines line ⊎ IsLongAt lines line
+RefusesNetwork lines line codes.Memory = AreGood (λ line d words. line_reading d words) 0 (empty_draft lines) lines line
 RefusesNetwork lines line code = (draft_reading lines ≡ Err (refused_at line code)) ⊎ (IsNoNetwork lines code × (line ≡ last_line lines))

@@ -8,9 +8,7 @@ use thiserror::Error;
 /// What is wrong with a text, and the code that is printed for it.
 ///
 /// The first faulty line decides. On one line a wrong form comes first, then the words from left
-/// to right, then what came before, then limits on counts, then want of memory; but where a rule of
-/// more than [`MOST_PATHS`](ranked_policy::MOST_PATHS) paths is asked whether two of them are one, want of memory may stand in place of its
-/// fault. Of one word: that it cannot be read, then a number outside its limit, then a router that is
+/// to right, then what came before, then limits on counts, then want of memory. Of one word: that it cannot be read, then a number outside its limit, then a router that is
 /// not known or a prefix without an origin, then a path that is not simple. That a network is not
 /// connected, or has no router, is judged once all its lines are good.
 #[derive(Clone, Copy, Debug, PartialEq, Eq, Error)]

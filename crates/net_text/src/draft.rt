@@ -133,8 +133,7 @@ fn last_said(text: &[u8], line: usize, last: usize) -> usize
 ///
 /// It is refused for its first faulty line; where all lines are good, for the last line that is not
 /// skipped where the network has no router or is not connected. `Memory` is answered where a growth
-/// was refused, and only where no line so far has a fault, or at a rule of more than 32 paths, before
-/// it is known whether two of them are one.
+/// was refused, and only where no line so far has a fault.
 pub fn read_network(alloc: Global, text: &[u8]) -> Result<Network, Refused>
     ensures ok { IfOk result (SpellsNetwork (lines_of text.now)) }
     ensures err { IfErr result (λ refused. RefusesNetwork (lines_of text.now) refused.line refused.code) }

@@ -5,7 +5,7 @@ ghost use Rattle.net_text.specs.Lexing.{lines_of};
 ghost use Rattle.net_text.specs.declared.draft.Draft.{Draft};
 ghost use Rattle.net_text.specs.Declaring.{NetworksHaveWhatIsNamed};
 ghost use Rattle.net_text.specs.Layout.{WordsStandBetweenBlanks, LinesEndByLineFeeds};
-ghost use Rattle.net_text.specs.Laws.{FirstFaultDecidesNetworks, FirstFaultDecidesAssignments, OneNetwork, SpeltIsNotRefused, OneRefusal};
+ghost use Rattle.net_text.specs.Laws.{FirstFaultDecidesNetworks, FirstFaultDecidesAssignments, OneNetwork, SettingsAreNamed, HoldTimesFit, SpeltIsNotRefused, OneRefusal};
 
 /// A network text is refused at a line exactly where that line has the fault and no line before it
 /// has one.
@@ -38,6 +38,13 @@ pub fn networks_have_what_is_named()
 /// A network text spells one network at most.
 pub fn texts_spell_one_network()
     ensures { OneNetwork }
+{}
+
+/// The settings of a network that a text spells are those that its lines name, and the usual ones where
+/// none does; its hold time has two octets.
+pub fn spelt_settings()
+    ensures named { SettingsAreNamed }
+    ensures hold { HoldTimesFit }
 {}
 
 /// A network text that spells a network is refused only for want of memory.

@@ -1,12 +1,12 @@
 //! The lines of a network text: each is judged, and then adds to the network.
 
-ghost use Rattle.std.specs.Prelude.{◌≡◌, ◌<◌, false, length, Ok, OnOk, IfErr};
+ghost use Rattle.std.specs.Prelude.{◌≡◌};
 ghost use Rattle.std.specs.List.{list_any, count_by};
 ghost use Rattle.ranked_policy.specs.Plans.{touches};
 ghost use Rattle.net_text.specs.Lexing.{words_of};
 ghost use Rattle.prefix_lanes.specs.Bits.{is_prefix};
-ghost use Rattle.net_text.specs.Lines.{setting_line, router_line, link_line, origin_line, rule_line, named_line, words_line, line_reading, joins, is_taken, is_ruled, is_full, rule_fault, IsLongRule, HasLongRule, IsLongLine};
-ghost use Rattle.net_text.specs.Steps.{Steps, RefusesOr, StepsOr};
+ghost use Rattle.net_text.specs.Lines.{setting_line, router_line, link_line, origin_line, rule_line, named_line, words_line, line_reading, joins, is_taken, is_ruled, is_full, rule_fault};
+ghost use Rattle.net_text.specs.Steps.{Steps};
 
 use crate::code::Code;
 use crate::draft::Draft;
@@ -135,9 +135,7 @@ fn is_full(routers: &[Router], asn: Asn) -> bool
     routers.iter().any(|router| router.asn == asn && router.rules.len() >= MOST_RULES)
 }
 
-// Judges that a rule does not repeat, and then its counts. Only more paths than a rule may have
-// want memory,
-// before it is known whether two of them are one.
+// Judges that a rule does not repeat, and then its counts.
 fn judge_rule(
     alloc: Global,
     routers: &[Router],
@@ -145,16 +143,9 @@ fn judge_rule(
     prefix: &Prefix,
     words: &[u8],
 ) -> Result<(), Code>
-    ensures ok { OnOk result (rule_fault routers.now asn prefix.now (words_of words.now) ≡ Ok tt) }
-    ensures err { IfErr result (λ code. RefusesOr ((is_ruled routers.now asn prefix.now ≡ false) × (MOST_PATHS < length (words_of words.now))) code (rule_fault routers.now asn prefix.now (words_of words.now))) }
+    ensures { result ≡ rule_fault routers.now asn prefix.now (words_of words.now) }
 {
-    if is_ruled(routers, asn, prefix) {
-        return Err(Code::Repeated);
-    }
-    let Ok(distinct) = are_distinct(alloc, words) else {
-        return Err(Code::Memory);
-    };
-    if !distinct {
+    if is_ruled(routers, asn, prefix) || !are_distinct(alloc, words) {
         return Err(Code::Repeated);
     }
     if count_words(words) > MOST_PATHS || is_full(routers, asn) || !are_short(words) {
@@ -164,7 +155,7 @@ fn judge_rule(
 }
 
 fn read_rule(alloc: Global, draft: &mut Draft, words: &[u8]) -> Result<(), Code>
-    ensures { StepsOr (IsLongRule draft.old (words_of words.now)) result (rule_line draft.old (words_of words.now)) draft.new }
+    ensures { Steps result (rule_line draft.old (words_of words.now)) draft.new }
 {
     let Some((asn, words)) = next_word(words) else {
         return Err(Code::BadForm);
@@ -183,7 +174,7 @@ fn read_rule(alloc: Global, draft: &mut Draft, words: &[u8]) -> Result<(), Code>
 }
 
 fn read_words(alloc: Global, draft: &mut Draft, line: &[u8]) -> Result<(), Code>
-    ensures { StepsOr (HasLongRule draft.old (words_of line.now)) result (words_line draft.old (words_of line.now)) draft.new }
+    ensures { Steps result (words_line draft.old (words_of line.now)) draft.new }
 {
     let Some((name, words)) = next_word(line) else {
         return Ok(());
@@ -206,7 +197,7 @@ fn read_words(alloc: Global, draft: &mut Draft, line: &[u8]) -> Result<(), Code>
 
 // What a line adds to the network. After an `Err` the draft is of no more use.
 pub(crate) fn read_line(alloc: Global, draft: &mut Draft, line: &[u8]) -> Result<(), Code>
-    ensures { StepsOr (IsLongLine draft.old line.now) result (line_reading draft.old line.now) draft.new }
+    ensures { Steps result (line_reading draft.old line.now) draft.new }
 {
     if is_skipped(line) {
         return Ok(());

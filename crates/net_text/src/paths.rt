@@ -240,17 +240,18 @@ fn has_repeat(alloc: Global, words: &[u8]) -> Result<bool, AllocError>
     Ok(false)
 }
 
-// Whether no path is there twice. More of them than a rule may have are looked up, and only these
-// need memory: compared in pairs they could take hours.
-pub(crate) fn are_distinct(alloc: Global, words: &[u8]) -> Result<bool, AllocError>
-    ensures ok { IfOk result (λ distinct. distinct ≡ are_distinct (map path_of (words_of words.now))) }
-    ensures err { IfErr result (λ _. MOST_PATHS < length (words_of words.now)) }
+// Whether no path is there twice. More of them than a rule may have are looked up, since compared in
+// pairs they could take hours.
+pub(crate) fn are_distinct(alloc: Global, words: &[u8]) -> bool
+    ensures { result ≡ are_distinct (map path_of (words_of words.now)) }
 {
     if count_words(words) <= MOST_PATHS {
-        return Ok(are_apart(words));
+        return are_apart(words);
     }
-    let repeats = has_repeat(alloc, words)?;
-    Ok(!repeats)
+    match has_repeat(alloc, words) {
+        Ok(repeats) => !repeats,
+        Err(_) => are_apart(words),
+    }
 }
 
 // Whether the path has no more routers than it may.

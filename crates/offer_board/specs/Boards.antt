@@ -51,10 +51,10 @@ pub record Joins (x y : BoardView) (after : ℕ) (o : Offer) (taken : Taken) (at
 abbrev pub HasStamp : BoardView → ℕ → Type 0
 HasStamp x stamp = max x.stamp stamp + 1 ≤ GREATEST_STAMP
 
--- what a router offers whose last event has this stamp: its stamp is judged first, then whether the collector refuses it, and memory last
+-- what a router offers whose last event has this stamp: whether the collector refuses it is judged first, then its stamp, and memory last
 abbrev pub Offers : BoardView → BoardView → ℕ → Offer → Result (Taken × ℕ) CollectError → Type 0
 Offers x y stamp o (Ok answer) = Joins x y stamp o answer.0 answer.1
-Offers x y stamp o (Err refusal.StampEnd) = (GREATEST_STAMP < max x.stamp stamp + 1) × (y ≡ x)
-Offers x y stamp o (Err (refusal.Stranger u)) = HasStamp x stamp × (refusal_of x.collector o ≡ Some (refusal.Stranger u)) × (y ≡ x)
-Offers x y stamp o (Err (refusal.Twice u)) = HasStamp x stamp × (refusal_of x.collector o ≡ Some (refusal.Twice u)) × (y ≡ x)
-Offers x y stamp o (Err refusal.Memory) = HasStamp x stamp × (refusal_of x.collector o ≡ None) × (y ≡ x)
+Offers x y stamp o (Err (refusal.Stranger u)) = (refusal_of x.collector o ≡ Some (refusal.Stranger u)) × (y ≡ x)
+Offers x y stamp o (Err (refusal.Twice u)) = (refusal_of x.collector o ≡ Some (refusal.Twice u)) × (y ≡ x)
+Offers x y stamp o (Err refusal.StampEnd) = (refusal_of x.collector o ≡ None) × (GREATEST_STAMP < max x.stamp stamp + 1) × (y ≡ x)
+Offers x y stamp o (Err refusal.Memory) = (refusal_of x.collector o ≡ None) × HasStamp x stamp × (y ≡ x)

@@ -58,20 +58,20 @@ impl BoardState {
     /// Takes what a router offers, whose last event has the given stamp: the answer is what the
     /// collector made of it, and the stamp of the offer, one above the router's last and the board's.
     ///
-    /// Refused [`CollectError::StampEnd`] where that stamp would pass 2^62, else where the collector has a
-    /// [refusal](Collector::refusal) for it, and [`CollectError::Memory`] only where neither is; then the
-    /// board is as it was.
+    /// Refused where the collector has a [refusal](Collector::refusal) for it, else
+    /// [`CollectError::StampEnd`] where that stamp would pass 2^62, and [`CollectError::Memory`] only where
+    /// neither is; then the board is as it was.
     pub fn offer(&mut self, stamp: u64, offer: Offer) -> Result<(Taken, u64), CollectError>
         ensures offers { Offers self.old self.new stamp offer result }
         ensures members { self.new.collector.members ≡ self.old.collector.members }
     {
         kept_goes_on();
+        if let Some(error) = self.collector.refusal(&offer) {
+            return Err(error);
+        }
         let stamp = self.stamp.max(stamp).saturating_add(1);
         if stamp > GREATEST_STAMP {
             return Err(CollectError::StampEnd);
-        }
-        if let Some(error) = self.collector.refusal(&offer) {
-            return Err(error);
         }
         self.offers.reserve(1)?;
         let copy = offer.copied(*self.offers.allocator())?;

@@ -55,14 +55,20 @@ fn stamps_rise(rt: HostRuntime) -> Result<(), Fail> {
     tries(&rt, rt.alloc(), &ROWS, 2)
 }
 
+// The greatest stamp, above which there is none.
+const LAST: u64 = 0x4000_0000_0000_0000;
+
+// A stranger's offer and a second one are refused as such, also where no stamp is left.
 #[test]
 fn no_stamp_is_left(rt: HostRuntime) -> Result<(), Fail> {
-    static ROWS: [Row; 1] = [(
-        0x4000_0000_0000_0000,
-        Loss(3, 1),
-        Err(CollectError::StampEnd),
-    )];
-    tries(&rt, rt.alloc(), &ROWS, 0)
+    static ROWS: [Row; 5] = [
+        (LAST, Loss(3, 1), Err(CollectError::Stranger { router: 3 })),
+        (LAST, Part(1, false, 1, 0), Err(CollectError::StampEnd)),
+        (LAST - 1, Part(1, false, 1, 0), Ok((Taken::Kept, LAST))),
+        (0, Loss(1, 5), Err(CollectError::Twice { router: 1 })),
+        (0, Part(2, false, 1, 0), Err(CollectError::StampEnd)),
+    ];
+    tries(&rt, rt.alloc(), &ROWS, 1)
 }
 
 #[test]

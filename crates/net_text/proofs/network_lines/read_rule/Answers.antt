@@ -12,12 +12,12 @@ returns-in_err-judge_rule_paths c =
     let e = rw (c.width_named.ensures, c.routers.ensures.value) at c.in_ok-asn.ensures in
     let g = rw (c.width_named-2.ensures, c.routers-2.ensures.value) at c.in_err-judge_rule_paths.ensures in
     rw (p.1, p.2)
-    (refuses _ c.in_err-judge_rule_paths.field-0.0 (rule_path_words (width_named c.args.draft.now.named) c.args.draft.now.net.routers c.in_ok-asn.asn (words_of c.in-Some-next_word.words.now)) _
+    (refuses c.in_err-judge_rule_paths.field-0.0 (rule_path_words (width_named c.args.draft.now.named) c.args.draft.now.net.routers c.in_ok-asn.asn (words_of c.in-Some-next_word.words.now)) _
     (rule_paths_no_memory (width_named c.args.draft.now.named) c.args.draft.now.net.routers c.in_ok-asn.asn (words_of c.in-Some-next_word.words.now)) (sym g)
     (rule_stops c.args.draft.now _ _ _ _ _ _ _ _ c.in-Some.ensures.some c.in-Some-next_word.ensures.some e c.in_ok-prefix.ensures g))
 
 pub take_paths-requires : goal.take_paths-requires
 take_paths-requires c =
     let a = rw (c.width_named-2.ensures, c.routers-2.ensures.value) at c.in_ok-judge_rule_paths.ensures in
-    let b = rw c.routers-3.ensures.value at c.in_ok-judge_rule.ensures.ok in
-    takeable (width_named c.args.draft.now.named) c.args.draft.now.net.routers c.in_ok-asn.asn c.in_ok-prefix.prefix (words_of c.in-Some-next_word.words.now) _ tt (sym a) b
+    let b = rw c.routers-3.ensures.value at c.in_ok-judge_rule.ensures in
+    takeable (width_named c.args.draft.now.named) c.args.draft.now.net.routers c.in_ok-asn.asn c.in_ok-prefix.prefix (words_of c.in-Some-next_word.words.now) _ tt (sym a) (sym b)
