@@ -11,7 +11,7 @@ use Rattle.router_model.specs.Messages.{updates_in}
 use Rattle.router_model.specs.Settings.{Setting, IsSetting, linked}
 use Rattle.router_model.specs.Sides.{is_up}
 use Rattle.router_model.specs.Step.{Own}
-use Rattle.router_runs.specs.Runs.{RunOrder, RunState, IsRunTo, logged_steps, side_of, log_of, octets_of_all, stream}
+use Rattle.router_runs.specs.Runs.{RunOrder, RunState, IsRunTo, IsEventOf, logged_steps, side_of, log_of, octets_of_all, stream}
 
 -- from u to v in incarnation e: the messages that v used are a beginning of those that u said; their octets were taken, what was
 -- taken was put, and what was put was said; the UPDATEs among them are those that v acted on, and those said are those sent
@@ -36,5 +36,18 @@ abbrev pub NothingIsActedOnAfterTheClose : Type 0
 NothingIsActedOnAfterTheClose =
     (g : Setting) → IsSetting g → (before later : RunOrder) (d : NetworkEvent Own What MadeOffer) (old new last : RunState)
     → IsRunTo g before old → runs.NetworkStep (logged_steps g) old d new → runs.Run (logged_steps g) new later last
+    → (v : ℕ) → is_up (side_of old d.router v) ≡ true → is_up (side_of new d.router v) ≡ false
+    → (side_of last d.router v).acted (side_of old d.router v).link.epoch ≡ (side_of new d.router v).acted (side_of old d.router v).link.epoch
+
+-- ---- in one run
+
+-- from each router to each of its peers, in each incarnation
+abbrev pub OctetsPassInOrder : Setting → RunState → Type 0
+OctetsPassInOrder g state = (u v e : ℕ) → linked g.net u v ≡ true → PassesInOrder g state u v e
+
+-- where one of its events leaves Established, no later one acts on an UPDATE of that incarnation
+abbrev pub ActsOnNothingAfterCloses : Setting → RunOrder → RunState → Type 0
+ActsOnNothingAfterCloses g order last =
+    (d : NetworkEvent Own What MadeOffer) (old new : RunState) → IsEventOf g order last d old new
     → (v : ℕ) → is_up (side_of old d.router v) ≡ true → is_up (side_of new d.router v) ≡ false
     → (side_of last d.router v).acted (side_of old d.router v).link.epoch ≡ (side_of new d.router v).acted (side_of old d.router v).link.epoch
