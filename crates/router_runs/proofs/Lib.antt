@@ -13,6 +13,7 @@ pub mod Events
 mod Widths
 pub mod Running
 pub mod Streams
+mod Held
 pub mod Passing
 pub mod Goodness
 pub mod Saying

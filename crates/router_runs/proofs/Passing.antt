@@ -1,21 +1,24 @@
 -- What a link's two sides say of the messages that passed.
-use Rattle.std.proofs.Common.{◌≡◌, ◌≢◌, ℕ, true, List, ◌++◌, ap, sym, ◌∙◌, subst}
+use Rattle.std.proofs.Common.{◌≡◌, ◌≢◌, ℕ, true, List, [], ◌∷◌, ◌++◌, ap, sym, ◌∙◌, subst}
 use mathlib.Core.List.{IsPrefix}
 use Rattle.bgp_codec.specs.declared.message.Message.{Message}
-use Rattle.run_model.specs.Links.{End, said}
+use Rattle.link_epoch.specs.declared.link_end.Phase.TheVariants as phase
+use Rattle.run_model.specs.Links.{Entry, Shut, End, said}
 use Rattle.run_model.specs.Sessions as model
 use Rattle.run_model.specs.Sessions.{first_sides, all_moves}
-use Rattle.run_model.specs.Octets.{Passing, passing}
+use Rattle.run_model.specs.Octets.{Passing, passing, octets_of}
 use Rattle.router_model.specs.Settings.{Setting, linked}
 use Rattle.router_model.specs.Laws.{all_passes}
 use Rattle.router_runs.specs.Runs.{RunState, octets_of_all, stream, written_in}
 use Rattle.router_model.specs.Messages.{updates_in}
 use Rattle.router_runs.specs.Promises.{PassesInOrder}
 use Rattle.router_runs.specs.Runs.{side_of, log_of}
+use Rattle.router_runs.specs.Reading.{phase_of}
 use Rattle.router_runs.specs.Kept.{Reached}
-use Rattle.router_runs.proofs.Running.{all_front}
+use Rattle.router_runs.proofs.Running.{all_front, taken_said}
 use Rattle.run_model.specs.Streams.{octets_in}
 use Rattle.router_runs.proofs.Streams.{stream_is}
+use Rattle.router_runs.proofs.Held.{used_and_held}
 use Rattle.router_runs.proofs.Lower.{Laws, said_front}
 use Rattle.router_runs.proofs.Entries.{updates-append, prefix_trans}
 
@@ -42,11 +45,26 @@ module _ (laws : Laws) where
       subst (λ i. IsPrefix (octets_of_all g used) (octets_in e i)) (sym k.there.holds.passed)
       (subst (λ (i : End Message). IsPrefix (octets_of_all g (said e i.used)) (octets_in e (passing (written_in g) i.taken ++ k.there.holds.rest))) (l.1 v u)
       (laws.used (written_in g) (all_moves first_sides k.steps) l.0 v u e (λ same. apart u v link (sym same)) k.there.holds.rest)) in
+      let said_of_u : (entries : List (Entry Message)) → IsPrefix entries a.appended → octets_in e (passing (written_in g) entries) ≡ octets_of_all g (said e entries) =
+      λ entries front. laws.all (written_in g) (all_moves first_sides k.steps) l.0 u v e (apart u v link) entries (subst (λ (i : End Message). IsPrefix entries i.appended) (sym (l.1 u v)) front) in
+      let none : (before behind : List (Entry Message)) → a.appended ≡ before ++ Shut e ∷ behind → said e behind ≡ [] =
+      λ before behind is. laws.none_behind (all_moves first_sides k.steps) l.0 u v e (apart u v link) before behind (ap (λ (i : End Message). i.appended) (l.1 u v) ∙ is) in
+      let held : (side_of state v u).link.phase ≡ phase.Joined → (side_of state v u).link.epoch ≡ e → stream e (state.taken u v) ≡ octets_of_all g used ++ (side_of state v u).held =
+      λ j own.
+      let all_items : items ≡ passing (written_in g) b.taken ++ octets_of e (side_of state v u).held =
+      k.there.holds.passed ∙ ap (λ w. passing (written_in g) b.taken ++ w) (k.there.holds.joined j ∙ ap (λ n. octets_of n (side_of state v u).held) own) in
+      let passed : IsPrefix items (passing (written_in g) a.appended) =
+      subst (λ w. IsPrefix items (passing (written_in g) w)) log (taken_said laws g state u v (r.puts u v) (r.begins u v)) in
+      stream_is e (state.taken u v)
+      ∙ (ap (octets_in e) all_items
+      ∙ used_and_held laws (written_in g) e b a facts (k.there.stands.reads.phase ∙ ap phase_of j) (sym k.there.stands.reads.epoch ∙ own) (said_of_u b.taken facts.front) none (side_of state v u).held
+      (subst (λ w. IsPrefix w (passing (written_in g) a.appended)) all_items passed)) in
       let put : IsPrefix (all_passes (state.put u v)) (passing (written_in g) (log_of state u v)) = ((side_of state u v).outbox, r.puts u v) in (
         record {
           used = used;
           begins = begins;
           taken = subst (λ i. IsPrefix (octets_of_all g used) i) (sym (stream_is e (state.taken u v))) taken;
+          held = held;
           put = subst (λ i. IsPrefix i (stream e (state.put u v))) (sym (stream_is e (state.taken u v)))
               (subst (λ i. IsPrefix (octets_in e items) i) (sym (stream_is e (state.put u v))) (laws.beginnings e items (all_passes (state.put u v)) (all_front laws (state.taken u v) (state.put u v) (r.begins u v))));
           appended = subst (λ i. IsPrefix i (octets_of_all g (said e (log_of state u v)))) (sym (stream_is e (state.put u v)))

@@ -8,7 +8,7 @@ use Rattle.outbox.specs.declared.item.What.TheVariants as item
 use Rattle.router_model.specs.Laws.{all_passes}
 use Rattle.router_runs.specs.Runs.{stream}
 
-piece_in : (c : Bool) (e f : ℕ) (bs : List ℕ) (xs : List (Passing Message)) → (e == f) ≡ c → octets_in e (octets_of f bs ++ xs) ≡ cond c (bs ++ octets_in e xs) (octets_in e xs)
+pub piece_in : (c : Bool) (e f : ℕ) (bs : List ℕ) (xs : List (Passing Message)) → (e == f) ≡ c → octets_in e (octets_of f bs ++ xs) ≡ cond c (bs ++ octets_in e xs) (octets_in e xs)
 piece_in true e f [] xs is = refl
 piece_in false e f [] xs is = refl
 piece_in true e f (b ∷ bs) xs is = ap (λ c. cond c (b ∷ octets_in e (octets_of f bs ++ xs)) (octets_in e (octets_of f bs ++ xs))) is ∙ ap (λ w. b ∷ w) (piece_in true e f bs xs is)

@@ -6,7 +6,7 @@ use Rattle.bgp_codec.specs.Faults.{PeersWritingIsRead}
 use Rattle.run_model.specs.Links.{JoinedHeardItsOwn}
 use Rattle.run_model.specs.Sessions.{SessionRunsGoOn, SessionsMakeALinkRun}
 use Rattle.run_model.specs.Octets.{NextControlIsNextEntry, HeldBeginsNextMessage, DroppedOctetsAreMessages}
-use Rattle.run_model.specs.Streams.{BeginningsPass, OctetsBeginWhatIsSaid, UsedOctetsWereTaken, NoStaleOctetAtAnEnd, NoneDroppedAtAnEnd}
+use Rattle.run_model.specs.Streams.{BeginningsPass, OctetsBeginWhatIsSaid, NothingSaidBehindShut, AllOctetsPass, UsedOctetsWereTaken, NoStaleOctetAtAnEnd, NoneDroppedAtAnEnd}
 use Rattle.run_model.specs.Facts.{EndFactsHold, MovesKeepFacts, UpByFit, NotDialledIsNotShut, PastStaysPast, SessionEventsLeadOn, EntriesAddUp}
 use Rattle.stable_paths.specs.Promises.{StableIsTheModels}
 use Rattle.router_model.specs.Recording.{DraftsLeaveEstablished}
@@ -37,6 +37,8 @@ pub record LawsBelow : Type 0 where
   pub none_dropped : NoneDroppedAtAnEnd Message
   pub beginnings : BeginningsPass Message
   pub begins : OctetsBeginWhatIsSaid Message
+  pub none_behind : NothingSaidBehindShut Message
+  pub all : AllOctetsPass Message
   pub used : UsedOctetsWereTaken Message
   -- routers
   pub links : LinkedRoutersArePeers

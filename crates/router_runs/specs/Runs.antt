@@ -6,7 +6,7 @@ use Rattle.bgp_codec.specs.Spelling.{written}
 use Rattle.ranked_policy.specs.Plans.{IsRouter}
 use Rattle.run_model.specs.Links.{Entry}
 use Rattle.run_model.specs.Network as runs
-use Rattle.run_model.specs.Network.{Order, Steps, NetworkState, Run}
+use Rattle.run_model.specs.Network.{NetworkEvent, Order, Steps, NetworkState, Run}
 use Rattle.outbox.specs.declared.item.What.{What}
 use Rattle.outbox.specs.declared.item.What.TheVariants as item
 use Rattle.snap_marker.specs.Recordings.{MadeOffer}
@@ -43,6 +43,15 @@ RunState = NetworkState Logged What MadeOffer
 -- a run from the opening, in which no router has done anything, to this state
 abbrev pub IsRunTo : Setting → RunOrder → RunState → Type 0
 IsRunTo g order state = Run (logged_steps g) (runs.opening (λ u. new_logged g)) order state
+
+-- an event of a run to `last`, from the state `old` to `new`
+pub record IsEventOf (g : Setting) (order : RunOrder) (last : RunState) (d : NetworkEvent Own What MadeOffer) (old new : RunState) : Type 0 where
+  pub before : RunOrder
+  pub later : RunOrder
+  pub parts : order ≡ before ++ d ∷ later
+  pub reached : IsRunTo g before old
+  pub step : runs.NetworkStep (logged_steps g) old d new
+  pub goes_on : Run (logged_steps g) new later last
 
 -- the side of router u towards v in a state of a run
 abbrev pub side_of : RunState → ℕ → ℕ → Side

@@ -20,7 +20,7 @@ use Rattle.router_model.specs.State.{Router, route, is_pending}
 use Rattle.router_model.specs.Step.{Own, RouterEvent, Obeys, Ticks, Handles, Decides, Advertises}
 use Rattle.router_model.specs.Laws.{all_passes}
 use Rattle.router_model.specs.Recording.{IsRecording, LeavesFirst}
-use Rattle.router_runs.specs.Runs.{RunOrder, RunState, IsRunTo, logged_steps, side_of, log_of, written_in}
+use Rattle.router_runs.specs.Runs.{RunOrder, RunState, IsRunTo, IsEventOf, logged_steps, side_of, log_of, written_in}
 use Rattle.router_runs.specs.Model.{network_of}
 
 -- what router u records and has queued in a state of a run
@@ -37,6 +37,14 @@ abbrev pub CloseLosesTheRecording : Type 0
 CloseLosesTheRecording =
     (g : Setting) → IsSetting g → (before later : RunOrder) (d : NetworkEvent Own What MadeOffer) (old new last : RunState)
     → IsRunTo g before old → runs.NetworkStep (logged_steps g) old d new → runs.Run (logged_steps g) new later last
+    → (s v : ℕ) → IsRecording (snapshots_of old d.router) s → LeavesFirst g d.router v (old.routers d.router).router (new.routers d.router).router
+    → ((snapshots_of new d.router).queue ≡ (snapshots_of old d.router).queue ++ Lost s v (side_of old d.router v).link.epoch Closed ∷ [])
+    × ((part : RouterPart) → HasMade last s d.router part → ⊥)
+
+-- so does each of the events of one run that leave Established
+abbrev pub ClosesLoseRecordings : Setting → RunOrder → RunState → Type 0
+ClosesLoseRecordings g order last =
+    (d : NetworkEvent Own What MadeOffer) (old new : RunState) → IsEventOf g order last d old new
     → (s v : ℕ) → IsRecording (snapshots_of old d.router) s → LeavesFirst g d.router v (old.routers d.router).router (new.routers d.router).router
     → ((snapshots_of new d.router).queue ≡ (snapshots_of old d.router).queue ++ Lost s v (side_of old d.router v).link.epoch Closed ∷ [])
     × ((part : RouterPart) → HasMade last s d.router part → ⊥)

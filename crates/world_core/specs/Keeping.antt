@@ -11,19 +11,28 @@ use Rattle.router_model.specs.Settings.{Setting, IsSetting, linked}
 use Rattle.router_model.specs.Step.{Own, RouterEvent}
 use Rattle.router_model.specs.Calls.{Advertise, Refuses, answer}
 use Rattle.router_runs.specs.Runs.{RunOrder, RunState, IsRunTo, logged_steps}
-use Rattle.router_runs.specs.Snapshots.{SnapshotsHold}
+use Rattle.router_runs.specs.Promises.{OctetsPassInOrder, ActsOnNothingAfterCloses}
+use Rattle.router_runs.specs.Snapshots.{ClosesLoseRecordings, SnapshotsHold}
 use Rattle.world_core.specs.declared.schedule.Event.{Event}
 use Rattle.world_core.specs.declared.schedule.Event.TheVariants as schedule
 use Rattle.world_core.specs.World.{World, Does, Nothing, new_world, world_answer, world_after, played, name_of, AgreesWith, IsRunOfWorld, IsReplayed}
 
+-- this holds of each run that the world stands at the end of
+abbrev pub HoldsOfItsRuns : Setting → World → (RunOrder → RunState → Type 0) → Type 0
+HoldsOfItsRuns g w Holds = (order : RunOrder) (state : RunState) → IsRunTo g order state → AgreesWith g w state → Holds order state
+
 -- it stands at the end of a run; the UPDATEs that each router acted on in an incarnation of a session are a beginning of those that
--- its peer sent in it; and of each run that it stands at the end of, the snapshots are consistent cuts, and what is settled is a
--- stable path assignment, which stays
+-- its peer sent in it; and of each run that it stands at the end of: so are the octets, from end to end, nothing is acted on after a
+-- close, a close loses the recording of its router, the snapshots are consistent cuts, and what is settled is a stable path
+-- assignment, which stays
 pub record KeepsItsPromises (g : Setting) (w : World) : Type 0 where
   pub run : IsRunOfWorld g w
   pub in_order : (u v e : ℕ) → linked g.net u v ≡ true
       → IsPrefix (((w.routers v).router.sides u).acted e) (((w.routers u).router.sides v).sent e)
-  pub snapshots : (order : RunOrder) (state : RunState) → IsRunTo g order state → AgreesWith g w state → SnapshotsHold g order state
+  pub octets : HoldsOfItsRuns g w (λ order state. OctetsPassInOrder g state)
+  pub after_close : HoldsOfItsRuns g w (ActsOnNothingAfterCloses g)
+  pub closes : HoldsOfItsRuns g w (ClosesLoseRecordings g)
+  pub snapshots : HoldsOfItsRuns g w (SnapshotsHold g)
 
 -- what is played is a run
 abbrev pub WhatIsPlayedIsARun : Type 0

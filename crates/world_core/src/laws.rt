@@ -12,7 +12,10 @@ ghost use Rattle.world_core.specs.Replays.{ChosenRunsArePlayed, WorldsHaveTheirR
 use router_model::laws::{
     answers_are_steps, idle_where_nothing_may_come, linked_routers_are_peers,
 };
-use router_runs::{snapshots_of_runs, updates_pass_in_order};
+use router_runs::{
+    close_loses_the_recording, nothing_is_acted_on_after_the_close, snapshots_of_runs,
+    updates_pass_in_order,
+};
 use run_cuts::laws::{chosen_runs_pass_through, cuts_are_one, runs_pass_through_snapshots};
 use snap_collector::laws::{collected_are_kept, verdicts_are_outcomes};
 
@@ -35,15 +38,18 @@ pub fn steps_are_replayed()
 {}
 
 /// Every world that was played stands at the end of a run, and in it the UPDATEs that each router acted on in an
-/// incarnation of a session are a beginning of those that its peer sent in it: in order, once each. The snapshots of each run
-/// that it stands at the end of are consistent cuts, and the paths of one that is settled are a stable path assignment, which
-/// stays while the run is quiet.
+/// incarnation of a session are a beginning of those that its peer sent in it: in order, once each. In each run that it stands
+/// at the end of the octets pass in order, from end to end; nothing is acted on after a close; a close queues the loss of the
+/// snapshot that its router records; and the snapshots are consistent cuts, the paths of one that is settled being a stable
+/// path assignment, which stays while the run is quiet.
 pub fn played_worlds_keep_their_promises()
     ensures { PlayedWorldsKeepTheirPromises }
 {
     answers_are_steps();
     linked_routers_are_peers();
     updates_pass_in_order();
+    nothing_is_acted_on_after_the_close();
+    close_loses_the_recording();
     snapshots_of_runs();
 }
 
