@@ -2,4 +2,5 @@
 
 mod bgp_codec_tests;
 mod bgp_framing_tests;
+mod framed_tests;
 mod outbox_tests;
