@@ -1,4 +1,4 @@
-use Rattle.std.proofs.Common.{arith, sym}
+use Rattle.std.proofs.Common.{arith}
 use Rattle.router_core.proofs.Beginnings.{open_sayable}
 use Rattle.router_core.proofs.opening.open_message.Goals as goal
 

@@ -1,4 +1,4 @@
-use Rattle.std.proofs.Common.{◌∙◌, arith, refl}
+use Rattle.std.proofs.Common.{◌∙◌, refl}
 use Rattle.router_core.proofs.Beginnings.{identifier_is, is_unicast_host}
 use Rattle.router_core.proofs.opening.own_open.Goals as goal
 

@@ -1,5 +1,8 @@
-use Rattle.std.proofs.Common.{◌≡◌, ◌∙◌, sym, ap, subst}
+use Rattle.std.proofs.Common.{◌≡◌, ◌∙◌, ℕ, List, sym, ap, subst}
+use Rattle.std.specs.Prelude.{IfOk}
+use Rattle.bgp_codec.specs.declared.update.Update.{Update}
 use Rattle.router_model.specs.Sides.{Side}
+use Rattle.router_side.specs.Histories.{history}
 use Rattle.router_side.specs.SideOf.{side, side_opening}
 use Rattle.router_core.specs.declared.peers.Peer.{Peer}
 use Rattle.router_core.specs.Views.{RouterView, IsFound, sides_of, config_of}
@@ -13,4 +16,5 @@ returns c =
     let place = subst (λ (x : RouterView). IsFound x.peers v c.in_ok-at.at) (sym c.self.view_is) c.in_ok-at.ensures.place in
     let stands : sides_of r v ≡ side c.index.result.now.end =
     side_here (side_opening (config_of r.net) r.net.settings.width) r.peers v c.in_ok-at.at c.index.result.now place.2 ∙ ap (λ (w : Peer). side w.end) (sym c.index.ensures) in
-    c.acted.ensures ∙ ap (λ (s : Side). s.acted) (sym stands) ∙ ap (λ (x : RouterView). (sides_of x v).acted) c.self.view_is
+    subst (λ (us : ℕ → List Update). IfOk c.acted.result (λ told. history told.items ≡ us)) (ap (λ (s : Side). s.acted) (sym stands) ∙ ap (λ (x : RouterView). (sides_of x v).acted) c.self.view_is)
+    c.acted.ensures
