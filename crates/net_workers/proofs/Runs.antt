@@ -41,8 +41,8 @@ use Rattle.net_workers.specs.Ran.{Passed, IsTold, HasWorked}
 use Rattle.net_workers.specs.Runs.{RecordsAreRuns, RecordsKeepTheirPromises}
 use Rattle.router_runs.specs.Model.{network_of}
 use Rattle.world_core.specs.Verdicts.{MembersAreOfTheNetwork}
-use Rattle.router_runs.specs.Promises.{UpdatesPassInOrder}
-use Rattle.router_runs.specs.Snapshots.{SnapshotsHoldInRuns}
+use Rattle.router_runs.specs.Promises.{UpdatesPassInOrder, NothingIsActedOnAfterTheClose}
+use Rattle.router_runs.specs.Snapshots.{CloseLosesTheRecording, SnapshotsHoldInRuns}
 use Rattle.net_workers.proofs.Blocks.{Block, IsFit, acts_of, acts_by, routers_of, by, rises_map, own_acts, all_fit, routers_rise, own_rise, events_are}
 
 -- ---- lines of journals
@@ -321,9 +321,9 @@ records_are_runs {G} given journals rise sorting lifts stamped_law collectors th
       refl,
     )
 
-pub records_keep_their_promises : {G : Type 0} (given : G → List Chore) → RecordsAreRuns given → UpdatesPassInOrder → SnapshotsHoldInRuns → MembersAreOfTheNetwork → VerdictsAreOutcomes → CollectedAreKept
-    → RecordsKeepTheirPromises given
-records_keep_their_promises given runs_law order hold members_law verdicts kept plan turns p workers c gathered is turn g net set =
+pub records_keep_their_promises : {G : Type 0} (given : G → List Chore) → RecordsAreRuns given → UpdatesPassInOrder → NothingIsActedOnAfterTheClose → CloseLosesTheRecording → SnapshotsHoldInRuns → MembersAreOfTheNetwork → VerdictsAreOutcomes
+    → CollectedAreKept → RecordsKeepTheirPromises given
+records_keep_their_promises given runs_law order nothing_after loses hold members_law verdicts kept plan turns p workers c gathered is turn g net set =
     let both = runs_law plan turns p workers c gathered is turn g net set in
     let ran = both.0 in
     let made : made_for c ≡ with_offers (λ s. []) ran.state.offered = is.collects.made ∙ ap (with_offers (λ s. [])) (sym both.1) in
@@ -332,6 +332,8 @@ records_keep_their_promises given runs_law order hold members_law verdicts kept 
     record {
       run = ran;
       in_order = λ u v e near. order g set ran.order ran.state ran.run u v e near;
+      after_close = λ d old new at. nothing_after g set at.before at.later d old new ran.state at.reached at.step at.goes_on;
+      closes = λ d old new at. loses g set at.before at.later d old new ran.state at.reached at.step at.goes_on;
       snapshots = hold g set ran.order ran.state ran.run;
       offered = made;
       outcomes = λ s.

@@ -8,8 +8,8 @@ use Rattle.run_model.specs.Stamps.{offers_on}
 use Rattle.router_model.specs.Settings.{Setting, IsSetting, linked}
 use Rattle.router_runs.specs.Runs.{RunOrder, RunState, IsRunTo, side_of}
 use Rattle.router_runs.specs.Model.{network_of}
-use Rattle.router_runs.specs.Promises.{PassesInOrder}
-use Rattle.router_runs.specs.Snapshots.{SnapshotsHold}
+use Rattle.router_runs.specs.Promises.{PassesInOrder, ActsOnNothingAfterCloses}
+use Rattle.router_runs.specs.Snapshots.{ClosesLoseRecordings, SnapshotsHold}
 use Rattle.router_core.specs.Views.{plain_of}
 use Rattle.snap_collector.specs.Collector.{CollectorView, made_for, with_offers}
 use Rattle.world_core.specs.Verdicts.{judged}
@@ -45,7 +45,9 @@ RecordsAreRuns {G} given =
 -- comes out in that run
 pub record KeepsPromises {G : Type 0} (g : Setting) (p : Passed) (workers : List (Worked G)) (c : CollectorView) (gathered : List Entry) : Type 0 where
   pub run : IsRunOfThreads g p workers gathered
-  pub in_order : (u v e : ℕ) → linked g.net u v ≡ true → PassesInOrder run.state u v e × IsPrefix ((side_of run.state v u).acted e) ((side_of run.state u v).sent e)
+  pub in_order : (u v e : ℕ) → linked g.net u v ≡ true → PassesInOrder g run.state u v e × IsPrefix ((side_of run.state v u).acted e) ((side_of run.state u v).sent e)
+  pub after_close : ActsOnNothingAfterCloses g run.order run.state
+  pub closes : ClosesLoseRecordings g run.order run.state
   pub snapshots : SnapshotsHold g run.order run.state
   pub offered : made_for c ≡ with_offers (λ s. []) run.state.offered
   pub outcomes : (s : ℕ) → HasOutcome (network_of g) s run.state.offered (judged c s)

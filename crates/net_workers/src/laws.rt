@@ -3,7 +3,10 @@
 
 ghost use Rattle.net_workers.specs.Runs.{RecordsAreRuns, RecordsKeepTheirPromises};
 
-use router_runs::{NetworkRouters, snapshots_of_runs, updates_pass_in_order};
+use router_runs::{
+    NetworkRouters, close_loses_the_recording, nothing_is_acted_on_after_the_close,
+    snapshots_of_runs, updates_pass_in_order,
+};
 use run_model::orders::{
     JournalLines, WholeLines, causal_orders_end_alike, gathered_events_are_stamped,
     gathering_lifts, sorting_by_stamp_gathers, stamps_change_no_item,
@@ -48,9 +51,10 @@ impl WholeLines for Events {
 }
 
 /// Every record is one of a run of the network: the gathered events are that run, and its last state has the routers, the
-/// items that were put and taken, and the offers of the record (`runs`). So all promises of runs hold of it: UPDATEs passed
-/// in order, how a snapshot comes out by the collector is how it comes out in that run, and what is settled is a stable path
-/// assignment that stays (`promises`).
+/// items that were put and taken, and the offers of the record (`runs`). So all promises of runs hold of it: UPDATEs and
+/// octets passed in order, none was acted on after a close, a close lost the recording of its router, how a snapshot comes
+/// out by the collector is how it comes out in that run, and what is settled is a stable path assignment that stays
+/// (`promises`).
 ///
 /// Premises: the record is one ([`crate::run_net`]), and in each direction the items that were taken are the first of those that
 /// were put, one after another; the network is one, routers choose by rank. It does not say that two threads ever ran at
@@ -69,6 +73,8 @@ pub fn records_are_runs<G: Gate>()
     causal_orders_end_alike::<NetworkRouters>();
     stamps_change_no_item::<NetworkRouters>();
     updates_pass_in_order();
+    nothing_is_acted_on_after_the_close();
+    close_loses_the_recording();
     snapshots_of_runs();
     members_are_of_the_network();
     verdicts_are_outcomes();

@@ -67,8 +67,8 @@ pub fn runs_keep()
 }
 
 /// Updates pass in order. In every run, from each router to each peer and for each incarnation: the messages used are a beginning of
-/// those said, their octets were taken, what was taken was put, what was put was said; and the UPDATEs acted on are a beginning
-/// of those sent.
+/// those said, their octets were taken, what was taken was put, what was put was said; while the peer is joined in the incarnation,
+/// it holds what it took behind those octets; and the UPDATEs acted on are a beginning of those sent.
 ///
 /// Premises: the network is one (`IsNetwork`), routers choose by rank, the hold time fits an OPEN. It does not say that anything
 /// arrives.

@@ -9,6 +9,6 @@ returns g c =
     c.stamps_give_the_collectors_order.ensures c.threads_are_a_run.ensures c.causal_orders_end_alike.ensures c.stamps_change_no_item.ensures in
     record {
       runs = runs;
-      promises = records_keep_their_promises g.G.Gate.given runs c.updates_pass_in_order.ensures c.snapshots_of_runs.ensures.hold
-          c.members_are_of_the_network.ensures c.verdicts_are_outcomes.ensures c.collected_are_kept.ensures;
+      promises = records_keep_their_promises g.G.Gate.given runs c.updates_pass_in_order.ensures c.nothing_is_acted_on_after_the_close.ensures
+          c.close_loses_the_recording.ensures c.snapshots_of_runs.ensures.hold c.members_are_of_the_network.ensures c.verdicts_are_outcomes.ensures c.collected_are_kept.ensures;
     }
