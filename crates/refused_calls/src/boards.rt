@@ -5,6 +5,7 @@ use ranked_policy::Network;
 use snap_collector::{CollectError, Taken};
 use snap_marker::{Cause, Lost, Offer};
 use std::alloc::{AllocError, Global};
+use std::mem::forget;
 
 type Answer = Result<(Taken, u64), CollectError>;
 
@@ -38,25 +39,63 @@ fn is_same(alloc: Global, one: &BoardState, other: &BoardState) -> Result<bool, 
     Ok(first.as_str() == second.as_str())
 }
 
-/// Whether each refused offer leaves its board, and again is answered as at another.
-pub fn are_alike(alloc: Global, network: &Network) -> Result<bool, AllocError> {
-    let mut one = BoardState::new(alloc, network)?;
-    let mut other = BoardState::new(alloc, network)?;
+// What a board answers, asked again where memory was refused.
+fn at_last(board: &mut BoardState, number: u32) -> Answer {
+    let got = answer(board, number);
+    if got == Err(CollectError::Memory) {
+        return answer(board, number);
+    }
+    got
+}
+
+// Whether the offer is answered alike by both, and leaves the first as the second where memory was refused.
+fn offer_is_alike(
+    alloc: Global,
+    one: &mut BoardState,
+    other: &mut BoardState,
+    number: u32,
+) -> Result<bool, AllocError> {
+    let mut got = answer(one, number);
+    if got == Err(CollectError::Memory) {
+        if !is_same(alloc, one, other)? {
+            return Ok(false);
+        }
+        got = answer(one, number);
+    }
+    Ok(got == at_last(other, number) && is_same(alloc, one, other)?)
+}
+
+fn offers_are_alike(
+    alloc: Global,
+    one: &mut BoardState,
+    other: &mut BoardState,
+) -> Result<bool, AllocError> {
     for number in 1..=5u32 {
-        let mut got = answer(&mut one, number);
-        if got == Err(CollectError::Memory) {
-            if !is_same(alloc, &one, &other)? {
-                return Ok(false);
-            }
-            got = answer(&mut one, number);
-        }
-        let mut wanted = answer(&mut other, number);
-        if wanted == Err(CollectError::Memory) {
-            wanted = answer(&mut other, number);
-        }
-        if got != wanted || !is_same(alloc, &one, &other)? {
+        if !offer_is_alike(alloc, one, other, number)? {
             return Ok(false);
         }
     }
     Ok(true)
+}
+
+// The boards are left, not dropped, as routers are.
+fn are_alike_in(alloc: Global, network: &Network, mut one: BoardState) -> Result<bool, AllocError> {
+    let alike = match BoardState::new(alloc, network) {
+        Ok(mut other) => {
+            let alike = offers_are_alike(alloc, &mut one, &mut other);
+            forget(other);
+            alike
+        }
+        Err(AllocError) => Err(AllocError),
+    };
+    forget(one);
+    alike
+}
+
+/// Whether each refused offer leaves its board, and again is answered as at another.
+pub fn are_alike(alloc: Global, network: &Network) -> Result<bool, AllocError> {
+    match BoardState::new(alloc, network) {
+        Ok(one) => are_alike_in(alloc, network, one),
+        Err(AllocError) => Err(AllocError),
+    }
 }

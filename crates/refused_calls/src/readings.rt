@@ -1,30 +1,53 @@
 //! What the readers of a router say, as a text.
 
-use ranked_policy::Network;
+use ranked_policy::{Asn, Network};
 use router_core::Router;
 use router_model::RouterError;
 use std::alloc::{AllocError, Global};
 
-// Appends the incarnations and UPDATEs of a peer that were acted on and sent, and what is put next.
+/// Appends what is shown, where there was memory for it.
+pub fn push(text: &mut String, shown: Result<String, AllocError>) -> Result<(), AllocError> {
+    match shown {
+        Ok(shown) => text.push_str(shown.as_str()),
+        Err(AllocError) => Err(AllocError),
+    }
+}
+
+fn acted(alloc: Global, router: &Router<'_>, peer: Asn) -> Result<String, AllocError> {
+    match router.acted(alloc, peer) {
+        Some(Ok(acted)) => format!(in alloc; " acted {acted:?}"),
+        Some(Err(AllocError)) => Err(AllocError),
+        None => Ok(String::new(alloc)),
+    }
+}
+
+fn sent(alloc: Global, router: &Router<'_>, peer: Asn) -> Result<String, AllocError> {
+    match router.sent(alloc, peer) {
+        Some(Ok(sent)) => format!(in alloc; " sent {sent:?}"),
+        Some(Err(AllocError)) => Err(AllocError),
+        None => Ok(String::new(alloc)),
+    }
+}
+
+fn next(alloc: Global, router: &Router<'_>, peer: Asn) -> Result<String, AllocError> {
+    match router.next_item(peer) {
+        Err(RouterError::Memory) => Err(AllocError),
+        next => format!(in alloc; " next {next:?}"),
+    }
+}
+
+// Appends what was acted on and sent, and what is put next.
 fn push_peer(
     alloc: Global,
     text: &mut String,
     router: &Router<'_>,
-    peer: u32,
+    peer: Asn,
 ) -> Result<(), AllocError> {
-    if let Some(acted) = router.acted(alloc, peer) {
-        text.push_str(format!(in alloc; " acted {:?}", acted?)?.as_str())?;
-    }
-    if let Some(sent) = router.sent(alloc, peer) {
-        text.push_str(format!(in alloc; " sent {:?}", sent?)?.as_str())?;
-    }
-    match router.next_item(peer) {
-        Err(RouterError::Memory) => return Err(AllocError),
-        next => text.push_str(format!(in alloc; " next {next:?}")?.as_str())?,
-    }
-    let may_take = router.may_take(peer);
-    let is_quiet = router.is_quiet(peer);
-    text.push_str(format!(in alloc; " takes {may_take} quiet {is_quiet}")?.as_str())
+    push(text, acted(alloc, router, peer))?;
+    push(text, sent(alloc, router, peer))?;
+    push(text, next(alloc, router, peer))?;
+    let (takes, quiet) = (router.may_take(peer), router.is_quiet(peer));
+    push(text, format!(in alloc; " takes {takes} quiet {quiet}"))
 }
 
 /// Appends what every reader of a router says.
@@ -34,15 +57,17 @@ pub fn push_router(
     network: &Network,
     router: &Router<'_>,
 ) -> Result<(), AllocError> {
-    let (number, stamp) = (router.number(), router.stamp());
-    text.push_str(format!(in alloc; "router {number} stamp {stamp}")?.as_str())?;
+    let (number, stamp, offer) = (router.number(), router.stamp(), router.next_offer());
+    push(
+        text,
+        format!(in alloc; "router {number} stamp {stamp} offers {offer:?}"),
+    )?;
     for origin in network.origins() {
         let kept = router.kept(&origin.prefix);
-        text.push_str(format!(in alloc; " kept {kept:?}")?.as_str())?;
+        push(text, format!(in alloc; " kept {kept:?}"))?;
     }
     for peer in network.routers() {
         push_peer(alloc, text, router, peer.asn)?;
     }
-    let offer = router.next_offer();
-    text.push_str(format!(in alloc; " offers {offer:?}\n")?.as_str())
+    Ok(())
 }

@@ -1,10 +1,11 @@
 //! Steps of a world.
 
-use crate::readings::push_router;
+use crate::readings::{push, push_router};
 use prefix_lanes::Prefix;
 use ranked_policy::Network;
 use router_model::{Command, Stepped};
 use std::alloc::{AllocError, Global};
+use std::mem::forget;
 use world_core::{Event, StepFault, World};
 
 // How many turns each of the two routers has behind the commands.
@@ -47,32 +48,34 @@ fn new_world(alloc: Global, network: &Network) -> Result<World<'_>, AllocError> 
     World::new(alloc, network).map_err(|_| AllocError)
 }
 
-// What the readers of a world say, but for the events that it did.
-fn said(alloc: Global, network: &Network, world: &World<'_>) -> Result<String, AllocError> {
-    let mut text = String::new(alloc);
+// Appends what the readers of a world say, but for the events that it did.
+fn push_said(
+    alloc: Global,
+    text: &mut String,
+    network: &Network,
+    world: &World<'_>,
+) -> Result<(), AllocError> {
     for router in network.routers() {
         if let Some(router) = world.router(router.asn) {
-            push_router(alloc, &mut text, network, router)?;
+            push_router(alloc, text, network, router)?;
         }
     }
     let decided = world.collector().decided();
     let outcome = world.collector().outcome(1);
-    text.push_str(format!(in alloc; "decided {decided:?} {outcome:?}")?.as_str())?;
-    Ok(text)
+    push(text, format!(in alloc; " decided {decided:?} {outcome:?}"))
 }
 
+// Whether two worlds did the same and say the same.
 fn is_same(
     alloc: Global,
     network: &Network,
     one: &World<'_>,
     other: &World<'_>,
 ) -> Result<bool, AllocError> {
-    if one.run() != other.run() {
-        return Ok(false);
-    }
-    let first = said(alloc, network, one)?;
-    let second = said(alloc, network, other)?;
-    Ok(first.as_str() == second.as_str())
+    let (mut first, mut second) = (String::new(alloc), String::new(alloc));
+    push_said(alloc, &mut first, network, one)?;
+    push_said(alloc, &mut second, network, other)?;
+    Ok(one.run() == other.run() && first.as_str() == second.as_str())
 }
 
 // What a step answers. It ensures nothing, so that one answer is not carried along to the next.
@@ -80,37 +83,72 @@ fn answer(world: &mut World<'_>, event: &Event) -> Result<Stepped, StepFault> {
     world.step(event)
 }
 
-// What the step answers of one world, again where memory was refused; none where the world was then not as the other.
-fn again(
+// What the step answers, asked again where memory was refused.
+fn at_last(world: &mut World<'_>, event: &Event) -> Result<Stepped, StepFault> {
+    let got = answer(world, event);
+    if got == Err(StepFault::Memory) {
+        return answer(world, event);
+    }
+    got
+}
+
+// Whether the step is answered alike by both, and leaves the first as the second where memory was refused.
+fn step_is_alike(
     alloc: Global,
     network: &Network,
     one: &mut World<'_>,
-    other: &World<'_>,
+    other: &mut World<'_>,
     event: &Event,
-) -> Result<Option<Result<Stepped, StepFault>>, AllocError> {
-    let got = answer(one, event);
-    if got != Err(StepFault::Memory) {
-        return Ok(Some(got));
+) -> Result<bool, AllocError> {
+    let mut got = answer(one, event);
+    if got == Err(StepFault::Memory) {
+        if !is_same(alloc, network, one, other)? {
+            return Ok(false);
+        }
+        got = answer(one, event);
     }
-    if !is_same(alloc, network, one, other)? {
-        return Ok(None);
+    Ok(got == at_last(other, event))
+}
+
+fn steps_are_alike(
+    alloc: Global,
+    network: &Network,
+    one: &mut World<'_>,
+    other: &mut World<'_>,
+    events: &[Event],
+) -> Result<bool, AllocError> {
+    for event in events {
+        if !step_is_alike(alloc, network, one, other, event)? {
+            return Ok(false);
+        }
     }
-    Ok(Some(answer(one, event)))
+    is_same(alloc, network, one, other)
+}
+
+// The worlds are left, not dropped, as routers are.
+fn are_alike_in(
+    alloc: Global,
+    network: &Network,
+    mut one: World<'_>,
+    events: &[Event],
+) -> Result<bool, AllocError> {
+    let alike = match new_world(alloc, network) {
+        Ok(mut other) => {
+            let alike = steps_are_alike(alloc, network, &mut one, &mut other, events);
+            forget(other);
+            alike
+        }
+        Err(AllocError) => Err(AllocError),
+    };
+    forget(one);
+    alike
 }
 
 /// Whether each refused step leaves its world, and again answers what it answers of another.
 pub fn are_alike(alloc: Global, network: &Network) -> Result<bool, AllocError> {
-    let mut one = new_world(alloc, network)?;
-    let mut other = new_world(alloc, network)?;
-    for event in &events(alloc)? {
-        let got = again(alloc, network, &mut one, &other, event)?;
-        let mut wanted = answer(&mut other, event);
-        if wanted == Err(StepFault::Memory) {
-            wanted = answer(&mut other, event);
-        }
-        if got != Some(wanted) {
-            return Ok(false);
-        }
+    let events = events(alloc)?;
+    match new_world(alloc, network) {
+        Ok(one) => are_alike_in(alloc, network, one, events.as_slice()),
+        Err(AllocError) => Err(AllocError),
     }
-    is_same(alloc, network, &one, &other)
 }
