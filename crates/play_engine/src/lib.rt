@@ -18,4 +18,5 @@ mod stream;
 
 pub use cut::cut_stream;
 pub use play::play_stream;
+pub use schedules::Stop;
 pub use snapshots::put_parts;
