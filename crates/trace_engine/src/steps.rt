@@ -1,7 +1,7 @@
 //! Events that are done one after the other, each written as it is done.
 
-ghost use Rattle.std.specs.Prelude.{◌≡◌, ◌∷◌, []};
-ghost use Rattle.world_core.specs.Orders.{round, second, repeated};
+ghost use Rattle.std.specs.Prelude.{◌≡◌};
+ghost use Rattle.world_core.specs.Orders.{round, repeated};
 ghost use Rattle.trace_engine.specs.Tracing.{TracesOne, TracesEvents, TracesRounds};
 
 use crate::events::put_event;
@@ -40,17 +40,17 @@ pub(crate) fn trace_events(
 /// Behind that one all others do nothing.
 pub(crate) fn trace_rounds(
     world: &mut World<'_>,
-    round: &[Event],
+    once: &[Event],
     times: u32,
     out: &mut Vec<u8>,
 ) -> Result<Option<u32>, StepFault>
-    requires { round.now ≡ round world.old.net }
+    requires { once.now ≡ round world.old.net }
     ensures traces { TracesRounds result world.old times out.old.items world.new out.new.items }
     ensures same { world.new.net ≡ world.old.net }
 {
     for passed in 0..times {
         let before = world.run().len();
-        trace_events(world, round, out)?;
+        trace_events(world, once, out)?;
         if world.run().len() == before {
             return Ok(Some(passed));
         }
@@ -61,15 +61,15 @@ pub(crate) fn trace_rounds(
 /// Does so many seconds.
 pub(crate) fn trace_seconds(
     world: &mut World<'_>,
-    second: &[Event],
+    once: &[Event],
     times: u32,
     out: &mut Vec<u8>,
 ) -> Result<(), StepFault>
-    ensures traces { TracesEvents result world.old (repeated times second.now) out.old.items world.new out.new.items }
+    ensures traces { TracesEvents result world.old (repeated times once.now) out.old.items world.new out.new.items }
     ensures same { world.new.net ≡ world.old.net }
 {
     for _ in 0..times {
-        trace_events(world, second, out)?;
+        trace_events(world, once, out)?;
     }
     Ok(())
 }
