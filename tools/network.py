@@ -8,7 +8,9 @@ MOST_PREFIXES = 256
 MOST_RULES = 64
 MOST_PATHS = 32
 LONGEST_PATH = 16
-GREATEST_ASN = 65535
+GREATEST_ASN = 2**32 - 1
+# Above it a network needs the line `asn 4`.
+GREATEST_OF_TWO_OCTETS = 65535
 
 SECTIONS = ("assignment", "schedule")
 

@@ -29,6 +29,12 @@ def update_message(asn, prefix):
     return message(2, struct.pack(">HH", 0, len(attributes)) + attributes + bytes([16, 10, prefix]))
 
 
+def wide_message(asn):
+    """An UPDATE of a speaker of four-octet numbers."""
+    attributes = bytes([0x40, 1, 1, 0, 0x40, 2, 6, 2, 1]) + struct.pack(">I", asn) + bytes([0x40, 3, 4, 10, 0, 0, 1])
+    return message(2, struct.pack(">HH", 0, len(attributes)) + attributes + bytes([16, 10, 7]))
+
+
 def speech(asn, updates, capabilities=b""):
     """What one end says: an OPEN, a KEEPALIVE, and UPDATEs."""
     return open_message(asn, capabilities) + message(4) + b"".join(update_message(asn, n % 256) for n in range(updates))
@@ -322,7 +328,7 @@ class Printed(unittest.TestCase):
 
     def test_capabilities_of_both_opens(self):
         for one, other, said in ((self.FOUR, self.FOUR, True), (self.FOUR, b"", False), (b"", b"", False),
-                                 (self.FOUR, bytes([2, 0]), False)):
+                                 (self.FOUR, bytes([2, 0]), False), (self.FOUR, bytes([65, 2, 0, 1]), False)):
             data = ethernet(conversation(speech(1, 0, one), speech(2, 0, other)))
             self.assertEqual("1 and 2: both OPENs have capability 65" in run("streams", "-", given=data)[1], said)
 
@@ -335,6 +341,14 @@ class Printed(unittest.TestCase):
             status, lines = asked_program().ask(["decode"], out)
             self.assertEqual((status, lines[1], lines[-1].split()[0]), (0, "keepalive", "update"))
         self.assertEqual(run("streams", "-", 3, given=data), (1, "", "streams: there are 2 streams\n"))
+
+    def test_decode_of_four_octet_numbers(self):
+        """Both OPENs decide the width of both streams."""
+        one = open_message(1, self.FOUR) + wide_message(70000)
+        for other, status, line in ((speech(2, 0, self.FOUR), 0, "  update announce 10.7.0.0/16 path 70000 next 10.0.0.1"),
+                                    (speech(2, 0), 1, "  fault 3 11")):
+            got, out, _ = run("streams", "-", "--decode", given=ethernet(conversation(one, other)))
+            self.assertEqual((got, out.splitlines()[2]), (status, line))
 
     def test_decode(self):
         wrong = speech(2, 0) + message(9)

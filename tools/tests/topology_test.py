@@ -190,6 +190,16 @@ rounds 100
         self.assertEqual(lines_of(out, "link"), ["link 1 2", "link 2 3"])
         self.assertEqual(asked_program().answer(["play"], out, "graphml")[0], "snapshot 1 settled")
 
+    def test_numbers_of_four_octets(self):
+        status, out, error = run("topology", "--from", "as-rel", given=b"15169|396982|-1\n65535|15169|-1\n")
+        self.assertEqual((status, error), (0, ""))
+        self.assertEqual(out.splitlines()[:4], ["asn 4", "router 15169 10.0.0.1", "router 65535 10.0.0.2",
+                                                "router 396982 10.0.0.3"])
+        self.assertEqual(asked_program().answer(["play"], out, "wide")[:2],
+                         ["snapshot 1 settled", "route 15169 10.1.0.0/16 15169-396982"])
+        out = run("topology", "--from", "as-rel", given=b"15169|65535|-1\n")[1]
+        self.assertEqual(lines_of(out, "asn"), [])
+
     def test_a_network_that_is_there(self):
         given = b"# \xc3\xa9\nrouter 5 10.0.0.5\r\nrouter 2 10.0.0.2\nlink 5 2\norigin 5 10.1.0.0/16\n\nschedule\nrounds 1\n"
         status, out, error = run("topology", "--from", "network", "--rounds", 40, given=given)
@@ -230,7 +240,7 @@ class Refusals(unittest.TestCase):
         self.refused("as-rel", b"1|x|0\n", "-:1: 'x' is no AS number")
         self.refused("as-rel", b"0|1|0\n", "-:1: '0' is no AS number")
         self.refused("as-rel", b"1|" + b"9" * 5000 + b"|0\n", f"-:1: '{'9' * 5000}' is no AS number")
-        self.refused("as-rel", b"1|2|0\n2|396982|-1\n", "-:2: AS 396982 is above 65535")
+        self.refused("as-rel", b"1|2|0\n2|4294967296|-1\n", "-:2: AS 4294967296 is above 4294967295")
         self.refused("edges", b"1 2\n2 3 4\n", "-:2: not two AS numbers")
         self.refused("edges", b"1 2\n3 3\n", "-:2: a link of 3 with itself")
         self.refused("edges", b"1 2\n\xff\n", "-:2: not UTF-8")

@@ -1,4 +1,49 @@
-//! What the helps of the subcommands say below their options.
+//! What the helps say below their options.
+
+/// What the help of the program says below its words: the lines of a network, their limits, the codes of refusals,
+/// and the statuses.
+pub const TOP_HELP: &str = "\
+The input is the standard input: 'bgpnet play < schedule.txt'. 'bgpnet WORD --help' has an example.
+
+The lines of a network, with words between blanks; a line '#' and a remark is skipped, and a name
+stands before its use:
+
+  asn 4                   AS numbers are 1 to 4294967295 from here on, without it 1 to 65535
+  router AS IDENTIFIER    a router; the identifier is A.B.C.D, with 1 to 223 in front
+  link AS AS              the two routers are peers
+  origin AS PREFIX        the router originates A.B.C.D/L
+  rank AS PREFIX PATH ..  the router's paths for prefixes inside PREFIX, best first; a path is 3-2-1
+  hold N                  the hold time in seconds: 0 (none) or 3 to 65535; 90 without it
+  restart N               seconds to the next start of a closed session: 0 (none) to 65535; 0 without it
+  cut N                   the most octets of a piece: 1 to 4096; 4096 without it
+  pipe N                  the most items in a pipe of 'run': 1 to 1024; 64 without it
+
+A network has 1 to 64 routers, at most 16 links a router, 256 prefixes, 64 rules a router, 32 paths a
+rule and 16 routers a path; an input has at most 16777216 octets.
+
+'refused LINE CODE' names the first line that is refused, 0 where it is none, and why:
+
+  N1  an unknown first word, a wrong number of words, or an octet past ASCII
+  N2  a number, an address or a path that can't be read
+  N3  a router that no earlier line names
+  N4  what came before
+  N5  the network isn't connected
+  N6  a number or a count outside its limit
+  N7  a path of a rule that isn't simple, or doesn't begin with its router
+  N8  a prefix that can't be read, or that no router originates
+  S1  a path of an assignment that its router doesn't permit
+  E1  an order whose two routers are no peers
+  E2  an order whose router is not the prefix's origin
+  E3  a snapshot whose number is not above the router's last
+  E6  an order whose router has no stamp left
+  E8  an order whose link has no incarnation left
+  V2  an order whose two routers have no link
+  G2  a run in which a router had no stamp or no incarnation left
+  G3  chores of 'run' that leave no room for its snapshots, or are not 1 to 1000000
+  G4  a run whose offers are not those that its workers wrote down: no input is known to lead to it
+
+Status 0: done. 1: a fault, a truncated end, or a refused input. 2: other words than these. 3: memory
+was refused ('memory'). 4: a read or a write failed.";
 
 /// What the help of `decode` says below its options: an example, and the statuses.
 pub const DECODE_HELP: &str = "\
@@ -19,16 +64,17 @@ Each message is a line, up to the first fault: its code and subcode (RFC 4271 se
 the NOTIFICATION that tells of it. 'truncated N': the stream ends with N octets of a message. Alone
 stand 'bad hex', where the input has more than digits and blanks or half an octet, and 'refused 0 N6',
 where it has more than 16777216 octets. An UPDATE's other attributes than AS_PATH and NEXT_HOP are
-checked, and not printed. AS numbers have two octets: where both OPENs print 'cap 65' they have
-four, and an UPDATE with a path mostly reads as 'fault 3 11'.
+checked, and not printed. AS numbers have two octets. Where the OPENs of both speakers print 'cap 65'
+they have four: an UPDATE with a path then mostly reads as 'fault 3 11', and is read by --asn 4.
 
-With --peer the number of an OPEN, and the first one in the path of an UPDATE that announces, has to
-be AS, else they read as 'fault 2 2' and 'fault 3 11'.
+With --peer the number that an OPEN says, and the first one in the path of an UPDATE that announces,
+have to be AS, else they read as 'fault 2 2' and 'fault 3 11'. With --asn 4 an OPEN says its number by
+capability 65, where it has one.
 
 Status 0: all was read. 1: a fault, a truncated end, or a refused input. 2: other words than these.
 3: memory was refused ('memory'). 4: a read or a write failed.";
 
-/// What the help of `check` says below its options: an example, and the codes of refused lines.
+/// What the help of `check` says below its options: an example, and the statuses.
 pub const CHECK_HELP: &str = "\
 The input is a network, a line 'assignment', and the path of each router and prefix:
 
@@ -51,19 +97,12 @@ Router 2 would rather go through 3, whose path is there, so the output is
 
 A path is its routers, the router itself first and the origin last, or 'none'. A router without a
 'rank' line prefers the shortest path, then the smaller numbers. Where no router would move the
-output is 'stable'. 'refused LINE CODE' names the first line that is refused, and why:
+output is 'stable'. 'bgpnet --help' has the lines of a network and the codes of refusals.
 
-  N1  an unknown first word, a wrong number of words, or an octet past ASCII
-  N2  a number, an address or a path that can't be read
-  N3  a router that no earlier line names
-  N4  what came before
-  N5  the network isn't connected
-  N6  a number or a count outside its limit
-  N7  a path of a rule that isn't simple, or doesn't begin with its router
-  N8  a prefix that can't be read, or that no router originates
-  S1  a path of the assignment that its router doesn't permit";
+Status 0: it is judged. 1: a refused input. 2: other words than these. 3: memory was refused ('memory').
+4: a read or a write failed.";
 
-/// What the help of `play` says below its options: an example, and the codes of refused orders.
+/// What the help of `play` says below its options: an example, the orders, and the statuses.
 pub const PLAY_HELP: &str = "\
 The input is a network, a line 'schedule', and the orders of the schedule:
 
@@ -86,15 +125,11 @@ Both routers start their session and router 1 originates the prefix, so the outp
 An order is 'start U V', 'stop U V' or 'reset U V' for U's session with V, 'originate U PREFIX',
 'withdraw U PREFIX', 'snapshot U S', 'restart U'; one step of U: 'tick U', 'put U V', 'take U V',
 'handle U V', 'decide U', 'advertise U', 'offer U'; or 'rounds N', N turns of each router, or
-'ticks N', N seconds. 'refused LINE CODE' names the first line that can't be read, with a code that
-'check --help' explains, else the first order that is refused:
+'ticks N', N seconds. 'refused LINE CODE' names the first line that can't be read, else the first
+order that is refused; 'bgpnet --help' has the codes, and the lines of a network.
 
-  E1  the two routers are no peers
-  E2  the router is not the prefix's origin
-  E3  the snapshot's number is not above the router's last
-  E6  the router has no stamp left
-  E8  the link has no incarnation left
-  V2  the two routers have no link";
+Status 0: done. 1: a refused input. 2: other words than these. 3: memory was refused ('memory').
+4: a read or a write failed.";
 
 /// What the help of `trace` says below its options: an example, and the statuses.
 pub const TRACE_HELP: &str = "\
@@ -160,7 +195,7 @@ not decided at the end, or it was abandoned. 'refused LINE CODE' is as for 'play
 Status 0: done. 1: a refused input. 2: other words than these. 3: memory was refused ('memory').
 4: a read or a write failed.";
 
-/// What the help of `run` says below its options: an example.
+/// What the help of `run` says below its options: an example, and the statuses.
 pub const RUN_HELP: &str = "\
 The input is a network:
 
@@ -178,5 +213,8 @@ that did
     route 2 10.1.0.0/16 2-1
 
 and 'unsettled' where none did, which says nothing about the network. 'refused LINE CODE' names the
-first line that can't be read, with a code that 'check --help' explains; 'refused 0 G3' says that N
-leaves no room for the snapshots, or is not 1 to 1000000.";
+first line that can't be read; 'refused 0 G3' says that N leaves no room for the snapshots, or is not 1
+to 1000000. 'bgpnet --help' has the codes, and the lines of a network.
+
+Status 0: done. 1: a refused input. 2: other words than these. 3: memory was refused ('memory').
+4: a read or a write failed.";

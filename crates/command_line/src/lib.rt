@@ -12,7 +12,7 @@ ghost use Rattle.text_engines.specs.declared.status.TheConstants.{STOPPED};
 mod helps;
 mod words;
 
-pub use helps::{CHECK_HELP, CUT_HELP, DECODE_HELP, PLAY_HELP, RUN_HELP, TRACE_HELP};
+pub use helps::{CHECK_HELP, CUT_HELP, DECODE_HELP, PLAY_HELP, RUN_HELP, TOP_HELP, TRACE_HELP};
 use play_engine::{cut_stream, play_stream};
 use run_engine::run_stream;
 use std::alloc::{AllocError, Global};

@@ -4,7 +4,7 @@ ghost use Rattle.std.specs.Prelude.{◌≡◌};
 ghost use Rattle.std.specs.List.{list_all};
 ghost use Rattle.net_text.specs.Words.{is_digit};
 
-use crate::helps::{CHECK_HELP, CUT_HELP, DECODE_HELP, PLAY_HELP, RUN_HELP, TRACE_HELP};
+use crate::helps::{CHECK_HELP, CUT_HELP, DECODE_HELP, PLAY_HELP, RUN_HELP, TOP_HELP, TRACE_HELP};
 use bgp_codec::{NOBODY, Rule};
 use bgp_values::{Width, greatest_asn};
 use clap::error::ErrorKind;
@@ -31,6 +31,9 @@ pub enum Asked {
     /// A text to write, and the status to end with.
     Text(String, u8),
 }
+
+// What `--version` says behind the program's name.
+const VERSION: &str = "0.1.0";
 
 // The most snapshots that `--snapshots` takes.
 const MOST_SNAPSHOTS: u32 = 1_000;
@@ -199,6 +202,8 @@ fn command<'a>(alloc: Global) -> Result<Command<'a>, AllocError> {
             "Decodes BGP-4 messages, says whether paths are a stable assignment, plays schedules, \
             runs networks",
         )
+        .after_help(TOP_HELP)
+        .version(VERSION)
         .subcommand_required(true)
         .subcommand(decode_command(alloc)?)?
         .subcommand(check)?

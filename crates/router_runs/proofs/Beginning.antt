@@ -64,7 +64,7 @@ module _ (laws : Laws) (g : Setting) (net : IsNetwork g.net) (u : ℕ) (far : �
     pub alike : AreAlike g u x acting.recorder.ends
     pub stands : (v : ℕ) → linked g.net u v ≡ true → Stands (x.sides v) (ends v) (far v)
     pub appended : (v : ℕ) → linked g.net u v ≡ true → (ends v).appended ≡ (n.recorder.ends v).appended
-    pub holds : (v : ℕ) → linked g.net u v ≡ true → Holds (x.sides v) (before v ++ items v) (ends v)
+    pub holds : (v : ℕ) → linked g.net u v ≡ true → Holds g (x.sides v) (before v ++ items v) (ends v)
     pub unmarked : (v : ℕ) (near : linked g.net u v ≡ true) → is_up (x.sides v) ≡ true → ((holds v near).rest ≡ []) ⊎ (IsIn (Mark (incarnation (ends v)) s) (ends v).taken → ⊥)
 
   module _ (first : Option ℕ) (s : ℕ) (acting : ModelRouter) (ends : ℕ → End Message) (queued : List RouterOffer) (k : MayBegin first s acting ends queued) where
@@ -86,10 +86,10 @@ module _ (laws : Laws) (g : Setting) (net : IsNetwork g.net) (u : ℕ) (far : �
     here : (s == s) ≡ true
     here = grind (arith, nat_tests)
 
-    sent : (v : ℕ) → (near : linked g.net u v ≡ true) → SendsWhere laws (linked g.net u v && is_up (x.sides v)) (links.is_up (ends v)) s (x.sides v) (before v ++ items v) (ends v) (far v) (k.holds v near)
+    sent : (v : ℕ) → (near : linked g.net u v ≡ true) → SendsWhere laws g (linked g.net u v && is_up (x.sides v)) (links.is_up (ends v)) s (x.sides v) (before v ++ items v) (ends v) (far v) (k.holds v near)
     sent v near =
         let up = and_linked (linked g.net u v) (is_up (x.sides v)) near in
-        sends_where laws (linked g.net u v && is_up (x.sides v)) (links.is_up (ends v)) s (x.sides v) (before v ++ items v) (ends v) (far v) (k.holds v near) (k.stands v near) up (up_alike laws (x.sides v) (ends v) (far v) (k.stands v near) ∙ sym up)
+        sends_where laws g (linked g.net u v && is_up (x.sides v)) (links.is_up (ends v)) s (x.sides v) (before v ++ items v) (ends v) (far v) (k.holds v near) (k.stands v near) up (up_alike laws (x.sides v) (ends v) (far v) (k.stands v near) ∙ sym up)
 
     -- as it was, the router is that which recorded
     alike_after : (d : Option ℕ) → AreAlike g u x (becomes d).recorder.ends

@@ -7,7 +7,6 @@ use Rattle.std.proofs.lemmas.List.{append-nil}
 use Rattle.prefix_lanes.specs.Bits.{PrefixView}
 use Rattle.bgp_codec.specs.declared.message.Message.{Message}
 use Rattle.bgp_codec.specs.declared.message.Message.TheVariants.{OpenMsg, UpdateMsg, NoticeMsg, AliveMsg}
-use Rattle.bgp_codec.specs.Spelling.{written}
 use Rattle.run_model.specs.Links.{End, Mark, said, incarnation}
 use Rattle.run_model.specs.Octets.{Passing, passing, OnlyOctets}
 use Rattle.run_model.specs.Routes as routes
@@ -22,7 +21,7 @@ use Rattle.router_model.specs.Settings.{Setting, IsSetting, is_router, linked}
 use Rattle.router_model.specs.Sides.{is_established}
 use Rattle.router_model.specs.State.{Router, is_pending}
 use Rattle.router_model.specs.Laws.{all_passes}
-use Rattle.router_runs.specs.Runs.{RunOrder, RunState, IsRunTo, logged_steps, new_logged, side_of, log_of}
+use Rattle.router_runs.specs.Runs.{RunOrder, RunState, IsRunTo, logged_steps, new_logged, side_of, log_of, written_in}
 use Rattle.router_runs.specs.Model.{network_of}
 use Rattle.router_runs.specs.Reading.{state_of}
 use Rattle.router_runs.specs.Doing.{is_up_in}
@@ -183,23 +182,23 @@ module _ (laws : Laws) (more : SnapshotLaws) (mirrored : RunsAreMirrored) where
     cut_of : (parts : ℕ → RouterPart) (found : Parts parts) (u v : ℕ) (near : linked g.net u v ≡ true) (a : Found u (parts u)) (b : Found v (parts v))
         → places.IsCutOfLink (network_of g) (b.is.0 u) (a.is.0 v) (b.channels u)
         × ((held : List (Passing Message)) → OnlyOctets held → ((b.is.0 u).taken ≡ (a.is.0 v).appended → held ≡ [])
-        → IsPrefix (passing written (b.is.0 u).taken ++ held) (passing written ((((final (network_of g) m.steps).routers u).recorder.ends v).appended))
-        → IsPrefix (passing written (b.is.0 u).taken ++ held) (passing written (a.is.0 v).appended))
+        → IsPrefix (passing (written_in g) (b.is.0 u).taken ++ held) (passing (written_in g) ((((final (network_of g) m.steps).routers u).recorder.ends v).appended))
+        → IsPrefix (passing (written_in g) (b.is.0 u).taken ++ held) (passing (written_in g) (a.is.0 v).appended))
     cut_of parts found u v near a b =
         let net = network_is laws g set in
         let law = more.cut (network_of g) net (network_steps (network_of g) m.steps) network_run s (has_all parts found) v u b.channels b.is.0 a.is.0 (net.both u v near)
         (finished_there v (parts v) b) (copied_there v (parts v) b) (copied_there u (parts u) a) in (
           law.0,
-          λ held only none is. law.1 written held only none (subst (λ w. IsPrefix (passing written (b.is.0 u).taken ++ held) (passing written ((w u).recorder.ends v).appended)) (sym same_routers) is),
+          λ held only none is. law.1 (written_in g) held only none (subst (λ w. IsPrefix (passing (written_in g) (b.is.0 u).taken ++ held) (passing (written_in g) ((w u).recorder.ends v).appended)) (sym same_routers) is),
         )
 
     -- what a router had taken as it recorded was said by the end of the run
     taken_there : (u v : ℕ) → IsRunTo g order state → (part : RouterPart) (b : Found v part) → linked g.net u v ≡ true
-        → IsPrefix (all_passes (b.copied.at.taken u v)) (passing written ((((final (network_of g) m.steps).routers u).recorder.ends v).appended))
+        → IsPrefix (all_passes (b.copied.at.taken u v)) (passing (written_in g) ((((final (network_of g) m.steps).routers u).recorder.ends v).appended))
     taken_there u v r part b near =
         let kept = kept_to laws g set order state r in
-        subst (λ l. IsPrefix (all_passes (b.copied.at.taken u v)) (passing written l)) (m.mirrors.log u v near)
-        (prefix_trans (all_passes (b.copied.at.taken u v)) (all_passes (state.taken u v)) (passing written (log_of state u v))
+        subst (λ l. IsPrefix (all_passes (b.copied.at.taken u v)) (passing (written_in g) l)) (m.mirrors.log u v near)
+        (prefix_trans (all_passes (b.copied.at.taken u v)) (all_passes (state.taken u v)) (passing (written_in g) (log_of state u v))
         (all_front laws (b.copied.at.taken u v) (state.taken u v) (taken_grows g b.copied.place.later b.copied.at state u v b.copied.place.goes_on))
         (taken_said laws g state u v (kept.reached.puts u v) (kept.reached.begins u v)))
 
@@ -212,7 +211,7 @@ module _ (laws : Laws) (more : SnapshotLaws) (mirrored : RunsAreMirrored) where
 
     -- the link from u to v in the cut
     link_is : IsRunTo g order state → (parts : ℕ → RouterPart) (found : Parts parts) (u v : ℕ) → linked g.net u v ≡ true → (a : Found u (parts u)) (b : Found v (parts v))
-        → IsCutLink a.copied.at b.copied.at u v (parts v)
+        → IsCutLink g a.copied.at b.copied.at u v (parts v)
     link_is r parts found u v near a b =
         let net = network_is laws g set in
         let near_back = net.both u v near in
@@ -228,9 +227,9 @@ module _ (laws : Laws) (more : SnapshotLaws) (mirrored : RunsAreMirrored) where
         let marked = more.marked (network_of g) (network_steps (network_of g) m.steps) network_run u s v a.is.0 (copied_there u (parts u) a) back.0.up in
         let none = none_held u v a.is.0 b.is.0 holds.rest cut.0.one_incarnation marked (b.copied.unmarked u near_back cut.0.up) in
         record {
-          consistent = subst (λ l. IsPrefix l (passing written (log_of at_u u v))) (sym taken)
-              (subst (λ l. IsPrefix (passing written (b.is.0 u).taken ++ holds.rest) (passing written l)) (sym (a.copied.ends.log v near))
-              (cut.1 holds.rest holds.only none (subst (λ l. IsPrefix l (passing written ((((final (network_of g) m.steps).routers u).recorder.ends v).appended))) taken (taken_there u v r (parts v) b near))));
+          consistent = subst (λ l. IsPrefix l (passing (written_in g) (log_of at_u u v))) (sym taken)
+              (subst (λ l. IsPrefix (passing (written_in g) (b.is.0 u).taken ++ holds.rest) (passing (written_in g) l)) (sym (a.copied.ends.log v near))
+              (cut.1 holds.rest holds.only none (subst (λ l. IsPrefix l (passing (written_in g) ((((final (network_of g) m.steps).routers u).recorder.ends v).appended))) taken (taken_there u v r (parts v) b near))));
           one_incarnation = (a.copied.ends.reads v near).epoch ∙ sym cut.0.one_incarnation ∙ sym epoch;
           in_flight = only;
           channel = b.is.6 u near_back ∙ sym (only_updates (b.channels u));
@@ -261,7 +260,7 @@ module _ (laws : Laws) (more : SnapshotLaws) (mirrored : RunsAreMirrored) where
     state_at parts found u false is h = absurd (cc h)
 
     link_at : IsRunTo g order state → (parts : ℕ → RouterPart) (found : Parts parts) (u v : ℕ) → linked g.net u v ≡ true → (a b : Bool) (is_u : is_router g u ≡ a) (is_v : is_router g v ≡ b)
-        → a ≡ true → b ≡ true → IsCutLink (choose parts found u a is_u) (choose parts found v b is_v) u v (parts v)
+        → a ≡ true → b ≡ true → IsCutLink g (choose parts found u a is_u) (choose parts found v b is_v) u v (parts v)
     link_at r parts found u v near true true is_u is_v h k = link_is r parts found u v near (found u is_u) (found v is_v)
     link_at r parts found u v near true false is_u is_v h k = absurd (cc k)
     link_at r parts found u v near false b is_u is_v h k = absurd (cc h)

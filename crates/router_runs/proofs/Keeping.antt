@@ -5,7 +5,6 @@ use Rattle.std.specs.List.{AllByRecursion, find}
 use mathlib.Core.List.{IsPrefix}
 use Rattle.prefix_lanes.specs.Bits.{PrefixView}
 use Rattle.bgp_codec.specs.declared.message.Message.{Message}
-use Rattle.bgp_codec.specs.Spelling.{written}
 use Rattle.ranked_policy.specs.Plans.{IsNetwork, IsRouter, IsNamed}
 use Rattle.rib_tables.specs.Words.{nothing, path_in}
 use Rattle.run_model.specs.Links.{Entry}
@@ -23,13 +22,12 @@ use Rattle.router_model.specs.Settings.{Setting, linked, prefixes}
 use Rattle.router_model.specs.State.{Router, rule_of, heard, path_from, route, untold, undecided, is_untold}
 use Rattle.router_model.specs.Step.{Own, RouterEvent, Obeys, Ticks, Handles, Decides, Advertises, May, after, says, telling_to, telling_of, heeds, is_greater}
 use Rattle.router_model.specs.Laws.{all_passes}
-use Rattle.router_runs.specs.Runs.{Logged, LoggedStep, RunState, RunOrder, IsRunTo, logged_steps, new_logged}
+use Rattle.router_runs.specs.Runs.{Logged, LoggedStep, RunState, RunOrder, IsRunTo, logged_steps, new_logged, written_in}
 use Rattle.router_model.specs.Settings.{IsSetting}
 use Rattle.router_runs.specs.Runs.{side_of, log_of}
 use Rattle.router_runs.specs.Promises.{UpdatesPassInOrder}
 use Rattle.router_runs.specs.Kept.{IsGood, SideKept, AllAreGood}
-use Rattle.router_runs.specs.Said.{MayKeep, IsToldBy, IsSaid, Kept}
-use Rattle.bgp_codec.specs.Updates.{AreShort}
+use Rattle.router_runs.specs.Said.{MayKeep, IsToldBy, IsSaid, Kept, NumbersFit}
 use Rattle.router_runs.proofs.Events.{front_reads, marked_side, keeps_sides}
 use Rattle.router_runs.proofs.Running.{before_of, taken_said, number_is, reached_next}
 use Rattle.router_runs.proofs.Passing.{passes_in_order}
@@ -97,10 +95,10 @@ module _ (laws : Laws) where
 
   module _ (g : Setting) (set : IsSetting g) where
     pub all_good : (state : RunState) → Kept g state → AllAreGood g state
-    all_good state k u v link = good_each laws (IsSaid g u) (IsGood u) (log_of state u v) (said_is_good laws g set u (linked_router g set.network u v link)) (k.said u v link)
+    all_good state k u v link = good_each laws (IsSaid g u) (IsGood g u) (log_of state u v) (said_is_good laws g set u (linked_router g set.network u v link)) (k.said u v link)
 
     -- paths heard have small numbers
-    heard_small : (state : RunState) → Kept g state → (u v : ℕ) (q : PrefixView) → linked g.net u v ≡ true → AreShort (path_in (heard (side_of state u v) q))
+    heard_small : (state : RunState) → Kept g state → (u v : ℕ) (q : PrefixView) → linked g.net u v ≡ true → NumbersFit g (path_in (heard (side_of state u v) q))
     heard_small state k u v q link =
         let e : ℕ = (side_of state u v).link.epoch in
         let back = linked_both g set.network u v link in
@@ -108,18 +106,18 @@ module _ (laws : Laws) where
         let all : AllByRecursion (IsToldBy g v) ((side_of state v u).sent e) = subst (AllByRecursion (IsToldBy g v)) p.0.sent (updates_told laws g v e (log_of state v u) (k.said v u back)) in
         words_small laws g v ((side_of state u v).acted e) nothing q (told_front laws g v ((side_of state u v).acted e) p.1.0 (subst (AllByRecursion (IsToldBy g v)) (sym p.1.1) all)) tt
 
-    word_small : (state : RunState) → Kept g state → (u : ℕ) (q : PrefixView) (v : ℕ) → AreShort (path_from g u (state.routers u).router q v)
+    word_small : (state : RunState) → Kept g state → (u : ℕ) (q : PrefixView) (v : ℕ) → NumbersFit g (path_from g u (state.routers u).router q v)
     word_small state k u q v = at (linked g.net u v) (is_up (side_of state u v)) refl
       where
-        at : (l c : Bool) → linked g.net u v ≡ l → AreShort (cond (l && c) (path_in (heard (side_of state u v) q)) [])
+        at : (l c : Bool) → linked g.net u v ≡ l → NumbersFit g (cond (l && c) (path_in (heard (side_of state u v) q)) [])
         at true true h = heard_small state k u v q h
         at true false h = tt
         at false c h = tt
 
-    route_kept : (state : RunState) → Kept g state → (u : ℕ) → IsRouter g.net.routers u → (q : PrefixView) → IsNamed g.net.origins q → MayKeep u (route g u (state.routers u).router q)
+    route_kept : (state : RunState) → Kept g state → (u : ℕ) → IsRouter g.net.routers u → (q : PrefixView) → IsNamed g.net.origins q → MayKeep g u (route g u (state.routers u).router q)
     route_kept state k u is q named =
         let x : Router = (state.routers u).router in
-        best_kept laws (record { net = g.net; prefix = q; originated = x.originated q }) (path_from g u x q) u (route g u x q) (small_asn laws g set u is) (word_small state k u q)
+        best_kept laws g (record { net = g.net; prefix = q; originated = x.originated q }) (path_from g u x q) u (route g u x q) (small_asn laws g set u is) (word_small state k u q)
         (set.chooses u is q named (x.originated q) (path_from g u x q))
 
     first_kept : Kept g (runs.opening (λ u. new_logged g))
@@ -133,13 +131,14 @@ module _ (laws : Laws) where
         });
         puts = λ u v. refl;
         begins = λ u v. ([], refl);
+        widths = λ u v. refl;
       };
       said = λ u v link. tt;
       paths = λ u q. inl refl;
       apart = λ u v none. refl;
     }
       where
-        side : (u v : ℕ) → u ≢ v → SideKept (side_of (runs.opening (λ i. new_logged g)) u v) [] [] (first_sides u v) (first_sides v u).end
+        side : (u v : ℕ) → u ≢ v → SideKept g (side_of (runs.opening (λ i. new_logged g)) u v) [] [] (first_sides u v) (first_sides v u).end
         side u v apart = record {
           state = refl;
           stands = record {
@@ -153,14 +152,14 @@ module _ (laws : Laws) where
         }
 
     module _ (old : RunState) (k : Kept g old) (d : NetworkEvent Own What MadeOffer) (own : Logged) (step : LoggedStep g d.router (old.routers d.router) d.event own) where
-      pub reads_front : (w : ℕ) → d.event ≡ alone (Handles w) → (m : Message) × (front (rule_of w) ((old.routers d.router).router.sides w).held ≡ Ok m)
+      pub reads_front : (w : ℕ) → d.event ≡ alone (Handles w) → (m : Message) × (front (rule_of g.net d.router w) ((old.routers d.router).router.sides w).held ≡ Ok m)
       reads_front w is =
           let u : ℕ = d.router in
           let may : May g u (old.routers u).router (alone (Handles w)) = subst (May g u (old.routers u).router) is step.step.may in
           let link = k.reached.links u w may.0 in
-          let before = before_of laws u w (side_of old u w) (side_of old w u) (log_of old u w) (log_of old w u) (old.taken w u) (old.taken u w) (linked_apart g set.network u w may.0) link (all_good old k w u (linked_both g set.network u w may.0)) in
-          front_reads laws w (side_of old u w) (all_passes (old.taken w u)) (model.sides_after first_sides link.steps u w).end (model.sides_after first_sides link.steps w u).end before
-          (subst (λ l. IsPrefix (all_passes (old.taken w u)) (passing written l)) link.there.log (taken_said laws g old w u (k.reached.puts w u) (k.reached.begins w u))) may.1
+          let before = before_of laws g u w (side_of old u w) (side_of old w u) (log_of old u w) (log_of old w u) (old.taken w u) (old.taken u w) (linked_apart g set.network u w may.0) link (all_good old k w u (linked_both g set.network u w may.0)) in
+          front_reads laws g u w (side_of old u w) (all_passes (old.taken w u)) (model.sides_after first_sides link.steps u w).end (model.sides_after first_sides link.steps w u).end before
+          (subst (λ l. IsPrefix (all_passes (old.taken w u)) (passing (written_in g) l)) link.there.log (taken_said laws g old w u (k.reached.puts w u) (k.reached.begins w u))) may.1
 
       pub kept_next : ((u v : ℕ) → IsPrefix ((runs.after (logged_steps g) old d own).taken u v) ((runs.after (logged_steps g) old d own).put u v)) → Kept g (runs.after (logged_steps g) old d own)
       kept_next begins = record {
@@ -179,11 +178,11 @@ module _ (laws : Laws) where
               (good_append laws (IsSaid g d.router) (log_of old d.router v) (says g d.router (old.routers d.router).router d.event v) (k.said d.router v (subst (λ i. linked g.net i v ≡ true) (sym to_u) link)) new))
           said_at u v false h link = k.said u v link
 
-          path_at : (u : ℕ) (q : PrefixView) (c : Bool) → (d.router == u) ≡ c → MayKeep u ((if c then own else old.routers u).router.kept q)
+          path_at : (u : ℕ) (q : PrefixView) (c : Bool) → (d.router == u) ≡ c → MayKeep g u ((if c then own else old.routers u).router.kept q)
           path_at u q true h =
               let to_u : d.router ≡ u = number_is laws d.router u h in
-              subst (λ i. MayKeep i (own.router.kept q)) to_u
-              (subst (λ (y : Router). MayKeep d.router (y.kept q)) (sym step.step.leaves) (step_keeps laws g d.router (old.routers d.router).router d.event (route_kept old k d.router step.known) (k.paths d.router) q))
+              subst (λ i. MayKeep g i (own.router.kept q)) to_u
+              (subst (λ (y : Router). MayKeep g d.router (y.kept q)) (sym step.step.leaves) (step_keeps laws g d.router (old.routers d.router).router d.event (route_kept old k d.router step.known) (k.paths d.router) q))
           path_at u q false h = k.paths u q
 
           apart_at : (u v : ℕ) (c : Bool) → (d.router == u) ≡ c → linked g.net u v ≡ false → is_up ((if c then own else old.routers u).router.sides v) ≡ false

@@ -5,7 +5,6 @@ use mathlib.Core.List.{IsPrefix}
 use Rattle.std.proofs.lemmas.Bool.Decides.{nat_tests}
 use Rattle.bgp_codec.specs.declared.message.Message.{Message}
 use Rattle.bgp_codec.specs.declared.update.Update.{Update}
-use Rattle.bgp_codec.specs.Spelling.{written}
 use Rattle.link_epoch.specs.declared.link_end.Phase.{Phase}
 use Rattle.link_epoch.specs.declared.link_end.Phase.TheVariants as phase
 use Rattle.session_fsm.specs.declared.state.State.{State}
@@ -25,7 +24,7 @@ use Rattle.router_model.specs.Settings.{Setting, linked}
 use Rattle.router_model.specs.State.{Router}
 use Rattle.router_model.specs.Step.{Own, says}
 use Rattle.router_model.specs.Laws.{all_passes}
-use Rattle.router_runs.specs.Runs.{Logged, LoggedStep, RunState, RunOrder, logged_steps}
+use Rattle.router_runs.specs.Runs.{Logged, LoggedStep, RunState, RunOrder, logged_steps, written_in}
 use Rattle.router_model.specs.Settings.{IsSetting}
 use Rattle.router_model.specs.Messages.{updates_in}
 use Rattle.router_runs.specs.Runs.{side_of, log_of}
@@ -163,16 +162,16 @@ module _ (laws : Laws) where
           let a : End Message = (model.sides_after first_sides j.steps u v).end in
           let b : End Message = (model.sides_after first_sides j.steps v u).end in
           let back = linked_both laws g set.network u v link in
-          let before = before_of laws u v (side_of old u v) (side_of old v u) (log_of old u v) (log_of old v u) (old.taken v u) (old.taken u v) (linked_apart laws g set.network u v link) j (all_good laws g set old k v u back) in
+          let before = before_of laws g u v (side_of old u v) (side_of old v u) (log_of old u v) (log_of old v u) (old.taken v u) (old.taken u v) (linked_apart laws g set.network u v link) j (all_good laws g set old k v u back) in
           let apart = linked_apart laws g set.network u v link in
           let hit : (d.router == d.router) ≡ true = grind (arith, nat_tests) in
           let miss : (d.router == v) ≡ false = grind (arith, nat_tests, apart) in
           let k' = kept_next laws g set old k d own step begins in
-          let there : IsPrefix (all_passes (old.taken v u) ++ all_passes (taken_from v d.event)) (passing written b.appended) =
-          subst (λ log. IsPrefix (all_passes (old.taken v u) ++ all_passes (taken_from v d.event)) (passing written log)) j.there.log
-          (subst (λ i. IsPrefix i (passing written (log_of old v u))) (all_more laws (old.taken v u) (taken_from v d.event))
-          (subst (λ c. IsPrefix (all_passes (old.taken v u ++ (if c then taken_from v d.event else []))) (passing written (log_of old v u))) hit
-          (subst (λ c. IsPrefix (all_passes (old.taken v u ++ (if d.router == d.router then taken_from v d.event else []))) (passing written ((if c then own else old.routers v).log u))) miss
+          let there : IsPrefix (all_passes (old.taken v u) ++ all_passes (taken_from v d.event)) (passing (written_in g) b.appended) =
+          subst (λ log. IsPrefix (all_passes (old.taken v u) ++ all_passes (taken_from v d.event)) (passing (written_in g) log)) j.there.log
+          (subst (λ i. IsPrefix i (passing (written_in g) (log_of old v u))) (all_more laws (old.taken v u) (taken_from v d.event))
+          (subst (λ c. IsPrefix (all_passes (old.taken v u ++ (if c then taken_from v d.event else []))) (passing (written_in g) (log_of old v u))) hit
+          (subst (λ c. IsPrefix (all_passes (old.taken v u ++ (if d.router == d.router then taken_from v d.event else []))) (passing (written_in g) ((if c then own else old.routers v).log u))) miss
           (taken_said laws g (runs.after (logged_steps g) old d own) v u (k'.reached.puts v u) (k'.reached.begins v u))))) in
           let s = step_side laws g set.network u v (old.routers u).router (all_passes (old.taken v u)) a b link before d.event step.step.may step.step.numbers there in
           record { new = says g u (old.routers u).router d.event v; past = s.past; stands = j.here.stands; does = subst (λ (y : Router). Does (side_of old u v) (y.sides v) (says g u (old.routers u).router d.event v) s.past a b) (sym step.step.leaves) s.does }

@@ -10,6 +10,7 @@ pub mod Octets
 pub mod Stepping
 pub mod Resetting
 pub mod Events
+mod Widths
 pub mod Running
 pub mod Streams
 pub mod Passing

@@ -4,7 +4,6 @@ use Rattle.std.specs.Prelude.{if◌then◌else◌, Ok}
 use mathlib.Core.List.{IsPrefix}
 use Rattle.std.proofs.lemmas.Bool.Decides.{nat_tests}
 use Rattle.bgp_codec.specs.declared.message.Message.{Message}
-use Rattle.bgp_codec.specs.Spelling.{written}
 use Rattle.ranked_policy.specs.Plans.{IsNetwork}
 use Rattle.run_model.specs.Links as links
 use Rattle.run_model.specs.Links.{Mark, End, incarnation}
@@ -19,6 +18,7 @@ use Rattle.router_model.specs.Sides.{Side, front, is_up, marked}
 use Rattle.router_model.specs.State.{Router, rule_of}
 use Rattle.router_model.specs.Laws.{all_passes}
 use Rattle.router_model.specs.Step.{RouterEvent, Obeys, Ticks, Handles, Decides, Advertises, May, after, says, overflows, heeds, is_greater, records}
+use Rattle.router_runs.specs.Runs.{written_in}
 use Rattle.router_runs.specs.Snapshots.{IsQuiet}
 use Rattle.router_runs.specs.Mirrors.{ModelRouter, ReadsRouter}
 use Rattle.router_runs.proofs.Stepping.{Before}
@@ -40,16 +40,16 @@ marked_up true s t = refl
 marked_up false s t = refl
 
 module _ (laws : Laws) (g : Setting) (net : IsNetwork g.net) (u : ℕ) (far : ℕ → End Message) (x : Router) (before : ℕ → List (Passing Message)) (n : ModelRouter)
-    (known : (v : ℕ) → linked g.net u v ≡ true → Before laws v (x.sides v) (before v) (n.recorder.ends v) (far v)) (reads : ReadsRouter g u x n)
+    (known : (v : ℕ) → linked g.net u v ≡ true → Before laws g v (x.sides v) (before v) (n.recorder.ends v) (far v)) (reads : ReadsRouter g u x n)
     (obeyed : (v : ℕ) → linked g.net u v ≡ true → (n.recorder.ends v).phase ≡ links.Joined → (k : ℕ) → IsIn (Mark (incarnation (n.recorder.ends v)) k) (n.recorder.ends v).taken → k ≤ n.recorder.last) where
   abbrev Still : RouterEvent → Type 0
   Still e = IsQuiet g u x (after g u x e) e
 
   abbrev Comes : RouterEvent → Type 0
-  Comes e = (v : ℕ) → linked g.net u v ≡ true → IsPrefix (before v ++ all_passes (taken_from v e)) (passing written (far v).appended)
+  Comes e = (v : ℕ) → linked g.net u v ≡ true → IsPrefix (before v ++ all_passes (taken_from v e)) (passing (written_in g) (far v).appended)
 
   abbrev Fronts : RouterEvent → Type 0
-  Fronts e = (w : ℕ) → e ≡ alone (Handles w) → (m : Message) × (front (rule_of w) (x.sides w).held ≡ Ok m)
+  Fronts e = (w : ℕ) → e ≡ alone (Handles w) → (m : Message) × (front (rule_of g.net u w) (x.sides w).held ≡ Ok m)
 
   abbrev StepOf : RouterEvent → Type 0
   StepOf e = LocalStep laws g net u far (Still e) x (after g u x e) (says g u x e) before (λ v. all_passes (taken_from v e)) n
@@ -66,10 +66,10 @@ module _ (laws : Laws) (g : Setting) (net : IsNetwork g.net) (u : ℕ) (far : �
   mark_still : (w e s : ℕ) → Still (takes w (item.Mark e s))
   mark_still w e s = record { no_command = λ c. c; stays_up = λ v near up. recorded_up (heeds g u x w e) (is_greater x s) s w v ∙ up }
 
-  own_item : (w e s : ℕ) → linked g.net u w ≡ true → Comes (takes w (item.Mark e s)) → IsPrefix (before w ++ Control (Mark e s) ∷ []) (passing written (far w).appended)
+  own_item : (w e s : ℕ) → linked g.net u w ≡ true → Comes (takes w (item.Mark e s)) → IsPrefix (before w ++ Control (Mark e s) ∷ []) (passing (written_in g) (far w).appended)
   own_item w e s near comes =
       let hit : (w == w) ≡ true = grind (arith, nat_tests) in
-      subst (λ c. IsPrefix (before w ++ all_passes (if c then item.Mark e s ∷ [] else [])) (passing written (far w).appended)) hit (comes w near)
+      subst (λ c. IsPrefix (before w ++ all_passes (if c then item.Mark e s ∷ [] else [])) (passing (written_in g) (far w).appended)) hit (comes w near)
 
   pub local_step : (e : RouterEvent) → IsNoOffer e → May g u x e → overflows g u x e ≡ false → Fronts e → Comes e → StepOf e
   local_step (alone (Obeys (command.Start w))) is may fits fronts comes =

@@ -6,7 +6,6 @@ use Rattle.std.proofs.lemmas.List.{append-nil}
 use Rattle.std.proofs.lemmas.Bool.Decides.{nat_tests}
 use Rattle.prefix_lanes.specs.Bits.{PrefixView}
 use Rattle.bgp_codec.specs.declared.message.Message.{Message}
-use Rattle.bgp_codec.specs.Spelling.{written}
 use Rattle.bgp_framing.specs.Held.{is_waiting}
 use Rattle.link_epoch.specs.declared.link_end.Phase.{Phase}
 use Rattle.link_epoch.specs.declared.link_end.Phase.TheVariants as phase
@@ -27,6 +26,7 @@ use Rattle.router_model.specs.Sides.{Side, is_up, uses}
 use Rattle.router_model.specs.State.{Router}
 use Rattle.router_model.specs.Laws.{all_passes}
 use Rattle.router_model.specs.Step.{heeds, is_greater, records, says_where, says_markers}
+use Rattle.router_runs.specs.Runs.{written_in}
 use Rattle.router_runs.specs.Model.{network_of}
 use Rattle.router_runs.specs.Doing.{Stands}
 use Rattle.router_runs.specs.Kept.{Holds, Advances}
@@ -58,7 +58,7 @@ number_some : (a b : ℕ) → Some a ≡ Some b → a ≡ b
 number_some a b h = cc h
 
 module _ (laws : Laws) (g : Setting) (net : IsNetwork g.net) (u : ℕ) (far : ℕ → End Message) (Still : Type 0) (still : Still) (x : Router) (before : ℕ → List (Passing Message)) (n : ModelRouter)
-    (known : (v : ℕ) → linked g.net u v ≡ true → Before laws v (x.sides v) (before v) (n.recorder.ends v) (far v)) (reads : ReadsRouter g u x n)
+    (known : (v : ℕ) → linked g.net u v ≡ true → Before laws g v (x.sides v) (before v) (n.recorder.ends v) (far v)) (reads : ReadsRouter g u x n)
     (obeyed : (v : ℕ) → linked g.net u v ≡ true → (n.recorder.ends v).phase ≡ links.Joined → (k : ℕ) → IsIn (Mark (incarnation (n.recorder.ends v)) k) (n.recorder.ends v).taken → k ≤ n.recorder.last) where
   alike : AreAlike g u x n.recorder.ends
   alike = record { reads = λ v near. (known v near).stands.reads; up = λ v near. up_alike laws (x.sides v) (n.recorder.ends v) (far v) (known v near).stands }
@@ -88,7 +88,7 @@ module _ (laws : Laws) (g : Setting) (net : IsNetwork g.net) (u : ℕ) (far : �
         alike = alike;
         stands = λ v near. (known v near).stands;
         appended = λ v near. refl;
-        holds = λ v near. plus_nothing laws (x.sides v) (before v) (n.recorder.ends v) (known v near).holds;
+        holds = λ v near. plus_nothing laws g (x.sides v) (before v) (n.recorder.ends v) (known v near).holds;
         unmarked = λ v near up. inr (λ h. fresh s v low near up h);
       }
 
@@ -97,25 +97,25 @@ module _ (laws : Laws) (g : Setting) (net : IsNetwork g.net) (u : ℕ) (far : �
 
   -- ---- a marker is taken from w
 
-  module _ (w e s : ℕ) (near_w : linked g.net u w ≡ true) (quiet : is_waiting (x.sides w).held ≡ false) (comes : IsPrefix (before w ++ Control (Mark e s) ∷ []) (passing written (far w).appended)) where
-    abbrev known_here : Before laws w (x.sides w) (before w) (n.recorder.ends w) (far w)
+  module _ (w e s : ℕ) (near_w : linked g.net u w ≡ true) (quiet : is_waiting (x.sides w).held ≡ false) (comes : IsPrefix (before w ++ Control (Mark e s) ∷ []) (passing (written_in g) (far w).appended)) where
+    abbrev known_here : Before laws g w (x.sides w) (before w) (n.recorder.ends w) (far w)
     known_here = known w near_w
 
-    pub dropped : Ready laws (x.sides w) (Mark e s) known_here.holds.rest (n.recorder.ends w) (far w)
-    dropped = ready laws w (x.sides w) (before w) (n.recorder.ends w) (far w) (Mark e s) known_here quiet comes
+    pub dropped : Ready laws g (x.sides w) (Mark e s) known_here.holds.rest (n.recorder.ends w) (far w)
+    dropped = ready laws g w (x.sides w) (before w) (n.recorder.ends w) (far w) (Mark e s) known_here quiet comes
 
     -- messages that were dropped pass first
-    advances : Advances (x.sides w) (x.sides w) [] (before w) [] (n.recorder.ends w) (far w)
+    advances : Advances g (x.sides w) (x.sides w) [] (before w) [] (n.recorder.ends w) (far w)
     advances =
         let h = known_here.holds in
         let a : End Message = n.recorder.ends w in
         record {
           past = dropped.messages;
           does = dropped.does;
-          holds = plus_nothing laws (x.sides w) (before w) _ (record {
+          holds = plus_nothing laws g (x.sides w) (before w) _ (record {
             rest = [];
             only = tt;
-            passed = h.passed ∙ (ap (λ l. passing written a.taken ++ l) (sym dropped.are) ∙ (sym (passing_more laws written a.taken dropped.messages) ∙ (ap (passing written) (sym dropped.does.takes) ∙ sym (append-nil _))));
+            passed = h.passed ∙ (ap (λ l. passing (written_in g) a.taken ++ l) (sym dropped.are) ∙ (sym (passing_more laws (written_in g) a.taken dropped.messages) ∙ (ap (passing (written_in g)) (sym dropped.does.takes) ∙ sym (append-nil _))));
             joined = λ j. ap (octets_of (x.sides w).link.epoch) (sym dropped.none);
             apart = λ j. dropped.none;
           });
@@ -199,7 +199,7 @@ module _ (laws : Laws) (g : Setting) (net : IsNetwork g.net) (u : ℕ) (far : �
     record TakenAt (v : ℕ) (c : End Message) (came : List (Passing Message)) : Type 0 where
       stands : Stands (x.sides v) c (far v)
       appended : c.appended ≡ (n.recorder.ends v).appended
-      holds : Holds (x.sides v) (before v ++ came) c
+      holds : Holds g (x.sides v) (before v ++ came) c
       clear : x.snapshots.last < s → is_up (x.sides v) ≡ true → (holds.rest ≡ []) ⊎ (IsIn (Mark (incarnation c) s) c.taken → ⊥)
 
     here : (w == w) ≡ true
@@ -212,7 +212,7 @@ module _ (laws : Laws) (g : Setting) (net : IsNetwork g.net) (u : ℕ) (far : �
       holds = record {
         rest = [];
         only = tt;
-        passed = control_passed laws (Mark e s) dropped.messages (before w) (x.sides w) (n.recorder.ends w) (taking (cleared.recorder.ends w) (Mark e s)) known_here.holds dropped.are
+        passed = control_passed laws g (Mark e s) dropped.messages (before w) (x.sides w) (n.recorder.ends w) (taking (cleared.recorder.ends w) (Mark e s)) known_here.holds dropped.are
             (ap (λ l. l ++ Mark e s ∷ []) cleared_taken ∙ append_assoc (n.recorder.ends w).taken dropped.messages (Mark e s ∷ [])) refl;
         joined = λ j. ap (octets_of (x.sides w).link.epoch) (sym dropped.none);
         apart = λ j. dropped.none;
@@ -227,7 +227,7 @@ module _ (laws : Laws) (g : Setting) (net : IsNetwork g.net) (u : ℕ) (far : �
         (record {
           stands = (known v near).stands;
           appended = refl;
-          holds = plus_nothing laws (x.sides v) (before v) (n.recorder.ends v) (known v near).holds;
+          holds = plus_nothing laws g (x.sides v) (before v) (n.recorder.ends v) (known v near).holds;
           clear = λ low up. inr (λ h. fresh s v low near up h);
         })
 

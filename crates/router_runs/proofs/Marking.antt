@@ -7,6 +7,7 @@ use Rattle.run_model.specs.Links.{Entry, Mark, End, Marks, Takes, incarnation, I
 use Rattle.run_model.specs.Octets.{Passing}
 use Rattle.run_model.specs.Sessions as model
 use Rattle.run_model.specs.Sessions.{SendsMarker, Passes}
+use Rattle.router_model.specs.Settings.{Setting}
 use Rattle.router_model.specs.Sides.{Side, is_up, marked}
 use Rattle.router_model.specs.Step.{says_where}
 use Rattle.router_runs.specs.Reading.{model_side, state_of}
@@ -43,17 +44,17 @@ module _ (laws : Laws) where
   mark_number a k = omega (arith, greatest_dial-append laws a.appended (Mark (incarnation a) k ∷ []))
 
   -- where a session is up its marker goes
-  pub record SendsWhere (c d : Bool) (k : ℕ) (s : Side) (items : List (Passing Message)) (a b : End Message) (h : Holds s items a) : Type 0 where
+  pub record SendsWhere (g : Setting) (c d : Bool) (k : ℕ) (s : Side) (items : List (Passing Message)) (a b : End Message) (h : Holds g s items a) : Type 0 where
     pub stands : Stands (cond c (marked k s) s) (cond d (links.after a (Marks k)) a) b
     pub appended : (cond d (links.after a (Marks k)) a).appended ≡ a.appended ++ says_where c (Mark s.link.epoch k ∷ [])
     pub taken : (cond d (links.after a (Marks k)) a).taken ≡ a.taken
     pub number : incarnation (cond d (links.after a (Marks k)) a) ≡ incarnation a
-    pub holds : Holds (cond c (marked k s) s) items (cond d (links.after a (Marks k)) a)
+    pub holds : Holds g (cond c (marked k s) s) items (cond d (links.after a (Marks k)) a)
     pub rest : holds.rest ≡ h.rest
     pub like : ((cond c (marked k s) s).link ≡ s.link) × ((cond c (marked k s) s).acted ≡ s.acted) × ((cond c (marked k s) s).sent ≡ s.sent) × (is_up (cond c (marked k s) s) ≡ is_up s)
 
-  pub sends_where : (c d : Bool) (k : ℕ) (s : Side) (items : List (Passing Message)) (a b : End Message) (h : Holds s items a) → Stands s a b → c ≡ is_up s → d ≡ c → SendsWhere c d k s items a b h
-  sends_where true true k s items a b h x up same = record {
+  pub sends_where : (g : Setting) (c d : Bool) (k : ℕ) (s : Side) (items : List (Passing Message)) (a b : End Message) (h : Holds g s items a) → Stands s a b → c ≡ is_up s → d ≡ c → SendsWhere g c d k s items a b h
+  sends_where g true true k s items a b h x up same = record {
     stands = marks_stands s a b k x (sym up);
     appended = ap (λ e. a.appended ++ Mark e k ∷ []) (sym x.reads.epoch);
     taken = refl;
@@ -62,9 +63,9 @@ module _ (laws : Laws) where
     rest = refl;
     like = (refl, refl, refl, refl);
   }
-  sends_where true false k s items a b h x up same = absurd (cc same)
-  sends_where false true k s items a b h x up same = absurd (cc same)
-  sends_where false false k s items a b h x up same = record {
+  sends_where g true false k s items a b h x up same = absurd (cc same)
+  sends_where g false true k s items a b h x up same = absurd (cc same)
+  sends_where g false false k s items a b h x up same = record {
     stands = x;
     appended = sym (append-nil a.appended);
     taken = refl;

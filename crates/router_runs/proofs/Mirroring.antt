@@ -130,18 +130,18 @@ module _ (laws : Laws) (more : SnapshotLaws) where
           subst (λ j. own.log b ≡ ((z.routers j).recorder.ends b).appended) same (log_here b (subst (λ j. linked g.net j b ≡ true) (sym same) near))
       log_at a b near false h = m.mirrors.log a b near ∙ ap (λ i. i.appended) (end_there a b (apart_of u a h))
 
-      abbrev holds_here : (v : ℕ) → linked g.net u v ≡ true → Holds (own.router.sides v) (all_passes (old.taken v u ++ taken_from v e)) ((z.routers u).recorder.ends v)
+      abbrev holds_here : (v : ℕ) → linked g.net u v ≡ true → Holds g (own.router.sides v) (all_passes (old.taken v u ++ taken_from v e)) ((z.routers u).recorder.ends v)
       holds_here v near =
-          holds_as (y.sides v) (own.router.sides v) (before v ++ all_passes (taken_from v e)) (all_passes (old.taken v u ++ taken_from v e)) (k.router.recorder.ends v) ((z.routers u).recorder.ends v)
+          holds_as g (y.sides v) (own.router.sides v) (before v ++ all_passes (taken_from v e)) (all_passes (old.taken v u ++ taken_from v e)) (k.router.recorder.ends v) ((z.routers u).recorder.ends v)
           (side_here v) (sym (all_more laws (old.taken v u) (taken_from v e))) (end_here v) (k.turned v near).holds
 
       holds_at : (a b : ℕ) → linked g.net a b ≡ true → (p : Bool) → (u == a) ≡ p
-          → Holds ((if p then own else old.routers a).router.sides b) (all_passes (old.taken b a ++ (if p then taken_from b e else []))) ((z.routers a).recorder.ends b)
+          → Holds g ((if p then own else old.routers a).router.sides b) (all_passes (old.taken b a ++ (if p then taken_from b e else []))) ((z.routers a).recorder.ends b)
       holds_at a b near true h =
           let same : u ≡ a = number_is laws u a h in
-          subst (λ j. Holds (own.router.sides b) (all_passes (old.taken b j ++ taken_from b e)) ((z.routers j).recorder.ends b)) same (holds_here b (subst (λ j. linked g.net j b ≡ true) (sym same) near))
+          subst (λ j. Holds g (own.router.sides b) (all_passes (old.taken b j ++ taken_from b e)) ((z.routers j).recorder.ends b)) same (holds_here b (subst (λ j. linked g.net j b ≡ true) (sym same) near))
       holds_at a b near false h =
-          holds_as (side_of old a b) (side_of old a b) (all_passes (old.taken b a)) (all_passes (old.taken b a ++ [])) ((w.routers a).recorder.ends b) ((z.routers a).recorder.ends b) refl (ap all_passes (sym (append-nil (old.taken b a))))
+          holds_as g (side_of old a b) (side_of old a b) (all_passes (old.taken b a)) (all_passes (old.taken b a ++ [])) ((w.routers a).recorder.ends b) ((z.routers a).recorder.ends b) refl (ap all_passes (sym (append-nil (old.taken b a))))
           (end_there a b (apart_of u a h)) (m.mirrors.holds a b near)
 
       router_at : (a : ℕ) (p : Bool) → (u == a) ≡ p → ReadsRouter g a (if p then own else old.routers a).router (z.routers a)
@@ -220,9 +220,9 @@ module _ (laws : Laws) (more : SnapshotLaws) where
             unmarked = was.unmarked;
           }
 
-      abbrev copy_holds : (c : ℕ → End Message) → k.router.recorder.ends ≡ c → (v : ℕ) → linked g.net u v ≡ true → Holds (side_of (new e own) u v) (all_passes ((new e own).taken v u)) (c v)
+      abbrev copy_holds : (c : ℕ → End Message) → k.router.recorder.ends ≡ c → (v : ℕ) → linked g.net u v ≡ true → Holds g (side_of (new e own) u v) (all_passes ((new e own).taken v u)) (c v)
       copy_holds c same v near =
-          holds_as (y.sides v) (side_of (new e own) u v) (before v ++ all_passes (taken_from v e)) (all_passes ((new e own).taken v u)) (k.router.recorder.ends v) (c v)
+          holds_as g (y.sides v) (side_of (new e own) u v) (before v ++ all_passes (taken_from v e)) (all_passes ((new e own).taken v u)) (k.router.recorder.ends v) (c v)
           (ap (λ i. i.sides v) router_here)
           (sym (all_more laws (old.taken v u) (taken_from v e)) ∙ ap (λ b. all_passes (old.taken v u ++ (if b then taken_from v e else []))) (sym (eq-eqb u u refl)))
           (ap (λ f. f v) same) (k.turned v near).holds

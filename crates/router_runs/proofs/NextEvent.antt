@@ -5,7 +5,6 @@ use mathlib.Core.List.{IsPrefix}
 use Rattle.std.proofs.lemmas.List.{append-nil}
 use Rattle.std.proofs.lemmas.Bool.{eqb-true, eq-eqb, false≢true}
 use Rattle.bgp_codec.specs.declared.message.Message.{Message}
-use Rattle.bgp_codec.specs.Spelling.{written}
 use Rattle.link_epoch.specs.declared.link_end.Phase.TheVariants as phase
 use Rattle.run_model.specs.Links as links
 use Rattle.run_model.specs.Links.{Entry, End}
@@ -22,7 +21,7 @@ use Rattle.router_model.specs.Sides.{Side}
 use Rattle.router_model.specs.State.{Router}
 use Rattle.router_model.specs.Laws.{all_passes}
 use Rattle.router_model.specs.Step.{Own, RouterEvent, after, says}
-use Rattle.router_runs.specs.Runs.{Logged, LoggedStep, RunOrder, RunState, IsRunTo, logged_steps, side_of, log_of}
+use Rattle.router_runs.specs.Runs.{Logged, LoggedStep, RunOrder, RunState, IsRunTo, logged_steps, side_of, log_of, written_in}
 use Rattle.router_runs.specs.Model.{network_of}
 use Rattle.router_runs.specs.Doing.{Stands}
 use Rattle.router_runs.specs.Kept.{Holds, IsGood}
@@ -41,11 +40,11 @@ use Rattle.router_runs.proofs.Lifting.{lift}
 use Rattle.router_runs.proofs.Lower.{Laws}
 
 -- what is held is the same of the same
-abbrev pub holds_as : (s t : Side) (k l : List (Passing Message)) (a b : End Message) → s ≡ t → k ≡ l → a ≡ b → Holds s k a → Holds t l b
-holds_as s t k l a b side items end h = record {
+abbrev pub holds_as : (g : Setting) (s t : Side) (k l : List (Passing Message)) (a b : End Message) → s ≡ t → k ≡ l → a ≡ b → Holds g s k a → Holds g t l b
+holds_as g s t k l a b side items end h = record {
   rest = h.rest;
   only = h.only;
-  passed = sym items ∙ (h.passed ∙ ap (λ c. passing written c.taken ++ h.rest) end);
+  passed = sym items ∙ (h.passed ∙ ap (λ c. passing (written_in g) c.taken ++ h.rest) end);
   joined = subst (λ r. r.link.phase ≡ phase.Joined → h.rest ≡ octets.octets_of r.link.epoch r.held) side h.joined;
   apart = subst (λ r. r.link.phase ≢ phase.Joined → r.held ≡ []) side h.apart;
 }
@@ -111,24 +110,24 @@ module _ (laws : Laws) (more : SnapshotLaws) where
     pub kept : Kept g old
     kept = kept_to laws g set order old r
 
-    known : (v : ℕ) → linked g.net u v ≡ true → Before laws v (x.sides v) (before v) (n.recorder.ends v) (far v)
+    known : (v : ℕ) → linked g.net u v ≡ true → Before laws g v (x.sides v) (before v) (n.recorder.ends v) (far v)
     known v near =
         let back = linked_both laws g set.network u v near in
         record {
           stands = m.mirrors.sides u v near;
-          own = own_number laws u v (side_of old u v) (side_of old v u) (log_of old u v) (log_of old v u) (old.taken v u) (old.taken u v) (linked_apart laws g set.network u v near) (kept.reached.links u v near);
+          own = own_number laws g u v (side_of old u v) (side_of old v u) (log_of old u v) (log_of old v u) (old.taken v u) (old.taken u v) (linked_apart laws g set.network u v near) (kept.reached.links u v near);
           holds = m.mirrors.holds u v near;
-          good = subst (AllGood (IsGood v)) (m.mirrors.log v u back) (all_good laws g set old kept v u back);
+          good = subst (AllGood (IsGood g v)) (m.mirrors.log v u back) (all_good laws g set old kept v u back);
         }
 
     -- what is taken was said before
     comes_at : (v : ℕ) (e : RouterEvent) (own : Logged) (c d : Bool) → (u == v) ≡ c → c ≡ false → (u == u) ≡ d → d ≡ true → IsPrefix (old.taken v u ++ (if d then taken_from v e else [])) (old.put v u ++ (if c then put_towards u e else []))
-        → IsPrefix (before v ++ all_passes (taken_from v e)) (passing written (log_of old v u))
+        → IsPrefix (before v ++ all_passes (taken_from v e)) (passing (written_in g) (log_of old v u))
     comes_at v e own true d h miss k hit is = absurd (cc miss)
     comes_at v e own false false h miss k hit is = absurd (cc hit)
     comes_at v e own false true h miss k hit is =
-        subst (λ l. IsPrefix l (passing written (log_of old v u))) (all_more laws (old.taken v u) (taken_from v e))
-        (prefix_trans (all_passes (old.taken v u ++ taken_from v e)) (all_passes (old.put v u)) (passing written (log_of old v u))
+        subst (λ l. IsPrefix l (passing (written_in g) (log_of old v u))) (all_more laws (old.taken v u) (taken_from v e))
+        (prefix_trans (all_passes (old.taken v u ++ taken_from v e)) (all_passes (old.put v u)) (passing (written_in g) (log_of old v u))
         (all_front laws (old.taken v u ++ taken_from v e) (old.put v u) (subst (IsPrefix (old.taken v u ++ taken_from v e)) (append-nil (old.put v u)) is))
         ((side_of old v u).outbox, kept.reached.puts v u))
 
@@ -139,9 +138,9 @@ module _ (laws : Laws) (more : SnapshotLaws) where
         at true h = absurd (linked_apart laws g set.network u v near (number_is laws u v h))
         at false h = refl
 
-    comes : (e : RouterEvent) (own : Logged) → Begins e own → (v : ℕ) → linked g.net u v ≡ true → IsPrefix (before v ++ all_passes (taken_from v e)) (passing written (far v).appended)
+    comes : (e : RouterEvent) (own : Logged) → Begins e own → (v : ℕ) → linked g.net u v ≡ true → IsPrefix (before v ++ all_passes (taken_from v e)) (passing (written_in g) (far v).appended)
     comes e own begins v near =
-        subst (λ l. IsPrefix (before v ++ all_passes (taken_from v e)) (passing written l)) (m.mirrors.log v u (linked_both laws g set.network u v near))
+        subst (λ l. IsPrefix (before v ++ all_passes (taken_from v e)) (passing (written_in g) l)) (m.mirrors.log v u (linked_both laws g set.network u v near))
         (comes_at v e own (u == v) (u == u) refl (off v near) refl (eq-eqb u u refl) (begins v u))
 
     -- markers are obeyed as they are taken
@@ -223,7 +222,7 @@ module _ (laws : Laws) (more : SnapshotLaws) where
           turned = λ v near. record {
             stands = (known v near).stands;
             appended = sym (append-nil (n.recorder.ends v).appended);
-            holds = holds_as (x.sides v) (x.sides v) (before v) (before v ++ []) (n.recorder.ends v) (n.recorder.ends v) refl (sym (append-nil (before v))) refl (known v near).holds;
+            holds = holds_as g (x.sides v) (x.sides v) (before v) (before v ++ []) (n.recorder.ends v) (n.recorder.ends v) refl (sym (append-nil (before v))) refl (known v near).holds;
           };
           reads = record {
             kept = (m.mirrors.routers u).kept;

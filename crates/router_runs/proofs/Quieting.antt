@@ -4,7 +4,6 @@ use Rattle.std.specs.Prelude.{Ok, Result}
 use Rattle.bgp_codec.specs.declared.fault.Fault.{Fault}
 use Rattle.bgp_codec.specs.declared.message.Message.{Message}
 use Rattle.bgp_codec.specs.declared.message.Message.TheVariants.{OpenMsg, UpdateMsg, NoticeMsg, AliveMsg}
-use Rattle.bgp_codec.specs.Spelling.{written}
 use Rattle.link_epoch.specs.Ends.{next_number, number_shut, heard_by, meaning_of}
 use Rattle.link_epoch.specs.declared.link_end.Heard.{Heard}
 use Rattle.link_epoch.specs.declared.link_end.Heard.TheVariants as heard
@@ -28,6 +27,7 @@ use Rattle.router_model.specs.Settings.{Setting, linked}
 use Rattle.router_model.specs.State.{Router, rule_of, open_of}
 use Rattle.router_model.specs.Messages.{is_update}
 use Rattle.router_model.specs.Step.{RouterEvent, Obeys, Ticks, Handles, Decides, Advertises, says, says_where, meets_at, resets_at, second_at, signed_at, handled_at}
+use Rattle.router_runs.specs.Runs.{written_in}
 use Rattle.router_runs.specs.Acts.{SaysNoUpdate, HasNoMark}
 
 quiet_append : (xs ys : List (Entry Message)) → SaysNoUpdate xs → SaysNoUpdate ys → SaysNoUpdate (xs ++ ys)
@@ -141,7 +141,7 @@ module _ (g : Setting) (u : ℕ) (x : Router) where
   come a e s = comes_quiet (open_of g.net u) refl NoMessage tt a e s
 
   -- what is said to peer v, where what stands in front of octets held is a message
-  pub says_quietly : (e : RouterEvent) → IsOfSessions e → ((w : ℕ) → e ≡ alone (Handles w) → (m : Message) × (front (rule_of w) (x.sides w).held ≡ Ok m)) → (v : ℕ) → SaysNoUpdate (says g u x e v)
+  pub says_quietly : (e : RouterEvent) → IsOfSessions e → ((w : ℕ) → e ≡ alone (Handles w) → (m : Message) × (front (rule_of g.net u w) (x.sides w).held ≡ Ok m)) → (v : ℕ) → SaysNoUpdate (says g u x e v)
   says_quietly (alone (Obeys (command.Start w))) is reads v = quiet_where (v == w) (meets_at g u x w ManualStart).says (come (draft_of (x.sides w).session (x.sides w).link) ManualStart tt)
   says_quietly (alone (Obeys (command.Stop w))) is reads v = quiet_where (v == w) (meets_at g u x w ManualStop).says (come (draft_of (x.sides w).session (x.sides w).link) ManualStop tt)
   says_quietly (alone (Obeys (command.Reset w))) is reads v =
@@ -184,10 +184,10 @@ behind_octets : (e : ℕ) (bs : List ℕ) (xs : List (Passing Message)) → Pass
 behind_octets e [] xs p = p
 behind_octets e (b ∷ bs) xs p = behind_octets e bs xs p
 
-pub none_passes : (past : List (Entry Message)) (rest : List (Passing Message)) → PassesNoMark (passing written past ++ rest) → HasNoMark past
-none_passes [] rest p = tt
-none_passes (Dial e ∷ past) rest p = none_passes past rest p
-none_passes (Says e m ∷ past) rest p =
-    none_passes past rest (behind_octets e (written m) (passing written past ++ rest) (subst PassesNoMark (append_assoc (octets_of e (written m)) (passing written past) rest) p))
-none_passes (Mark e n ∷ past) rest p = absurd p
-none_passes (Shut e ∷ past) rest p = none_passes past rest p
+pub none_passes : (g : Setting) (past : List (Entry Message)) (rest : List (Passing Message)) → PassesNoMark (passing (written_in g) past ++ rest) → HasNoMark past
+none_passes g [] rest p = tt
+none_passes g (Dial e ∷ past) rest p = none_passes g past rest p
+none_passes g (Says e m ∷ past) rest p =
+    none_passes g past rest (behind_octets e (written_in g m) (passing (written_in g) past ++ rest) (subst PassesNoMark (append_assoc (octets_of e (written_in g m)) (passing (written_in g) past) rest) p))
+none_passes g (Mark e n ∷ past) rest p = absurd p
+none_passes g (Shut e ∷ past) rest p = none_passes g past rest p

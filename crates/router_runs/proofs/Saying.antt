@@ -1,6 +1,6 @@
 -- What each step of a router says, and the paths that it keeps.
-use Rattle.std.proofs.Common.{◌≡◌, ℕ, suc, ◌<◌, ◌==◌, Bool, true, false, ◌&&◌, cond, List, [], ◌∷◌, ◌++◌, refl, ap, sym, ◌∙◌, subst, arith, Option, None, Some, inl, inr}
-use Rattle.std.specs.Prelude.{Ok, map, ◌^◌, Result}
+use Rattle.std.proofs.Common.{◌≡◌, ℕ, suc, ◌≤◌, ◌==◌, Bool, true, false, ◌&&◌, cond, List, [], ◌∷◌, ◌++◌, refl, ap, sym, ◌∙◌, subst, arith, Option, None, Some, inl, inr}
+use Rattle.std.specs.Prelude.{Ok, map, Result}
 use Rattle.std.specs.List.{AllByRecursion, find}
 use Rattle.prefix_lanes.specs.Bits.{PrefixView, is_prefix}
 use Rattle.bgp_codec.specs.declared.fault.Fault.{Fault}
@@ -38,8 +38,8 @@ use Rattle.router_model.specs.State.{Router, rule_of, open_of, telling, route, u
 use Rattle.router_model.specs.Step.{RouterEvent, Obeys, Ticks, Handles, Decides, Advertises, after, says, says_where, says_by, says_update, says_markers, keeping, telling_to, telling_of, heeds, is_greater, records, meets_at, resets_at, second_at, signed_at, handled_at}
 use Rattle.snap_marker.specs.Recordings.{ends_channel}
 use Rattle.router_model.specs.Messages.{updates_in}
-use Rattle.router_runs.specs.Said.{MayKeep, IsToldBy, IsSaid}
-use Rattle.bgp_codec.specs.Updates.{AreShort}
+use Rattle.bgp_values.specs.Ranges.{greatest_asn}
+use Rattle.router_runs.specs.Said.{MayKeep, IsToldBy, IsSaid, NumbersFit}
 use Rattle.router_runs.proofs.Lower.{Laws}
 
 module _ (laws : Laws) where
@@ -174,12 +174,12 @@ module _ (laws : Laws) where
     named_by w true q h = find_in (is_untold g u x w) g.net.origins q h
     named_by w false q h = absurd (cc h)
 
-    updated : (w v : ℕ) (q : Option PrefixView) → untold g u x w ≡ q → ((p : PrefixView) → MayKeep u (x.kept p)) → AllGood (IsSaid g u) (says_update g u x v q)
+    updated : (w v : ℕ) (q : Option PrefixView) → untold g u x w ≡ q → ((p : PrefixView) → MayKeep g u (x.kept p)) → AllGood (IsSaid g u) (says_update g u x v q)
     updated w v None is keeps = tt
     updated w v (Some q) is keeps = ((q, x.kept q, named_by w (linked g.net u w && is_up (x.sides w)) q is, keeps q, refl), tt)
 
     -- what is said to peer v, where what stands in front of octets held is a message, and kept paths may be kept
-    pub step_said : (e : RouterEvent) → ((w : ℕ) → e ≡ alone (Handles w) → (m : Message) × (front (rule_of w) (x.sides w).held ≡ Ok m)) → ((q : PrefixView) → MayKeep u (x.kept q)) → (v : ℕ) → AllGood (IsSaid g u) (says g u x e v)
+    pub step_said : (e : RouterEvent) → ((w : ℕ) → e ≡ alone (Handles w) → (m : Message) × (front (rule_of g.net u w) (x.sides w).held ≡ Ok m)) → ((q : PrefixView) → MayKeep g u (x.kept q)) → (v : ℕ) → AllGood (IsSaid g u) (says g u x e v)
     step_said (alone (Obeys c)) reads keeps v = commanded c v
     step_said (alone Ticks) reads keeps v =
         good_where (IsSaid g u) (linked g.net u v) (second_at g u x v).says
@@ -203,11 +203,11 @@ module _ (laws : Laws) where
     named_undecided : (q : PrefixView) → undecided g u x ≡ Some q → IsNamed g.net.origins q
     named_undecided q h = find_in (is_undecided g u x) g.net.origins q h
 
-    decided : (q : Option PrefixView) → ((p : PrefixView) → q ≡ Some p → MayKeep u (route g u x p)) → ((p : PrefixView) → MayKeep u (x.kept p)) → (p : PrefixView) → MayKeep u ((keeping x q (route g u x)).kept p)
+    decided : (q : Option PrefixView) → ((p : PrefixView) → q ≡ Some p → MayKeep g u (route g u x p)) → ((p : PrefixView) → MayKeep g u (x.kept p)) → (p : PrefixView) → MayKeep g u ((keeping x q (route g u x)).kept p)
     decided None new keeps p = keeps p
     decided (Some q) new keeps p = by_test (is_prefix q p)
       where
-        by_test : (c : Bool) → MayKeep u (cond c (route g u x q) (x.kept p))
+        by_test : (c : Bool) → MayKeep g u (cond c (route g u x q) (x.kept p))
         by_test true = new q refl
         by_test false = keeps p
 
@@ -220,7 +220,7 @@ module _ (laws : Laws) where
     marked_keeps true false w s y is = is
     marked_keeps false d w s y is = refl
 
-    pub step_keeps : (e : RouterEvent) → ((q : PrefixView) → IsNamed g.net.origins q → MayKeep u (route g u x q)) → ((p : PrefixView) → MayKeep u (x.kept p)) → (p : PrefixView) → MayKeep u ((after g u x e).kept p)
+    pub step_keeps : (e : RouterEvent) → ((q : PrefixView) → IsNamed g.net.origins q → MayKeep g u (route g u x q)) → ((p : PrefixView) → MayKeep g u (x.kept p)) → (p : PrefixView) → MayKeep g u ((after g u x e).kept p)
     step_keeps (alone (Obeys (command.Start w))) new keeps p = keeps p
     step_keeps (alone (Obeys (command.Stop w))) new keeps p = keeps p
     step_keeps (alone (Obeys (command.Reset w))) new keeps p = keeps p
@@ -231,34 +231,34 @@ module _ (laws : Laws) where
     step_keeps (alone Ticks) new keeps p = keeps p
     step_keeps (alone (Handles w)) new keeps p = keeps p
     step_keeps (alone Decides) new keeps p = decided (undecided g u x) (λ q h. new q (named_undecided q h)) keeps p
-    step_keeps (alone (Advertises w)) new keeps p = subst (MayKeep u) (sym (told_keeps w (untold g u x w) p)) (keeps p)
+    step_keeps (alone (Advertises w)) new keeps p = subst (MayKeep g u) (sym (told_keeps w (untold g u x w) p)) (keeps p)
     step_keeps (puts w i) new keeps p = keeps p
     step_keeps (takes w (item.Dial e)) new keeps p = keeps p
     step_keeps (takes w (item.Piece e octets)) new keeps p = keeps p
     step_keeps (takes w (item.Mark e s)) new keeps p =
-        subst (λ (f : PrefixView → List ℕ). MayKeep u (f p)) (sym (marked_keeps (heeds g u x w e) (is_greater x s) w s (record x { snapshots = ends_channel (peers g.net u) w s x.snapshots.unfinished x.snapshots }) refl)) (keeps p)
+        subst (λ (f : PrefixView → List ℕ). MayKeep g u (f p)) (sym (marked_keeps (heeds g u x w e) (is_greater x s) w s (record x { snapshots = ends_channel (peers g.net u) w s x.snapshots.unfinished x.snapshots }) refl)) (keeps p)
     step_keeps (takes w (item.Shut e)) new keeps p = keeps p
     step_keeps (offers made) new keeps p = keeps p
 
   -- ---- the best path, given small paths of the peers
 
-  own_kept : (c : Bool) (u : ℕ) → u < 2 ^ 16 → MayKeep u (cond c (u ∷ []) [])
-  own_kept true u small = inr (record { begins = ([], refl); short = omega arith; small = (small, tt) })
-  own_kept false u small = inl refl
+  own_kept : (g : Setting) (c : Bool) (u : ℕ) → u ≤ greatest_asn g.net.settings.width → MayKeep g u (cond c (u ∷ []) [])
+  own_kept g true u small = inr (record { begins = ([], refl); short = omega arith; small = (small, tt) })
+  own_kept g false u small = inl refl
 
-  pub best_kept : (p : Problem) (words : ℕ → List ℕ) (u : ℕ) (path : List ℕ) → u < 2 ^ 16 → ((v : ℕ) → AreShort (words v)) → IsBest p words u path → MayKeep u path
-  best_kept p words u path small all best =
+  pub best_kept : (g : Setting) (p : Problem) (words : ℕ → List ℕ) (u : ℕ) (path : List ℕ) → u ≤ greatest_asn g.net.settings.width → ((v : ℕ) → NumbersFit g (words v)) → IsBest p words u path → MayKeep g u path
+  best_kept g p words u path small all best =
       let t : Table = best.0 in
       let number : t.router ≡ u = best.1.0 in
       elim best.2 [
-        | inl own ↦ subst (MayKeep u) (sym (own.1 ∙ ap (own_path p) number)) (own_kept p.originated u small)
+        | inl own ↦ subst (MayKeep g u) (sym (own.1 ∙ ap (own_path p) number)) (own_kept g p.originated u small)
         | inr other ↦ elim other.1 [
           | inl first ↦ elim first.choice.permitted [
             | inl origin ↦ absurd (other.0 origin.0)
             | inr route ↦ inr (record {
               begins = (words first.choice.peer, first.choice.goes_on ∙ ap (λ i. i ∷ words first.choice.peer) number);
               short = route.1.short;
-              small = subst AreShort (sym (first.choice.goes_on ∙ ap (λ i. i ∷ words first.choice.peer) number)) (small, all first.choice.peer);
+              small = subst (NumbersFit g) (sym (first.choice.goes_on ∙ ap (λ i. i ∷ words first.choice.peer) number)) (small, all first.choice.peer);
             })
           ]
           | inr none ↦ inl none.0
@@ -267,24 +267,24 @@ module _ (laws : Laws) where
 
   -- ---- words heard
 
-  keep_small : (v : ℕ) (path : List ℕ) → MayKeep v path → AreShort path
-  keep_small v path (inl none) = subst AreShort (sym none) tt
-  keep_small v path (inr fine) = fine.small
+  keep_small : (g : Setting) (v : ℕ) (path : List ℕ) → MayKeep g v path → NumbersFit g path
+  keep_small g v path (inl none) = subst (NumbersFit g) (sym none) tt
+  keep_small g v path (inr fine) = fine.small
 
-  small_cond : (c : Bool) (a b : Word) → AreShort (path_in a) → AreShort (path_in b) → AreShort (path_in (cond c a b))
-  small_cond true a b p q = p
-  small_cond false a b p q = q
+  small_cond : (g : Setting) (c : Bool) (a b : Word) → NumbersFit g (path_in a) → NumbersFit g (path_in b) → NumbersFit g (path_in (cond c a b))
+  small_cond g true a b p q = p
+  small_cond g false a b p q = q
 
-  told_small : (id : ℕ) (q p : PrefixView) (path : List ℕ) (w : Word) → AreShort path → AreShort (path_in w) → AreShort (path_in (word_after w (telling id q path) p))
-  told_small id q p [] w small was = small_cond (lists (q ∷ []) p) nothing w tt was
-  told_small id q p (v ∷ path) w small was = small_cond (lists (q ∷ []) p) (announced_word (telling id q (v ∷ path)).attrs) w small was
+  told_small : (g : Setting) (id : ℕ) (q p : PrefixView) (path : List ℕ) (w : Word) → NumbersFit g path → NumbersFit g (path_in w) → NumbersFit g (path_in (word_after w (telling id q path) p))
+  told_small g id q p [] w small was = small_cond g (lists (q ∷ []) p) nothing w tt was
+  told_small g id q p (v ∷ path) w small was = small_cond g (lists (q ∷ []) p) (announced_word (telling id q (v ∷ path)).attrs) w small was
 
-  pub words_small : (g : Setting) (v : ℕ) (us : List Update) (w : Word) (p : PrefixView) → AllByRecursion (IsToldBy g v) us → AreShort (path_in w) → AreShort (path_in (last_word w us p))
+  pub words_small : (g : Setting) (v : ℕ) (us : List Update) (w : Word) (p : PrefixView) → AllByRecursion (IsToldBy g v) us → NumbersFit g (path_in w) → NumbersFit g (path_in (last_word w us p))
   words_small g v [] w p all was = was
   words_small g v (u ∷ us) w p all was =
       let t = all.0 in
       words_small g v us (word_after w u p) p all.1
-      (subst (λ (i : Update). AreShort (path_in (word_after w i p))) (sym t.4) (told_small (identifier g.net.routers v) t.0 p t.1 w (keep_small v t.1 t.3) was))
+      (subst (λ (i : Update). NumbersFit g (path_in (word_after w i p))) (sym t.4) (told_small g (identifier g.net.routers v) t.0 p t.1 w (keep_small g v t.1 t.3) was))
 
   told_in : (c : Bool) (g : Setting) (u : ℕ) (m : Message) (ms : List Message) → IsSaid g u m → AllByRecursion (IsToldBy g u) (updates_in ms) → AllByRecursion (IsToldBy g u) (updates_in (cond c (m ∷ ms) ms))
   told_in false g u m ms s all = all

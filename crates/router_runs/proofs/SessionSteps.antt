@@ -8,7 +8,6 @@ use Rattle.std.proofs.lemmas.Bool.Decides.{nat_tests}
 use Rattle.bgp_codec.specs.declared.message.Message.{Message}
 use Rattle.bgp_codec.specs.declared.message.Message.TheVariants.{UpdateMsg}
 use Rattle.bgp_codec.specs.declared.update.Update.{Update}
-use Rattle.bgp_codec.specs.Spelling.{written}
 use Rattle.link_epoch.specs.declared.link_end.Sign.TheVariants as sign
 use Rattle.session_fsm.specs.declared.event.FsmEvent.TheVariants.{ManualStart, ManualStop}
 use Rattle.ranked_policy.specs.Plans.{IsNetwork}
@@ -23,10 +22,11 @@ use Rattle.snap_marker.specs.Recordings.{Recording, Snapshots, closed, joins_cha
 use Rattle.run_model.specs.Routes.{Command, router_after}
 use Rattle.router_model.specs.Settings.{Setting, linked, peers, identifier}
 use Rattle.router_model.specs.Sides.{Side, Draft, AtHand, NoMessage, HasFault, HasUpdate, at_hand, event_of, front, carried, acted_with, without_front, fed, uses, is_up, is_established}
-use Rattle.router_model.specs.State.{Router, rule_of, open_of}
+use Rattle.router_model.specs.State.{Router, rule_of, open_of, asn_field, params_of}
 use Rattle.router_model.specs.Laws.{all_passes}
 use Rattle.router_model.specs.Recording.{left_of}
 use Rattle.router_model.specs.Step.{RouterEvent, Obeys, Ticks, Handles, Decides, Advertises, May, after, says, overflows, moved, all_moved, seen, with_side, put_from, close_at, first_close, or_first, meets_at, resets_at, second_at, signed_at, handled_at}
+use Rattle.router_runs.specs.Runs.{written_in}
 use Rattle.router_runs.specs.Model.{network_of}
 use Rattle.router_runs.specs.Snapshots.{IsCommand}
 use Rattle.router_runs.specs.Mirrors.{ModelRouter, ModelEvent, ReadsRouter}
@@ -155,7 +155,7 @@ closed_last None z = refl
 closed_last (Some c) z = refl
 
 module _ (laws : Laws) (g : Setting) (net : IsNetwork g.net) (u : ℕ) (far : ℕ → End Message) (Still : Type 0) (x : Router) (before : ℕ → List (Passing Message)) (n : ModelRouter)
-    (known : (v : ℕ) → linked g.net u v ≡ true → Before laws v (x.sides v) (before v) (n.recorder.ends v) (far v)) (reads : ReadsRouter g u x n) where
+    (known : (v : ℕ) → linked g.net u v ≡ true → Before laws g v (x.sides v) (before v) (n.recorder.ends v) (far v)) (reads : ReadsRouter g u x n) where
   here : (w : ℕ) → (w == w) ≡ true
   here w = grind (arith, nat_tests)
 
@@ -199,8 +199,8 @@ module _ (laws : Laws) (g : Setting) (net : IsNetwork g.net) (u : ℕ) (far : �
       up_at v true is = same (x.sides v) ∙ ap (λ i. is_up (x.sides i)) (same_number laws v w is)
       up_at v false is = refl
 
-  module _ (e : RouterEvent) (is : IsOfSessions e) (may : May g u x e) (fits : overflows g u x e ≡ false) (front_reads : (w : ℕ) → e ≡ alone (Handles w) → (m : Message) × (front (rule_of w) (x.sides w).held ≡ Ok m))
-      (comes : (v : ℕ) → linked g.net u v ≡ true → IsPrefix (before v ++ all_passes (taken_from v e)) (passing written (far v).appended))
+  module _ (e : RouterEvent) (is : IsOfSessions e) (may : May g u x e) (fits : overflows g u x e ≡ false) (front_reads : (w : ℕ) → e ≡ alone (Handles w) → (m : Message) × (front (rule_of g.net u w) (x.sides w).held ≡ Ok m))
+      (comes : (v : ℕ) → linked g.net u v ≡ true → IsPrefix (before v ++ all_passes (taken_from v e)) (passing (written_in g) (far v).appended))
       (still : Still → (v : ℕ) → linked g.net u v ≡ true → is_up (x.sides v) ≡ true → is_up ((after g u x e).sides v) ≡ true) where
     lost_none : (b c : Bool) → (b ≡ true → c ≡ true) → (b && not c) ≡ false
     lost_none true true h = refl
@@ -240,29 +240,29 @@ module _ (laws : Laws) (g : Setting) (net : IsNetwork g.net) (u : ℕ) (far : �
   Stays e = Still → (v : ℕ) → linked g.net u v ≡ true → is_up (x.sides v) ≡ true → is_up ((after g u x e).sides v) ≡ true
 
   abbrev Comes : RouterEvent → Type 0
-  Comes e = (v : ℕ) → linked g.net u v ≡ true → IsPrefix (before v ++ all_passes (taken_from v e)) (passing written (far v).appended)
+  Comes e = (v : ℕ) → linked g.net u v ≡ true → IsPrefix (before v ++ all_passes (taken_from v e)) (passing (written_in g) (far v).appended)
 
   abbrev Fronts : RouterEvent → Type 0
-  Fronts e = (w : ℕ) → e ≡ alone (Handles w) → (m : Message) × (front (rule_of w) (x.sides w).held ≡ Ok m)
+  Fronts e = (w : ℕ) → e ≡ alone (Handles w) → (m : Message) × (front (rule_of g.net u w) (x.sides w).held ≡ Ok m)
 
   abbrev StepOf : RouterEvent → Type 0
   StepOf e = LocalStep laws g net u far Still x (after g u x e) (says g u x e) before (λ v. all_passes (taken_from v e)) n
 
   handles_step : (w : ℕ) → (may : May g u x (alone (Handles w))) → Fronts (alone (Handles w)) → Comes (alone (Handles w)) → Stays (alone (Handles w)) → StepOf (alone (Handles w))
   handles_step w may fronts comes still =
-      let h : AtHand = at_hand (front (rule_of w) (x.sides w).held) in
+      let h : AtHand = at_hand (front (rule_of g.net u w) (x.sides w).held) in
       let d : Draft = handled_at g u x w in
       let e : RouterEvent = alone (Handles w) in
       sessions_step laws g net u far Still x (after g u x e) (says g u x e) before (λ v. all_passes (taken_from v e)) (heard_at d.acts h w) n
       (turning e tt may refl fronts comes still (heard_at d.acts h w) (λ v near. hears_at d.acts h w v (v == w) (x.sides v) d refl refl))
       refl refl (close_at w d.left)
-      (one_left w may.0 (is_established d.session.state) d.left (after g u x e) ((laws.left (open_of g.net u) (x.sides w)).handled_by h (event_of (front (rule_of w) (x.sides w).held))) (λ v. up_handled (v == w) h (x.sides v) d))
+      (one_left w may.0 (is_established d.session.state) d.left (after g u x e) ((laws.left (open_of g.net u) (x.sides w)).handled_by h (event_of (front (rule_of g.net u w) (x.sides w).held))) (λ v. up_handled (v == w) h (x.sides v) d))
       (seen_one d.acts h w (closed (close_at w d.left) x.snapshots)) reads
 
   reset_left : (w : ℕ) → linked g.net u w ≡ true → (resets_at g u x w).overflows ≡ false → (resets_at g u x w).left ≡ left_of (is_up (x.sides w)) (is_established (resets_at g u x w).session.state) (x.sides w).link.epoch
   reset_left w near fits =
       let down : is_established (resets_at g u x w).session.state ≡ false =
-      reset_down laws (record { asn = u; hold = g.net.settings.hold; id = identifier g.net.routers u; params = [] }) (x.sides w) (n.recorder.ends w) (far w) (known w near).stands fits in
+      reset_down laws (record { asn = asn_field u; hold = g.net.settings.hold; id = identifier g.net.routers u; params = params_of g.net.settings.width u }) (x.sides w) (n.recorder.ends w) (far w) (known w near).stands fits in
       (laws.left (open_of g.net u) (x.sides w)).reset_is ∙ ap (λ b. left_of (is_up (x.sides w)) b (x.sides w).link.epoch) (sym down)
 
   abbrev Stopped : Type 0

@@ -70,7 +70,7 @@ untold_near true false f q h = absurd (cc h)
 untold_near false c f q h = absurd (cc h)
 
 module _ (laws : Laws) (g : Setting) (net : IsNetwork g.net) (u : ℕ) (far : ℕ → End Message) (Still : Type 0) (x : Router) (before : ℕ → List (Passing Message)) (n : ModelRouter)
-    (known : (v : ℕ) → linked g.net u v ≡ true → Before laws v (x.sides v) (before v) (n.recorder.ends v) (far v)) (reads : ReadsRouter g u x n) where
+    (known : (v : ℕ) → linked g.net u v ≡ true → Before laws g v (x.sides v) (before v) (n.recorder.ends v) (far v)) (reads : ReadsRouter g u x n) where
   abbrev StepTo : Router → (ℕ → List (Entry Message)) → Type 0
   StepTo y new = LocalStep laws g net u far Still x y new before (λ v. []) n
 
@@ -94,7 +94,7 @@ module _ (laws : Laws) (g : Setting) (net : IsNetwork g.net) (u : ℕ) (far : �
             (subst (λ t. IsTurned laws g u far Still v (t v) [] (before v ++ []) (n.recorder.ends v) (n.recorder.ends v)) (sym sides) (record {
               stands = (known v near).stands;
               appended = sym (append-nil (n.recorder.ends v).appended);
-              holds = subst (λ l. Holds (x.sides v) l (n.recorder.ends v)) (sym (append-nil (before v))) (known v near).holds;
+              holds = subst (λ l. Holds g (x.sides v) l (n.recorder.ends v)) (sym (append-nil (before v))) (known v near).holds;
             }));
         reads = record { kept = kept; originated = originated; snapshots = subst (λ z. ReadsSnapshots g u z m) (sym snapshots) (snapshots_like g u x.snapshots n m recorder kept_at originated_at reads.snapshots) };
         queue = ap (λ z. z.queue) snapshots ∙ sym (append-nil x.snapshots.queue);
@@ -151,13 +151,13 @@ module _ (laws : Laws) (g : Setting) (net : IsNetwork g.net) (u : ℕ) (far : �
       record {
         stands = told_stands (x.sides v) i a (far v) k.stands (up refl);
         appended = ap (λ e. a.appended ++ Says e (UpdateMsg i) ∷ []) (sym k.stands.reads.epoch);
-        holds = subst (λ l. Holds (told (x.sides v) i) l (after a (Tells (UpdateMsg i)))) (sym (append-nil (before v)))
+        holds = subst (λ l. Holds g (told (x.sides v) i) l (after a (Tells (UpdateMsg i)))) (sym (append-nil (before v)))
             (record { rest = holds.rest; only = holds.only; passed = holds.passed; joined = holds.joined; apart = holds.apart });
       }
   told_turned v false i near up = record {
     stands = (known v near).stands;
     appended = sym (append-nil (n.recorder.ends v).appended);
-    holds = subst (λ l. Holds (x.sides v) l (n.recorder.ends v)) (sym (append-nil (before v))) (known v near).holds;
+    holds = subst (λ l. Holds g (x.sides v) l (n.recorder.ends v)) (sym (append-nil (before v))) (known v near).holds;
   }
 
   no_more : (b c : Bool) (ms : List Message) → cond b (cond c (ms ++ []) ms) ms ≡ ms

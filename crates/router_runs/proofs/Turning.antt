@@ -8,7 +8,6 @@ use Rattle.prefix_lanes.specs.Bits.{PrefixView}
 use Rattle.bgp_codec.specs.declared.message.Message.{Message}
 use Rattle.bgp_codec.specs.declared.message.Message.TheVariants.{UpdateMsg}
 use Rattle.bgp_codec.specs.declared.update.Update.{Update}
-use Rattle.bgp_codec.specs.Spelling.{written}
 use Rattle.run_model.specs.Links.{Entry, End}
 use Rattle.run_model.specs.Octets.{Passing, passing}
 use Rattle.run_model.specs.Offers.{lost_by_close}
@@ -19,6 +18,7 @@ use Rattle.router_model.specs.Sides.{Side, is_up}
 use Rattle.router_model.specs.State.{Router}
 use Rattle.router_model.specs.Recording.{left_of}
 use Rattle.router_model.specs.Step.{close_at, or_first}
+use Rattle.router_runs.specs.Runs.{written_in}
 use Rattle.router_runs.specs.Reading.{Reads, sides_after, model_side, state_of}
 use Rattle.router_runs.specs.Doing.{Stands, is_up_in}
 use Rattle.router_runs.specs.Kept.{Holds, Advances}
@@ -77,7 +77,7 @@ module _ (laws : Laws) (g : Setting) (u : ℕ) (far : ℕ → End Message) (Stil
   pub record IsTurned (v : ℕ) (t : Side) (new : List (Entry Message)) (came : List (Passing Message)) (a c : End Message) : Type 0 where
     pub stands : Stands t c (far v)
     pub appended : c.appended ≡ a.appended ++ new
-    pub holds : Holds t came c
+    pub holds : Holds g t came c
 
   pub record Turns (n : ModelRouter) (v : ℕ) (s t : Side) (new : List (Entry Message)) (came : List (Passing Message)) (us : List Update) (past : List (Entry Message)) : Type 0 where
     pub m : ModelRouter
@@ -97,14 +97,14 @@ module _ (laws : Laws) (g : Setting) (u : ℕ) (far : ℕ → End Message) (Stil
   both_true true q h = refl
   both_true false q h = absurd (cc h)
 
-  unmarked_past : (s t : Side) (a c : End Message) (past : List (Entry Message)) (before items : List (Passing Message)) → Holds s before a → Holds t (before ++ items) c → c.taken ≡ a.taken ++ past → PassesNoMark items → HasNoMark past
+  unmarked_past : (s t : Side) (a c : End Message) (past : List (Entry Message)) (before items : List (Passing Message)) → Holds g s before a → Holds g t (before ++ items) c → c.taken ≡ a.taken ++ past → PassesNoMark items → HasNoMark past
   unmarked_past s t a c past before items h k takes none =
-      let whole : passing written a.taken ++ (h.rest ++ items) ≡ passing written a.taken ++ (passing written past ++ k.rest) =
-      sym (append_assoc (passing written a.taken) h.rest items) ∙ (ap (λ w. w ++ items) (sym h.passed) ∙ (k.passed ∙ (ap (λ w. passing written w ++ k.rest) takes ∙ (ap (λ w. w ++ k.rest) (passing_more laws written a.taken past) ∙ append_assoc (passing written a.taken) (passing written past) k.rest)))) in
-      none_passes past k.rest (subst PassesNoMark (append_cancel_left (passing written a.taken) (h.rest ++ items) (passing written past ++ k.rest) whole) (octets_pass_none h.rest items h.only none))
+      let whole : passing (written_in g) a.taken ++ (h.rest ++ items) ≡ passing (written_in g) a.taken ++ (passing (written_in g) past ++ k.rest) =
+      sym (append_assoc (passing (written_in g) a.taken) h.rest items) ∙ (ap (λ w. w ++ items) (sym h.passed) ∙ (k.passed ∙ (ap (λ w. passing (written_in g) w ++ k.rest) takes ∙ (ap (λ w. w ++ k.rest) (passing_more laws (written_in g) a.taken past) ∙ append_assoc (passing (written_in g) a.taken) (passing (written_in g) past) k.rest)))) in
+      none_passes g past k.rest (subst PassesNoMark (append_cancel_left (passing (written_in g) a.taken) (h.rest ++ items) (passing (written_in g) past ++ k.rest) whole) (octets_pass_none h.rest items h.only none))
 
-  pub side_turns : (n : ModelRouter) (v : ℕ) (s t : Side) (new : List (Entry Message)) (before items : List (Passing Message)) (us : List Update) → u ≢ v → Stands s (n.recorder.ends v) (far v) → Holds s before (n.recorder.ends v)
-      → (d : Advances s t new before items (n.recorder.ends v) (far v)) → SaysNoUpdate new → PassesNoMark items → Hears s t us → (Still → (is_up s && not (is_up t)) ≡ false)
+  pub side_turns : (n : ModelRouter) (v : ℕ) (s t : Side) (new : List (Entry Message)) (before items : List (Passing Message)) (us : List Update) → u ≢ v → Stands s (n.recorder.ends v) (far v) → Holds g s before (n.recorder.ends v)
+      → (d : Advances g s t new before items (n.recorder.ends v) (far v)) → SaysNoUpdate new → PassesNoMark items → Hears s t us → (Still → (is_up s && not (is_up t)) ≡ false)
       → Turns n v s t new (before ++ items) us d.past
   side_turns n v s t new before items us apart x h d quiet none hears still =
       let a : End Message = n.recorder.ends v in
@@ -138,8 +138,8 @@ module _ (laws : Laws) (g : Setting) (u : ℕ) (far : ℕ → End Message) (Stil
   pub record MayTurn (v : ℕ) (s t : Side) (new : List (Entry Message)) (before items : List (Passing Message)) (us : List Update) (a : End Message) : Type 0 where
     pub apart : u ≢ v
     pub stands : Stands s a (far v)
-    pub holds : Holds s before a
-    pub advances : Advances s t new before items a (far v)
+    pub holds : Holds g s before a
+    pub advances : Advances g s t new before items a (far v)
     pub quiet : SaysNoUpdate new
     pub unmarked : PassesNoMark items
     pub hears : Hears s t us
@@ -286,8 +286,8 @@ module _ (laws : Laws) (g : Setting) (u : ℕ) (far : ℕ → End Message) (Stil
         let here : (nat_eq v v || list_any (nat_eq v) vs) ≡ true = ap (λ c. c || list_any (nat_eq v) vs) hit in
         let e = is v here in
         let k = may v here in
-        let d = subst (λ i. Advances (x.sides v) (y.sides v) (new v) (before v) (items v) i (far v)) (sym e) k.advances in
-        let f = side_turns n v (x.sides v) (y.sides v) (new v) (before v) (items v) (us v) k.apart (subst (λ i. Stands (x.sides v) i (far v)) (sym e) k.stands) (subst (Holds (x.sides v) (before v)) (sym e) k.holds)
+        let d = subst (λ i. Advances g (x.sides v) (y.sides v) (new v) (before v) (items v) i (far v)) (sym e) k.advances in
+        let f = side_turns n v (x.sides v) (y.sides v) (new v) (before v) (items v) (us v) k.apart (subst (λ i. Stands (x.sides v) i (far v)) (sym e) k.stands) (subst (Holds g (x.sides v) (before v)) (sym e) k.holds)
         d k.quiet k.unmarked k.hears k.still in
         more_turn v vs n d.past apart.0 e f
         (all_turn vs apart.1 f.m (λ w h. f.moved.ends w (others v w vs apart.0 h) ∙ is w (or_behind (nat_eq w v) (list_any (nat_eq w) vs) h)) (λ w h. may w (or_behind (nat_eq w v) (list_any (nat_eq w) vs) h)))

@@ -134,7 +134,7 @@ pub record Recorded (n m : ModelRouter) (low high : ℕ) : Type 0 where
 pub record Mirrors (g : Setting) (state : RunState) (w : ModelOffering) : Type 0 where
   pub sides : (u v : ℕ) → linked g.net u v ≡ true → Stands (side_of state u v) ((w.routers u).recorder.ends v) ((w.routers v).recorder.ends u)
   pub log : (u v : ℕ) → linked g.net u v ≡ true → log_of state u v ≡ ((w.routers u).recorder.ends v).appended
-  pub holds : (u v : ℕ) → linked g.net u v ≡ true → Holds (side_of state u v) (all_passes (state.taken v u)) ((w.routers u).recorder.ends v)
+  pub holds : (u v : ℕ) → linked g.net u v ≡ true → Holds g (side_of state u v) (all_passes (state.taken v u)) ((w.routers u).recorder.ends v)
   pub routers : (u : ℕ) → ReadsRouter g u (state.routers u).router (w.routers u)
   pub queued : (u : ℕ) → w.queued u ≡ made_by u w.made ++ (state.routers u).router.snapshots.queue
   pub made : w.made ≡ state.offered
@@ -144,7 +144,7 @@ pub record IsCopyAt (g : Setting) (u : ℕ) (at : RunState) (c : ℕ → End Mes
   pub reads : (v : ℕ) → linked g.net u v ≡ true → Reads (side_of at u v) (c v)
   pub up : (v : ℕ) → linked g.net u v ≡ true → links.is_up (c v) ≡ is_up (side_of at u v)
   pub log : (v : ℕ) → linked g.net u v ≡ true → log_of at u v ≡ (c v).appended
-  pub holds : (v : ℕ) → linked g.net u v ≡ true → Holds (side_of at u v) (all_passes (at.taken v u)) (c v)
+  pub holds : (v : ℕ) → linked g.net u v ≡ true → Holds g (side_of at u v) (all_passes (at.taken v u)) (c v)
 
 pub record Copied (g : Setting) (order : RunOrder) (state : RunState) (n : ModelRouter) (u s : ℕ) (c : ℕ → End Message) : Type 0 where
   pub at : RunState

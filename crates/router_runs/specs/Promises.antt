@@ -15,12 +15,12 @@ use Rattle.router_runs.specs.Runs.{RunOrder, RunState, IsRunTo, logged_steps, si
 
 -- from u to v in incarnation e: the messages that v used are a beginning of those that u said; their octets were taken, what was
 -- taken was put, and what was put was said; the UPDATEs among them are those that v acted on, and those said are those sent
-pub record PassesInOrder (state : RunState) (u v e : ℕ) : Type 0 where
+pub record PassesInOrder (g : Setting) (state : RunState) (u v e : ℕ) : Type 0 where
   pub used : List Message
   pub begins : IsPrefix used (said e (log_of state u v))
-  pub taken : IsPrefix (octets_of_all used) (stream e (state.taken u v))
+  pub taken : IsPrefix (octets_of_all g used) (stream e (state.taken u v))
   pub put : IsPrefix (stream e (state.taken u v)) (stream e (state.put u v))
-  pub appended : IsPrefix (stream e (state.put u v)) (octets_of_all (said e (log_of state u v)))
+  pub appended : IsPrefix (stream e (state.put u v)) (octets_of_all g (said e (log_of state u v)))
   pub acted : updates_in used ≡ (side_of state v u).acted e
   pub sent : updates_in (said e (log_of state u v)) ≡ (side_of state u v).sent e
 
@@ -29,7 +29,7 @@ abbrev pub UpdatesPassInOrder : Type 0
 UpdatesPassInOrder =
     (g : Setting) → IsSetting g → (order : RunOrder) (state : RunState) → IsRunTo g order state
     → (u v e : ℕ) → linked g.net u v ≡ true
-    → PassesInOrder state u v e × IsPrefix ((side_of state v u).acted e) ((side_of state u v).sent e)
+    → PassesInOrder g state u v e × IsPrefix ((side_of state v u).acted e) ((side_of state u v).sent e)
 
 -- nothing is acted on after the close: where an event leaves Established, no later one acts on an UPDATE of that incarnation
 abbrev pub NothingIsActedOnAfterTheClose : Type 0

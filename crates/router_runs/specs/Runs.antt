@@ -54,9 +54,13 @@ log_of state u v = (state.routers u).log v
 
 -- ---- messages and octets of an incarnation
 
--- messages as they are written, one behind another (RFC 4271 section 4)
-abbrev pub octets_of_all : List Message → List ℕ
-octets_of_all ms = concat (map written ms)
+-- messages as the routers of a network write them: its AS numbers have two octets, or four (RFC 6793 section 4.1)
+abbrev pub written_in : Setting → Message → List ℕ
+written_in g m = written g.net.settings.width m
+
+-- one behind another (RFC 4271 section 4)
+abbrev pub octets_of_all : Setting → List Message → List ℕ
+octets_of_all g ms = concat (map (written_in g) ms)
 
 -- the octets of the pieces of an incarnation, up to its end
 abbrev pub stream : ℕ → List What → List ℕ

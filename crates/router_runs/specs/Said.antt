@@ -1,9 +1,9 @@
 -- What routers say: each message of a run is one of these, and can be read by every peer.
-use Rattle.std.specs.Prelude.{ℕ, ◌≡◌, true, false, ◌≤◌, ◌<◌, ◌^◌, List, [], length}
+use Rattle.std.specs.Prelude.{ℕ, ◌≡◌, true, false, ◌≤◌, List, [], length}
 use Rattle.std.specs.List.{AllByRecursion}
 use mathlib.Core.Logic.{◌⊎◌}
 use Rattle.ranked_policy.specs.declared.limits.TheConstants.{LONGEST_PATH}
-use Rattle.bgp_codec.specs.Updates.{AreShort}
+use Rattle.bgp_codec.specs.AsNumbers.{AsnFits}
 use Rattle.prefix_lanes.specs.Bits.{PrefixView}
 use Rattle.bgp_codec.specs.declared.message.Message.{Message}
 use Rattle.bgp_codec.specs.declared.message.Message.TheVariants.{OpenMsg, UpdateMsg, NoticeMsg, AliveMsg}
@@ -19,18 +19,22 @@ use Rattle.router_model.specs.Settings.{IsSetting}
 use Rattle.router_runs.specs.Runs.{side_of, log_of}
 use Rattle.router_runs.specs.Kept.{IsGood, Reached}
 
-pub record IsFinePath (u : ℕ) (path : List ℕ) : Type 0 where
+-- each number is one that the octets of an AS number hold in this network
+abbrev pub NumbersFit : Setting → List ℕ → Type 0
+NumbersFit g path = AllByRecursion (AsnFits g.net.settings.width) path
+
+pub record IsFinePath (g : Setting) (u : ℕ) (path : List ℕ) : Type 0 where
   pub begins : BeginsWith path u
   pub short : length path ≤ LONGEST_PATH
-  pub small : AreShort path
+  pub small : NumbersFit g path
 
 -- a path that router u may keep
-abbrev pub MayKeep : ℕ → List ℕ → Type 0
-MayKeep u path = (path ≡ []) ⊎ IsFinePath u path
+abbrev pub MayKeep : Setting → ℕ → List ℕ → Type 0
+MayKeep g u path = (path ≡ []) ⊎ IsFinePath g u path
 
 -- an UPDATE that router u may tell
 abbrev pub IsToldBy : Setting → ℕ → Update → Type 0
-IsToldBy g u x = (q : PrefixView) × (path : List ℕ) × IsNamed g.net.origins q × MayKeep u path × (x ≡ telling (identifier g.net.routers u) q path)
+IsToldBy g u x = (q : PrefixView) × (path : List ℕ) × IsNamed g.net.origins q × MayKeep g u path × (x ≡ telling (identifier g.net.routers u) q path)
 
 -- a message that router u may say: its OPEN, an UPDATE as above, a NOTIFICATION without data, a KEEPALIVE
 abbrev pub IsSaid : Setting → ℕ → Message → Type 0
@@ -41,13 +45,13 @@ IsSaid g u AliveMsg = Unit {0}
 
 -- it is written as a frame, and each peer of the router reads it back
 abbrev pub SaidIsGood : Type 0
-SaidIsGood = (g : Setting) → IsSetting g → (u : ℕ) → IsRouter g.net.routers u → (m : Message) → IsSaid g u m → IsGood u m
+SaidIsGood = (g : Setting) → IsSetting g → (u : ℕ) → IsRouter g.net.routers u → (m : Message) → IsSaid g u m → IsGood g u m
 
 -- what is kept through a run of all routers: of each link, of what is said, and of the kept paths; and no session is up where there is no link
 pub record Kept (g : Setting) (state : RunState) : Type 0 where
   pub reached : Reached g state
   pub said : (u v : ℕ) → linked g.net u v ≡ true → AllGood (IsSaid g u) (log_of state u v)
-  pub paths : (u : ℕ) (q : PrefixView) → MayKeep u ((state.routers u).router.kept q)
+  pub paths : (u : ℕ) (q : PrefixView) → MayKeep g u ((state.routers u).router.kept q)
   pub apart : (u v : ℕ) → linked g.net u v ≡ false → is_up (side_of state u v) ≡ false
 
 abbrev pub RunsKeep : Type 0

@@ -5,7 +5,6 @@ use mathlib.Core.Logic.{◌⊎◌}
 use Rattle.prefix_lanes.specs.Bits.{PrefixView}
 use Rattle.bgp_codec.specs.declared.message.Message.TheVariants.{UpdateMsg}
 use Rattle.bgp_codec.specs.declared.update.Update.{Update}
-use Rattle.bgp_codec.specs.Spelling.{written}
 use Rattle.ranked_policy.specs.Plans.{IsOrigin}
 use Rattle.stable_paths.specs.Stable.{IsStable}
 use Rattle.run_model.specs.Octets.{passing}
@@ -21,7 +20,7 @@ use Rattle.router_model.specs.State.{Router, route, is_pending}
 use Rattle.router_model.specs.Step.{Own, RouterEvent, Obeys, Ticks, Handles, Decides, Advertises}
 use Rattle.router_model.specs.Laws.{all_passes}
 use Rattle.router_model.specs.Recording.{IsRecording, LeavesFirst}
-use Rattle.router_runs.specs.Runs.{RunOrder, RunState, IsRunTo, logged_steps, side_of, log_of}
+use Rattle.router_runs.specs.Runs.{RunOrder, RunState, IsRunTo, logged_steps, side_of, log_of, written_in}
 use Rattle.router_runs.specs.Model.{network_of}
 
 -- what router u records and has queued in a state of a run
@@ -69,8 +68,8 @@ pub record IsPartOf (g : Setting) (u : ℕ) (x : Router) (part : RouterPart) : T
 -- the link from u to v in a cut, by the states of the run as u and as v recorded, and the part of v: what v took inside, u appended
 -- inside, octet by octet; both recorded in one incarnation; and the recorded channel is the UPDATEs that u sent in it inside and v
 -- did not act on inside
-pub record IsCutLink (at_u at_v : RunState) (u v : ℕ) (part : RouterPart) : Type 0 where
-  pub consistent : IsPrefix (all_passes (at_v.taken u v)) (passing written (log_of at_u u v))
+pub record IsCutLink (g : Setting) (at_u at_v : RunState) (u v : ℕ) (part : RouterPart) : Type 0 where
+  pub consistent : IsPrefix (all_passes (at_v.taken u v)) (passing (written_in g) (log_of at_u u v))
   pub one_incarnation : (side_of at_u u v).link.epoch ≡ (side_of at_v v u).link.epoch
   pub in_flight : List Update
   pub channel : part.channel u ≡ map UpdateMsg in_flight
@@ -80,7 +79,7 @@ pub record IsCutLink (at_u at_v : RunState) (u v : ℕ) (part : RouterPart) : Ty
 pub record IsCutOf (g : Setting) (order : RunOrder) (last : RunState) (s : ℕ) (parts : ℕ → RouterPart) (at : ℕ → RunState) : Type 0 where
   pub recorded : (u : ℕ) → is_router g u ≡ true → RecordedAt g order last u s (at u)
   pub states : (u : ℕ) → is_router g u ≡ true → IsPartOf g u ((at u).routers u).router (parts u)
-  pub links : (u v : ℕ) → linked g.net u v ≡ true → IsCutLink (at u) (at v) u v (parts v)
+  pub links : (u v : ℕ) → linked g.net u v ≡ true → IsCutLink g (at u) (at v) u v (parts v)
 
 -- every router made its part of s
 abbrev pub HaveMade : Setting → RunState → ℕ → (ℕ → RouterPart) → Type 0

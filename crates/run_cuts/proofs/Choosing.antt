@@ -90,7 +90,7 @@ module _ (appends : StepsAppendWhatTheySay) (g : Setting) (u : ℕ) where
 
   -- an event that puts nothing in a direction only appends there
   grows : (v : ℕ) (e : RouterEvent) (x y : Router) → put_towards v e ≡ [] → Step g u x e y → IsPrefix (x.sides v).outbox (y.sides v).outbox
-  grows v e x y none did = (passing written (says g u x e v), sym (appends g u v x y e did) ∙ ap (λ is. all_passes is ++ (y.sides v).outbox) none)
+  grows v e x y none did = (passing (written (x.sides v).width) (says g u x e v), sym (appends g u v x y e did) ∙ ap (λ is. all_passes is ++ (y.sides v).outbox) none)
 
   not_there : (b : Bool) (j : What) → (if b then j ∷ [] else []) ≡ [] → b ≡ false
   not_there true j h = absurd cc

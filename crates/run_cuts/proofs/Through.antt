@@ -8,7 +8,6 @@ use Rattle.std.proofs.lemmas.List.Elements.{filter-append}
 use Rattle.std.proofs.lemmas.List.Folds.{list_any-from_Any}
 use Rattle.std.proofs.lemmas.Bool.{eq-eqb}
 use Rattle.std.proofs.Math.Seq.{drop-append_seam}
-use Rattle.bgp_codec.specs.Spelling.{written}
 use Rattle.ranked_policy.specs.Plans.{IsRouter, numbers}
 use Rattle.run_model.specs.Octets.{passing}
 use Rattle.run_model.specs.Network as runs
@@ -24,7 +23,7 @@ use Rattle.router_model.specs.Settings.{Setting, IsSetting, is_router, linked}
 use Rattle.router_model.specs.State.{Router}
 use Rattle.router_model.specs.Step.{Own}
 use Rattle.router_model.specs.Laws.{all_passes, AreLinked}
-use Rattle.router_runs.specs.Runs.{Logged, LoggedStep, RunOrder, RunState, IsRunTo, logged_steps, new_logged, side_of, log_of}
+use Rattle.router_runs.specs.Runs.{Logged, LoggedStep, RunOrder, RunState, IsRunTo, logged_steps, new_logged, side_of, log_of, written_in}
 use Rattle.router_runs.specs.Model.{network_of}
 use Rattle.router_runs.specs.Snapshots.{IsPartOf, IsCutOf, HasMade, HaveMade, ComesOut}
 use Rattle.run_cuts.specs.CutLaws.{CutLaws}
@@ -116,10 +115,10 @@ module _ (laws : CutLaws) (g : Setting) (set : IsSetting g) (order : RunOrder) (
   rest_fits u v iu iv near h =
       let p = puts_towards v (inside cut order u) in
       let link = is_cut.links u v near in
-      let puts : all_passes p ++ (side_of (at u) u v).outbox ≡ passing written (log_of (at u) u v) =
-      subst (λ l. all_passes l ++ (side_of (at u) u v).outbox ≡ passing written (log_of (at u) u v)) (put_is u iu v) ((laws.kept g set (up_to u iu) (at u) (run_to u iu)).reached.puts u v) in
-      let took : IsPrefix (all_passes (takes_from u (inside cut order v))) (passing written (log_of (at u) u v)) =
-      subst (λ l. IsPrefix (all_passes l) (passing written (log_of (at u) u v))) (taken_is v iv u) link.consistent in
+      let puts : all_passes p ++ (side_of (at u) u v).outbox ≡ passing (written_in g) (log_of (at u) u v) =
+      subst (λ l. all_passes l ++ (side_of (at u) u v).outbox ≡ passing (written_in g) (log_of (at u) u v)) (put_is u iu v) ((laws.kept g set (up_to u iu) (at u) (run_to u iu)).reached.puts u v) in
+      let took : IsPrefix (all_passes (takes_from u (inside cut order v))) (passing (written_in g) (log_of (at u) u v)) =
+      subst (λ l. IsPrefix (all_passes l) (passing (written_in g) (log_of (at u) u v))) (taken_is v iv u) link.consistent in
       let more : all_passes (takes_from u (inside cut order v)) ≡ all_passes p ++ all_passes h.0 = ap all_passes (sym h.1) ∙ passes_more p h.0 in
       (took.0, append_cancel_left (all_passes p) (all_passes h.0 ++ took.0) (side_of (at u) u v).outbox (sym (append_assoc (all_passes p) (all_passes h.0) took.0) ∙ ap (λ l. l ++ took.0) (sym more) ∙ took.1 ∙ sym puts))
 

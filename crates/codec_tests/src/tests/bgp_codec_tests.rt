@@ -11,6 +11,7 @@ mod headers;
 mod judging;
 mod opens;
 mod updates;
+mod wide;
 
 // Whether a fault has this code, this subcode and these data.
 fn is_fault(fault: &Fault, code: u8, sub: u8, extra: &[u8]) -> bool {

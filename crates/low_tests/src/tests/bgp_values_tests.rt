@@ -2,22 +2,25 @@
 
 use bgp_values::{
     CEASE, FSM_ERROR, HOLD_TIMER_EXPIRED, MESSAGE_HEADER_ERROR, OPEN_MESSAGE_ERROR,
-    UPDATE_MESSAGE_ERROR, is_asn, is_hold_time, is_unicast,
+    UPDATE_MESSAGE_ERROR, Width, is_asn, is_hold_time, is_unicast,
 };
 
-static NUMBERS: [(u64, bool); 5] = [
-    (0, false),
-    (1, true),
-    (65_535, true),
-    (65_536, false),
-    (4_294_967_296, false),
+// A number, whether a speaker can have it where numbers have two octets, and where they have four.
+static NUMBERS: [(u64, bool, bool); 6] = [
+    (0, false, false),
+    (1, true, true),
+    (65_535, true, true),
+    (65_536, false, true),
+    (4_294_967_295, false, true),
+    (4_294_967_296, false, false),
 ];
 
-// 0 is no number of a speaker (RFC 7607), and two octets hold 65535.
+// 0 is no number of a speaker (RFC 7607); two octets hold 65535, and four 4294967295 (RFC 6793).
 #[test]
-fn numbers_have_two_octets(rt: HostRuntime) {
-    for &(asn, can) in &NUMBERS {
-        assert!(rt; is_asn(asn) == can, "{asn}");
+fn numbers_have_two_octets_or_four(rt: HostRuntime) {
+    for &(asn, two, four) in &NUMBERS {
+        assert!(rt; is_asn(Width::Two, asn) == two, "{asn}");
+        assert!(rt; is_asn(Width::Four, asn) == four, "{asn}");
     }
 }
 

@@ -2,13 +2,12 @@
 //! their own, so `rt try --test --fail-alloc N` refuses the reader's.
 
 use super::is_fault;
-use bgp_codec::{Asn, CodecError, Message, Rule, decode};
+use bgp_codec::{Asn, CodecError, Message, NOBODY, Rule, decode};
 use bgp_framing::{Next, next_message};
-use bgp_values::Width;
 use std::alloc::Global;
 
 // A fault: its code, its subcode and its data.
-type FirstFault = (u8, u8, &'static [u8]);
+pub(super) type FirstFault = (u8, u8, &'static [u8]);
 
 // A body of a type, read from a speaker that may be named, and its first fault, or none.
 struct Case {
@@ -21,7 +20,7 @@ struct Case {
 
 // The frame of a body, and octets behind it. It takes no memory: where a run refuses a growth, that is
 // one of the reader's.
-fn framed(kind: u8, body: &[u8]) -> [u8; 64] {
+pub(super) fn framed(kind: u8, body: &[u8]) -> [u8; 64] {
     let mut octets = [0xff; 64];
     let len = u16::try_from(body.len().saturating_add(19)).unwrap_or(0);
     let [high, low] = len.to_be_bytes();
@@ -46,7 +45,12 @@ fn is_as_wanted(answer: &Result<Message, CodecError>, wanted: Option<FirstFault>
 }
 
 // Whether a frame stands in front of the octets, for which that is answered.
-fn answers(alloc: Global, octets: &[u8], rule: &Rule, wanted: Option<FirstFault>) -> bool {
+pub(super) fn answers(
+    alloc: Global,
+    octets: &[u8],
+    rule: &Rule,
+    wanted: Option<FirstFault>,
+) -> bool {
     match next_message(alloc, octets) {
         Next::Whole(_, end) => {
             let (frame, _) = octets.split_at(end);
@@ -59,9 +63,8 @@ fn answers(alloc: Global, octets: &[u8], rule: &Rule, wanted: Option<FirstFault>
 // Whether the frame of a case is answered as it is to be.
 fn is_answered(alloc: Global, case: &Case) -> bool {
     let rule = Rule {
-        width: Width::Two,
         peer: case.peer,
-        own: None,
+        ..NOBODY
     };
     answers(alloc, &framed(case.kind, case.body), &rule, case.fault)
 }

@@ -2,9 +2,10 @@
 
 use super::{is_written_as, is_written_behind};
 use bgp_codec::{
-    Aggregator, Asn, Attrs, Items, Message, NOBODY, Numbers, Octets, Raw, Segment, SegmentKind,
-    Update, is_writable,
+    Aggregator, Asn, Attrs, Items, Message, NOBODY, Numbers, Octets, Raw, Rule, Segment,
+    SegmentKind, Update, is_writable,
 };
+use bgp_values::Width;
 use prefix_lanes::Prefix;
 use std::alloc::{AllocError, Global};
 use std::test::Fail;
@@ -124,8 +125,10 @@ fn an_update_is_written(rt: HostRuntime) -> Result<(), Fail> {
     Ok(())
 }
 
-// An UPDATE with a path of this number, so many times, and unknown attributes of these codes.
+// An UPDATE with a path of this number, so many times, and unknown attributes of these codes, and whether it
+// is writable where numbers have so many octets.
 struct Writable {
+    width: Width,
     asn: Asn,
     count: usize,
     codes: [u8; 2],
@@ -133,14 +136,16 @@ struct Writable {
 }
 
 #[rattlefmt::skip]
-static WRITABLE: [Writable; 7] = [
-    Writable { asn: 9, count: 255, codes: [8, 9], wanted: true },
-    Writable { asn: 9, count: 256, codes: [8, 9], wanted: false },
-    Writable { asn: 9, count: 0, codes: [8, 9], wanted: false },
-    Writable { asn: 65_536, count: 1, codes: [8, 9], wanted: false },
-    Writable { asn: 9, count: 1, codes: [9, 8], wanted: false },
-    Writable { asn: 9, count: 1, codes: [8, 8], wanted: false },
-    Writable { asn: 9, count: 1, codes: [7, 8], wanted: false },
+static WRITABLE: [Writable; 9] = [
+    Writable { width: Width::Two, asn: 9, count: 255, codes: [8, 9], wanted: true },
+    Writable { width: Width::Two, asn: 9, count: 256, codes: [8, 9], wanted: false },
+    Writable { width: Width::Two, asn: 9, count: 0, codes: [8, 9], wanted: false },
+    Writable { width: Width::Two, asn: 65_536, count: 1, codes: [8, 9], wanted: false },
+    Writable { width: Width::Four, asn: 65_536, count: 255, codes: [8, 9], wanted: true },
+    Writable { width: Width::Four, asn: 65_536, count: 256, codes: [8, 9], wanted: false },
+    Writable { width: Width::Two, asn: 9, count: 1, codes: [9, 8], wanted: false },
+    Writable { width: Width::Two, asn: 9, count: 1, codes: [8, 8], wanted: false },
+    Writable { width: Width::Two, asn: 9, count: 1, codes: [7, 8], wanted: false },
 ];
 
 fn path_of(alloc: Global, asn: Asn, count: usize) -> Result<Items<Segment>, AllocError> {
@@ -155,13 +160,17 @@ fn update_of(alloc: Global, row: &Writable) -> Result<Message, AllocError> {
 }
 
 // What cannot be read is not writable: a segment of 256 numbers or of none, a number of three
-// octets, unknown attributes out of order or with a known code.
+// octets where numbers have two, unknown attributes out of order or with a known code.
 #[test]
 fn updates_that_are_not_writable(rt: HostRuntime) -> Result<(), Fail> {
     for row in &WRITABLE {
         let message = update_of(rt.alloc(), row)?;
+        let rule = Rule {
+            width: row.width,
+            ..NOBODY
+        };
         assert!(rt;
-            is_writable(&message, &NOBODY) == row.wanted,
+            is_writable(&message, &rule) == row.wanted,
             "{} {:?}",
             row.count,
             row.codes
