@@ -1,7 +1,9 @@
 -- What calls give and leave, one behind the other.
 use Rattle.std.proofs.Common.{◌≡◌, ◌≢◌, ℕ, zero, suc, ◌+◌, ◌-◌, ◌==◌, ◌<◌, arith, List, [], ◌∷◌, ◌++◌, length, take, drop, get_or, refl, ap, sym, subst, ◌∙◌, inl, inr, Ok, Err, append_assoc}
-use Rattle.std.specs.Prelude.{Result, Option, Some, false, ◌⊎◌}
+use Rattle.std.specs.Prelude.{Result, Option, Some, false, codes, ◌⊎◌}
 use Rattle.std.proofs.lemmas.List.{append-nil, take_more}
+use Rattle.std.specs.Io.KnownBytes.{Appends}
+use Rattle.net_text.specs.Lexing.{lines_of}
 use Rattle.ranked_policy.specs.Plans.{Plan}
 use Rattle.router_model.specs.declared.refusal.Stepped.TheVariants as stepped
 use Rattle.router_model.specs.Settings.{Setting, ChoosesByRank}
@@ -16,11 +18,15 @@ use Rattle.world_core.proofs.Orders.{on_to, stops_behind, stops_before, repeated
 use Rattle.world_core.proofs.Resting.{rests}
 use Rattle.text_engines.specs.declared.status.TheConstants.{DONE, REFUSED}
 use Rattle.text_engines.specs.Decoding.{Output, output}
-use Rattle.text_engines.proofs.CheckLemmas.{parted}
+use Rattle.text_engines.specs.declared.transfer.TheConstants.{INPUT_LIMIT}
+use Rattle.text_engines.specs.Engine.{ReadsUpTo, AppendsFront, PrintedBy, PrintedFrontBy}
+use Rattle.text_engines.specs.Inputs.{LinesGive}
+use Rattle.text_engines.proofs.CheckLemmas.{parted, limited_done, limited_stopped}
 use Rattle.play_engine.specs.declared.schedules.Stop.{Stop}
 use Rattle.play_engine.specs.Playing.{LeadTo, IsFirstRefused}
 use Rattle.play_engine.proofs.PlayLemmas.{lead_on, refused_found}
 use Rattle.trace_engine.specs.Tracing.{event_line, events_text, reached, rest_in, rest_of, head_text, tail_text, count_of, begun_text, order_text, orders_text, stopped_text, stop_comment, OrdersTrace, HaltsAt, TracesOne, TracesEvents, TracesRounds, TracesWork, TracesOrder, TracesAll}
+use Rattle.trace_engine.specs.Tracings.{ScheduleTraces, network_lines, InputTraces, Traces}
 use Rattle.trace_engine.proofs.TextLemmas.{text_behind, silent, stops_text, halted_text, reached_is, did, idled, failed, orders_behind, rested, moved}
 
 -- ---- one event
@@ -244,3 +250,12 @@ all_stopped x y head orders stop mid new kind opens h put = λ g e ranks.
       k.0,
       ap (λ (t : List ℕ). output t REFUSED) (put ∙ ap (λ (t : List ℕ). t ++ stop_comment stop.line stop.why) k.1 ∙ append_assoc head said (stop_comment stop.line stop.why)),
     )
+
+-- ---- what is printed for what was read
+
+pub traces_done : (known old new : Option (List ℕ)) (items text : List ℕ) (status : ℕ) → ReadsUpTo INPUT_LIMIT known items → InputTraces items (output text status) → Appends old new text → PrintedBy Traces known old new status
+traces_done known old new items text status read gives put = limited_done (λ input out. LinesGive (ScheduleTraces (network_lines input)) (codes "schedule") (lines_of input) out) known old new items text status read gives put
+
+pub traces_stopped : (known old new : Option (List ℕ)) (items text : List ℕ) (status : ℕ) → ReadsUpTo INPUT_LIMIT known items → InputTraces items (output text status) → AppendsFront old new text → PrintedFrontBy Traces known old new
+traces_stopped known old new items text status read gives put =
+    limited_stopped (λ input out. LinesGive (ScheduleTraces (network_lines input)) (codes "schedule") (lines_of input) out) known old new items text status read gives put

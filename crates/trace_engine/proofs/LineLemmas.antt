@@ -1,11 +1,13 @@
 -- The lines of a trace as they are read: each line of an event says that event, and a comment says nothing.
-use Rattle.std.proofs.Common.{◌≡◌, ◌≢◌, ℕ, zero, suc, ◌+◌, ◌-◌, ◌*◌, ◌^◌, ◌<◌, ◌≤◌, ◌==◌, Bool, true, false, cond, List, [], ◌∷◌, ◌++◌, length, map, refl, ap, sym, subst, ◌∙◌, arith, append_assoc, Option, Some, None, Result, Ok, Err}
+use Rattle.std.proofs.Common.{◌≡◌, ◌≢◌, ℕ, zero, suc, ◌+◌, ◌-◌, ◌*◌, ◌/◌, ◌%◌, ◌^◌, ◌<◌, ◌≤◌, ◌==◌, Bool, true, false, cond, List, [], ◌∷◌, ◌++◌, length, map, refl, ap, sym, subst, ◌∙◌, arith, append_assoc, Option, Some, None, Result, Ok, Err}
 use Rattle.std.specs.Prelude.{◌&&◌, ◌||◌, not, nat_le, nat_lt, min, codes, decimal, if◌then◌else◌, IsOk}
 use Rattle.std.specs.List.{AllByRecursion, list_all, list_any}
-use Rattle.std.proofs.lemmas.Bool.{and_parts, ne_eqb}
+use Rattle.std.proofs.lemmas.Bool.{and_parts, ne_eqb, le-leb, leb-true, lt-ltb}
 use Rattle.std.proofs.lemmas.List.{append-nil}
 use Rattle.std.proofs.lemmas.List.Folds.{list_all-append}
-use Rattle.std.proofs.lemmas.Fmt.{digits_decimal, digits_value-decimal, decimal_nonempty}
+use Rattle.std.proofs.lemmas.Fmt.{digits_value-decimal, decimal_nonempty}
+use Rattle.core.specs.Fmt.{digits_onto, digit_glyph}
+use Rattle.core.proofs.fmt.DigitsParse.{digits_onto-nil}
 use Rattle.std.proofs.lemmas.Str.Parse.{IsDigitsTest, IsNumeralModel, numerals_by_fold}
 use Rattle.bgp_values.specs.declared.width.Width.{Width}
 use Rattle.bgp_values.specs.declared.width.Width.TheVariants.{Two, Four}
@@ -54,7 +56,7 @@ no_return (x ∷ []) h =
     last_kept x (ne_eqb x 13 (not_below x 13 (and_parts (nat_le 32 x) (nat_lt x 128) k.0).0 refl))
 no_return (x ∷ y ∷ ys) h = ap (λ (t : Text). x ∷ t) (no_return (y ∷ ys) (and_parts (is_shown x) (are_shown (y ∷ ys)) h).1)
 
-both_true : (a b : Bool) → a ≡ true → b ≡ true → (a && b) ≡ true
+pub both_true : (a b : Bool) → a ≡ true → b ≡ true → (a && b) ≡ true
 both_true true true h k = refl
 both_true true false h k = absurd cc
 both_true false b h k = absurd cc
@@ -71,10 +73,10 @@ shown_both a b h k = list_all-append is_shown a b ∙ both_true (are_shown a) (a
 -- ---- numbers
 
 pub digit_range : (c : ℕ) → is_digit c ≡ true → (48 ≤ c) × (c ≤ 57)
-digit_range c h = (let k = and_parts (nat_le 48 c) (nat_le c 57) h in (omega (arith, k.0), omega (arith, k.1)))
+digit_range c h = (let k = and_parts (nat_le 48 c) (nat_le c 57) h in (leb-true 48 c k.0, leb-true c 57 k.1))
 
 range_digit : (c : ℕ) → (48 ≤ c) × (c ≤ 57) → is_digit c ≡ true
-range_digit c h = both_true (nat_le 48 c) (nat_le c 57) (omega (arith, h.0)) (omega (arith, h.1))
+range_digit c h = both_true (nat_le 48 c) (nat_le c 57) (le-leb 48 c h.0) (le-leb c 57 h.1)
 
 are_digits : IsDigitsTest (λ ds. list_all is_digit ds ≡ true)
 are_digits = record {
@@ -91,7 +93,7 @@ number_by [] some h = absurd (omega (arith, some))
 number_by (x ∷ xs) some h = h
 
 digit_shown : (x : ℕ) → is_digit x ≡ true → is_shown x ≡ true
-digit_shown x h = (let r = digit_range x h in both_true (nat_le 32 x) (nat_lt x 128) (omega (arith, r.0)) (omega (arith, r.1)))
+digit_shown x h = (let r = digit_range x h in both_true (nat_le 32 x) (nat_lt x 128) (le-leb 32 x (omega (arith, r.0))) (lt-ltb x 128 (omega (arith, r.1))))
 
 digits_shown : (t : Text) → list_all is_digit t ≡ true → are_shown t ≡ true
 digits_shown [] h = refl
@@ -121,12 +123,30 @@ some_word : (t : Text) → 0 < length t → t ≢ []
 some_word [] some = absurd (omega (arith, some))
 some_word (x ∷ xs) some = λ e. absurd cc
 
-module _ (n : ℕ) (fits : n < 2 ^ 64) where
-  pub decimal_digits : list_all is_digit (decimal n) ≡ true
-  decimal_digits = digits_decimal model n fits
+glyph_digit : (d : ℕ) → d < 10 → is_digit (digit_glyph false d) ≡ true
+glyph_digit d low =
+    let small : nat_lt d 10 ≡ true = lt-ltb d 10 low in
+    ap (λ (b : Bool). is_digit (if b then 48 + d else 87 + d)) small ∙ range_digit (48 + d) (omega (arith, low), omega (arith, low))
 
+onto_digits_by : (k n : ℕ) (acc : Text) (b : Bool) → list_all is_digit acc ≡ true → ((more : Text) → list_all is_digit more ≡ true → list_all is_digit (digits_onto k 10 false (n / 10) more) ≡ true)
+    → list_all is_digit (if b then digit_glyph false (n % 10) ∷ acc else digits_onto k 10 false (n / 10) (digit_glyph false (n % 10) ∷ acc)) ≡ true
+onto_digits_by k n acc true h go = both_true (is_digit (digit_glyph false (n % 10))) (list_all is_digit acc) (glyph_digit (n % 10) (omega arith)) h
+onto_digits_by k n acc false h go = go (digit_glyph false (n % 10) ∷ acc) (both_true (is_digit (digit_glyph false (n % 10))) (list_all is_digit acc) (glyph_digit (n % 10) (omega arith)) h)
+
+onto_digits : (k n : ℕ) (acc : Text) → list_all is_digit acc ≡ true → list_all is_digit (digits_onto k 10 false n acc) ≡ true
+onto_digits zero n acc h = h
+onto_digits (suc k) n acc h = onto_digits_by k n acc (n / 10 == 0) h (λ more m. onto_digits k (n / 10) more m)
+
+-- a number is written in digits alone
+pub decimal_digits : (n : ℕ) → list_all is_digit (decimal n) ≡ true
+decimal_digits n = ap (list_all is_digit) (sym (digits_onto-nil 10 false n)) ∙ onto_digits 64 n [] refl
+
+pub decimal_shown : (n : ℕ) → are_shown (decimal n) ≡ true
+decimal_shown n = digits_shown (decimal n) (decimal_digits n)
+
+module _ (n : ℕ) (fits : n < 2 ^ 64) where
   pub decimal_number : is_number (decimal n) ≡ true
-  decimal_number = number_by (decimal n) (decimal_nonempty n fits) decimal_digits
+  decimal_number = number_by (decimal n) (decimal_nonempty n fits) (decimal_digits n)
 
   pub decimal_value : value_of (decimal n) ≡ n
   decimal_value =
@@ -134,11 +154,8 @@ module _ (n : ℕ) (fits : n < 2 ^ 64) where
       let low : min (2 ^ 64 - 1) n ≡ n = omega (arith, fits) in
       ap (λ (m : ℕ). min (2 ^ 64 - 1) m) there ∙ low
 
-  pub decimal_shown : are_shown (decimal n) ≡ true
-  decimal_shown = digits_shown (decimal n) decimal_digits
-
   pub decimal_word : IsWord (decimal n)
-  decimal_word = (some_word (decimal n) (decimal_nonempty n fits), digits_word (decimal n) decimal_digits)
+  decimal_word = (some_word (decimal n) (decimal_nonempty n fits), digits_word (decimal n) (decimal_digits n))
 
   pub number_reads : (test : ℕ → Bool) → test n ≡ true → number_word test (decimal n) ≡ Ok n
   number_reads test ok =
@@ -154,8 +171,8 @@ pub record IsNamed (net : Plan) (u : ℕ) : Type 0 where
   pub known : is_router net.routers u ≡ true
 
 below_by : (width : Width) (u : ℕ) → nat_le u (greatest_asn width) ≡ true → u < 2 ^ 64
-below_by Two u h = omega (arith, h)
-below_by Four u h = omega (arith, h)
+below_by Two u h = omega (arith, leb-true u (greatest_asn Two) h)
+below_by Four u h = omega (arith, leb-true u (greatest_asn Four) h)
 
 pub asn_fits : (width : Width) (u : ℕ) → is_asn width u ≡ true → u < 2 ^ 64
 asn_fits width u h = below_by width u (and_parts (nat_le 1 u) (nat_le u (greatest_asn width)) h).1
@@ -275,7 +292,7 @@ module _ (feeds : LinesEndByLineFeeds) where
   says_line net t e h is = record {
     lines = t ∷ [];
     parted = λ rest. line_parted t rest h;
-    good = (good_by (line_order net t) (Ok (Some (order.One e))) is tt, tt);
+    good = (good_by (line_order net t) (Ok (Some (order.One e))) is refl, tt);
     orders = λ at. ap (λ (r : Result (Option Order) Code). map order_of (order_at (at + 1) r ++ [])) is;
   }
 
@@ -286,6 +303,6 @@ module _ (feeds : LinesEndByLineFeeds) where
       record {
         lines = t ∷ [];
         parted = λ rest. line_parted t rest h;
-        good = (good_by (line_order net t) (Ok None) none tt, tt);
+        good = (good_by (line_order net t) (Ok None) none refl, tt);
         orders = λ at. ap (λ (r : Result (Option Order) Code). map order_of (order_at (at + 1) r ++ [])) none;
       }

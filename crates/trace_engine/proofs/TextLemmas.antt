@@ -55,7 +55,7 @@ module _ (g : Setting) where
 
   pub stops_text : (w : World) (x : Event) (xs : List Event) (why : StepFault) → why ≢ Memory → IsRefused g w x why → events_text g w (x ∷ xs) ≡ []
   stops_text w x xs why kind (inl is) = ap (λ (a : WorldAnswer). step_text g w x a (λ next. events_text g next xs)) is
-  stops_text w x xs why kind (inr m) = absurd (kind m.3.0)
+  stops_text w x xs why kind (inr m) = absurd (kind m.3)
 
   -- the text up to an event that is refused
   pub halted_text : (w y : World) (events : List Event) (at : ℕ) (why : StepFault) → why ≢ Memory → (s : StopsAt g w events at why y) → events_text g w events ≡ events_text g w s.before

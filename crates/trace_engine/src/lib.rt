@@ -8,6 +8,7 @@
 
 mod comments;
 mod events;
+pub mod laws;
 mod network;
 mod orders;
 mod rounds;
