@@ -1,7 +1,7 @@
 -- What calls give and leave, one behind the other.
 use Rattle.std.proofs.Common.{◌≡◌, ◌≢◌, ℕ, zero, suc, ◌+◌, ◌-◌, ◌==◌, ◌<◌, arith, List, [], ◌∷◌, ◌++◌, length, take, drop, get_or, refl, ap, sym, subst, ◌∙◌, inl, inr, Ok, Err, append_assoc}
 use Rattle.std.specs.Prelude.{Result, Option, Some, false, codes, ◌⊎◌}
-use Rattle.std.proofs.lemmas.List.{append-nil, take_more}
+use Rattle.std.proofs.lemmas.List.{append-nil, length-append, take_more}
 use Rattle.std.specs.Io.KnownBytes.{Appends}
 use Rattle.net_text.specs.Lexing.{lines_of}
 use Rattle.ranked_policy.specs.Plans.{Plan}
@@ -9,12 +9,13 @@ use Rattle.router_model.specs.declared.refusal.Stepped.TheVariants as stepped
 use Rattle.router_model.specs.Settings.{Setting, ChoosesByRank}
 use Rattle.schedule_text.specs.declared.schedule.ScheduledOrder.{ScheduledOrder}
 use Rattle.world_core.specs.declared.schedule.Event.{Event}
+use Rattle.world_core.specs.declared.schedule.Order.TheVariants as order
 use Rattle.world_core.specs.declared.schedule.StepFault.{StepFault}
 use Rattle.world_core.specs.declared.schedule.StepFault.TheVariants.{Memory}
 use Rattle.world_core.specs.World.{World, Stops, new_world, played, world_answer}
-use Rattle.world_core.specs.Orders.{IsRefused, StopsAt, events_of, repeated, round}
+use Rattle.world_core.specs.Orders.{IsRefused, StopsAt, events_of, repeated, round, second}
 use Rattle.world_core.specs.Views.{WorldView, plain_world, Answers, Opens}
-use Rattle.world_core.proofs.Orders.{on_to, stops_behind, stops_before, repeated_one, repeated_among}
+use Rattle.world_core.proofs.Orders.{on_to, repeated_one, repeated_among}
 use Rattle.world_core.proofs.Resting.{rests}
 use Rattle.text_engines.specs.declared.status.TheConstants.{DONE, REFUSED}
 use Rattle.text_engines.specs.Decoding.{Output, output}
@@ -24,7 +25,7 @@ use Rattle.text_engines.specs.Inputs.{LinesGive}
 use Rattle.text_engines.proofs.CheckLemmas.{parted, limited_done, limited_stopped}
 use Rattle.play_engine.specs.declared.schedules.Stop.{Stop}
 use Rattle.play_engine.specs.Playing.{LeadTo, IsFirstRefused}
-use Rattle.play_engine.proofs.PlayLemmas.{lead_on, refused_found}
+use Rattle.play_engine.proofs.PlayLemmas.{lead_on}
 use Rattle.trace_engine.specs.Tracing.{event_line, events_text, reached, rest_in, rest_of, head_text, tail_text, count_of, begun_text, order_text, orders_text, stopped_text, stop_comment, OrdersTrace, HaltsAt, TracesOne, TracesEvents, TracesRounds, TracesWork, TracesOrder, TracesAll}
 use Rattle.trace_engine.specs.Tracings.{ScheduleTraces, network_lines, InputTraces, Traces}
 use Rattle.trace_engine.proofs.TextLemmas.{text_behind, silent, stops_text, halted_text, reached_is, did, idled, failed, orders_behind, rested, moved}
@@ -67,8 +68,18 @@ halts x y z es fs gs old mid new why same h k = λ g e ranks kind.
     let wz = plain_world z in
     let a = h g e ranks in
     let b = k g (e ∙ sym same) ranks kind in
-    let one = stops_behind g es fs wx wy wz b.0.0 why a.0 b.0.1 in
-    let all = stops_before g (es ++ fs) gs wx wz (length es + b.0.0) why one in
+    let s = b.0.1 in
+    let all : StopsAt g wx ((es ++ fs) ++ gs) (length es + b.0.0) why wz = record {
+      before = es ++ s.before;
+      event = s.event;
+      behind = s.behind ++ gs;
+      parts =
+          append_assoc es fs gs ∙ ap (λ (k : List Event). es ++ (k ++ gs)) s.parts ∙ ap (λ (k : List Event). es ++ k) (append_assoc s.before (s.event ∷ s.behind) gs)
+          ∙ sym (append_assoc es s.before (s.event ∷ (s.behind ++ gs)));
+      place = length-append es s.before ∙ ap (λ (n : ℕ). length es + n) s.place;
+      reached = on_to g es s.before wx wy wz a.0 s.reached;
+      refused = s.refused;
+    } in
     let text : events_text g wx ((es ++ fs) ++ gs) ≡ events_text g wx es ++ events_text g wy fs =
     halted_text g wx wz ((es ++ fs) ++ gs) (length es + b.0.0) why kind all
     ∙ text_behind g es b.0.1.before wx wy 0 a.0
@@ -166,6 +177,11 @@ pub rounds_halt : (x y : WorldView) (n : ℕ) (old new : List ℕ) (why : StepFa
 rounds_halt x y n old new why h = λ g e ranks kind.
     subst (λ (p : Plan). HaltsAt g (plain_world x) (repeated n (round p)) why (plain_world y) × (new ≡ old ++ events_text g (plain_world x) (repeated n (round p)))) (sym e) (h g e ranks kind)
 
+-- seconds that are refused are the order's
+pub ticks_halt : (x y : WorldView) (n : ℕ) (once : List Event) (old new : List ℕ) (why : StepFault) → once ≡ second x.net → TracesEvents (Err why) x (repeated n once) old y new → TracesWork (Err why) x (order.Ticks n) old y new
+ticks_halt x y n once old new why is h = λ g e ranks kind.
+    subst (λ (es : List Event). HaltsAt g (plain_world x) (repeated n es) why (plain_world y) × (new ≡ old ++ events_text g (plain_world x) (repeated n es))) (is ∙ ap second (sym e)) (h g e ranks kind)
+
 -- ---- an order
 
 pub order_done : (x y : WorldView) (o : ScheduledOrder) (old one two new : List ℕ) (rest : Option ℕ) (count : ℕ) → one ≡ old ++ head_text o.line o.order → TracesWork (Ok rest) x o.order one y two
@@ -190,13 +206,6 @@ order_halts x y o old one new why first work = λ g e ranks kind.
     let events = events_text g (plain_world x) (events_of g.net o.order) in
     let a = work g e ranks kind in
     (a.0, a.1 ∙ ap (λ (t : List ℕ). t ++ events) first ∙ append_assoc old (head_text o.line o.order) events)
-
--- an order that wants memory, of which nothing is said
-pub order_starves : (x y : WorldView) (o : ScheduledOrder) (old new : List ℕ) (why : StepFault) → why ≡ Memory → TracesOrder (Err why) x o old y new
-order_starves x y o old new why is = λ g e ranks kind. absurd (kind is)
-
-pub work_starves : (x y : WorldView) (o : ScheduledOrder) (old new : List ℕ) (why : StepFault) → why ≡ Memory → TracesWork (Err why) x o.order old y new
-work_starves x y o old new why is = λ g e ranks kind. absurd (kind is)
 
 -- ---- orders
 
@@ -228,27 +237,27 @@ orders_halt x y z orders i o old mid new why lt is same h k = λ g e ranks kind.
     let wy = plain_world y in
     let a = h g e ranks in
     let b = k g (e ∙ sym same) ranks kind in (
-      refused_found g wx wy (plain_world z) orders i o g.net why refl lt is a.0 b.0,
+      record { before = take i orders; order = o; behind = drop (i + 1) orders; reached = wy; left = plain_world z; at = b.0.0; parts = parted orders i o lt is; stands = refl; done = a.0; stops = b.0.1 },
       b.1 ∙ ap (λ (t : List ℕ). t ++ begun_text g wy o) a.1 ∙ append_assoc old (orders_text g wx (take i orders)) (begun_text g wy o),
     )
 
 -- ---- from a new world
 
-pub all_traced : (x y : WorldView) (head : List ℕ) (orders : List ScheduledOrder) (new : List ℕ) → Opens x.net x → TracesAll (Ok tt) x orders head y new → OrdersTrace x.net head orders (output new DONE)
-all_traced x y head orders new opens h = λ g e ranks.
-    let k = subst (λ (w : World). LeadTo g w orders (plain_world y) × (new ≡ head ++ orders_text g w orders)) (opens.1 g e) (h g e ranks) in
+pub all_traced : (net : Plan) (x y : WorldView) (head : List ℕ) (orders : List ScheduledOrder) (new : List ℕ) → Opens net x → TracesAll (Ok tt) x orders head y new → OrdersTrace net head orders (output new DONE)
+all_traced net x y head orders new opens h = λ g e ranks.
+    let k = subst (λ (w : World). LeadTo g w orders (plain_world y) × (new ≡ head ++ orders_text g w orders)) (opens.1 g e) (h g (e ∙ sym opens.0) ranks) in
     inl (plain_world y, k.0, ap (λ (t : List ℕ). output t DONE) k.1)
 
-pub all_stopped : (x y : WorldView) (head : List ℕ) (orders : List ScheduledOrder) (stop : Stop) (mid new : List ℕ) → stop.why ≢ Memory → Opens x.net x → TracesAll (Err stop) x orders head y mid
-    → new ≡ mid ++ stop_comment stop.line stop.why → OrdersTrace x.net head orders (output new REFUSED)
-all_stopped x y head orders stop mid new kind opens h put = λ g e ranks.
-    let k = subst (λ (w : World). (s : IsFirstRefused g w orders stop) × (mid ≡ head ++ stopped_text g w orders stop s)) (opens.1 g e) (h g e ranks kind) in
+pub all_stopped : (net : Plan) (x y : WorldView) (head : List ℕ) (orders : List ScheduledOrder) (stop : Stop) (mid : List ℕ) → stop.why ≢ Memory → Opens net x → TracesAll (Err stop) x orders head y mid
+    → OrdersTrace net head orders (output (mid ++ stop_comment stop.line stop.why) REFUSED)
+all_stopped net x y head orders stop mid kind opens h = λ g e ranks.
+    let k = subst (λ (w : World). (s : IsFirstRefused g w orders stop) × (mid ≡ head ++ stopped_text g w orders stop s)) (opens.1 g e) (h g (e ∙ sym opens.0) ranks kind) in
     let said = stopped_text g (new_world g) orders stop k.0 in
     inr (
       stop,
       kind,
       k.0,
-      ap (λ (t : List ℕ). output t REFUSED) (put ∙ ap (λ (t : List ℕ). t ++ stop_comment stop.line stop.why) k.1 ∙ append_assoc head said (stop_comment stop.line stop.why)),
+      ap (λ (t : List ℕ). output t REFUSED) (ap (λ (t : List ℕ). t ++ stop_comment stop.line stop.why) k.1 ∙ append_assoc head said (stop_comment stop.line stop.why)),
     )
 
 -- ---- what is printed for what was read

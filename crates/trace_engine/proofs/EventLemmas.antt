@@ -297,6 +297,7 @@ module _ (feeds : LinesEndByLineFeeds) (read : LinesAreReadAsTheySay) (net : Pla
 
   -- the line of an event says it
   pub event_said : (e : Event) → MaySay net e → Says net (event_line e) (e ∷ [])
+  unfolding two_line
   event_said (event.Command u (command.Start v)) m = said_peers (codes "start") u v _ (name_is (codes "start") refl refl refl refl) m.0 m.1 (peers_named (codes "start") u v m.0 m.1)
   event_said (event.Command u (command.Stop v)) m = said_peers (codes "stop") u v _ (name_is (codes "stop") refl refl refl refl) m.0 m.1 (peers_named (codes "stop") u v m.0 m.1)
   event_said (event.Command u (command.Reset v)) m = said_peers (codes "reset") u v _ (name_is (codes "reset") refl refl refl refl) m.0 m.1 (peers_named (codes "reset") u v m.0 m.1)

@@ -282,6 +282,10 @@ says_both net a b es fs h k = record {
 good_by : (r s : Result (Option Order) Code) → r ≡ s → IsOk s → IsOk r
 good_by r s is h = subst IsOk (sym is) h
 
+skipped_by : (b : Bool) (rest : Result (Option Order) Code) → b ≡ true → (if b then Ok None else rest) ≡ Ok None
+skipped_by true rest h = refl
+skipped_by false rest h = absurd cc
+
 module _ (feeds : LinesEndByLineFeeds) where
   pub line_parted : (t rest : Text) → are_shown t ≡ true → lines_of (line t ++ rest) ≡ t ∷ lines_of rest
   line_parted t rest h =
@@ -299,7 +303,7 @@ module _ (feeds : LinesEndByLineFeeds) where
   -- a line that orders nothing
   pub says_nothing : (net : Plan) (t : Text) → are_shown t ≡ true → is_skipped t ≡ true → Says net (line t) []
   says_nothing net t h is =
-      let none : line_order net t ≡ Ok None = ap (λ (b : Bool). cond b (Ok None) _) is in
+      let none : line_order net t ≡ Ok None = skipped_by (is_skipped t) _ is in
       record {
         lines = t ∷ [];
         parted = λ rest. line_parted t rest h;

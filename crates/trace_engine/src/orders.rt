@@ -2,10 +2,11 @@
 
 ghost use Rattle.std.specs.Prelude.{◌≡◌, ◌≢◌, ◌++◌, IfOk};
 ghost use Rattle.net_text.specs.Lexing.{lines_of};
+ghost use Rattle.text_engines.specs.declared.status.TheConstants.{REFUSED};
 ghost use Rattle.text_engines.specs.Decoding.{output};
 ghost use Rattle.world_core.specs.Orders.{events_of};
 ghost use Rattle.world_core.specs.Views.{Opens};
-ghost use Rattle.trace_engine.specs.Tracing.{TracesWork, TracesOrder, TracesAll, OrdersTrace, head_of_trace};
+ghost use Rattle.trace_engine.specs.Tracing.{TracesWork, TracesOrder, TracesAll, OrdersTrace, head_of_trace, stop_comment};
 
 use crate::comments::{put_head, put_stop, put_tail};
 use crate::network::put_network;
@@ -58,7 +59,8 @@ fn trace_order(
     put_head(scheduled, out)?;
     let before = world.run().len();
     let rest = trace_work(alloc, world, &scheduled.order, out)?;
-    put_tail(scheduled, world.run().len() - before, rest, out)?;
+    let count = world.run().len().saturating_sub(before);
+    put_tail(scheduled, count, rest, out)?;
     Ok(())
 }
 
@@ -83,30 +85,38 @@ fn trace_all(
     Ok(())
 }
 
-// What is printed behind the lines of a network for orders in a world in which nothing was done.
+// What is printed where an order is refused, behind the trace up to it, and the status; want of memory is no such refusal.
+fn stop_output(stop: Stop, mut out: Vec<u8>) -> Result<(Vec<u8>, u8), AllocError>
+    ensures kind { IfOk result (λ printed. stop.why ≢ StepFault.Memory) }
+    ensures output { IfOk result (λ printed. output printed.0.items printed.1 ≡ output (out.items ++ stop_comment stop.line stop.why) REFUSED) }
+{
+    if stop.why == StepFault::Memory {
+        return Err(AllocError);
+    }
+    put_stop(stop.line, stop.why, &mut out)?;
+    Ok((out, REFUSED))
+}
+
+// What is printed, behind what was, for orders in a world in which nothing was done. The world is left to the end of the
+// process, which comes next: what it holds is many small blocks.
 fn world_output(
     alloc: Global,
+    network: &Network,
     mut world: World<'_>,
     orders: &[ScheduledOrder],
     mut out: Vec<u8>,
 ) -> Result<(Vec<u8>, u8), AllocError>
-    requires { Opens world.net world }
-    ensures { IfOk result (λ printed. OrdersTrace world.entry.net out.items orders.now (output printed.0.items printed.1)) }
+    requires { Opens network.now world }
+    ensures { IfOk result (λ printed. OrdersTrace network.now out.items orders.now (output printed.0.items printed.1)) }
 {
-    let traced = trace_all(alloc, &mut world, orders, &mut out);
-    // The end of the process comes next, and the world is many small blocks.
-    forget(world);
-    match traced {
-        Ok(()) => Ok((out, DONE)),
-        Err(
-            Stop {
-                why: StepFault::Memory,
-                ..
-            },
-        ) => Err(AllocError),
+    match trace_all(alloc, &mut world, orders, &mut out) {
+        Ok(()) => {
+            forget(world);
+            Ok((out, DONE))
+        }
         Err(stop) => {
-            put_stop(stop.line, stop.why, &mut out)?;
-            Ok((out, REFUSED))
+            forget(world);
+            stop_output(stop, out)
         }
     }
 }
@@ -124,7 +134,7 @@ pub(crate) fn orders_output(
     put_network(lines, &mut out)?;
     out.extend_from_slice(b"schedule\n")?;
     match World::new(alloc, network) {
-        Ok(world) => world_output(alloc, world, orders, out),
+        Ok(world) => world_output(alloc, network, world, orders, out),
         Err(_) => Err(AllocError),
     }
 }

@@ -1,4 +1,5 @@
-use Rattle.std.proofs.Common.{◌≡◌, ℕ, ◌+◌, ◌-◌, suc, length, List, Some, None, arith, ap, sym, subst, ◌∙◌, refl, Ok, Err}
+use Rattle.std.proofs.Common.{◌≡◌, ◌≢◌, ℕ, ◌+◌, ◌-◌, suc, length, List, Some, None, arith, ap, sym, subst, ◌∙◌, refl, Ok, Err}
+use Rattle.std.proofs.lemmas.Bool.{ne_eqb}
 use Rattle.std.proofs.lemmas.Result.{err_from_is_err_and}
 use Rattle.ranked_policy.specs.Plans.{Plan}
 use Rattle.world_core.specs.declared.schedule.Event.{Event}
@@ -22,7 +23,7 @@ returns-in_err-trace_events-clause-traces c =
     (again_halts x l.world c.trace_events.new.world (round x.net) l.passed left c.args.times c.args.out.now.items l.out.items c.trace_events.new.out.items why all l.invariant.same l.invariant.done here))
 
 pub loop-passed-init : goal.loop-passed-init
-loop-passed-init c = record { same = refl; done = first_traced c.args.world.now c.args.out.now.items; rest = λ g e ranks. refl }
+loop-passed-init c = record { same = refl; done = first_traced c.args.world.now c.args.out.now.items; rest = λ g e ranks. ap (rest_in g (plain_world c.args.world.now) 0) (let all : c.args.times ≡ c.args.times - 0 = omega arith in all) }
 
 pub returns-then-run-before-clause-traces : goal.returns-then-run-before-clause-traces
 returns-then-run-before-clause-traces c =
@@ -50,10 +51,11 @@ loop-passed-preserved c =
     let next : c.args.times - l.passed ≡ suc left = omega (arith, c.loop-passed-test.true) in
     let here = subst (λ (es : List Event). TracesEvents (Ok tt) y es l.out.items z c.trace_events.new.out.items) c.requires c.in_ok-trace_events.ensures.traces in
     let there = subst (λ (net : Plan). TracesEvents (Ok tt) y (round net) l.out.items z c.trace_events.new.out.items) (sym l.invariant.same) here in
+    let other : length z.run ≢ length y.run = λ e. c.if-run-before.false (ap length c.run.ensures ∙ e ∙ sym (ap length c.run-before.ensures)) in
     record {
       same = c.trace_events.ensures.same ∙ l.invariant.same;
       done = again_on x y z (round x.net) l.passed c.args.out.now.items l.out.items c.trace_events.new.out.items l.invariant.same l.invariant.done here;
-      rest = rest_on x y z c.args.times l.passed (c.args.times - l.passed) l.out.items c.trace_events.new.out.items l.invariant.same next l.invariant.rest there _;
+      rest = rest_on x y z c.args.times l.passed (c.args.times - l.passed) l.out.items c.trace_events.new.out.items l.invariant.same next l.invariant.rest there (ne_eqb (length z.run) (length y.run) other);
     }
 
 pub returns-clause-traces : goal.returns-clause-traces
