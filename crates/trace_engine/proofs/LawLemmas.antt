@@ -306,14 +306,15 @@ module _ (feeds : LinesEndByLineFeeds) (read : LinesAreReadAsTheySay) (one : One
       let plain_lines = plain (codes "schedule") (lines_of input) in
       let front = ap (before_section (codes "schedule")) lines ∙ front_is (codes "schedule") (codes "schedule") (network_lines input) (lines_of body) plain_lines refl in
       let rest = ap (behind_section (codes "schedule")) lines ∙ rest_is (codes "schedule") (codes "schedule") (network_lines input) (lines_of body) plain_lines refl in
-      let good : (n : ℕ) → All (IsGood t.net) (lines_of body) =
-      λ n. subst (λ (net : Plan). All (IsGood net) (lines_of body)) s.over
-      (spell_their_runs feeds read g (subst IsNetwork (sym s.over) t.spells.network) t.before t.lines t.orders (subst (λ (net : Plan). SpellsSchedule net t.before t.lines t.orders) (sym s.over) t.spelled) k.0 k.1 n).spelled.good in
+      let n = length (lines_of text) - length (behind_section (codes "schedule") (lines_of text)) in
+      let good : (m : ℕ) → All (IsGood t.net) (lines_of body) =
+      λ m. subst (λ (net : Plan). All (IsGood net) (lines_of body)) s.over
+      (spell_their_runs feeds read g (subst IsNetwork (sym s.over) t.spells.network) t.before t.lines t.orders (subst (λ (net : Plan). SpellsSchedule net t.before t.lines t.orders) (sym s.over) t.spelled) k.0 k.1 m).spelled.good in
       elim plays [
         | inl p ↦ elim p [
           | inl long ↦ absurd (omega (arith, long.0, short))
-          | inr all ↦ played_lines input text t body k.2 good _ out
-              (subst (λ (b : List Text). NetworkGives (ScheduleGives IsReport) (network_lines input) _ b out) rest (subst (λ (f : List Text). NetworkGives (ScheduleGives IsReport) f _ (behind_section (codes "schedule") (lines_of text)) out) front all.1))
+          | inr all ↦ played_lines input text t body k.2 good n out
+              (subst (λ (b : List Text). NetworkGives (ScheduleGives IsReport) (network_lines input) n b out) rest (subst (λ (f : List Text). NetworkGives (ScheduleGives IsReport) f n (behind_section (codes "schedule") (lines_of text)) out) front all.1))
         ]
         | inr none ↦ inr none
       ]

@@ -17,7 +17,6 @@ use ranked_policy::Network;
 use schedule_text::ScheduledOrder;
 use std::alloc::{AllocError, Global};
 use std::mem::forget;
-use std::slice::from_ref;
 use text_engines::status::{DONE, REFUSED};
 use world_core::{Order, StepFault, World};
 
@@ -33,7 +32,7 @@ fn trace_work(
     ensures same { world.new.net ≡ world.old.net }
 {
     match order {
-        Order::One(event) => trace_events(world, from_ref(event), out)?,
+        Order::One(event) => trace_events(world, &[*event], out)?,
         Order::Rounds(times) => {
             let round = round_of(alloc, world.network())?;
             return trace_rounds(world, round.as_slice(), *times, out);
