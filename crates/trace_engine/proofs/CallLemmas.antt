@@ -1,6 +1,6 @@
 -- What calls give and leave, one behind the other.
-use Rattle.std.proofs.Common.{◌≡◌, ◌≢◌, ℕ, zero, suc, ◌+◌, ◌-◌, ◌==◌, ◌<◌, arith, List, [], ◌∷◌, ◌++◌, length, take, drop, get_or, refl, ap, sym, subst, ◌∙◌, inl, inr, Ok, Err, append_assoc}
-use Rattle.std.specs.Prelude.{Result, Option, Some, false, codes, ◌⊎◌}
+use Rattle.std.proofs.Common.{◌≡◌, ◌≢◌, ℕ, zero, suc, ◌+◌, ◌-◌, ◌==◌, ◌<◌, List, [], ◌∷◌, ◌++◌, length, take, drop, get_or, refl, ap, sym, subst, ◌∙◌, inl, inr, Ok, Err, append_assoc}
+use Rattle.std.specs.Prelude.{Option, Some, false, codes}
 use Rattle.std.proofs.lemmas.List.{append-nil, length-append, take_more}
 use Rattle.std.specs.Io.KnownBytes.{Appends}
 use Rattle.net_text.specs.Lexing.{lines_of}
@@ -12,13 +12,13 @@ use Rattle.world_core.specs.declared.schedule.Event.{Event}
 use Rattle.world_core.specs.declared.schedule.Order.TheVariants as order
 use Rattle.world_core.specs.declared.schedule.StepFault.{StepFault}
 use Rattle.world_core.specs.declared.schedule.StepFault.TheVariants.{Memory}
-use Rattle.world_core.specs.World.{World, Stops, new_world, played, world_answer}
+use Rattle.world_core.specs.World.{World, new_world, played, world_answer}
 use Rattle.world_core.specs.Orders.{IsRefused, StopsAt, events_of, repeated, round, second}
 use Rattle.world_core.specs.Views.{WorldView, plain_world, Answers, Opens}
 use Rattle.world_core.proofs.Orders.{on_to, repeated_one, repeated_among}
 use Rattle.world_core.proofs.Resting.{rests}
 use Rattle.text_engines.specs.declared.status.TheConstants.{DONE, REFUSED}
-use Rattle.text_engines.specs.Decoding.{Output, output}
+use Rattle.text_engines.specs.Decoding.{output}
 use Rattle.text_engines.specs.declared.transfer.TheConstants.{INPUT_LIMIT}
 use Rattle.text_engines.specs.Engine.{ReadsUpTo, AppendsFront, PrintedBy, PrintedFrontBy}
 use Rattle.text_engines.specs.Inputs.{LinesGive}

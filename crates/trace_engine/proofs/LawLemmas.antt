@@ -1,7 +1,7 @@
 -- A trace spells the run, and is played to the same.
-use Rattle.std.proofs.Common.{◌≡◌, ◌≢◌, ℕ, zero, suc, ◌+◌, ◌-◌, ◌<◌, ◌≤◌, ◌==◌, Bool, true, false, cond, List, [], ◌∷◌, ◌++◌, length, map, get_or, refl, ap, sym, subst, ◌∙◌, arith, append_assoc, inl, inr, Ok, Err, Option, Some, None}
-use Rattle.std.specs.Prelude.{Result, IsOk, codes, if◌then◌else◌, ◌⊎◌, ◌&&◌, nat_lt}
-use Rattle.std.specs.List.{All, AllByRecursion, flat_map}
+use Rattle.std.proofs.Common.{◌≡◌, ◌≢◌, ℕ, zero, suc, ◌-◌, ◌==◌, Bool, true, false, List, [], ◌∷◌, ◌++◌, length, map, get_or, refl, ap, sym, subst, ◌∙◌, arith, append_assoc, inl, inr, Ok, Err, Option}
+use Rattle.std.specs.Prelude.{Result, IsOk, codes, if◌then◌else◌, ◌&&◌, nat_lt}
+use Rattle.std.specs.List.{All, AllByRecursion}
 use Rattle.std.proofs.lemmas.Bool.{eq-eqb, lt-ltb}
 use Rattle.std.proofs.lemmas.List.{append-nil, append_cancel_left}
 use Rattle.std.proofs.lemmas.Grind.{flat_map-append}
@@ -13,7 +13,7 @@ use Rattle.world_core.specs.declared.schedule.Order.{Order}
 use Rattle.world_core.specs.declared.schedule.Order.TheVariants as order
 use Rattle.world_core.specs.declared.schedule.StepFault.{StepFault}
 use Rattle.world_core.specs.declared.schedule.StepFault.TheVariants.{Memory}
-use Rattle.world_core.specs.World.{World, WorldAnswer, Stops, Played, new_world, played, world_answer, world_of, onward}
+use Rattle.world_core.specs.World.{World, WorldAnswer, new_world, played, world_of, onward}
 use Rattle.world_core.specs.Keeping.{WhatIsPlayedIsReplayed}
 use Rattle.world_core.specs.Orders.{events_of, StopsAt, IsRefused}
 use Rattle.net_text.specs.declared.code.Code.{Code}
@@ -21,21 +21,20 @@ use Rattle.net_text.specs.declared.code.Code.TheVariants as kinds
 use Rattle.net_text.specs.Laws.{OneNetwork, SpeltIsNotRefused}
 use Rattle.net_text.specs.Layout.{IsOneLine, LinesEndByLineFeeds}
 use Rattle.net_text.specs.Lexing.{Text, lines_of, without_return, first_more, begins_with, is_section, before_section, behind_section}
-use Rattle.net_text.specs.Networks.{SpellsNetwork, RefusesNetwork}
-use Rattle.net_text.specs.Printing.{line, code_text}
+use Rattle.net_text.specs.Networks.{SpellsNetwork}
+use Rattle.net_text.specs.Printing.{line}
 use Rattle.schedule_text.specs.declared.schedule.ScheduledOrder.{ScheduledOrder}
 use Rattle.schedule_text.specs.Sayings.{LinesAreReadAsTheySay}
 use Rattle.schedule_text.specs.Schedules.{line_order, orders_of, IsGood, IsFirstFault, SpellsSchedule, RefusesSchedule}
-use Rattle.text_engines.specs.declared.status.TheConstants.{DONE, REFUSED}
-use Rattle.text_engines.specs.declared.transfer.TheConstants.{INPUT_LIMIT}
-use Rattle.text_engines.specs.Decoding.{Output, output, refused, memory_output}
+use Rattle.text_engines.specs.declared.status.TheConstants.{DONE}
+use Rattle.text_engines.specs.Decoding.{Output, output, refused}
 use Rattle.text_engines.specs.Inputs.{NetworkGives}
 use Rattle.play_engine.specs.declared.schedules.Stop.{Stop}
 use Rattle.play_engine.specs.Playing.{all_events, LeadTo, IsFirstRefused, IsReport, OrdersGive, ScheduleGives, Plays}
 use Rattle.trace_engine.specs.Tracing.{ends_in_return, whole_line, network_text, head_of_trace, orders_text, OrdersTrace}
 use Rattle.trace_engine.specs.Tracings.{network_lines, ScheduleTraces, Traces}
 use Rattle.trace_engine.specs.Laws.{SpellsEvents, TracesSpellTheirRuns, TracesPlayBack}
-use Rattle.trace_engine.proofs.LineLemmas.{order_of, as_orders, Says, line_parted}
+use Rattle.trace_engine.proofs.LineLemmas.{order_of, as_orders, line_parted}
 use Rattle.trace_engine.proofs.RunLemmas.{MayOrder, lines_may, orders_say}
 use Rattle.trace_engine.proofs.TextLemmas.{played_parts}
 

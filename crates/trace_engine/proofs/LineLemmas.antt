@@ -1,7 +1,7 @@
 -- The lines of a trace as they are read: each line of an event says that event, and a comment says nothing.
-use Rattle.std.proofs.Common.{◌≡◌, ◌≢◌, ℕ, zero, suc, ◌+◌, ◌-◌, ◌*◌, ◌/◌, ◌%◌, ◌^◌, ◌<◌, ◌≤◌, ◌==◌, Bool, true, false, cond, List, [], ◌∷◌, ◌++◌, length, map, refl, ap, sym, subst, ◌∙◌, arith, append_assoc, Option, Some, None, Result, Ok, Err}
-use Rattle.std.specs.Prelude.{◌&&◌, ◌||◌, not, nat_le, nat_lt, min, codes, decimal, if◌then◌else◌, IsOk}
-use Rattle.std.specs.List.{AllByRecursion, list_all, list_any}
+use Rattle.std.proofs.Common.{◌≡◌, ◌≢◌, ℕ, zero, suc, ◌+◌, ◌-◌, ◌/◌, ◌%◌, ◌^◌, ◌<◌, ◌≤◌, ◌==◌, Bool, true, false, List, [], ◌∷◌, ◌++◌, length, map, refl, ap, sym, subst, ◌∙◌, arith, append_assoc, Option, Some, None, Result, Ok, Err}
+use Rattle.std.specs.Prelude.{◌&&◌, ◌||◌, not, nat_le, nat_lt, min, decimal, if◌then◌else◌, IsOk}
+use Rattle.std.specs.List.{AllByRecursion, list_all}
 use Rattle.std.proofs.lemmas.Bool.{and_parts, ne_eqb, le-leb, leb-true, lt-ltb}
 use Rattle.std.proofs.lemmas.List.{append-nil}
 use Rattle.std.proofs.lemmas.List.Folds.{list_all-append}
@@ -21,7 +21,7 @@ use Rattle.net_text.specs.declared.code.Code.{Code}
 use Rattle.net_text.specs.declared.code.Code.TheVariants.{Unreadable, UnknownRouter, OutOfLimit}
 use Rattle.net_text.specs.Lexing.{Text, lines_of, without_return, is_blank, ends_word, is_ascii, is_skipped}
 use Rattle.net_text.specs.Layout.{IsWord, HasWords, IsOneLine, LinesEndByLineFeeds}
-use Rattle.net_text.specs.Words.{◌>>=◌, is_digit, is_number, value_behind, value_of, number_word, asn_word, router_word, is_router}
+use Rattle.net_text.specs.Words.{◌>>=◌, is_digit, is_number, value_behind, value_of, number_word, router_word, is_router}
 use Rattle.net_text.specs.Printing.{line}
 use Rattle.schedule_text.specs.declared.schedule.ScheduledOrder.{ScheduledOrder}
 use Rattle.schedule_text.specs.Schedules.{line_order, order_at, orders_of, IsGood}

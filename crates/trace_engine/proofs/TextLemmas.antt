@@ -1,23 +1,20 @@
 -- The text of events and of orders, one behind the other.
-use Rattle.std.proofs.Common.{◌≡◌, ◌≢◌, ℕ, zero, suc, ◌+◌, ◌-◌, ◌==◌, ◌<◌, ◌≤◌, arith, List, [], ◌∷◌, ◌++◌, length, take, drop, get_or, refl, ap, sym, subst, ◌∙◌, inl, inr, Ok, Err, append_assoc}
-use Rattle.std.specs.Prelude.{Result, Bool, true, false, cond, Option, None, Some, if◌then◌else◌, ◌⊎◌}
-use Rattle.std.specs.List.{flat_map}
-use Rattle.std.proofs.lemmas.List.{append-nil, length-append, take_more, take-append-drop, drop_more}
+use Rattle.std.proofs.Common.{◌≡◌, ◌≢◌, ℕ, suc, ◌+◌, ◌==◌, ◌≤◌, arith, List, [], ◌∷◌, ◌++◌, length, refl, ap, sym, ◌∙◌, inl, inr, Ok, Err, append_assoc}
+use Rattle.std.specs.Prelude.{Bool, false, Some, if◌then◌else◌}
+use Rattle.std.proofs.lemmas.List.{append-nil, length-append}
 use Rattle.std.proofs.lemmas.Bool.{eq-eqb}
-use Rattle.ranked_policy.specs.Plans.{Plan}
 use Rattle.router_model.specs.declared.refusal.Stepped.TheVariants as stepped
 use Rattle.router_model.specs.Settings.{Setting}
-use Rattle.router_model.specs.Step.{RouterEvent}
 use Rattle.schedule_text.specs.declared.schedule.ScheduledOrder.{ScheduledOrder}
 use Rattle.world_core.specs.declared.schedule.Event.{Event}
 use Rattle.world_core.specs.declared.schedule.StepFault.{StepFault}
 use Rattle.world_core.specs.declared.schedule.StepFault.TheVariants.{Memory}
-use Rattle.world_core.specs.World.{World, WorldAnswer, Does, Nothing, Stops, Gives, Played, world_answer, world_after, world_of, onward, played}
-use Rattle.world_core.specs.Orders.{StopsAt, IsRefused, events_of, repeated, round}
-use Rattle.world_core.proofs.Orders.{on_to, any_place, stops_behind, stops_before}
-use Rattle.world_core.proofs.Resting.{grows, rests}
+use Rattle.world_core.specs.World.{World, WorldAnswer, Does, Nothing, Stops, Gives, world_answer, world_after, world_of, onward, played}
+use Rattle.world_core.specs.Orders.{StopsAt, IsRefused, events_of, round}
+use Rattle.world_core.proofs.Orders.{any_place}
+use Rattle.world_core.proofs.Resting.{grows}
 use Rattle.play_engine.specs.Playing.{all_events, LeadTo}
-use Rattle.trace_engine.specs.Tracing.{event_line, step_text, events_text, end_of, reached, rest_in, head_text, begun_text, order_text, orders_text, HaltsAt}
+use Rattle.trace_engine.specs.Tracing.{event_line, step_text, events_text, end_of, reached, rest_in, order_text, orders_text}
 
 module _ (g : Setting) where
   -- ---- events

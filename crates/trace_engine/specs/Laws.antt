@@ -1,5 +1,5 @@
 -- What a trace is worth.
-use Rattle.std.specs.Prelude.{◌≡◌, ℕ, ◌≤◌, List, ◌++◌, length, map}
+use Rattle.std.specs.Prelude.{◌≡◌, ℕ, ◌≤◌, List, length, map}
 use Rattle.ranked_policy.specs.Plans.{Plan, IsNetwork}
 use Rattle.router_model.specs.Settings.{Setting}
 use Rattle.world_core.specs.declared.schedule.Event.{Event}

@@ -71,7 +71,8 @@ fn write_motion(out: &mut Tail, line: usize, count: usize, times: u32) -> Result
     out.put_len(count)?;
     out.put_text(b" events, no rest in ")?;
     out.put_decimal(times)?;
-    out.put_text(b" rounds\n")
+    out.put_text(b" rounds")?;
+    out.put_text(b"\n")
 }
 
 #[tactic(auto, unfolding(crate::specs::Tracing::ticked_line))]

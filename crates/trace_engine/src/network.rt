@@ -1,6 +1,6 @@
 //! The lines of a network, as they were read.
 
-ghost use Rattle.std.specs.Prelude.{◌≡◌, ◌++◌, ◌-◌, ◌==◌, ◌&&◌, nat_lt, length, get_or, OnOk};
+ghost use Rattle.std.specs.Prelude.{◌≡◌, ◌++◌, ◌-◌, ◌==◌, ◌&&◌, OnOk};
 ghost use Rattle.net_text.specs.Lexing.{lines_of};
 ghost use Rattle.trace_engine.specs.Tracing.{ends_in_return, whole_line, network_text};
 

@@ -4,7 +4,6 @@ ghost use Rattle.std.specs.Prelude.{◌≡◌, ◌≢◌, ◌++◌, IfOk};
 ghost use Rattle.net_text.specs.Lexing.{lines_of};
 ghost use Rattle.text_engines.specs.declared.status.TheConstants.{REFUSED};
 ghost use Rattle.text_engines.specs.Decoding.{output};
-ghost use Rattle.world_core.specs.Orders.{events_of};
 ghost use Rattle.world_core.specs.Views.{Opens};
 ghost use Rattle.trace_engine.specs.Tracing.{TracesWork, TracesOrder, TracesAll, OrdersTrace, head_of_trace, stop_comment};
 

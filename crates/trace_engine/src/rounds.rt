@@ -12,10 +12,11 @@ use world_core::Event;
 fn push_with_peer(number: Asn, peer: Asn, events: &mut Vec<Event>) -> Result<(), AllocError>
     ensures { OnOk result (events.new.items ≡ events.old.items ++ with_peer number peer) }
 {
-    events.push(Event::Put(number, peer))?;
-    events.push(Event::Take(number, peer))?;
-    events.push(Event::Handle(number, peer))?;
-    Ok(())
+    events.extend_from_slice(&[
+        Event::Put(number, peer),
+        Event::Take(number, peer),
+        Event::Handle(number, peer),
+    ])
 }
 
 // Appends the turn of a router.
@@ -27,10 +28,11 @@ fn push_turn(network: &Network, number: Asn, events: &mut Vec<Event>) -> Result<
             push_with_peer(number, other.asn, events)?;
         }
     }
-    events.push(Event::Decide(number))?;
-    events.push(Event::Advertise(number))?;
-    events.push(Event::Offer(number))?;
-    Ok(())
+    events.extend_from_slice(&[
+        Event::Decide(number),
+        Event::Advertise(number),
+        Event::Offer(number),
+    ])
 }
 
 /// The events of one round: each router, rising, has its turn.
@@ -50,7 +52,7 @@ pub(crate) fn second_of(alloc: Global, network: &Network) -> Result<Vec<Event>, 
 {
     let mut events = Vec::new(alloc);
     for router in network.routers() {
-        events.push(Event::Tick(router.asn))?;
+        events.extend_from_slice(&[Event::Tick(router.asn)])?;
     }
     Ok(events)
 }

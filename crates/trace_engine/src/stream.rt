@@ -1,6 +1,6 @@
 //! What is printed for an input of a network and a schedule.
 
-ghost use Rattle.std.specs.Prelude.{◌≡◌, ◌^◌, ◌<◌, ◌+◌, length, codes, IfOk};
+ghost use Rattle.std.specs.Prelude.{◌^◌, ◌<◌, ◌+◌, length, IfOk};
 ghost use Rattle.net_text.specs.Lexing.{lines_of};
 ghost use Rattle.text_engines.specs.Decoding.{output};
 ghost use Rattle.trace_engine.specs.Tracings.{ScheduleTraces, LinesTrace, InputTraces};

@@ -1,4 +1,4 @@
-use Rattle.std.proofs.Common.{◌+◌, ◌<◌, arith, length, List, take, subst, ◌∙◌, refl, Ok}
+use Rattle.std.proofs.Common.{◌<◌, arith, length, List, subst, ◌∙◌, refl, Ok}
 use Rattle.std.proofs.lemmas.List.{take_all}
 use Rattle.std.proofs.lemmas.Result.{err_from_is_err_and}
 use Rattle.world_core.specs.declared.schedule.Event.{Event}

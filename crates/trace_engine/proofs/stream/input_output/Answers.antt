@@ -4,7 +4,7 @@ use Rattle.net_text.specs.Lexing.{Text}
 use Rattle.text_engines.specs.Decoding.{output}
 use Rattle.text_engines.specs.Inputs.{NetworkGives}
 use Rattle.text_engines.proofs.CheckLemmas.{if_ok, lines_give}
-use Rattle.trace_engine.specs.Tracings.{ScheduleTraces, LinesTrace, network_lines}
+use Rattle.trace_engine.specs.Tracings.{ScheduleTraces, network_lines}
 use Rattle.trace_engine.proofs.stream.input_output.Goals as goal
 
 pub returns : goal.returns
