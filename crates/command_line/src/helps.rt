@@ -152,7 +152,7 @@ many events, how many of them were done, and behind which round the network was 
     decide 1
     # line 7: 1 events, rest behind round 1
 
-A 'rounds' line ends as soon as a round does nothing. 'no rest in N rounds': each of them did
+A 'rounds' line ends as soon as a round does nothing. 'no rest by round N': each of them did
 something. 'nothing to do': the order of that line found nothing to do. Where an order is refused the
 last line is '# refused LINE CODE', and where a line can't be read 'refused LINE CODE' stands alone.
 

@@ -67,8 +67,7 @@ module _ (feeds : LinesEndByLineFeeds) (net : Plan) where
   unfolding rest_line motion_line ticked_line
   tails_say at (order.One e) count rest = idle_says at (count == 0)
   tails_say at (order.Rounds n) count (Some passed) = counted_says at count (codes " events, rest behind round " ++ decimal passed) (shown_both (codes " events, rest behind round ") (decimal passed) refl (decimal_shown passed))
-  tails_say at (order.Rounds n) count None = counted_says at count (codes " events, no rest in " ++ (decimal n ++ codes " rounds"))
-      (shown_both (codes " events, no rest in ") (decimal n ++ codes " rounds") refl (shown_both (decimal n) (codes " rounds") (decimal_shown n) refl))
+  tails_say at (order.Rounds n) count None = counted_says at count (codes " events, no rest by round " ++ decimal n) (shown_both (codes " events, no rest by round ") (decimal n) refl (decimal_shown n))
   tails_say at (order.Ticks n) count rest = counted_says at count (codes " events") refl
 
 -- ---- what is done names routers of the network

@@ -119,7 +119,7 @@ rest_line at count passed = line (place_text at ++ (decimal count ++ (codes " ev
 
 -- all rounds did something
 unfoldable pub motion_line : ℕ → ℕ → ℕ → List ℕ
-motion_line at count n = line (place_text at ++ (decimal count ++ (codes " events, no rest in " ++ (decimal n ++ codes " rounds"))))
+motion_line at count n = line (place_text at ++ (decimal count ++ (codes " events, no rest by round " ++ decimal n)))
 
 unfoldable pub ticked_line : ℕ → ℕ → List ℕ
 ticked_line at count = line (place_text at ++ (decimal count ++ codes " events"))

@@ -69,9 +69,8 @@ fn write_motion(out: &mut Tail, line: usize, count: usize, times: u32) -> Result
 {
     write_place(out, line)?;
     out.put_len(count)?;
-    out.put_text(b" events, no rest in ")?;
+    out.put_text(b" events, no rest by round ")?;
     out.put_decimal(times)?;
-    out.put_text(b" rounds")?;
     out.put_text(b"\n")
 }
 
