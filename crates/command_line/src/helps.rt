@@ -131,6 +131,34 @@ order that is refused; 'bgpnet --help' has the codes, and the lines of a network
 Status 0: done. 1: a refused input. 2: other words than these. 3: memory was refused ('memory').
 4: a read or a write failed.";
 
+/// What the help of `trace` says below its options: an example, and the statuses.
+pub const TRACE_HELP: &str = "\
+The input is a network, a line 'schedule', and the orders of the schedule, as 'play --help' says:
+
+    router 1 10.0.0.1
+    router 2 10.0.0.2
+    link 1 2
+    origin 1 10.1.0.0/16
+    schedule
+    originate 1 10.1.0.0/16
+    rounds 2
+
+The output is the network's lines, the line 'schedule', and each event that was done as an order, so
+that it is an input for 'play' again, and 'play' prints the same for both; comments say what stood for
+many events, how many of them were done, and behind which round the network was at rest:
+
+    originate 1 10.1.0.0/16
+    # line 7: rounds 2
+    decide 1
+    # line 7: 1 events, rest behind round 1
+
+A 'rounds' line ends as soon as a round does nothing. 'no rest by round N': each of them did
+something. 'nothing to do': the order of that line found nothing to do. Where an order is refused the
+last line is '# refused LINE CODE', and where a line can't be read 'refused LINE CODE' stands alone.
+
+Status 0: done. 1: a refused input. 2: other words than these. 3: memory was refused ('memory').
+4: a read or a write failed.";
+
 /// What the help of `cut` says below its options: an example, and the statuses.
 pub const CUT_HELP: &str = "\
 The input is a network, a line 'schedule', and the orders of the schedule, as 'play --help' says:

@@ -1,7 +1,7 @@
 //! The words behind the program's name, and the engines that they ask for.
 //!
-//! [`run_with`] reads the words and hands them to an engine of `text_engines`, `play_engine` or `run_engine`,
-//! a function over a reader and a writer that says exactly what it writes for what it reads; or it writes a
+//! [`run_with`] reads the words and hands them to an engine of `text_engines`, `play_engine`, `trace_engine` or
+//! `run_engine`, a function over a reader and a writer that says exactly what it writes for what it reads; or it writes a
 //! help, or what is wrong with the words. Its one contract: a status is answered where no read and no write
 //! failed, and only there. [`status_of`] is the status that the program ends with.
 #![tactic(auto)]
@@ -12,7 +12,7 @@ ghost use Rattle.text_engines.specs.declared.status.TheConstants.{STOPPED};
 mod helps;
 mod words;
 
-pub use helps::{CHECK_HELP, CUT_HELP, DECODE_HELP, PLAY_HELP, RUN_HELP, TOP_HELP};
+pub use helps::{CHECK_HELP, CUT_HELP, DECODE_HELP, PLAY_HELP, RUN_HELP, TOP_HELP, TRACE_HELP};
 use play_engine::{cut_stream, play_stream};
 use run_engine::run_stream;
 use std::alloc::{AllocError, Global};
@@ -22,6 +22,7 @@ use text_engines::status::STOPPED;
 use text_engines::{
     IoStopped, Sink, Source, check_stream, decode_stream, want_of_memory, write_out,
 };
+use trace_engine::trace_stream;
 use words::{Asked, read_words};
 
 /// Runs the program on the words behind its name, and answers its status.
@@ -45,6 +46,7 @@ where
         Ok(Asked::Decode(rule)) => decode_stream(alloc, &rule, reader, writer),
         Ok(Asked::Check) => check_stream(alloc, reader, writer),
         Ok(Asked::Play) => play_stream(alloc, reader, writer),
+        Ok(Asked::Trace) => trace_stream(alloc, reader, writer),
         Ok(Asked::Cut(number)) => cut_stream(alloc, number, reader, writer),
         Ok(Asked::Run(options)) => run_stream(rt, alloc, &options, reader, writer),
         Ok(Asked::Text(text, status)) => {

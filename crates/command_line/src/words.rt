@@ -4,7 +4,7 @@ ghost use Rattle.std.specs.Prelude.{◌≡◌};
 ghost use Rattle.std.specs.List.{list_all};
 ghost use Rattle.net_text.specs.Words.{is_digit};
 
-use crate::helps::{CHECK_HELP, CUT_HELP, DECODE_HELP, PLAY_HELP, RUN_HELP, TOP_HELP};
+use crate::helps::{CHECK_HELP, CUT_HELP, DECODE_HELP, PLAY_HELP, RUN_HELP, TOP_HELP, TRACE_HELP};
 use bgp_codec::{NOBODY, Rule};
 use bgp_values::{Width, greatest_asn};
 use clap::error::ErrorKind;
@@ -22,6 +22,8 @@ pub enum Asked {
     Check,
     /// Play a schedule.
     Play,
+    /// Write the run of a schedule as a schedule.
+    Trace,
     /// Show the cut of the snapshot of this number.
     Cut(u32),
     /// Run a network in threads.
@@ -192,6 +194,9 @@ fn command<'a>(alloc: Global) -> Result<Command<'a>, AllocError> {
     let play = Command::new(alloc, "play")
         .about("Plays a schedule of a network's routers")
         .after_help(PLAY_HELP);
+    let trace = Command::new(alloc, "trace")
+        .about("Plays a schedule, and prints the run as a schedule of its events")
+        .after_help(TRACE_HELP);
     Command::new(alloc, "bgpnet")
         .about(
             "Decodes BGP-4 messages, says whether paths are a stable assignment, plays schedules, \
@@ -203,6 +208,7 @@ fn command<'a>(alloc: Global) -> Result<Command<'a>, AllocError> {
         .subcommand(decode_command(alloc)?)?
         .subcommand(check)?
         .subcommand(play)?
+        .subcommand(trace)?
         .subcommand(cut_command(alloc)?)?
         .subcommand(run_command(alloc)?)
 }
@@ -211,6 +217,9 @@ fn command<'a>(alloc: Global) -> Result<Command<'a>, AllocError> {
 fn asked_by(alloc: Global, matches: &ArgMatches) -> Result<Asked, AllocError> {
     if matches.subcommand_matches("play").is_some() {
         return Ok(Asked::Play);
+    }
+    if matches.subcommand_matches("trace").is_some() {
+        return Ok(Asked::Trace);
     }
     if matches.subcommand_matches("check").is_some() {
         return Ok(Asked::Check);

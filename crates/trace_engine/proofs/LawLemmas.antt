@@ -1,0 +1,319 @@
+-- A trace spells the run, and is played to the same.
+use Rattle.std.proofs.Common.{◌≡◌, ◌≢◌, ℕ, zero, suc, ◌-◌, ◌==◌, Bool, true, false, List, [], ◌∷◌, ◌++◌, length, map, get_or, refl, ap, sym, subst, ◌∙◌, arith, append_assoc, inl, inr, Ok, Err, Option}
+use Rattle.std.specs.Prelude.{Result, IsOk, codes, if◌then◌else◌, ◌&&◌, nat_lt}
+use Rattle.std.specs.List.{All, AllByRecursion}
+use Rattle.std.proofs.lemmas.Bool.{eq-eqb, lt-ltb}
+use Rattle.std.proofs.lemmas.List.{append-nil, append_cancel_left}
+use Rattle.std.proofs.lemmas.Grind.{flat_map-append}
+use Rattle.ranked_policy.specs.Plans.{Plan, IsNetwork}
+use Rattle.router_model.specs.Settings.{Setting, ChoosesByRank}
+use Rattle.router_runs.specs.Existence.{EachNetworkHasASetting}
+use Rattle.world_core.specs.declared.schedule.Event.{Event}
+use Rattle.world_core.specs.declared.schedule.Order.{Order}
+use Rattle.world_core.specs.declared.schedule.Order.TheVariants as order
+use Rattle.world_core.specs.declared.schedule.StepFault.{StepFault}
+use Rattle.world_core.specs.declared.schedule.StepFault.TheVariants.{Memory}
+use Rattle.world_core.specs.World.{World, WorldAnswer, new_world, played, world_of, onward}
+use Rattle.world_core.specs.Keeping.{WhatIsPlayedIsReplayed}
+use Rattle.world_core.specs.Orders.{events_of, StopsAt, IsRefused}
+use Rattle.net_text.specs.declared.code.Code.{Code}
+use Rattle.net_text.specs.declared.code.Code.TheVariants as kinds
+use Rattle.net_text.specs.Laws.{OneNetwork, SpeltIsNotRefused}
+use Rattle.net_text.specs.Layout.{IsOneLine, LinesEndByLineFeeds}
+use Rattle.net_text.specs.Lexing.{Text, lines_of, without_return, first_more, begins_with, is_section, before_section, behind_section}
+use Rattle.net_text.specs.Networks.{SpellsNetwork}
+use Rattle.net_text.specs.Printing.{line}
+use Rattle.schedule_text.specs.declared.schedule.ScheduledOrder.{ScheduledOrder}
+use Rattle.schedule_text.specs.Sayings.{LinesAreReadAsTheySay}
+use Rattle.schedule_text.specs.Schedules.{line_order, orders_of, IsGood, IsFirstFault, SpellsSchedule, RefusesSchedule}
+use Rattle.text_engines.specs.declared.status.TheConstants.{DONE}
+use Rattle.text_engines.specs.Decoding.{Output, output, refused}
+use Rattle.text_engines.specs.Inputs.{NetworkGives}
+use Rattle.play_engine.specs.declared.schedules.Stop.{Stop}
+use Rattle.play_engine.specs.Playing.{all_events, LeadTo, IsFirstRefused, IsReport, OrdersGive, ScheduleGives, Plays}
+use Rattle.trace_engine.specs.Tracing.{ends_in_return, whole_line, network_text, head_of_trace, orders_text, OrdersTrace}
+use Rattle.trace_engine.specs.Tracings.{network_lines, ScheduleTraces, Traces}
+use Rattle.trace_engine.specs.Laws.{SpellsEvents, TracesSpellTheirRuns, TracesPlayBack}
+use Rattle.trace_engine.proofs.LineLemmas.{order_of, as_orders, line_parted}
+use Rattle.trace_engine.proofs.RunLemmas.{MayOrder, lines_may, orders_say}
+use Rattle.trace_engine.proofs.TextLemmas.{played_parts}
+
+-- ---- what is printed spells the run
+
+all_at : (P : Text → Type 0) (x : Text) (xs : List Text) → P x → All P xs → All P (x ∷ xs)
+all_at P x xs here all zero d lt = here
+all_at P x xs here all (suc k) d lt = all k d (omega (arith, lt))
+
+all_of : (P : Text → Type 0) (xs : List Text) → AllByRecursion P xs → All P xs
+all_of P [] h = λ k d lt. absurd (omega (arith, lt))
+all_of P (x ∷ xs) h = all_at P x xs h.0 (all_of P xs h.1)
+
+module _ (feeds : LinesEndByLineFeeds) (read : LinesAreReadAsTheySay) where
+  pub spell_their_runs : TracesSpellTheirRuns
+  spell_their_runs g network before lines orders spelled w leads at =
+      let may = subst (λ (os : List ScheduledOrder). AllByRecursion (λ o. MayOrder g network o.order) os) (sym spelled.are) (lines_may g network feeds read before lines) in
+      let k = orders_say g network feeds read orders (new_world g) w may leads in
+      let text = orders_text g (new_world g) orders in
+      let whole : lines_of text ≡ k.says.lines = ap lines_of (sym (append-nil text)) ∙ k.says.parted [] ∙ append-nil k.says.lines in
+      subst (λ (ls : List Text). SpellsEvents g.net at ls w.run) (sym whole)
+      (record {
+        orders = orders_of g.net at k.says.lines;
+        spelled = record { good = all_of (IsGood g.net) k.says.lines k.says.good; are = refl };
+        are = k.says.orders at ∙ ap as_orders (sym k.run);
+      })
+
+-- ---- the lines of a trace
+
+false_not_true : false ≡ true → ⊥
+false_not_true e = absurd cc
+
+first_whole : (x : ℕ) (texts : List Text) → x ≢ 10 → AllByRecursion IsOneLine texts → AllByRecursion IsOneLine (first_more x texts)
+first_whole x [] n h = ((n, tt), tt)
+first_whole x (t ∷ texts) n h = ((n, h.0), h.1)
+
+whole_by : (x : ℕ) (b c : Bool) (texts : List Text) → (x == 10) ≡ b → AllByRecursion IsOneLine texts → AllByRecursion IsOneLine (if b then [] ∷ texts else if c then texts else first_more x texts)
+whole_by x true c texts is h = (tt, h)
+whole_by x false true texts is h = h
+whole_by x false false texts is h = first_whole x texts (λ e. absurd (false_not_true (sym is ∙ eq-eqb x 10 e))) h
+
+one_lines : (text : Text) → AllByRecursion IsOneLine (lines_of text)
+one_lines [] = tt
+one_lines (x ∷ xs) = whole_by x (x == 10) ((x == 13) && begins_with 10 xs) (lines_of xs) refl (one_lines xs)
+
+kept_by : (P : Text → Type 0) (b : Bool) (l : Text) (ls : List Text) → P l → AllByRecursion P ls → AllByRecursion P (if b then [] else l ∷ ls)
+kept_by P true l ls here all = tt
+kept_by P false l ls here all = (here, all)
+
+kept : (P : Text → Type 0) (name : Text) (lines : List Text) → AllByRecursion P lines → AllByRecursion P (before_section name lines)
+kept P name [] h = tt
+kept P name (l ∷ ls) h = kept_by P (is_section name l) l (before_section name ls) h.0 (kept P name ls h.1)
+
+abbrev IsPlain : Text → Text → Type 0
+IsPlain name l = is_section name l ≡ false
+
+plain_by : (name : Text) (b : Bool) (l : Text) (ls : List Text) → is_section name l ≡ b → AllByRecursion (IsPlain name) ls → AllByRecursion (IsPlain name) (if b then [] else l ∷ ls)
+plain_by name true l ls is h = tt
+plain_by name false l ls is h = (is, h)
+
+plain : (name : Text) (lines : List Text) → AllByRecursion (IsPlain name) (before_section name lines)
+plain name [] = tt
+plain name (l ∷ ls) = plain_by name (is_section name l) l (before_section name ls) refl (plain name ls)
+
+front_is : (name s : Text) (front rest : List Text) → AllByRecursion (IsPlain name) front → is_section name s ≡ true → before_section name (front ++ s ∷ rest) ≡ front
+front_is name s [] rest h is = ap (λ (b : Bool). if b then [] else s ∷ before_section name rest) is
+front_is name s (l ∷ ls) rest h is = ap (λ (b : Bool). if b then [] else l ∷ before_section name (ls ++ s ∷ rest)) h.0 ∙ ap (λ (k : List Text). l ∷ k) (front_is name s ls rest h.1 is)
+
+rest_is : (name s : Text) (front rest : List Text) → AllByRecursion (IsPlain name) front → is_section name s ≡ true → behind_section name (front ++ s ∷ rest) ≡ rest
+rest_is name s [] rest h is = ap (λ (b : Bool). if b then rest else behind_section name rest) is
+rest_is name s (l ∷ ls) rest h is = ap (λ (b : Bool). if b then ls ++ s ∷ rest else behind_section name (ls ++ s ∷ rest)) h.0 ∙ rest_is name s ls rest h.1 is
+
+return_gone : (l : Text) → without_return (l ++ 13 ∷ []) ≡ l
+return_gone [] = refl
+return_gone (x ∷ []) = refl
+return_gone (x ∷ y ∷ ys) = ap (λ (t : Text). x ∷ t) (return_gone (y ∷ ys))
+
+no_line_end : (l : Text) → IsOneLine l → IsOneLine (l ++ 13 ∷ [])
+no_line_end [] h = ((λ e. absurd cc), tt)
+no_line_end (x ∷ xs) h = (h.0, no_line_end xs h.1)
+
+last_is : (x : ℕ) (b : Bool) → (x == 13) ≡ b → b ≡ false → (if x == 13 then [] else x ∷ []) ≡ x ∷ []
+last_is x b is other = ap (λ (c : Bool). if c then [] else x ∷ []) (is ∙ other)
+
+return_kept : (l : Text) → ends_in_return l ≡ false → without_return l ≡ l
+return_kept [] h = refl
+return_kept (x ∷ []) h = last_is x (x == 13) refl h
+return_kept (x ∷ y ∷ ys) h =
+    let long : length (x ∷ y ∷ ys) - 1 ≡ suc (length ys) = omega arith in
+    let short : length (y ∷ ys) - 1 ≡ length ys = omega arith in
+    let some : nat_lt 0 (length (x ∷ y ∷ ys)) ≡ true = lt-ltb 0 (length (x ∷ y ∷ ys)) (omega arith) in
+    let more : nat_lt 0 (length (y ∷ ys)) ≡ true = lt-ltb 0 (length (y ∷ ys)) (omega arith) in
+    let this : (get_or (y ∷ ys) (length ys) 0 == 13) ≡ false =
+    sym (ap (λ (k : ℕ). get_or (x ∷ y ∷ ys) k 0 == 13) long)
+    ∙ sym (ap (λ (b : Bool). b && (get_or (x ∷ y ∷ ys) (length (x ∷ y ∷ ys) - 1) 0 == 13)) some) ∙ h in
+    let that : ends_in_return (y ∷ ys) ≡ false =
+    ap (λ (b : Bool). b && (get_or (y ∷ ys) (length (y ∷ ys) - 1) 0 == 13)) more ∙ ap (λ (k : ℕ). get_or (y ∷ ys) k 0 == 13) short ∙ this in
+    ap (λ (t : Text). x ∷ t) (return_kept (y ∷ ys) that)
+
+module _ (feeds : LinesEndByLineFeeds) where
+  whole_line_by : (b : Bool) (l rest : Text) → ends_in_return l ≡ b → IsOneLine l → lines_of ((l ++ (if b then 13 ∷ 10 ∷ [] else 10 ∷ [])) ++ rest) ≡ l ∷ lines_of rest
+  whole_line_by true l rest is h =
+      ap lines_of (append_assoc l (13 ∷ 10 ∷ []) rest ∙ sym (append_assoc l (13 ∷ []) (10 ∷ rest)))
+      ∙ feeds.front (l ++ 13 ∷ []) rest (no_line_end l h) ∙ ap (λ (t : Text). t ∷ lines_of rest) (return_gone l)
+  whole_line_by false l rest is h =
+      ap lines_of (append_assoc l (10 ∷ []) rest) ∙ feeds.front l rest h ∙ ap (λ (t : Text). t ∷ lines_of rest) (return_kept l is)
+
+  network_parted : (front : List Text) (rest : Text) → AllByRecursion IsOneLine front → lines_of (network_text front ++ rest) ≡ front ++ lines_of rest
+  network_parted [] rest h = refl
+  network_parted (l ∷ ls) rest h =
+      ap lines_of (append_assoc (whole_line l) (network_text ls) rest) ∙ whole_line_by (ends_in_return l) l (network_text ls ++ rest) refl h.0
+      ∙ ap (λ (k : List Text). l ∷ k) (network_parted ls rest h.1)
+
+  trace_parted : (front : List Text) (body : Text) → AllByRecursion IsOneLine front → lines_of (head_of_trace front ++ body) ≡ front ++ codes "schedule" ∷ lines_of body
+  trace_parted front body h =
+      ap lines_of (append_assoc (network_text front) (line (codes "schedule")) body) ∙ network_parted front (line (codes "schedule") ++ body) h
+      ∙ ap (λ (k : List Text). front ++ k) (line_parted feeds (codes "schedule") body refl)
+
+-- ---- what is played of it
+
+refused_at : (net : Plan) (before : ℕ) (lines : List Text) (at : ℕ) (code : Code) → code ≢ kinds.Memory → RefusesSchedule net before lines at code → IsFirstFault net before lines at code
+refused_at net before lines at kinds.BadForm k h = h
+refused_at net before lines at kinds.Unreadable k h = h
+refused_at net before lines at kinds.UnknownRouter k h = h
+refused_at net before lines at kinds.Repeated k h = h
+refused_at net before lines at kinds.NotConnected k h = h
+refused_at net before lines at kinds.OutOfLimit k h = h
+refused_at net before lines at kinds.NotSimple k h = h
+refused_at net before lines at kinds.BadPrefix k h = h
+refused_at net before lines at kinds.Memory k h = absurd (k refl)
+refused_at net before lines at kinds.NotPermitted k h = h
+
+good_in : (P : Text → Type 0) (front : List Text) (x : Text) (rest : List Text) → All P (front ++ x ∷ rest) → P x
+good_in P [] x rest all = all 0 x (omega arith)
+good_in P (y ∷ ys) x rest all = good_in P ys x rest (λ k d lt. all (suc k) d (omega (arith, lt)))
+
+not_good : (r : Result (Option Order) Code) (code : Code) → r ≡ Err code → IsOk r → ⊥
+not_good (Ok o) code is h = absurd cc
+not_good (Err e) code is h = absurd cc
+
+no_fault : (net : Plan) (before : ℕ) (lines : List Text) (at : ℕ) (code : Code) → All (IsGood net) lines → IsFirstFault net before lines at code → ⊥
+no_fault net before lines at code all f =
+    let good = good_in (IsGood net) f.front f.faulty f.behind (subst (All (IsGood net)) f.parted all) in
+    not_good (line_order net f.faulty) code f.fault good
+
+same_events : (net : Plan) (os : List ScheduledOrder) (es : List Event) → map order_of os ≡ as_orders es → all_events net os ≡ es
+same_events net [] [] h = refl
+same_events net [] (e ∷ es) h = absurd cc
+same_events net (o ∷ os) [] h = absurd cc
+same_events net (o ∷ os) (e ∷ es) h =
+    let here : o.order ≡ order.One e = cc in
+    let more : map order_of os ≡ as_orders es = cc in
+    ap (λ (k : Order). events_of net k ++ all_events net os) here ∙ ap (λ (k : List Event). e ∷ k) (same_events net os es more)
+
+module _ (g : Setting) where
+  not_refused : (y z : World) (x : Event) (xs : List Event) (why : StepFault) → why ≢ Memory → IsRefused g y x why → played g y 0 (x ∷ xs) ≡ Ok z → ⊥
+  not_refused y z x xs why kind (inl is) h =
+      let stops : played g y 0 (x ∷ xs) ≡ Err (record { at = 0; why = why }) = ap (λ (a : WorldAnswer). onward (world_of g y x 0 a) (λ next. played g next 1 xs)) is in
+      absurd (let k = sym stops ∙ h in cc)
+  not_refused y z x xs why kind (inr m) h = kind m.3
+
+  no_stop : (w z y : World) (es more : List Event) (at : ℕ) (why : StepFault) → why ≢ Memory → StopsAt g w es at why y → played g w 0 (es ++ more) ≡ Ok z → ⊥
+  no_stop w z y es more at why kind s h =
+      let whole : played g w 0 (s.before ++ (s.event ∷ (s.behind ++ more))) ≡ Ok z =
+      ap (λ (k : List Event). played g w 0 k) (sym (ap (λ (k : List Event). k ++ more) s.parts ∙ append_assoc s.before (s.event ∷ s.behind) more)) ∙ h in
+      let k = played_parts g s.before (s.event ∷ (s.behind ++ more)) w z 0 whole in
+      let same : k.0 ≡ y = (let e = sym k.1 ∙ s.reached in cc) in
+      not_refused y z s.event (s.behind ++ more) why kind s.refused (subst (λ (v : World). played g v 0 (s.event ∷ (s.behind ++ more)) ≡ Ok z) same k.2)
+
+  no_halt : (w z : World) (os : List ScheduledOrder) (stop : Stop) → stop.why ≢ Memory → IsFirstRefused g w os stop → LeadTo g w os z → ⊥
+  no_halt w z os stop kind s h =
+      let events : all_events g.net os ≡ all_events g.net s.before ++ (events_of g.net s.order.order ++ all_events g.net s.behind) =
+      ap (all_events g.net) s.parts ∙ flat_map-append (λ o. events_of g.net o.order) s.before (s.order ∷ s.behind) in
+      let k = played_parts g (all_events g.net s.before) (events_of g.net s.order.order ++ all_events g.net s.behind) w z 0 (ap (λ (es : List Event). played g w 0 es) (sym events) ∙ h) in
+      let same : k.0 ≡ s.reached = (let e = sym k.1 ∙ s.done in cc) in
+      no_stop s.reached z s.left (events_of g.net s.order.order) (all_events g.net s.behind) s.at stop.why kind s.stops
+      (subst (λ (v : World). played g v 0 (events_of g.net s.order.order ++ all_events g.net s.behind) ≡ Ok z) same k.2)
+
+-- what an input has whose trace was printed whole
+pub record IsTraced (input text : List ℕ) : Type 0 where
+  pub net : Plan
+  pub spells : SpellsNetwork (network_lines input) net
+  pub before : ℕ
+  pub lines : List Text
+  pub orders : List ScheduledOrder
+  pub spelled : SpellsSchedule net before lines orders
+  pub traced : OrdersTrace net (head_of_trace (network_lines input)) orders (output text DONE)
+  pub whole : (out : Output) → OrdersGive IsReport net orders out → Plays input out
+
+-- what was printed whole is no refusal
+not_done : (text : List ℕ) (out : Output) → (out.status == 0) ≡ false → output text DONE ≡ out → ⊥
+not_done text out other e =
+    let k : true ≡ false = ap (λ (o : Output). o.status == 0) e ∙ other in
+    absurd cc
+
+traced_in : (input text : List ℕ) (net : Plan) (before : ℕ) (lines : List Text) → SpellsNetwork (network_lines input) net → ScheduleTraces (network_lines input) net before lines (output text DONE)
+    → ((out : Output) → ScheduleGives IsReport net before lines out → Plays input out) → IsTraced input text
+traced_in input text net before lines spells (inl r) go = absurd (not_done text _ refl r.4)
+traced_in input text net before lines spells (inr t) go = record {
+  net = net;
+  spells = spells;
+  before = before;
+  lines = lines;
+  orders = t.0;
+  spelled = t.1;
+  traced = t.2;
+  whole = λ out gives. go out (inr (t.0, t.1, gives));
+}
+
+traced_by : (input text : List ℕ) (before : ℕ) (lines : List Text) → NetworkGives (ScheduleTraces (network_lines input)) (network_lines input) before lines (output text DONE)
+    → ((out : Output) → NetworkGives (ScheduleGives IsReport) (network_lines input) before lines out → Plays input out) → IsTraced input text
+traced_by input text before lines (inl r) go = absurd (not_done text _ refl r.4)
+traced_by input text before lines (inr n) go = traced_in input text n.0 before lines n.1 n.2 (λ out gives. go out (inr (n.0, n.1, gives)))
+
+traced : (input text : List ℕ) → Traces input (output text DONE) → IsTraced input text
+traced input text (inl (inl long)) = absurd (not_done text _ refl long.1)
+traced input text (inl (inr all)) = traced_by input text _ _ all.1 (λ out gives. inl (inr (all.0, gives)))
+traced input text (inr none) = absurd (not_done text _ refl none)
+
+whole_text : (net : Plan) (head : List ℕ) (orders : List ScheduledOrder) (text : List ℕ) (g : Setting) → g.net ≡ net → ChoosesByRank g → OrdersTrace net head orders (output text DONE)
+    → (w : World) × LeadTo g (new_world g) orders w × (text ≡ head ++ orders_text g (new_world g) orders)
+whole_text net head orders text g e ranks h = elim (h g e ranks) [
+  | inl t ↦ (t.0, t.1, ap (λ (o : Output). o.text) t.2)
+  | inr s ↦ absurd (not_done text _ refl s.3)
+]
+
+module _ (feeds : LinesEndByLineFeeds) (read : LinesAreReadAsTheySay) (one : OneNetwork) (spelt : SpeltIsNotRefused) (exists : EachNetworkHasASetting) (again : WhatIsPlayedIsReplayed) where
+  -- the orders that the lines of a trace spell lead where those of the schedule lead
+  same_orders : (input text : List ℕ) (t : IsTraced input text) (body : List ℕ) → text ≡ head_of_trace (network_lines input) ++ body → (n : ℕ) (os : List ScheduledOrder) → SpellsSchedule t.net n (lines_of body) os
+      → (out : Output) → OrdersGive IsReport t.net os out → OrdersGive IsReport t.net t.orders out
+  same_orders input text t body is n os spelled out gives = λ g e ranks.
+      let head = head_of_trace (network_lines input) in
+      let k = whole_text t.net head t.orders text g e ranks t.traced in
+      let w = k.0 in
+      let here : orders_text g (new_world g) t.orders ≡ body = append_cancel_left head (orders_text g (new_world g) t.orders) body (sym k.2 ∙ is) in
+      let network = subst IsNetwork (sym e) t.spells.network in
+      let said = spell_their_runs feeds read g network t.before t.lines t.orders (subst (λ (net : Plan). SpellsSchedule net t.before t.lines t.orders) (sym e) t.spelled) w k.1 n in
+      let same : os ≡ said.orders =
+      spelled.are ∙ ap (λ (net : Plan). orders_of net n (lines_of body)) (sym e) ∙ ap (λ (b : List ℕ). orders_of g.net n (lines_of b)) (sym here) ∙ sym said.spelled.are in
+      let events : all_events g.net os ≡ w.run = same_events g.net os w.run (ap (map order_of) same ∙ said.are) in
+      let leads : LeadTo g (new_world g) os w = ap (λ (es : List Event). played g (new_world g) 0 es) events ∙ again g (all_events g.net t.orders) w k.1 in
+      elim (gives g e ranks) [
+        | inl r ↦ (let there : r.0 ≡ w = (let q = sym r.1 ∙ leads in cc) in inl (r.0, subst (λ (v : World). LeadTo g (new_world g) t.orders v) (sym there) k.1, r.2, r.3))
+        | inr s ↦ absurd (no_halt g (new_world g) w os s.0 s.1 s.2 leads)
+      ]
+
+  played_lines : (input text : List ℕ) (t : IsTraced input text) (body : List ℕ) → text ≡ head_of_trace (network_lines input) ++ body
+      → ((n : ℕ) → All (IsGood t.net) (lines_of body)) → (n : ℕ) (out : Output) → NetworkGives (ScheduleGives IsReport) (network_lines input) n (lines_of body) out → Plays input out
+  played_lines input text t body is good n out (inl r) = absurd (r.2 (spelt (network_lines input) t.net r.0 r.1 t.spells r.3))
+  played_lines input text t body is good n out (inr k) =
+      let same : k.0 ≡ t.net = one (network_lines input) k.0 t.net k.1 t.spells in
+      elim (subst (λ (net : Plan). ScheduleGives IsReport net n (lines_of body) out) same k.2) [
+        | inl r ↦ absurd (no_fault t.net n (lines_of body) r.0 r.1 (good n) (refused_at t.net n (lines_of body) r.0 r.1 r.2 r.3))
+        | inr s ↦ t.whole out (same_orders input text t body is n s.0 s.1 out s.2)
+      ]
+
+  all_lines : (input text : List ℕ) (t : IsTraced input text) (body : List ℕ) → text ≡ head_of_trace (network_lines input) ++ body → lines_of text ≡ network_lines input ++ codes "schedule" ∷ lines_of body
+  all_lines input text t body is = ap lines_of is ∙ trace_parted feeds (network_lines input) body (kept IsOneLine (codes "schedule") (lines_of input) (one_lines input))
+
+  pub play_back : TracesPlayBack
+  play_back input text h short out plays =
+      let t = traced input text h in
+      let s = exists t.net t.spells.network in
+      let g = s.setting in
+      let k = whole_text t.net (head_of_trace (network_lines input)) t.orders text g s.over s.chooses t.traced in
+      let body = orders_text g (new_world g) t.orders in
+      let lines = all_lines input text t body k.2 in
+      let plain_lines = plain (codes "schedule") (lines_of input) in
+      let front = ap (before_section (codes "schedule")) lines ∙ front_is (codes "schedule") (codes "schedule") (network_lines input) (lines_of body) plain_lines refl in
+      let rest = ap (behind_section (codes "schedule")) lines ∙ rest_is (codes "schedule") (codes "schedule") (network_lines input) (lines_of body) plain_lines refl in
+      let n = length (lines_of text) - length (behind_section (codes "schedule") (lines_of text)) in
+      let good : (m : ℕ) → All (IsGood t.net) (lines_of body) =
+      λ m. subst (λ (net : Plan). All (IsGood net) (lines_of body)) s.over
+      (spell_their_runs feeds read g (subst IsNetwork (sym s.over) t.spells.network) t.before t.lines t.orders (subst (λ (net : Plan). SpellsSchedule net t.before t.lines t.orders) (sym s.over) t.spelled) k.0 k.1 m).spelled.good in
+      elim plays [
+        | inl p ↦ elim p [
+          | inl long ↦ absurd (omega (arith, long.0, short))
+          | inr all ↦ played_lines input text t body k.2 good n out
+              (subst (λ (b : List Text). NetworkGives (ScheduleGives IsReport) (network_lines input) n b out) rest (subst (λ (f : List Text). NetworkGives (ScheduleGives IsReport) f n (behind_section (codes "schedule") (lines_of text)) out) front all.1))
+        ]
+        | inr none ↦ inr none
+      ]

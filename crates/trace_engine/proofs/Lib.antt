@@ -1,0 +1,6 @@
+pub mod CallLemmas
+pub mod EventLemmas
+pub mod LawLemmas
+pub mod LineLemmas
+pub mod RunLemmas
+pub mod TextLemmas

@@ -1,0 +1,293 @@
+-- What a trace prints of events and orders says the events that were done.
+use Rattle.std.proofs.Common.{◌≡◌, ℕ, zero, suc, ◌+◌, ◌-◌, ◌^◌, ◌==◌, Bool, true, false, cond, List, [], ◌∷◌, ◌++◌, map, refl, ap, sym, subst, ◌∙◌, arith, append_assoc, Option, Some, None, Result, Ok, Err}
+use Rattle.std.specs.Prelude.{◌&&◌, ◌||◌, not, max, nat_le, slice_get, codes, decimal, if◌then◌else◌}
+use Rattle.std.specs.List.{All, AllByRecursion, flat_map, list_any}
+use Rattle.std.proofs.lemmas.Bool.{eqb-true, eq-eqb, and_parts, or_right, le-leb}
+use Rattle.std.proofs.lemmas.List.{append-nil}
+use Rattle.bgp_values.specs.declared.width.Width.{Width}
+use Rattle.bgp_values.specs.Ranges.{IsAsn, is_asn, greatest_asn}
+use Rattle.prefix_lanes.specs.Bits.{PrefixView, IsCanonical, is_prefix}
+use Rattle.ranked_policy.specs.declared.network.Origin.{Origin}
+use Rattle.ranked_policy.specs.declared.network.Router.{Router}
+use Rattle.ranked_policy.specs.Plans.{Plan, IsNetwork, numbers}
+use Rattle.router_model.specs.declared.command.Command.TheVariants as command
+use Rattle.router_model.specs.Calls as calls
+use Rattle.router_model.specs.Settings.{Setting, linked}
+use Rattle.router_model.specs.Settings as settings
+use Rattle.router_model.specs.Step.{RouterEvent, next_offer}
+use Rattle.world_core.specs.declared.schedule.Event.{Event}
+use Rattle.world_core.specs.declared.schedule.Event.TheVariants as event
+use Rattle.world_core.specs.declared.schedule.Order.{Order}
+use Rattle.world_core.specs.declared.schedule.Order.TheVariants as order
+use Rattle.world_core.specs.declared.schedule.StepFault.TheVariants.{NoSuchRouter, NoSuchLink}
+use Rattle.world_core.specs.World.{World, WorldAnswer, Does, Nothing, Stops, of_offer, called, taking_of, where_linked, world_answer, world_after, world_of, onward, played}
+use Rattle.world_core.specs.Orders.{events_of, with_peer, turn, round, second, repeated}
+use Rattle.net_text.specs.declared.code.Code.{Code}
+use Rattle.net_text.specs.declared.code.Code.TheVariants.{BadPrefix}
+use Rattle.net_text.specs.Lexing.{Text}
+use Rattle.net_text.specs.Words.{◌>>=◌, is_router, is_number, value_of, is_named, prefix_word, origin_word}
+use Rattle.net_text.specs.Printing.{line}
+use Rattle.net_text.specs.Layout.{LinesEndByLineFeeds}
+use Rattle.schedule_text.specs.declared.schedule.ScheduledOrder.{ScheduledOrder}
+use Rattle.schedule_text.specs.Schedules.{is_within, line_order, order_at, orders_of}
+use Rattle.schedule_text.specs.Sayings.{NamesRouter, NamesPeers, NamesPrefix, NamesNumber, Say, LinesAreReadAsTheySay}
+use Rattle.play_engine.specs.Playing.{all_events, LeadTo}
+use Rattle.trace_engine.specs.Tracing.{event_line, step_text, events_text, reached, place_text, head_line, head_text, idle_line, rest_line, motion_line, ticked_line, tail_text, count_of, rest_of, order_text, orders_text}
+use Rattle.trace_engine.proofs.LineLemmas.{both_true, shown_both, decimal_shown, are_shown, IsNamed, named_from, number_from, Says, says_none, says_both, says_nothing}
+use Rattle.trace_engine.proofs.EventLemmas.{IsOriginated, MaySay, event_said}
+use Rattle.trace_engine.proofs.TextLemmas.{played_parts, reached_is}
+
+-- ---- comments
+
+place_shown : (at : ℕ) → are_shown (place_text at) ≡ true
+unfolding place_text
+place_shown at = shown_both (decimal at) (codes ": ") (decimal_shown at) refl
+
+module _ (feeds : LinesEndByLineFeeds) (net : Plan) where
+  head_says : (at : ℕ) (word : List ℕ) (n : ℕ) → are_shown word ≡ true → Says net (head_line at word n) []
+  unfolding head_line place_text
+  head_says at word n shown = says_nothing feeds net (place_text at ++ (word ++ decimal n)) (shown_both (place_text at) (word ++ decimal n) (place_shown at) (shown_both word (decimal n) shown (decimal_shown n))) refl
+
+  pub heads_say : (at : ℕ) (o : Order) → Says net (head_text at o) []
+  heads_say at (order.One e) = says_none net
+  heads_say at (order.Rounds n) = head_says at (codes "rounds ") n refl
+  heads_say at (order.Ticks n) = head_says at (codes "ticks ") n refl
+
+  idle_says : (at : ℕ) (b : Bool) → Says net (if b then idle_line at else []) []
+  unfolding idle_line place_text
+  idle_says at true = says_nothing feeds net (place_text at ++ codes "nothing to do") (shown_both (place_text at) (codes "nothing to do") (place_shown at) refl) refl
+  idle_says at false = says_none net
+
+  counted_says : (at count : ℕ) (more : List ℕ) → are_shown more ≡ true → Says net (line (place_text at ++ (decimal count ++ more))) []
+  unfolding place_text
+  counted_says at count more shown =
+      says_nothing feeds net (place_text at ++ (decimal count ++ more)) (shown_both (place_text at) (decimal count ++ more) (place_shown at) (shown_both (decimal count) more (decimal_shown count) shown)) refl
+
+  pub tails_say : (at : ℕ) (o : Order) (count : ℕ) (rest : Option ℕ) → Says net (tail_text at o count rest) []
+  unfolding rest_line motion_line ticked_line
+  tails_say at (order.One e) count rest = idle_says at (count == 0)
+  tails_say at (order.Rounds n) count (Some passed) = counted_says at count (codes " events, rest behind round " ++ decimal passed) (shown_both (codes " events, rest behind round ") (decimal passed) refl (decimal_shown passed))
+  tails_say at (order.Rounds n) count None = counted_says at count (codes " events, no rest by round " ++ decimal n) (shown_both (codes " events, no rest by round ") (decimal n) refl (decimal_shown n))
+  tails_say at (order.Ticks n) count rest = counted_says at count (codes " events") refl
+
+-- ---- what is done names routers of the network
+
+known_at : (b : Bool) (u n : ℕ) (more rest : Bool) → (u == n) ≡ b → (b || more) ≡ true → (more ≡ true → rest ≡ true) → ((n == u) || rest) ≡ true
+known_at true u n more rest is h go = ap (λ (c : Bool). c || rest) (eq-eqb n u (sym (eqb-true u n is)))
+known_at false u n more rest is h go = or_right (n == u) rest (go h)
+
+known_by : (routers : List Router) (u : ℕ) → list_any (λ n. u == n) (numbers routers) ≡ true → is_router routers u ≡ true
+known_by [] u h = absurd cc
+known_by (r ∷ rs) u h = known_at (u == r.asn) u r.asn (list_any (λ n. u == n) (numbers rs)) (is_router rs u) refl h (known_by rs u)
+
+all_front : {X : Type 0} (P : X → Type 0) (x : X) (xs : List X) → All P (x ∷ xs) → P x
+all_front P x xs all = all 0 x (omega arith)
+
+all_rest : {X : Type 0} (P : X → Type 0) (x : X) (xs : List X) → All P (x ∷ xs) → All P xs
+all_rest P x xs all = λ k d lt. all (suc k) d (omega (arith, lt))
+
+range_at : (P : ℕ → Type 0) (b : Bool) (u n : ℕ) (more : Bool) → (u == n) ≡ b → (b || more) ≡ true → P n → (more ≡ true → P u) → P u
+range_at P true u n more is h here go = subst P (sym (eqb-true u n is)) here
+range_at P false u n more is h here go = go h
+
+range_by : (P : ℕ → Type 0) (ns : List ℕ) (u : ℕ) → All P ns → list_any (λ n. u == n) ns ≡ true → P u
+range_by P [] u all h = absurd cc
+range_by P (n ∷ ns) u all h = range_at P (u == n) u n (list_any (λ k. u == k) ns) refl h (all_front P n ns all) (range_by P ns u (all_rest P n ns all))
+
+asn_by : (width : Width) (u : ℕ) → IsAsn width u → is_asn width u ≡ true
+asn_by width u h = both_true (nat_le 1 u) (nat_le u (greatest_asn width)) (le-leb 1 u h.0) (le-leb u (greatest_asn width) h.1)
+
+same_prefix : (p q : PrefixView) → is_prefix p q ≡ true → p ≡ q
+same_prefix p q h =
+    let k = and_parts (p.addr == q.addr) (p.len == q.len) h in
+    ap (λ (n : ℕ). record { addr = n; len = p.len }) (eqb-true p.addr q.addr k.0) ∙ ap (λ (n : ℕ). record { addr = q.addr; len = n }) (eqb-true p.len q.len k.1)
+
+canonical_at : (b : Bool) (p q : PrefixView) (more : Bool) → is_prefix p q ≡ b → (b || more) ≡ true → IsCanonical p → (more ≡ true → IsCanonical q) → IsCanonical q
+canonical_at true p q more is h here go = subst IsCanonical (same_prefix p q is) here
+canonical_at false p q more is h here go = go h
+
+canonical_by : (origins : List Origin) (q : PrefixView) → All (λ o. IsCanonical o.prefix) origins → is_named origins q ≡ true → IsCanonical q
+canonical_by [] q all h = absurd cc
+canonical_by (o ∷ os) q all h =
+    canonical_at (is_prefix o.prefix q) o.prefix q (is_named os q) refl h (all_front (λ k. IsCanonical k.prefix) o os all) (canonical_by os q (all_rest (λ k. IsCanonical k.prefix) o os all))
+
+there : (b : Bool) (a : WorldAnswer) (u : ℕ) (e : RouterEvent) (stamp : ℕ) → cond b a (Stops NoSuchRouter) ≡ Does u e stamp → b ≡ true
+there true a u e stamp h = refl
+there false a u e stamp h = absurd cc
+
+both_there : (p q l : Bool) (a : WorldAnswer) (u : ℕ) (e : RouterEvent) (stamp : ℕ) → cond (p && q) (cond l a (Stops NoSuchLink)) (Stops NoSuchRouter) ≡ Does u e stamp → (p ≡ true) × (q ≡ true)
+both_there true true l a u e stamp h = (refl, refl)
+both_there true false l a u e stamp h = absurd cc
+both_there false q l a u e stamp h = absurd cc
+
+all_both : {X : Type 0} (P : X → Type 0) (xs ys : List X) → AllByRecursion P xs → AllByRecursion P ys → AllByRecursion P (xs ++ ys)
+all_both P [] ys h k = k
+all_both P (x ∷ xs) ys h k = (h.0, all_both P xs ys h.1 k)
+
+all_flat : {X Y : Type 0} (P : Y → Type 0) (f : X → List Y) (xs : List X) → ((x : X) → AllByRecursion P (f x)) → AllByRecursion P (flat_map f xs)
+all_flat P f [] h = tt
+all_flat P f (x ∷ xs) h = all_both P (f x) (flat_map f xs) (h x) (all_flat P f xs h)
+
+module _ (g : Setting) (network : IsNetwork g.net) where
+  named_of : (u : ℕ) → settings.is_router g u ≡ true → IsNamed g.net u
+  named_of u h = record {
+    in_range = asn_by g.net.settings.width u (range_by (IsAsn g.net.settings.width) (numbers g.net.routers) u network.plan.in_range h);
+    known = known_by g.net.routers u h;
+  }
+
+  -- a line may name it where it is done
+  abbrev pub Speaks : Event → Type 0
+  Speaks x = (w : World) (u : ℕ) (e : RouterEvent) (stamp : ℕ) → world_answer g w x ≡ Does u e stamp → MaySay g.net x
+
+  both_named : (u v : ℕ) (a : WorldAnswer) (k : ℕ) (e : RouterEvent) (stamp : ℕ) → where_linked g u v a ≡ Does k e stamp → IsNamed g.net u × IsNamed g.net v
+  both_named u v a k e stamp h =
+      let b = both_there (settings.is_router g u) (settings.is_router g v) (linked g.net u v) a k e stamp h in
+      (named_of u b.0, named_of v b.1)
+
+  with_peer_speaks : (u v : ℕ) → AllByRecursion Speaks (with_peer u v)
+  with_peer_speaks u v =
+      let put : Speaks (event.Put u v) = λ w k e stamp h. both_named u v (called g w u (calls.Put v)) k e stamp h in
+      let take : Speaks (event.Take u v) = λ w k e stamp h. both_named u v (taking_of g w u v (slice_get (w.pipes v u) 0)) k e stamp h in
+      let handle : Speaks (event.Handle u v) = λ w k e stamp h. both_named u v (called g w u (calls.Handle v)) k e stamp h in
+      (put, (take, (handle, tt)))
+
+  turn_speaks : (u : ℕ) → AllByRecursion Speaks (turn g.net u)
+  turn_speaks u =
+      let decide : Speaks (event.Decide u) = λ w k e stamp h. named_of u (there (settings.is_router g u) (called g w u calls.Decide) k e stamp h) in
+      let advertise : Speaks (event.Advertise u) = λ w k e stamp h. named_of u (there (settings.is_router g u) (called g w u calls.Advertise) k e stamp h) in
+      let offer : Speaks (event.Offer u) = λ w k e stamp h. named_of u (there (settings.is_router g u) (of_offer u (max (w.routers u).stamp w.board + 1) (next_offer (w.routers u).router)) k e stamp h) in
+      all_both Speaks (flat_map (with_peer u) (settings.peers g.net u)) (event.Decide u ∷ event.Advertise u ∷ event.Offer u ∷ []) (all_flat Speaks (with_peer u) (settings.peers g.net u) (with_peer_speaks u))
+      (decide, (advertise, (offer, tt)))
+
+  seconds_speak : (ns : List ℕ) → AllByRecursion Speaks (map (λ u. event.Tick u) ns)
+  seconds_speak [] = tt
+  seconds_speak (u ∷ ns) = ((λ w k e stamp h. named_of u (there (settings.is_router g u) (called g w u calls.Tick) k e stamp h)), seconds_speak ns)
+
+  repeated_speak : (n : ℕ) (es : List Event) → AllByRecursion Speaks es → AllByRecursion Speaks (repeated n es)
+  repeated_speak zero es h = tt
+  repeated_speak (suc n) es h = all_both Speaks es (repeated n es) h (repeated_speak n es h)
+
+  -- an order of one event that a line may name, or of many
+  abbrev pub MayOrder : Order → Type 0
+  MayOrder (order.One e) = MaySay g.net e
+  MayOrder (order.Rounds n) = Unit {0}
+  MayOrder (order.Ticks n) = Unit {0}
+
+  order_speaks : (o : Order) → MayOrder o → AllByRecursion Speaks (events_of g.net o)
+  order_speaks (order.One e) may = ((λ w u d stamp h. may), tt)
+  order_speaks (order.Rounds n) may = repeated_speak n (round g.net) (all_flat Speaks (turn g.net) (numbers g.net.routers) turn_speaks)
+  order_speaks (order.Ticks n) may = repeated_speak n (second g.net) (seconds_speak (numbers g.net.routers))
+
+  -- ---- events and orders
+
+  module _ (feeds : LinesEndByLineFeeds) (read : LinesAreReadAsTheySay) where
+    -- the events that were done between two worlds are what a text says
+    pub record SaysDone (w y : World) (text : List ℕ) : Type 0 where
+      pub done : List Event
+      pub run : y.run ≡ w.run ++ done
+      pub says : Says g.net text done
+
+    done_by : (a : WorldAnswer) (w y : World) (x : Event) (xs : List Event) (at : ℕ) → world_answer g w x ≡ a → Speaks x
+        → ((next : World) → played g next (at + 1) xs ≡ Ok y → SaysDone next y (events_text g next xs))
+        → onward (world_of g w x at a) (λ next. played g next (at + 1) xs) ≡ Ok y → SaysDone w y (step_text g w x a (λ next. events_text g next xs))
+    done_by (Does u e stamp) w y x xs at is speaks go h =
+        let k = go (world_after g w x u e stamp) h in
+        record {
+          done = x ∷ k.done;
+          run = k.run ∙ append_assoc w.run (x ∷ []) k.done;
+          says = says_both g.net (event_line x) (events_text g (world_after g w x u e stamp) xs) (x ∷ []) k.done (event_said feeds read g.net x (speaks w u e stamp is)) k.says;
+        }
+    done_by Nothing w y x xs at is speaks go h = go w h
+    done_by (Stops fault) w y x xs at is speaks go h = absurd cc
+
+    pub events_say : (xs : List Event) (w y : World) (at : ℕ) → AllByRecursion Speaks xs → played g w at xs ≡ Ok y → SaysDone w y (events_text g w xs)
+    events_say [] w y at all h =
+        let same : w ≡ y = cc in
+        record { done = []; run = ap (λ (v : World). v.run) (sym same) ∙ sym (append-nil w.run); says = says_none g.net }
+    events_say (x ∷ xs) w y at all h = done_by (world_answer g w x) w y x xs at refl all.0 (λ next k. events_say xs next y (at + 1) all.1 k) h
+
+    -- a text of comments, then events, then comments
+    around : (front text end : List ℕ) (w y : World) → Says g.net front [] → SaysDone w y text → Says g.net end [] → SaysDone w y ((front ++ text) ++ end)
+    around front text end w y h k l =
+        let first = says_both g.net front text [] k.done h k.says in
+        let whole = says_both g.net (front ++ text) end k.done [] first l in
+        record { done = k.done; run = k.run; says = subst (λ (es : List Event). Says g.net ((front ++ text) ++ end) es) (append-nil k.done) whole }
+
+    order_says : (o : ScheduledOrder) (w y : World) → MayOrder o.order → played g w 0 (events_of g.net o.order) ≡ Ok y → SaysDone w y (order_text g w o)
+    order_says o w y may h =
+        around (head_text o.line o.order) (events_text g w (events_of g.net o.order)) (tail_text o.line o.order (count_of g w (events_of g.net o.order)) (rest_of g w o.order)) w y
+        (heads_say feeds g.net o.line o.order) (events_say (events_of g.net o.order) w y 0 (order_speaks o.order may) h)
+        (tails_say feeds g.net o.line o.order (count_of g w (events_of g.net o.order)) (rest_of g w o.order))
+
+    pub orders_say : (os : List ScheduledOrder) (w y : World) → AllByRecursion (λ o. MayOrder o.order) os → LeadTo g w os y → SaysDone w y (orders_text g w os)
+    orders_say [] w y all h =
+        let same : w ≡ y = cc in
+        record { done = []; run = ap (λ (v : World). v.run) (sym same) ∙ sym (append-nil w.run); says = says_none g.net }
+    orders_say (o ∷ os) w y all h =
+        let k = played_parts g (events_of g.net o.order) (all_events g.net os) w y 0 h in
+        let is : reached g w (events_of g.net o.order) ≡ k.0 = reached_is g w k.0 (events_of g.net o.order) k.1 in
+        let one = order_says o w k.0 all.0 k.1 in
+        let more = orders_say os k.0 y all.1 k.2 in
+        let text = says_both g.net (order_text g w o) (orders_text g k.0 os) one.done more.done one.says more.says in
+        record {
+          done = one.done ++ more.done;
+          run = more.run ∙ ap (λ (l : List Event). l ++ more.done) one.run ∙ append_assoc w.run one.done more.done;
+          says = subst (λ (v : World). Says g.net (order_text g w o ++ orders_text g v os) (one.done ++ more.done)) (sym is) text;
+        }
+
+    -- ---- orders that were read
+
+    named_in : (c : Bool) (p q : PrefixView) → is_named g.net.origins p ≡ c → (if not c then Err BadPrefix else Ok p) ≡ Ok q → is_named g.net.origins q ≡ true
+    named_in true p q is h =
+        let same : p ≡ q = cc in
+        subst (λ (k : PrefixView). is_named g.net.origins k ≡ true) same is
+    named_in false p q is h = absurd cc
+
+    origin_by : (r : Result PrefixView Code) (q : PrefixView) → (r >>= λ p. if not (is_named g.net.origins p) then Err BadPrefix else Ok p) ≡ Ok q → is_named g.net.origins q ≡ true
+    origin_by (Ok p) q h = named_in (is_named g.net.origins p) p q refl h
+    origin_by (Err code) q h = absurd cc
+
+    originated : (b : Text) (q : PrefixView) → origin_word g.net.origins b ≡ Ok q → IsOriginated g.net q
+    originated b q h =
+        let named = origin_by (prefix_word b) q h in
+        record { canonical = canonical_by g.net.origins q network.plan.origins.canonical named; named = named }
+
+    peers_may : (name : Text) (u v : ℕ) (words : List Text) → NamesPeers g.net name u v words → IsNamed g.net u × IsNamed g.net v
+    peers_may name u v words s = (named_from g.net s.0 u s.3, named_from g.net s.1 v s.4)
+
+    router_may : (name : Text) (u : ℕ) (words : List Text) → NamesRouter g.net name u words → IsNamed g.net u
+    router_may name u words s = named_from g.net s.0 u s.2
+
+    prefix_may : (name : Text) (u : ℕ) (q : PrefixView) (words : List Text) → NamesPrefix g.net name u q words → IsNamed g.net u × IsOriginated g.net q
+    prefix_may name u q words s = (named_from g.net s.0 u s.3, originated s.1 q s.4)
+
+    number_may : (name : Text) (u n : ℕ) (words : List Text) → NamesNumber g.net name u n words → IsNamed g.net u × (is_within (2 ^ 32 - 1) n ≡ true)
+    number_may name u n words s = (named_from g.net s.0 u s.3, number_from (is_within (2 ^ 32 - 1)) (is_number s.1) (value_of s.1) n s.4)
+
+    say_may : (o : Order) (words : List Text) → Say g.net o words → MayOrder o
+    say_may (order.One (event.Command u (command.Start v))) words s = peers_may (codes "start") u v words s
+    say_may (order.One (event.Command u (command.Stop v))) words s = peers_may (codes "stop") u v words s
+    say_may (order.One (event.Command u (command.Reset v))) words s = peers_may (codes "reset") u v words s
+    say_may (order.One (event.Command u (command.Originate q))) words s = prefix_may (codes "originate") u q words s
+    say_may (order.One (event.Command u (command.Withdraw q))) words s = prefix_may (codes "withdraw") u q words s
+    say_may (order.One (event.Command u (command.Snapshot n))) words s = number_may (codes "snapshot") u n words s
+    say_may (order.One (event.Command u command.Restart)) words s = router_may (codes "restart") u words s
+    say_may (order.One (event.Tick u)) words s = router_may (codes "tick") u words s
+    say_may (order.One (event.Put u v)) words s = peers_may (codes "put") u v words s
+    say_may (order.One (event.Take u v)) words s = peers_may (codes "take") u v words s
+    say_may (order.One (event.Handle u v)) words s = peers_may (codes "handle") u v words s
+    say_may (order.One (event.Decide u)) words s = router_may (codes "decide") u words s
+    say_may (order.One (event.Advertise u)) words s = router_may (codes "advertise") u words s
+    say_may (order.One (event.Offer u)) words s = router_may (codes "offer") u words s
+    say_may (order.Rounds n) words s = tt
+    say_may (order.Ticks n) words s = tt
+
+    line_may : (at : ℕ) (text : Text) (r : Result (Option Order) Code) → line_order g.net text ≡ r → AllByRecursion (λ o. MayOrder o.order) (order_at at r)
+    line_may at text (Ok (Some o)) is = (let s = (read g.net text o).0 is in (say_may o s.0 s.4, tt))
+    line_may at text (Ok None) is = tt
+    line_may at text (Err code) is = tt
+
+    pub lines_may : (at : ℕ) (lines : List Text) → AllByRecursion (λ o. MayOrder o.order) (orders_of g.net at lines)
+    lines_may at [] = tt
+    lines_may at (text ∷ texts) =
+        all_both (λ (o : ScheduledOrder). MayOrder o.order) (order_at (at + 1) (line_order g.net text)) (orders_of g.net (at + 1) texts) (line_may (at + 1) text (line_order g.net text) refl) (lines_may (at + 1) texts)

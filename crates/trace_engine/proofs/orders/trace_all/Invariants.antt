@@ -1,0 +1,11 @@
+-- the orders before this one are obeyed and written
+use Rattle.std.proofs.Common.{◌≡◌, take}
+use Rattle.trace_engine.proofs.CallLemmas.{AreTraced}
+use Rattle.trace_engine.proofs.orders.trace_all.Given as goal
+
+abbrev pub invariant-loop-scheduled : goal.invariant-loop-scheduled
+invariant-loop-scheduled l =
+    record {
+      same : l.world.net ≡ l.fn.world.net;
+      done : AreTraced l.fn.world (take l.scheduled-index l.orders) l.fn.out.items l.world l.out.items;
+    }

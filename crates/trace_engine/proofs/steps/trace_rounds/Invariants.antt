@@ -1,0 +1,14 @@
+-- so many are done and written, and each of them did something
+use Rattle.std.proofs.Common.{◌≡◌, ◌-◌, Ok}
+use Rattle.world_core.specs.Orders.{repeated, round}
+use Rattle.trace_engine.specs.Tracing.{TracesEvents}
+use Rattle.trace_engine.proofs.CallLemmas.{RestsAs}
+use Rattle.trace_engine.proofs.steps.trace_rounds.Given as goal
+
+abbrev pub invariant-loop-passed : goal.invariant-loop-passed
+invariant-loop-passed l =
+    record {
+      same : l.world.net ≡ l.fn.world.net;
+      done : TracesEvents (Ok tt) l.fn.world (repeated l.passed (round l.fn.world.net)) l.fn.out.items l.world l.out.items;
+      rest : RestsAs l.fn.world l.times l.world l.passed (l.times - l.passed);
+    }

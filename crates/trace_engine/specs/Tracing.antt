@@ -1,0 +1,233 @@
+-- The text of a trace: the orders that a schedule's run is, with comments of what stood for many events.
+use Rattle.std.specs.Prelude.{◌≡◌, ◌≢◌, ℕ, zero, suc, ◌+◌, ◌-◌, ◌==◌, ◌&&◌, nat_lt, Bool, List, [], ◌∷◌, ◌++◌, length, get_or, Option, None, Some, Result, Ok, Err, MatchResult, codes, decimal, if◌then◌else◌, ◌⊎◌}
+use Rattle.std.specs.List.{flat_map}
+use Rattle.prefix_lanes.specs.Bits.{PrefixView}
+use Rattle.ranked_policy.specs.Plans.{Plan}
+use Rattle.router_model.specs.declared.command.Command.{Command}
+use Rattle.router_model.specs.declared.command.Command.TheVariants as command
+use Rattle.router_model.specs.Settings.{Setting, ChoosesByRank}
+use Rattle.world_core.specs.declared.schedule.Event.{Event}
+use Rattle.world_core.specs.declared.schedule.Event.TheVariants as event
+use Rattle.world_core.specs.declared.schedule.Order.{Order}
+use Rattle.world_core.specs.declared.schedule.Order.TheVariants as order
+use Rattle.world_core.specs.declared.schedule.StepFault.{StepFault}
+use Rattle.world_core.specs.declared.schedule.StepFault.TheVariants.{Memory}
+use Rattle.world_core.specs.World.{World, WorldAnswer, Does, Nothing, Stops, Played, new_world, world_answer, world_after, played}
+use Rattle.world_core.specs.Orders.{events_of, repeated, round, StopsAt}
+use Rattle.world_core.specs.Views.{WorldView, plain_world}
+use Rattle.net_text.specs.Lexing.{Text}
+use Rattle.net_text.specs.Printing.{line, prefix_text}
+use Rattle.schedule_text.specs.declared.schedule.ScheduledOrder.{ScheduledOrder}
+use Rattle.schedule_text.specs.Reports.{stop_line}
+use Rattle.play_engine.specs.declared.schedules.Stop.{Stop}
+use Rattle.play_engine.specs.Playing.{LeadTo, IsFirstRefused}
+use Rattle.text_engines.specs.declared.status.TheConstants.{DONE, REFUSED}
+use Rattle.text_engines.specs.Decoding.{Output, output}
+
+-- ---- the network
+
+-- its last octet is a CR
+abbrev pub ends_in_return : Text → Bool
+ends_in_return text = nat_lt 0 (length text) && (get_or text (length text - 1) 0 == 13)
+
+-- a line with its end: a CR at its end stands twice, since the reader takes one away
+abbrev pub whole_line : Text → List ℕ
+whole_line text = text ++ (if ends_in_return text then 13 ∷ 10 ∷ [] else 10 ∷ [])
+
+abbrev pub network_text : List Text → List ℕ
+network_text lines = flat_map whole_line lines
+
+-- the lines of a network, and the line that begins its schedule
+abbrev pub head_of_trace : List Text → List ℕ
+head_of_trace lines = network_text lines ++ line (codes "schedule")
+
+-- ---- the line of an event
+
+-- a word with a number behind it, with two, and with a number and a prefix
+unfoldable pub one_line : List ℕ → ℕ → List ℕ
+one_line word u = line (word ++ decimal u)
+
+unfoldable pub two_line : List ℕ → ℕ → ℕ → List ℕ
+two_line word u v = line (word ++ (decimal u ++ (codes " " ++ decimal v)))
+
+unfoldable pub prefix_line : List ℕ → ℕ → PrefixView → List ℕ
+prefix_line word u q = line (word ++ (decimal u ++ prefix_text q))
+
+abbrev pub command_line : ℕ → Command → List ℕ
+command_line u (command.Start v) = two_line (codes "start ") u v
+command_line u (command.Stop v) = two_line (codes "stop ") u v
+command_line u (command.Reset v) = two_line (codes "reset ") u v
+command_line u (command.Originate q) = prefix_line (codes "originate ") u q
+command_line u (command.Withdraw q) = prefix_line (codes "withdraw ") u q
+command_line u (command.Snapshot s) = two_line (codes "snapshot ") u s
+command_line u command.Restart = one_line (codes "restart ") u
+
+-- the order that is this one event
+abbrev pub event_line : Event → List ℕ
+event_line (event.Command u c) = command_line u c
+event_line (event.Tick u) = one_line (codes "tick ") u
+event_line (event.Put u v) = two_line (codes "put ") u v
+event_line (event.Take u v) = two_line (codes "take ") u v
+event_line (event.Handle u v) = two_line (codes "handle ") u v
+event_line (event.Decide u) = one_line (codes "decide ") u
+event_line (event.Advertise u) = one_line (codes "advertise ") u
+event_line (event.Offer u) = one_line (codes "offer ") u
+
+-- ---- events
+
+-- an event that is done is written, and the world goes on; one that finds nothing to do is not; behind one that is refused nothing
+-- is done
+abbrev pub step_text : Setting → World → Event → WorldAnswer → (World → List ℕ) → List ℕ
+step_text g w event (Does u e stamp) more = event_line event ++ more (world_after g w event u e stamp)
+step_text g w event Nothing more = more w
+step_text g w event (Stops fault) more = []
+
+abbrev pub events_text : Setting → World → List Event → List ℕ
+events_text g w [] = []
+events_text g w (event ∷ events) = step_text g w event (world_answer g w event) (λ next. events_text g next events)
+
+-- the world that they lead to, where all are done
+abbrev pub end_of : World → Played → World
+end_of w (Ok y) = y
+end_of w (Err fault) = w
+
+abbrev pub reached : Setting → World → List Event → World
+reached g w events = end_of w (played g w 0 events)
+
+-- ---- comments
+
+-- of which line a comment is
+unfoldable pub place_text : ℕ → List ℕ
+place_text at = codes "# line " ++ (decimal at ++ codes ": ")
+
+-- what an order orders
+unfoldable pub head_line : ℕ → List ℕ → ℕ → List ℕ
+head_line at word n = line (place_text at ++ (word ++ decimal n))
+
+abbrev pub head_text : ℕ → Order → List ℕ
+head_text at (order.One e) = []
+head_text at (order.Rounds n) = head_line at (codes "rounds ") n
+head_text at (order.Ticks n) = head_line at (codes "ticks ") n
+
+-- an event found nothing to do
+unfoldable pub idle_line : ℕ → List ℕ
+idle_line at = line (place_text at ++ codes "nothing to do")
+
+-- so many events were done, and behind so many rounds that did something one did nothing
+unfoldable pub rest_line : ℕ → ℕ → ℕ → List ℕ
+rest_line at count passed = line (place_text at ++ (decimal count ++ (codes " events, rest behind round " ++ decimal passed)))
+
+-- all rounds did something
+unfoldable pub motion_line : ℕ → ℕ → ℕ → List ℕ
+motion_line at count n = line (place_text at ++ (decimal count ++ (codes " events, no rest by round " ++ decimal n)))
+
+unfoldable pub ticked_line : ℕ → ℕ → List ℕ
+ticked_line at count = line (place_text at ++ (decimal count ++ codes " events"))
+
+-- how an order ended, which did so many events, its rounds having come to rest behind so many
+abbrev pub tail_text : ℕ → Order → ℕ → Option ℕ → List ℕ
+tail_text at (order.One e) count rest = if count == 0 then idle_line at else []
+tail_text at (order.Rounds n) count (Some passed) = rest_line at count passed
+tail_text at (order.Rounds n) count None = motion_line at count n
+tail_text at (order.Ticks n) count rest = ticked_line at count
+
+-- an order was refused
+abbrev pub stop_comment : ℕ → StepFault → List ℕ
+stop_comment at why = codes "# " ++ stop_line at why
+
+-- ---- orders
+
+-- so many did something before one of the next so many rounds does nothing, where one does
+abbrev pub rest_in : Setting → World → ℕ → ℕ → Option ℕ
+rest_in g w passed zero = None
+rest_in g w passed (suc n) =
+    if length (reached g w (round g.net)).run == length w.run then Some passed
+    else rest_in g (reached g w (round g.net)) (passed + 1) n
+
+abbrev pub rest_of : Setting → World → Order → Option ℕ
+rest_of g w (order.One e) = None
+rest_of g w (order.Rounds n) = rest_in g w 0 n
+rest_of g w (order.Ticks n) = None
+
+-- how many events are done
+abbrev pub count_of : Setting → World → List Event → ℕ
+count_of g w events = length (reached g w events).run - length w.run
+
+-- an order up to the event that is refused, and one of which none is
+abbrev pub begun_text : Setting → World → ScheduledOrder → List ℕ
+begun_text g w o = head_text o.line o.order ++ events_text g w (events_of g.net o.order)
+
+abbrev pub order_text : Setting → World → ScheduledOrder → List ℕ
+order_text g w o =
+    begun_text g w o ++ tail_text o.line o.order (count_of g w (events_of g.net o.order)) (rest_of g w o.order)
+
+-- orders of which none is refused
+abbrev pub orders_text : Setting → World → List ScheduledOrder → List ℕ
+orders_text g w [] = []
+orders_text g w (o ∷ orders) = order_text g w o ++ orders_text g (reached g w (events_of g.net o.order)) orders
+
+-- orders up to the first that is refused
+abbrev pub stopped_text : (g : Setting) (w : World) (orders : List ScheduledOrder) (stop : Stop) → IsFirstRefused g w orders stop → List ℕ
+stopped_text g w orders stop s = orders_text g w s.before ++ begun_text g s.reached s.order
+
+-- ---- what is printed for orders, behind what stands before them
+
+abbrev pub OrdersTrace : Plan → List ℕ → List ScheduledOrder → Output → Type 0
+OrdersTrace net head orders out =
+    (g : Setting) → g.net ≡ net → ChoosesByRank g
+    → ((w : World) × LeadTo g (new_world g) orders w × (out ≡ output (head ++ orders_text g (new_world g) orders) DONE))
+    ⊎ ((stop : Stop) × (stop.why ≢ Memory) × (s : IsFirstRefused g (new_world g) orders stop) × (out ≡ output (head ++ (stopped_text g (new_world g) orders stop s ++ stop_comment stop.line stop.why)) REFUSED))
+
+-- ---- what calls are to give and to leave, in every setting of the network that chooses by rank; nothing is said of want of memory
+
+-- one event
+abbrev pub TracesOne : Result (Unit {0}) StepFault → WorldView → Event → List ℕ → WorldView → List ℕ → Type 0
+TracesOne r x event old y new =
+    (g : Setting) → g.net ≡ x.net → ChoosesByRank g
+    → MatchResult r
+    (λ _. (played g (plain_world x) 0 (event ∷ []) ≡ Ok (plain_world y)) × (new ≡ old ++ events_text g (plain_world x) (event ∷ [])))
+    (λ why. why ≢ Memory → (world_answer g (plain_world x) event ≡ Stops why) × (plain_world y ≡ plain_world x) × (new ≡ old))
+
+-- the first event that is refused, and the text up to it
+abbrev pub HaltsAt : Setting → World → List Event → StepFault → World → Type 0
+HaltsAt g w events why y = (at : ℕ) × StopsAt g w events at why y
+
+-- events
+abbrev pub TracesEvents : Result (Unit {0}) StepFault → WorldView → List Event → List ℕ → WorldView → List ℕ → Type 0
+TracesEvents r x events old y new =
+    (g : Setting) → g.net ≡ x.net → ChoosesByRank g
+    → MatchResult r
+    (λ _. (played g (plain_world x) 0 events ≡ Ok (plain_world y)) × (new ≡ old ++ events_text g (plain_world x) events))
+    (λ why. why ≢ Memory → HaltsAt g (plain_world x) events why (plain_world y) × (new ≡ old ++ events_text g (plain_world x) events))
+
+-- so many rounds
+abbrev pub TracesRounds : Result (Option ℕ) StepFault → WorldView → ℕ → List ℕ → WorldView → List ℕ → Type 0
+TracesRounds r x n old y new =
+    (g : Setting) → g.net ≡ x.net → ChoosesByRank g
+    → MatchResult r
+    (λ rest. (played g (plain_world x) 0 (repeated n (round g.net)) ≡ Ok (plain_world y)) × (new ≡ old ++ events_text g (plain_world x) (repeated n (round g.net))) × (rest ≡ rest_in g (plain_world x) 0 n))
+    (λ why. why ≢ Memory → HaltsAt g (plain_world x) (repeated n (round g.net)) why (plain_world y) × (new ≡ old ++ events_text g (plain_world x) (repeated n (round g.net))))
+
+-- the events of an order
+abbrev pub TracesWork : Result (Option ℕ) StepFault → WorldView → Order → List ℕ → WorldView → List ℕ → Type 0
+TracesWork r x order old y new =
+    (g : Setting) → g.net ≡ x.net → ChoosesByRank g
+    → MatchResult r
+    (λ rest. (played g (plain_world x) 0 (events_of g.net order) ≡ Ok (plain_world y)) × (new ≡ old ++ events_text g (plain_world x) (events_of g.net order)) × (rest ≡ rest_of g (plain_world x) order))
+    (λ why. why ≢ Memory → HaltsAt g (plain_world x) (events_of g.net order) why (plain_world y) × (new ≡ old ++ events_text g (plain_world x) (events_of g.net order)))
+
+-- an order
+abbrev pub TracesOrder : Result (Unit {0}) StepFault → WorldView → ScheduledOrder → List ℕ → WorldView → List ℕ → Type 0
+TracesOrder r x o old y new =
+    (g : Setting) → g.net ≡ x.net → ChoosesByRank g
+    → MatchResult r
+    (λ _. (played g (plain_world x) 0 (events_of g.net o.order) ≡ Ok (plain_world y)) × (new ≡ old ++ order_text g (plain_world x) o))
+    (λ why. why ≢ Memory → HaltsAt g (plain_world x) (events_of g.net o.order) why (plain_world y) × (new ≡ old ++ begun_text g (plain_world x) o))
+
+-- orders
+abbrev pub TracesAll : Result (Unit {0}) Stop → WorldView → List ScheduledOrder → List ℕ → WorldView → List ℕ → Type 0
+TracesAll r x orders old y new =
+    (g : Setting) → g.net ≡ x.net → ChoosesByRank g
+    → MatchResult r
+    (λ _. LeadTo g (plain_world x) orders (plain_world y) × (new ≡ old ++ orders_text g (plain_world x) orders))
+    (λ stop. stop.why ≢ Memory → (s : IsFirstRefused g (plain_world x) orders stop) × (new ≡ old ++ stopped_text g (plain_world x) orders stop s))

@@ -1,0 +1,34 @@
+-- What is printed for a network and a schedule.
+use Rattle.std.specs.Prelude.{◌≡◌, ◌≢◌, ℕ, List, codes, ◌⊎◌}
+use Rattle.ranked_policy.specs.Plans.{Plan}
+use Rattle.net_text.specs.declared.code.Code.{Code}
+use Rattle.net_text.specs.declared.code.Code.TheVariants as kinds
+use Rattle.net_text.specs.Lexing.{Text, lines_of, before_section}
+use Rattle.net_text.specs.Printing.{code_text}
+use Rattle.schedule_text.specs.declared.schedule.ScheduledOrder.{ScheduledOrder}
+use Rattle.schedule_text.specs.Schedules.{SpellsSchedule, RefusesSchedule}
+use Rattle.text_engines.specs.Decoding.{Output, refused}
+use Rattle.text_engines.specs.Inputs.{NetworkGives, InputGives, Prints}
+use Rattle.trace_engine.specs.Tracing.{OrdersTrace, head_of_trace}
+
+-- for the lines of a schedule behind a network of these lines, so many lines standing before them
+abbrev pub ScheduleTraces : List Text → Plan → ℕ → List Text → Output → Type 0
+ScheduleTraces front net before lines out =
+    ((at : ℕ) × (code : Code) × (code ≢ kinds.Memory) × RefusesSchedule net before lines at code × (out ≡ refused at (code_text code)))
+    ⊎ ((orders : List ScheduledOrder) × SpellsSchedule net before lines orders × OrdersTrace net (head_of_trace front) orders out)
+
+-- for the lines of a network, and those behind it
+abbrev pub LinesTrace : List Text → ℕ → List Text → Output → Type 0
+LinesTrace front before behind out = NetworkGives (ScheduleTraces front) front before behind out
+
+-- the lines of the network that an input begins with
+abbrev pub network_lines : List ℕ → List Text
+network_lines input = before_section (codes "schedule") (lines_of input)
+
+-- for an input, which may be too long
+abbrev pub InputTraces : List ℕ → Output → Type 0
+InputTraces input out = InputGives (ScheduleTraces (network_lines input)) (codes "schedule") input out
+
+-- what `trace` prints for an input of a network and a schedule: that, or that memory ran out
+abbrev pub Traces : List ℕ → Output → Type 0
+Traces input out = Prints (ScheduleTraces (network_lines input)) (codes "schedule") input out

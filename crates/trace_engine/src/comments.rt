@@ -1,0 +1,139 @@
+//! The comments of an order: what it orders, and how it ended.
+
+ghost use Rattle.std.specs.Prelude.{◌≡◌, ◌++◌, OnOk};
+ghost use Rattle.trace_engine.specs.Tracing.{place_text, head_line, head_text, idle_line, rest_line, motion_line, ticked_line, tail_text, stop_comment};
+
+use net_text::Tail;
+use schedule_text::{ScheduledOrder, stop_line};
+use std::alloc::AllocError;
+use world_core::{Order, StepFault};
+
+// Writes of which line a comment is.
+#[tactic(auto, unfolding(crate::specs::Tracing::place_text))]
+fn write_place(out: &mut Tail, line: usize) -> Result<(), AllocError>
+    ensures text { OnOk result (out.new.text ≡ out.old.text ++ place_text line) }
+    ensures front { out.new.front ≡ out.old.front }
+{
+    out.put_text(b"# line ")?;
+    out.put_len(line)?;
+    out.put_text(b": ")
+}
+
+#[tactic(auto, unfolding(crate::specs::Tracing::head_line))]
+fn write_head_line(out: &mut Tail, line: usize, word: &[u8], times: u32) -> Result<(), AllocError>
+    ensures text { OnOk result (out.new.text ≡ out.old.text ++ head_line line word.now times) }
+    ensures front { out.new.front ≡ out.old.front }
+{
+    write_place(out, line)?;
+    out.put_text(word)?;
+    out.put_decimal(times)?;
+    out.put_text(b"\n")
+}
+
+fn write_head(out: &mut Tail, scheduled: &ScheduledOrder) -> Result<(), AllocError>
+    ensures text { OnOk result (out.new.text ≡ out.old.text ++ head_text scheduled.now.line scheduled.now.order) }
+    ensures front { out.new.front ≡ out.old.front }
+{
+    match scheduled.order {
+        Order::One(_) => Ok(()),
+        Order::Rounds(times) => write_head_line(out, scheduled.line, b"rounds ", times),
+        Order::Ticks(times) => write_head_line(out, scheduled.line, b"ticks ", times),
+    }
+}
+
+#[tactic(auto, unfolding(crate::specs::Tracing::idle_line))]
+fn write_idle(out: &mut Tail, line: usize) -> Result<(), AllocError>
+    ensures text { OnOk result (out.new.text ≡ out.old.text ++ idle_line line) }
+    ensures front { out.new.front ≡ out.old.front }
+{
+    write_place(out, line)?;
+    out.put_text(b"nothing to do\n")
+}
+
+#[tactic(auto, unfolding(crate::specs::Tracing::rest_line))]
+fn write_rest(out: &mut Tail, line: usize, count: usize, passed: u32) -> Result<(), AllocError>
+    ensures text { OnOk result (out.new.text ≡ out.old.text ++ rest_line line count passed) }
+    ensures front { out.new.front ≡ out.old.front }
+{
+    write_place(out, line)?;
+    out.put_len(count)?;
+    out.put_text(b" events, rest behind round ")?;
+    out.put_decimal(passed)?;
+    out.put_text(b"\n")
+}
+
+#[tactic(auto, unfolding(crate::specs::Tracing::motion_line))]
+fn write_motion(out: &mut Tail, line: usize, count: usize, times: u32) -> Result<(), AllocError>
+    ensures text { OnOk result (out.new.text ≡ out.old.text ++ motion_line line count times) }
+    ensures front { out.new.front ≡ out.old.front }
+{
+    write_place(out, line)?;
+    out.put_len(count)?;
+    out.put_text(b" events, no rest by round ")?;
+    out.put_decimal(times)?;
+    out.put_text(b"\n")
+}
+
+#[tactic(auto, unfolding(crate::specs::Tracing::ticked_line))]
+fn write_ticked(out: &mut Tail, line: usize, count: usize) -> Result<(), AllocError>
+    ensures text { OnOk result (out.new.text ≡ out.old.text ++ ticked_line line count) }
+    ensures front { out.new.front ≡ out.old.front }
+{
+    write_place(out, line)?;
+    out.put_len(count)?;
+    out.put_text(b" events\n")
+}
+
+fn write_tail(
+    out: &mut Tail,
+    scheduled: &ScheduledOrder,
+    count: usize,
+    rest: Option<u32>,
+) -> Result<(), AllocError>
+    ensures text { OnOk result (out.new.text ≡ out.old.text ++ tail_text scheduled.now.line scheduled.now.order count rest) }
+    ensures front { out.new.front ≡ out.old.front }
+{
+    match scheduled.order {
+        Order::One(_) if count == 0 => write_idle(out, scheduled.line),
+        Order::One(_) => Ok(()),
+        Order::Rounds(times) => match rest {
+            Some(passed) => write_rest(out, scheduled.line, count, passed),
+            None => write_motion(out, scheduled.line, count, times),
+        },
+        Order::Ticks(_) => write_ticked(out, scheduled.line, count),
+    }
+}
+
+/// Appends what an order orders, where it stands for many events.
+pub(crate) fn put_head(scheduled: &ScheduledOrder, out: &mut Vec<u8>) -> Result<(), AllocError>
+    ensures { OnOk result (out.new.items ≡ out.old.items ++ head_text scheduled.now.line scheduled.now.order) }
+{
+    let mut tail = Tail::behind(out);
+    let result = write_head(&mut tail, scheduled);
+    *out = tail.finish(result.is_ok());
+    result
+}
+
+/// Appends how an order ended: so many events were done, and so many of its rounds did something before one did
+/// nothing, where one did nothing.
+pub(crate) fn put_tail(
+    scheduled: &ScheduledOrder,
+    count: usize,
+    rest: Option<u32>,
+    out: &mut Vec<u8>,
+) -> Result<(), AllocError>
+    ensures { OnOk result (out.new.items ≡ out.old.items ++ tail_text scheduled.now.line scheduled.now.order count rest) }
+{
+    let mut tail = Tail::behind(out);
+    let result = write_tail(&mut tail, scheduled, count, rest);
+    *out = tail.finish(result.is_ok());
+    result
+}
+
+/// Appends that an order was refused, as a comment.
+pub(crate) fn put_stop(line: usize, why: StepFault, out: &mut Vec<u8>) -> Result<(), AllocError>
+    ensures { OnOk result (out.new.items ≡ out.old.items ++ stop_comment line why) }
+{
+    out.extend_from_slice(b"# ")?;
+    stop_line(line, why, out)
+}

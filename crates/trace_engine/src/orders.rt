@@ -1,0 +1,138 @@
+//! Orders that are obeyed, each written as the events that it did.
+
+ghost use Rattle.std.specs.Prelude.{◌≡◌, ◌≢◌, ◌++◌, IfOk};
+ghost use Rattle.net_text.specs.Lexing.{lines_of};
+ghost use Rattle.text_engines.specs.declared.status.TheConstants.{REFUSED};
+ghost use Rattle.text_engines.specs.Decoding.{output};
+ghost use Rattle.world_core.specs.Views.{Opens};
+ghost use Rattle.trace_engine.specs.Tracing.{TracesWork, TracesOrder, TracesAll, OrdersTrace, head_of_trace, stop_comment};
+
+use crate::comments::{put_head, put_stop, put_tail};
+use crate::network::put_network;
+use crate::rounds::{round_of, second_of};
+use crate::steps::{trace_events, trace_rounds, trace_seconds};
+use play_engine::Stop;
+use ranked_policy::Network;
+use schedule_text::ScheduledOrder;
+use std::alloc::{AllocError, Global};
+use std::mem::forget;
+use text_engines::status::{DONE, REFUSED};
+use world_core::{Order, StepFault, World};
+
+// Does the events of an order, and answers how many of its rounds did something before one did nothing, where one did
+// nothing.
+fn trace_work(
+    alloc: Global,
+    world: &mut World<'_>,
+    order: &Order,
+    out: &mut Vec<u8>,
+) -> Result<Option<u32>, StepFault>
+    ensures traces { TracesWork result world.old order.now out.old.items world.new out.new.items }
+    ensures same { world.new.net ≡ world.old.net }
+{
+    match order {
+        Order::One(event) => trace_events(world, &[*event], out)?,
+        Order::Rounds(times) => {
+            let round = round_of(alloc, world.network())?;
+            return trace_rounds(world, round.as_slice(), *times, out);
+        }
+        Order::Ticks(times) => {
+            let second = second_of(alloc, world.network())?;
+            trace_seconds(world, second.as_slice(), *times, out)?;
+        }
+    }
+    Ok(None)
+}
+
+// Obeys an order, and appends its lines.
+fn trace_order(
+    alloc: Global,
+    world: &mut World<'_>,
+    scheduled: &ScheduledOrder,
+    out: &mut Vec<u8>,
+) -> Result<(), StepFault>
+    ensures traces { TracesOrder result world.old scheduled.now out.old.items world.new out.new.items }
+    ensures same { world.new.net ≡ world.old.net }
+{
+    put_head(scheduled, out)?;
+    let before = world.run().len();
+    let rest = trace_work(alloc, world, &scheduled.order, out)?;
+    let count = world.run().len().saturating_sub(before);
+    put_tail(scheduled, count, rest, out)?;
+    Ok(())
+}
+
+// Obeys the orders up to the first that is refused, and appends their lines.
+fn trace_all(
+    alloc: Global,
+    world: &mut World<'_>,
+    orders: &[ScheduledOrder],
+    out: &mut Vec<u8>,
+) -> Result<(), Stop>
+    ensures traces { TracesAll result world.old orders.now out.old.items world.new out.new.items }
+    ensures same { world.new.net ≡ world.old.net }
+{
+    for scheduled in orders {
+        if let Err(why) = trace_order(alloc, world, scheduled, out) {
+            return Err(Stop {
+                line: scheduled.line,
+                why,
+            });
+        }
+    }
+    Ok(())
+}
+
+// What is printed where an order is refused, behind the trace up to it, and the status; want of memory is no such refusal.
+fn stop_output(stop: Stop, mut out: Vec<u8>) -> Result<(Vec<u8>, u8), AllocError>
+    ensures kind { IfOk result (λ printed. stop.why ≢ StepFault.Memory) }
+    ensures output { IfOk result (λ printed. output printed.0.items printed.1 ≡ output (out.items ++ stop_comment stop.line stop.why) REFUSED) }
+{
+    if stop.why == StepFault::Memory {
+        return Err(AllocError);
+    }
+    put_stop(stop.line, stop.why, &mut out)?;
+    Ok((out, REFUSED))
+}
+
+// What is printed, behind what was, for orders in a world in which nothing was done. The world is left to the end of the
+// process, which comes next: what it holds is many small blocks.
+fn world_output(
+    alloc: Global,
+    network: &Network,
+    mut world: World<'_>,
+    orders: &[ScheduledOrder],
+    mut out: Vec<u8>,
+) -> Result<(Vec<u8>, u8), AllocError>
+    requires { Opens network.now world }
+    ensures { IfOk result (λ printed. OrdersTrace network.now out.items orders.now (output printed.0.items printed.1)) }
+{
+    match trace_all(alloc, &mut world, orders, &mut out) {
+        Ok(()) => {
+            forget(world);
+            Ok((out, DONE))
+        }
+        Err(stop) => {
+            forget(world);
+            stop_output(stop, out)
+        }
+    }
+}
+
+/// What is printed for a network of these lines and the orders of a schedule, and the status.
+pub(crate) fn orders_output(
+    alloc: Global,
+    lines: &[u8],
+    network: &Network,
+    orders: &[ScheduledOrder],
+) -> Result<(Vec<u8>, u8), AllocError>
+    ensures { IfOk result (λ printed. OrdersTrace network.now (head_of_trace (lines_of lines.now)) orders.now (output printed.0.items printed.1)) }
+{
+    let mut out = Vec::new(alloc);
+    put_network(lines, &mut out)?;
+    out.extend_from_slice(b"schedule\n")?;
+    match World::new(alloc, network) {
+        Ok(world) => world_output(alloc, network, world, orders, out),
+        Err(_) => Err(AllocError),
+    }
+}

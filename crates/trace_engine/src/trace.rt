@@ -1,0 +1,45 @@
+//! `bgpnet trace`: the run that a schedule leads to, as a schedule.
+
+ghost use Rattle.std.specs.Prelude.{◌≡◌, ◌⊎◌, IfOk, OnOk, OnErr, true, false};
+ghost use Rattle.text_engines.specs.Engine.{PrintedBy, PrintedFrontBy};
+ghost use Rattle.trace_engine.specs.Tracings.{Traces};
+
+use crate::stream::input_output;
+use std::alloc::Global;
+use text_engines::{InputError, IoStopped, Sink, Source, read_input, want_of_memory, write_out};
+
+/// Reads a network and a schedule, and writes the run that the schedule leads to as a schedule: the network's
+/// lines, the line `schedule`, and the order of each event that was done, with comments of what stood for many
+/// events; or the first line that is refused. Answers the status.
+///
+/// Where an order is refused its trace ends with a comment that says so. Where memory is refused it writes `memory`
+/// alone and answers 3. It stops only where a read or a write failed, and then what was written is a beginning of
+/// the text.
+pub fn trace_stream<S: Source, T: Sink>(
+    alloc: Global,
+    source: &mut S,
+    sink: &mut T,
+) -> Result<u8, IoStopped>
+    // What is written is what is printed for what was read, and nothing else.
+    ensures done { IfOk result (λ status. PrintedBy Traces (S.remaining source.old) (T.contents sink.old) (T.contents sink.new) status) }
+    // It answers a status only where no read and no write failed, and stops only where one did.
+    ensures unfailed { OnOk result ((S.failed source.new ≡ S.failed source.old) × (T.failed sink.new ≡ T.failed sink.old)) }
+    ensures failed { OnErr result ((S.failed source.new ≡ true) ⊎ (T.failed sink.new ≡ true)) }
+    // Where a read failed nothing is written.
+    ensures silent { S.failed source.old ≡ false → S.failed source.new ≡ true → T.contents sink.new ≡ T.contents sink.old }
+    // A failed read or write leaves a beginning of the text.
+    ensures stopped { OnErr result (PrintedFrontBy Traces (S.remaining source.old) (T.contents sink.old) (T.contents sink.new)) }
+{
+    let input = match read_input(alloc, source) {
+        Ok(input) => input,
+        Err(InputError::Memory) => return want_of_memory(sink),
+        Err(InputError::Stopped) => return Err(IoStopped),
+    };
+    match input_output(alloc, input) {
+        Ok((text, status)) => {
+            write_out(sink, text.as_slice())?;
+            Ok(status)
+        }
+        Err(_) => want_of_memory(sink),
+    }
+}
