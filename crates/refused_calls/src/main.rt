@@ -24,37 +24,45 @@ use std::process::ExitCode;
 const NETWORK: &[u8] = b"router 1 10.0.0.1\nrouter 2 10.0.0.2\nlink 1 2\n\
     origin 1 10.1.0.0/16\norigin 1 10.2.0.0/16\n";
 
-// Of each kind of call whether the values were alike.
-fn kinds(alloc: Global, network: &Network) -> Result<[(&'static str, bool); 4], AllocError> {
+// Of each kind of call whether the values were alike, in the order of the lines that are printed.
+fn kinds(alloc: Global, network: &Network) -> Result<[bool; 4], AllocError> {
     Ok([
-        ("encode", messages::are_alike(alloc)?),
-        ("router", routers::are_alike(alloc, network)?),
-        ("board", boards::are_alike(alloc, network)?),
-        ("world", worlds::are_alike(alloc, network)?),
+        messages::are_alike(alloc)?,
+        routers::are_alike(alloc, network)?,
+        boards::are_alike(alloc, network)?,
+        worlds::are_alike(alloc, network)?,
     ])
 }
 
-fn asked(alloc: Global) -> Result<[(&'static str, bool); 4], AllocError> {
+fn asked(alloc: Global) -> Result<[bool; 4], AllocError> {
     match read_network(alloc, NETWORK) {
         Ok(network) => kinds(alloc, &network),
         Err(_) => Err(AllocError),
     }
 }
 
+// Prints how a kind of call went.
+fn print_kind(rt: &impl Print, kind: &str, alike: bool) -> io::Result<()> {
+    let said = if alike {
+        "as it was, and again"
+    } else {
+        "otherwise"
+    };
+    println!(rt; "{kind}: {said}")
+}
+
 fn main(rt: HostRuntime) -> io::Result<ExitCode> {
-    let Ok(kinds) = asked(rt.alloc()) else {
+    let Ok([encode, router, board, world]) = asked(rt.alloc()) else {
         println!(rt; "memory")?;
         return Ok(ExitCode::from(3));
     };
-    let mut all_alike = true;
-    for (kind, alike) in kinds {
-        let said = if alike {
-            "as it was, and again"
-        } else {
-            "otherwise"
-        };
-        println!(rt; "{kind}: {said}")?;
-        all_alike = all_alike && alike;
-    }
-    Ok(ExitCode::from(if all_alike { 0 } else { 1 }))
+    print_kind(&rt, "encode", encode)?;
+    print_kind(&rt, "router", router)?;
+    print_kind(&rt, "board", board)?;
+    print_kind(&rt, "world", world)?;
+    Ok(ExitCode::from(if encode && router && board && world {
+        0
+    } else {
+        1
+    }))
 }
