@@ -32,7 +32,7 @@ use Rattle.schedule_text.specs.declared.schedule.ScheduledOrder.{ScheduledOrder}
 use Rattle.schedule_text.specs.Schedules.{is_within, line_order, order_at, orders_of}
 use Rattle.schedule_text.specs.Sayings.{NamesRouter, NamesPeers, NamesPrefix, NamesNumber, Say, LinesAreReadAsTheySay}
 use Rattle.play_engine.specs.Playing.{all_events, LeadTo}
-use Rattle.trace_engine.specs.Tracing.{event_line, step_text, events_text, reached, place_text, head_line, head_text, idle_line, rest_line, motion_line, ticked_line, tail_text, count_of, rest_of, order_text, orders_text}
+use Rattle.trace_engine.specs.Tracing.{event_line, step_text, events_text, reached, place_text, head_line, head_text, idle_line, counted_line, ticked_line, tail_text, count_of, rest_of, order_text, orders_text}
 use Rattle.trace_engine.proofs.LineLemmas.{both_true, shown_both, decimal_shown, are_shown, IsNamed, named_from, number_from, Says, says_none, says_both, says_nothing}
 use Rattle.trace_engine.proofs.EventLemmas.{IsOriginated, MaySay, event_said}
 use Rattle.trace_engine.proofs.TextLemmas.{played_parts, reached_is}
@@ -64,7 +64,7 @@ module _ (feeds : LinesEndByLineFeeds) (net : Plan) where
       says_nothing feeds net (place_text at ++ (decimal count ++ more)) (shown_both (place_text at) (decimal count ++ more) (place_shown at) (shown_both (decimal count) more (decimal_shown count) shown)) refl
 
   pub tails_say : (at : ℕ) (o : Order) (count : ℕ) (rest : Option ℕ) → Says net (tail_text at o count rest) []
-  unfolding rest_line motion_line ticked_line
+  unfolding counted_line ticked_line
   tails_say at (order.One e) count rest = idle_says at (count == 0)
   tails_say at (order.Rounds n) count (Some passed) = counted_says at count (codes " events, rest behind round " ++ decimal passed) (shown_both (codes " events, rest behind round ") (decimal passed) refl (decimal_shown passed))
   tails_say at (order.Rounds n) count None = counted_says at count (codes " events, no rest by round " ++ decimal n) (shown_both (codes " events, no rest by round ") (decimal n) refl (decimal_shown n))

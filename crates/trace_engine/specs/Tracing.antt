@@ -113,22 +113,18 @@ head_text at (order.Ticks n) = head_line at (codes "ticks ") n
 unfoldable pub idle_line : ℕ → List ℕ
 idle_line at = line (place_text at ++ codes "nothing to do")
 
--- so many events were done, and behind so many rounds that did something one did nothing
-unfoldable pub rest_line : ℕ → ℕ → ℕ → List ℕ
-rest_line at count passed = line (place_text at ++ (decimal count ++ (codes " events, rest behind round " ++ decimal passed)))
-
--- all rounds did something
-unfoldable pub motion_line : ℕ → ℕ → ℕ → List ℕ
-motion_line at count n = line (place_text at ++ (decimal count ++ (codes " events, no rest by round " ++ decimal n)))
+-- so many events were done, and what is said of so many rounds
+unfoldable pub counted_line : ℕ → ℕ → List ℕ → ℕ → List ℕ
+counted_line at count said n = line (place_text at ++ (decimal count ++ (said ++ decimal n)))
 
 unfoldable pub ticked_line : ℕ → ℕ → List ℕ
 ticked_line at count = line (place_text at ++ (decimal count ++ codes " events"))
 
--- how an order ended, which did so many events, its rounds having come to rest behind so many
+-- how an order ended, which did so many events: behind so many rounds that did something one did nothing, or all did something
 abbrev pub tail_text : ℕ → Order → ℕ → Option ℕ → List ℕ
 tail_text at (order.One e) count rest = if count == 0 then idle_line at else []
-tail_text at (order.Rounds n) count (Some passed) = rest_line at count passed
-tail_text at (order.Rounds n) count None = motion_line at count n
+tail_text at (order.Rounds n) count (Some passed) = counted_line at count (codes " events, rest behind round ") passed
+tail_text at (order.Rounds n) count None = counted_line at count (codes " events, no rest by round ") n
 tail_text at (order.Ticks n) count rest = ticked_line at count
 
 -- an order was refused

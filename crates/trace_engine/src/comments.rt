@@ -1,7 +1,7 @@
 //! The comments of an order: what it orders, and how it ended.
 
 ghost use Rattle.std.specs.Prelude.{◌≡◌, ◌++◌, OnOk};
-ghost use Rattle.trace_engine.specs.Tracing.{place_text, head_line, head_text, idle_line, rest_line, motion_line, ticked_line, tail_text, stop_comment};
+ghost use Rattle.trace_engine.specs.Tracing.{place_text, head_line, head_text, idle_line, counted_line, ticked_line, tail_text, stop_comment};
 
 use net_text::Tail;
 use schedule_text::{ScheduledOrder, stop_line};
@@ -50,27 +50,22 @@ fn write_idle(out: &mut Tail, line: usize) -> Result<(), AllocError>
     out.put_text(b"nothing to do\n")
 }
 
-#[tactic(auto, unfolding(crate::specs::Tracing::rest_line))]
-fn write_rest(out: &mut Tail, line: usize, count: usize, passed: u32) -> Result<(), AllocError>
-    ensures text { OnOk result (out.new.text ≡ out.old.text ++ rest_line line count passed) }
+// Writes how many events were done, and what is said of a number of rounds.
+#[tactic(auto, unfolding(crate::specs::Tracing::counted_line))]
+fn write_counted(
+    out: &mut Tail,
+    line: usize,
+    count: usize,
+    said: &[u8],
+    rounds: u32,
+) -> Result<(), AllocError>
+    ensures text { OnOk result (out.new.text ≡ out.old.text ++ counted_line line count said.now rounds) }
     ensures front { out.new.front ≡ out.old.front }
 {
     write_place(out, line)?;
     out.put_len(count)?;
-    out.put_text(b" events, rest behind round ")?;
-    out.put_decimal(passed)?;
-    out.put_text(b"\n")
-}
-
-#[tactic(auto, unfolding(crate::specs::Tracing::motion_line))]
-fn write_motion(out: &mut Tail, line: usize, count: usize, times: u32) -> Result<(), AllocError>
-    ensures text { OnOk result (out.new.text ≡ out.old.text ++ motion_line line count times) }
-    ensures front { out.new.front ≡ out.old.front }
-{
-    write_place(out, line)?;
-    out.put_len(count)?;
-    out.put_text(b" events, no rest by round ")?;
-    out.put_decimal(times)?;
+    out.put_text(said)?;
+    out.put_decimal(rounds)?;
     out.put_text(b"\n")
 }
 
@@ -97,8 +92,20 @@ fn write_tail(
         Order::One(_) if count == 0 => write_idle(out, scheduled.line),
         Order::One(_) => Ok(()),
         Order::Rounds(times) => match rest {
-            Some(passed) => write_rest(out, scheduled.line, count, passed),
-            None => write_motion(out, scheduled.line, count, times),
+            Some(passed) => write_counted(
+                out,
+                scheduled.line,
+                count,
+                b" events, rest behind round ",
+                passed,
+            ),
+            None => write_counted(
+                out,
+                scheduled.line,
+                count,
+                b" events, no rest by round ",
+                times,
+            ),
         },
         Order::Ticks(_) => write_ticked(out, scheduled.line, count),
     }
