@@ -24,19 +24,27 @@ use std::process::ExitCode;
 const NETWORK: &[u8] = b"router 1 10.0.0.1\nrouter 2 10.0.0.2\nlink 1 2\n\
     origin 1 10.1.0.0/16\norigin 1 10.2.0.0/16\n";
 
-// Of each kind of call whether the values were alike, in the order of the lines that are printed.
-fn kinds(alloc: Global, network: &Network) -> Result<[bool; 4], AllocError> {
-    Ok([
-        messages::are_alike(alloc)?,
-        routers::are_alike(alloc, network)?,
-        boards::are_alike(alloc, network)?,
-        worlds::are_alike(alloc, network)?,
-    ])
+// Of each kind of call whether the values were alike.
+#[derive(Clone, Copy)]
+struct Alike {
+    encode: bool,
+    router: bool,
+    board: bool,
+    world: bool,
 }
 
-fn asked(alloc: Global) -> Result<[bool; 4], AllocError> {
+fn ask_in(alloc: Global, network: &Network) -> Result<Alike, AllocError> {
+    Ok(Alike {
+        encode: messages::are_alike(alloc)?,
+        router: routers::are_alike(alloc, network)?,
+        board: boards::are_alike(alloc, network)?,
+        world: worlds::are_alike(alloc, network)?,
+    })
+}
+
+fn ask(alloc: Global) -> Result<Alike, AllocError> {
     match read_network(alloc, NETWORK) {
-        Ok(network) => kinds(alloc, &network),
+        Ok(network) => ask_in(alloc, &network),
         Err(_) => Err(AllocError),
     }
 }
@@ -51,18 +59,24 @@ fn print_kind(rt: &impl Print, kind: &str, alike: bool) -> io::Result<()> {
     println!(rt; "{kind}: {said}")
 }
 
-fn main(rt: HostRuntime) -> io::Result<ExitCode> {
-    let Ok([encode, router, board, world]) = asked(rt.alloc()) else {
-        println!(rt; "memory")?;
-        return Ok(ExitCode::from(3));
-    };
-    print_kind(&rt, "encode", encode)?;
-    print_kind(&rt, "router", router)?;
-    print_kind(&rt, "board", board)?;
-    print_kind(&rt, "world", world)?;
-    Ok(ExitCode::from(if encode && router && board && world {
-        0
+fn print_all(rt: &impl Print, alike: Alike) -> io::Result<ExitCode> {
+    print_kind(rt, "encode", alike.encode)?;
+    print_kind(rt, "router", alike.router)?;
+    print_kind(rt, "board", alike.board)?;
+    print_kind(rt, "world", alike.world)?;
+    if alike.encode && alike.router && alike.board && alike.world {
+        Ok(ExitCode::SUCCESS)
     } else {
-        1
-    }))
+        Ok(ExitCode::FAILURE)
+    }
+}
+
+fn main(rt: HostRuntime) -> io::Result<ExitCode> {
+    match ask(rt.alloc()) {
+        Ok(alike) => print_all(&rt, alike),
+        Err(AllocError) => {
+            println!(rt; "memory")?;
+            Ok(ExitCode::from(3))
+        }
+    }
 }

@@ -7,7 +7,6 @@ use Rattle.std.proofs.lemmas.Bool.{and_parts, ne_eqb, eq-eqb, le-leb, leb-true}
 use Rattle.prefix_lanes.specs.Bits.{PrefixView, IsCanonical}
 use Rattle.ranked_policy.specs.declared.network.Origin.{Origin}
 use Rattle.ranked_policy.specs.Plans.{Plan}
-use Rattle.router_model.specs.declared.command.Command.{Command}
 use Rattle.router_model.specs.declared.command.Command.TheVariants as command
 use Rattle.world_core.specs.declared.schedule.Event.{Event}
 use Rattle.world_core.specs.declared.schedule.Event.TheVariants as event

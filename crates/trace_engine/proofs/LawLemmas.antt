@@ -27,7 +27,7 @@ use Rattle.schedule_text.specs.declared.schedule.ScheduledOrder.{ScheduledOrder}
 use Rattle.schedule_text.specs.Sayings.{LinesAreReadAsTheySay}
 use Rattle.schedule_text.specs.Schedules.{line_order, orders_of, IsGood, IsFirstFault, SpellsSchedule, RefusesSchedule}
 use Rattle.text_engines.specs.declared.status.TheConstants.{DONE}
-use Rattle.text_engines.specs.Decoding.{Output, output, refused}
+use Rattle.text_engines.specs.Decoding.{Output, output}
 use Rattle.text_engines.specs.Inputs.{NetworkGives}
 use Rattle.play_engine.specs.declared.schedules.Stop.{Stop}
 use Rattle.play_engine.specs.Playing.{all_events, LeadTo, IsFirstRefused, IsReport, OrdersGive, ScheduleGives, Plays}

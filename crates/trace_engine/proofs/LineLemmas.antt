@@ -6,8 +6,7 @@ use Rattle.std.proofs.lemmas.Bool.{and_parts, ne_eqb, le-leb, leb-true, lt-ltb}
 use Rattle.std.proofs.lemmas.List.{append-nil}
 use Rattle.std.proofs.lemmas.List.Folds.{list_all-append}
 use Rattle.std.proofs.lemmas.Fmt.{digits_value-decimal, decimal_nonempty}
-use Rattle.core.specs.Fmt.{digits_onto, digit_glyph}
-use Rattle.core.proofs.fmt.DigitsParse.{digits_onto-nil}
+use Rattle.std.specs.Fmt.{digits, digits_onto, digit_glyph}
 use Rattle.std.proofs.lemmas.Str.Parse.{IsDigitsTest, IsNumeralModel, numerals_by_fold}
 use Rattle.bgp_values.specs.declared.width.Width.{Width}
 use Rattle.bgp_values.specs.declared.width.Width.TheVariants.{Two, Four}
@@ -137,9 +136,14 @@ onto_digits : (k n : ℕ) (acc : Text) → list_all is_digit acc ≡ true → li
 onto_digits zero n acc h = h
 onto_digits (suc k) n acc h = onto_digits_by k n acc (n / 10 == 0) h (λ more m. onto_digits k (n / 10) more m)
 
+-- what a number is written as, digit by digit
+onto_nothing : (n : ℕ) → digits_onto 64 10 false n [] ≡ decimal n
+unfolding digits
+onto_nothing n = refl
+
 -- a number is written in digits alone
 pub decimal_digits : (n : ℕ) → list_all is_digit (decimal n) ≡ true
-decimal_digits n = ap (list_all is_digit) (sym (digits_onto-nil 10 false n)) ∙ onto_digits 64 n [] refl
+decimal_digits n = ap (list_all is_digit) (sym (onto_nothing n)) ∙ onto_digits 64 n [] refl
 
 pub decimal_shown : (n : ℕ) → are_shown (decimal n) ≡ true
 decimal_shown n = digits_shown (decimal n) (decimal_digits n)
