@@ -151,11 +151,25 @@ def printable(text):
     return "".join(letter for letter in text if letter >= " " and letter not in "\ufffe\uffff" or letter in "\t\n")
 
 
-class Picture:
+class Canvas:
+    """The elements of a picture, in the order in which they are drawn."""
+
+    def __init__(self):
+        self.elements = []
+
+    def add(self, tag, text=None, **attributes):
+        """Adds an element; an attribute `class_` is written `class`, and `x_1` is `x1`."""
+        spelt = "".join(f" {name.replace('_', '')}={quoteattr(str(value))}" for name, value in attributes.items())
+        inner = "/>" if text is None else f">{escape(printable(text), quote=False)}</{tag}>"
+        self.elements.append(f"<{tag}{spelt}{inner}")
+
+
+class Picture(Canvas):
     """A picture of a network: its elements, and its size."""
 
     def __init__(self, network, spots, drawn):
-        self.network, self.drawn, self.elements = network, drawn, []
+        super().__init__()
+        self.network, self.drawn = network, drawn
         self.origin = network.origins.get(drawn.prefix)
         self.texts = {router: self.rule_texts(router) for router in network.routers}
         self.sides = self.place(spots)
@@ -200,12 +214,6 @@ class Picture:
 
     def wants(self, router, path):
         return bool(self.drawn.unstable) and (router, path) == (self.drawn.unstable[0], self.drawn.unstable[2])
-
-    def add(self, tag, text=None, **attributes):
-        """Adds an element; an attribute `class_` is written `class`, and `x_1` is `x1`."""
-        spelt = "".join(f" {name.replace('_', '')}={quoteattr(str(value))}" for name, value in attributes.items())
-        inner = "/>" if text is None else f">{escape(printable(text), quote=False)}</{tag}>"
-        self.elements.append(f"<{tag}{spelt}{inner}")
 
     def arrow(self, router, peer, kind):
         """An arrow from a router to the next one on its path, a little beside the link."""
@@ -262,16 +270,21 @@ def verdicts(lines):
     return [(line, line.endswith(" settled")) for line in lines]
 
 
+def file_of(width, height, elements, style=STYLE, head=HEAD):
+    """The text of a file of this size."""
+    lines = [f'<svg xmlns="http://www.w3.org/2000/svg" width="{width}" height="{height}" '
+             f'viewBox="0 0 {width} {height}">',
+             f"<style>\n{style}\n</style>", head, '<rect width="100%" height="100%" fill="white"/>']
+    return "\n".join(lines + elements + ["</svg>"]) + "\n"
+
+
 def svg(pictures, columns=1):
     """The text of a file with pictures side by side, so many in a row."""
     width = max(picture.width for picture in pictures)
     height = max(picture.height for picture in pictures)
     rows = -(-len(pictures) // columns)
-    whole_width, whole_height = width * min(columns, len(pictures)), height * rows
-    lines = [f'<svg xmlns="http://www.w3.org/2000/svg" width="{whole_width}" height="{whole_height}" '
-             f'viewBox="0 0 {whole_width} {whole_height}">',
-             f"<style>\n{STYLE}\n</style>", HEAD, '<rect width="100%" height="100%" fill="white"/>']
+    elements = []
     for at, picture in enumerate(pictures):
-        lines.append(f'<g transform="translate({at % columns * width} {at // columns * height})">')
-        lines += picture.elements + ["</g>"]
-    return "\n".join(lines + ["</svg>"]) + "\n"
+        elements.append(f'<g transform="translate({at % columns * width} {at // columns * height})">')
+        elements += picture.elements + ["</g>"]
+    return file_of(width * min(columns, len(pictures)), height * rows, elements)

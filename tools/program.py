@@ -73,6 +73,12 @@ def write_text(text):
     sys.stdout.buffer.write(text.encode("utf-8"))
 
 
+def refused(name, said):
+    """The refusal of a text, of what the program said of it: `refused LINE CODE`."""
+    _, line, code = said.split()
+    return Refusal(f"{name}:{line}: {code}: {CODES.get(code, 'docs/TEXTS.md says what it means')}")
+
+
 class Program:
     """The program `bgpnet`, which judges what the tools find."""
 
@@ -94,8 +100,14 @@ class Program:
         """The lines that the program prints for a text that it takes; a refusal names the line of the file `name`."""
         status, lines = self.ask(words, text)
         if status:
-            _, line, code = lines[0].split()
-            raise Refusal(f"{name}:{line}: {code}: {CODES.get(code, 'docs/TEXTS.md says what it means')}")
+            raise refused(name, lines[0])
+        return lines
+
+    def trace(self, text, name):
+        """The lines that `bgpnet trace` prints for a text that it takes; a refusal names the line of the file `name`."""
+        status, lines = self.ask(["trace"], text)
+        if status:
+            raise refused(name, lines[-1].removeprefix("# "))
         return lines
 
 
