@@ -17,12 +17,38 @@ struct Row {
     status: u8,
 }
 
-static ROWS: [Row; 2] = [
+static ROWS: [Row; 6] = [
     // A KEEPALIVE, and a message of a type that there is not.
     Row {
         words: &["decode"],
         input: b"ffffffff ffffffff ffffffff ffffffff 0013 04 ffffffff ffffffff ffffffff ffffffff 0013 05",
         text: b"keepalive\nfault 1 3\nffffffffffffffffffffffffffffffff001603010305\n",
+        status: 1,
+    },
+    // One router that keeps what it originates.
+    Row {
+        words: &["check"],
+        input: b"router 1 10.0.0.1\norigin 1 10.0.0.0/8\nassignment\npath 1 10.0.0.0/8 1\n",
+        text: b"stable\n",
+        status: 0,
+    },
+    Row {
+        words: &["play"],
+        input: b"router 1 10.0.0.1\norigin 1 10.0.0.0/8\nschedule\nrounds 1\n",
+        text: b"now\nroute 1 10.0.0.0/8 none\n",
+        status: 0,
+    },
+    Row {
+        words: &["run", "--turns", "100"],
+        input: b"router 1 10.0.0.1\norigin 1 10.0.0.0/8\n",
+        text: b"route 1 10.0.0.0/8 1\n",
+        status: 0,
+    },
+    // An order that is refused.
+    Row {
+        words: &["trace"],
+        input: b"router 1 10.0.0.1\nschedule\nstart 1 1\n",
+        text: b"router 1 10.0.0.1\nschedule\n# refused 3 E1\n",
         status: 1,
     },
     // One router that records a snapshot.
@@ -35,7 +61,14 @@ static ROWS: [Row; 2] = [
 ];
 
 // The words of each engine.
-static ENGINES: [&[&str]; 5] = [&["decode"], &["check"], &["play"], &["cut", "1"], &["run"]];
+static ENGINES: [&[&str]; 6] = [
+    &["decode"],
+    &["check"],
+    &["play"],
+    &["cut", "1"],
+    &["run"],
+    &["trace"],
+];
 
 // Gives three octets at a time, and fails at a read.
 #[derive(Drop)]
