@@ -1,12 +1,10 @@
 -- What stands in front, from the first nineteen octets.
-use Rattle.std.proofs.Common.{◌≡◌, ℕ, ◌<◌, ◌≤◌, Bool, true, false, List, ◌++◌, length, take, Option, Some, None, refl, sym, ap, ◌∙◌, arith, inl, inr, ◌⊎◌}
-use Rattle.std.specs.Prelude.{nat_le, ◌&&◌, ◌||◌, is_some}
-use Rattle.std.proofs.lemmas.Bool.{leb-false}
-use Rattle.std.proofs.lemmas.List.{length-take-le}
+use Rattle.std.proofs.Common.{◌≡◌, ℕ, ◌+◌, ◌-◌, ◌<◌, ◌≤◌, List, length, take, drop, slice_range, Some, None, refl, sym, ap, ◌∙◌, arith, inr}
+use Rattle.std.proofs.lemmas.List.{length-take-le, drop-take, drop-drop}
 use Rattle.bgp_codec.specs.declared.fault.Fault.{Fault}
 use Rattle.bgp_codec.specs.Header.{header_fault, length_field, HeaderIsItsFront}
 use Rattle.bgp_framing.specs.declared.framer.Next.TheVariants.{Whole, More, Bad}
-use Rattle.bgp_framing.specs.Held.{Held, IsNext, is_waiting, with_octets}
+use Rattle.bgp_framing.specs.Held.{Held, IsNext, with_octets}
 
 -- the checks of a header look at its first nineteen octets alone
 module _ (front : HeaderIsItsFront) where
@@ -46,31 +44,14 @@ module _ (front : HeaderIsItsFront) where
         },
       )
 
-  and_false : (a b : Bool) → (a && b) ≡ false → (a ≡ false) ⊎ (b ≡ false)
-  and_false true b e = inr e
-  and_false false b e = inl refl
+-- what stands behind the first octets of a part
+range_behind : (xs : List ℕ) (from n end : ℕ) → from + n ≤ end → slice_range xs (from + n) end ≡ drop n (slice_range xs from end)
+range_behind xs from n end h =
+    let m = end - (from + n) in
+    let long : end - from ≡ n + m = omega arith in
+    sym (ap (λ k. drop n (take k (drop from xs))) long ∙ drop-take n m (drop from xs) ∙ ap (take m) (drop-drop n from xs))
 
-  or_false : (a b : Bool) → (a || b) ≡ false → (a ≡ false) × (b ≡ false)
-  or_false true b e = absurd cc
-  or_false false b e = (refl, e)
-
-  none_of : (o : Option Fault) → is_some o ≡ false → o ≡ None
-  none_of None e = refl
-  none_of (Some f) e = absurd cc
-
-  -- a framer that waits for more holds less than a whole message
-  pub few_held : (held : List ℕ) → is_waiting held ≡ false → length held < 4096
-  few_held held e =
-      elim (and_false (nat_le 19 (length held)) (is_some (header_fault held) || nat_le (length_field held) (length held)) e) [
-        | inl short ↦ let lt : length held < 19 = leb-false 19 (length held) short in omega arith
-        | inr waits ↦
-            let p = or_false (is_some (header_fault held)) (nat_le (length_field held) (length held)) waits in
-            let lt : length held < length_field held = leb-false (length_field held) (length held) p.1 in
-            let top = (good_len held (none_of (header_fault held) p.0)).1 in
-            omega (arith, lt, top)
-      ]
-
--- more octets behind those held, in the same room
-pub fed_view : (now : Held) (front all piece : List ℕ) (room same : ℕ) → (let seen : Held = record { octets = front; room = room } in seen ≡ now) → all ≡ front ++ piece → same ≡ room
-    → (let seen : Held = record { octets = all; room = same } in seen ≡ with_octets now (now.octets ++ piece))
-fed_view now front all piece room same v e q = rw (← v, e, q) refl
+-- the first octets are taken away, and the room stays
+pub dropped_view : (now : Held) (xs : List ℕ) (from n end room : ℕ) → (let seen : Held = record { octets = slice_range xs from end; room = room } in seen ≡ now) → from + n ≤ end
+    → (let left : Held = record { octets = slice_range xs (from + n) end; room = room } in left ≡ with_octets now (drop n now.octets))
+dropped_view now xs from n end room v h = rw (← v, range_behind xs from n end h) refl

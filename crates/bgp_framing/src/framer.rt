@@ -1,6 +1,6 @@
 //! The octets of a stream that are not used yet.
 
-ghost use Rattle.std.specs.Prelude.{◌≡◌, ◌+◌, ◌≤◌, [], ◌++◌, length, drop, false, IfOk, vec_len, vec_capacity};
+ghost use Rattle.std.specs.Prelude.{◌≡◌, ◌+◌, ◌≤◌, ℕ, [], ◌++◌, length, take, drop, slice_range, false, IfOk, vec_len, vec_capacity};
 ghost use Rattle.bgp_values.specs.declared.messages.TheConstants.{MESSAGE_LIMIT};
 ghost use Rattle.bgp_codec.specs.Header.{length_field};
 ghost use Rattle.bgp_framing.specs.declared.framer.TheConstants.{MOST_HELD};
@@ -40,23 +40,24 @@ enum Front {
 /// What was fed and not used yet, and the room that it has for it.
 #[derive(Debug, Drop)]
 pub struct Framer {
+    // Those held stand from `used` to `end`; what stands elsewhere is of no account.
     octets: Vec<u8>,
-    // How many of them were used.
     used: usize,
-    // What stands in front of the others.
+    end: usize,
+    // What stands in front of those held.
     front: Front,
 }
 
 impl Model for Framer {
-    ghost use Rattle.std.specs.Prelude.{◌≤◌, drop, vec_capacity, vec_len};
+    ghost use Rattle.std.specs.Prelude.{◌≤◌, slice_range, vec_capacity, vec_len};
     ghost use Rattle.bgp_framing.specs.Held.{Held, IsFront};
     ghost use Rattle.bgp_framing.specs.declared.framer.TheConstants.{MOST_HELD};
 
     ghost Value = { Held };
 
-    ghost view = { λ framer. record { octets = drop framer.used framer.octets.items; room = vec_capacity framer.octets } };
+    ghost view = { λ framer. record { octets = slice_range framer.octets.items framer.used framer.end; room = vec_capacity framer.octets } };
 
-    ghost invariant = { λ framer. (MOST_HELD ≤ vec_capacity framer.octets) × (framer.used ≤ vec_len framer.octets) × IsFront (drop framer.used framer.octets.items) framer.front };
+    ghost invariant = { λ framer. (MOST_HELD ≤ vec_capacity framer.octets) × (framer.used ≤ framer.end) × (framer.end ≤ vec_len framer.octets) × IsFront (slice_range framer.octets.items framer.used framer.end) framer.front };
 }
 
 /// What stands in front of these octets: what a framer answers that holds them. It takes no memory.
@@ -92,36 +93,43 @@ fn front_of(alloc: Global, octets: &[u8]) -> Front
     }
 }
 
-// The octets behind the first `used`.
-fn behind(octets: &Vec<u8>, used: usize) -> &[u8]
-    requires { used ≤ vec_len octets.now }
-    ensures { result.now ≡ drop used octets.now.items }
+// The octets from one place to another.
+fn between(octets: &Vec<u8>, start: usize, end: usize) -> &[u8]
+    requires { (start ≤ end) × (end ≤ vec_len octets.now) }
+    ensures { result.now ≡ slice_range octets.now.items start end }
 {
-    let (_, held) = octets.split_at(used);
+    let (held, _) = octets.split_at(end);
+    let (_, held) = held.split_at(start);
     held
 }
 
-// Moves the octets behind the first `used` to the front, once for all that was used.
-fn take_away(octets: &mut Vec<u8>, used: usize)
-    requires { used ≤ vec_len octets.old }
-    ensures items { octets.new.items ≡ drop used octets.old.items }
-    ensures len { vec_len octets.new + used ≡ vec_len octets.old }
+// Makes the octets at least so many, for which there is room, and leaves the room as it was. A framer comes here only
+// until it has held its longest.
+#[inline(never)]
+fn lengthen(octets: &mut Vec<u8>, len: usize)
+    requires { len ≤ vec_capacity octets.old }
+    ensures items { (end : ℕ) → end ≤ vec_len octets.old → take end octets.new.items ≡ take end octets.old.items }
+    ensures len { len ≤ vec_len octets.new }
     ensures capacity { vec_capacity octets.new ≡ vec_capacity octets.old }
 {
-    let left = octets.len() - used;
-    octets.copy_within(used.., 0);
-    octets.truncate(left);
+    for _ in octets.len()..len {
+        octets.push_reserved(0);
+    }
 }
 
-// Appends a piece for which there is room, and leaves the room as it was.
-fn put_behind(octets: &mut Vec<u8>, piece: &[u8])
-    requires { vec_len octets.old + length piece.now ≤ vec_capacity octets.old }
-    ensures items { octets.new.items ≡ octets.old.items ++ piece.now }
+// Puts a piece over the octets from a place on, for which there is room, and leaves the room as it was.
+fn put_at(octets: &mut Vec<u8>, at: usize, piece: &[u8])
+    requires place { at ≤ vec_len octets.old }
+    requires room { at + length piece.now ≤ vec_capacity octets.old }
+    ensures items { take (at + length piece.now) octets.new.items ≡ take at octets.old.items ++ piece.now }
+    ensures len { at + length piece.now ≤ vec_len octets.new }
     ensures capacity { vec_capacity octets.new ≡ vec_capacity octets.old }
 {
-    for octet in piece {
-        octets.push_reserved(*octet);
+    let end = at + piece.len();
+    if octets.len() < end {
+        lengthen(octets, end);
     }
+    octets.slice_mut(at..end).copy_from_slice(piece);
 }
 
 impl Framer {
@@ -134,6 +142,7 @@ impl Framer {
         Ok(Framer {
             octets: Vec::with_capacity(alloc, MOST_HELD)?,
             used: 0,
+            end: 0,
             front: Front::TooFew,
         })
     }
@@ -160,14 +169,14 @@ impl Framer {
     pub fn bytes(&self) -> &[u8]
         ensures { result.now ≡ self.now.octets }
     {
-        behind(&self.octets, self.used)
+        between(&self.octets, self.used, self.end)
     }
 
     /// How many octets are held.
     pub fn rest_len(&self) -> usize
         ensures { result ≡ length self.now.octets }
     {
-        self.octets.len() - self.used
+        self.end - self.used
     }
 
     /// Adds a piece of the stream, of at most [`MESSAGE_LIMIT`] octets, behind those held. It takes no memory.
@@ -177,10 +186,12 @@ impl Framer {
         ensures { self.new ≡ with_octets self.old (self.old.octets ++ piece.now) }
     {
         header_is_its_front();
-        take_away(&mut self.octets, self.used);
+        let left = self.end - self.used;
+        self.octets.copy_within(self.used..self.end, 0);
+        put_at(&mut self.octets, left, piece);
         self.used = 0;
-        put_behind(&mut self.octets, piece);
-        self.front = front_of(*self.octets.allocator(), self.octets.as_slice());
+        self.end = left + piece.len();
+        self.front = front_of(*self.octets.allocator(), between(&self.octets, 0, self.end));
     }
 
     /// Takes away the message in front.
@@ -188,18 +199,21 @@ impl Framer {
         requires { HasFrame self.old.octets }
         ensures { self.new ≡ with_octets self.old (drop (length_field self.old.octets) self.old.octets) }
     {
-        let at = self.used;
-        let len = u16::from_be_bytes([self.octets[at + 16], self.octets[at + 17]]);
+        let held = self.bytes();
+        let len = u16::from_be_bytes([held[16], held[17]]);
         self.used += len as usize;
-        self.front = front_of(*self.octets.allocator(), behind(&self.octets, self.used));
+        self.front = front_of(
+            *self.octets.allocator(),
+            between(&self.octets, self.used, self.end),
+        );
     }
 
     /// Takes away all that is held, a fault with it.
     pub fn clear(&mut self)
         ensures { self.new ≡ with_octets self.old [] }
     {
-        self.octets.clear();
         self.used = 0;
+        self.end = 0;
         self.front = Front::TooFew;
     }
 }
