@@ -15,17 +15,19 @@ ITEMS = set(chart.COLOURS)
 
 class Seen:
     """What a reader sees in a chart: the line of each router, arrows as (kind, from, to), the highest first, and
-    boxes, commands, verdicts and texts from the top down, each with its router."""
+    kept paths with their routers from the top down, the routers of recordings, and the texts of each class."""
 
     def __init__(self, text):
         root = xml.etree.ElementTree.fromstring(text)
         elements = [element for element in root.iter() if element.get("class")]
         self.lines = {int(element.get("x")): int(element.text) for element in elements if element.get("class") == "number"}
-        self.arrows, self.paths, self.texts = [], [], {}
+        self.arrows, self.paths, self.recordings, self.texts = [], [], [], {}
         for element in elements:
             kind = element.get("class")
             if element.tag == SVG + "line" and kind in ITEMS:
                 self.arrows.append((kind, self.router(element, "x1"), self.router(element, "x2")))
+            elif kind == "recording":
+                self.recordings.append(self.lines[int(element.get("x")) + 5])
             elif element.tag == SVG + "text":
                 self.texts.setdefault(kind, []).append(element.text)
                 if kind == "path":
@@ -82,12 +84,14 @@ class Chart(unittest.TestCase):
     def test_a_snapshot(self):
         seen = charted("examples/play/snapshot.txt")
         self.assertEqual(sorted(seen.of("marker")), [(1, 2), (2, 1)])
+        self.assertEqual(sorted(seen.recordings), [1, 2])
         self.assertEqual(seen.texts["verdict"], ["snapshot 1 settled"])
 
     def test_seconds_and_notifications(self):
         seen = charted("examples/play/hold-time.txt")
-        self.assertIn("notification", [kind for kind, _, _ in seen.arrows])
-        self.assertTrue([text for text in seen.texts["state"] if text.endswith(" s")])
+        self.assertEqual([text for text in seen.texts["state"] if text.endswith(" s")], ["90 s"])
+        seen = charted("examples/play/reset.txt")
+        self.assertEqual(seen.of("notification"), [(2, 1)])
 
     def test_a_withdrawal_in_octets(self):
         seen = charted("examples/play/withdrawal.txt")
@@ -119,7 +123,7 @@ class Chart(unittest.TestCase):
 
     def test_refusals(self):
         network = b"router 1 10.0.0.1\nrouter 2 10.0.0.2\nlink 1 2\n"
-        self.assertEqual(run("chart", "-", given=network + b"schedule\nstart 1 3\n"),
+        self.assertEqual(run("chart", "-", given=network + b"schedule\nstart 1 1\n"),
                          (1, "", "chart: -:5: E1: a session with a router that is no peer\n"))
         self.assertEqual(run("chart", "-", "--prefix", "x", given=network), (1, "", "chart: 'x' is no prefix\n"))
         long = b"start 1 2\n" * (chart.MOST_ROWS + 1)
