@@ -68,8 +68,9 @@ fn items_are_refused_for_want_of_room(rt: HostRuntime) -> Result<(), Fail> {
         TakesWithoutRoom(3, u64::MAX, Sent::Dial(2), Err(RouterError::NoSuchPeer)),
         IsDrained(2),
         WithoutRoom(Handle(2), NOTHING),
-        Takes(2, 0, Sent::Says(1, &[ALIVE]), DID),
+        Takes(2, 0, Sent::Says(1, &[ALIVE, UPDATE_OF_TWO]), DID),
         TakesWithoutRoom(2, 0, Sent::Dial(2), Err(RouterError::Held { peer: 2 })),
+        EitherWay(Handle(2)),
         EitherWay(Handle(2)),
         EitherWay(Handle(2)),
     ];
@@ -80,11 +81,9 @@ fn items_are_refused_for_want_of_room(rt: HostRuntime) -> Result<(), Fail> {
 #[test]
 fn routes_wait_for_room(rt: HostRuntime) -> Result<(), Fail> {
     static SCRIPT: &[Step<'static>] = &[
-        Takes(2, 0, Sent::Says(1, &[UPDATE_OF_TWO]), DID),
-        EitherWay(Handle(2)),
+        Does(Originate(Greatest), DID),
         WithoutRoom(Decide, MEMORY),
         Keeps(Greatest, &[]),
-        Does(Originate(Greatest), DID),
         EitherWay(Decide),
         EitherWay(Decide),
         Keeps(Greatest, &[1]),
