@@ -135,9 +135,6 @@ module _ (g : Setting) (r y : RouterView) (D : Side → Draft) (e : g.net ≡ r.
 pub ends_late : (s o : Bool) (x z : Stamped) → s ≡ true → Ends s o (Err error.StampEnd) x z x
 ends_late s o x z e = rw e (refl, refl)
 
-pub ends_late : (s o : Bool) (x z : Stamped) → s ≡ true → Ends s o (Err error.StampEnd) x z x
-ends_late s o x z e = rw e (refl, refl)
-
 pub ends_over : (s o : Bool) (x z : Stamped) → s ≡ false → o ≡ true → Ends s o (Err error.EpochEnd) x z x
 ends_over s o x z e f = rw (e, f) (refl, refl)
 

@@ -23,7 +23,7 @@ NeedsRoom (Ok stepped.Did) room = IsOk room
 NeedsRoom (Ok stepped.Nothing) room = Unit {0}
 NeedsRoom (Err why) room = Unit {0}
 
--- why such a step is not done: no stamp is left, or else its caller has no room
+-- why a step is not done: no stamp is left, or else its caller has no room
 abbrev pub why_no_step : (stamp_ends : Bool) → RouterError
 why_no_step true = error.StampEnd
 why_no_step false = error.Memory

@@ -26,13 +26,11 @@ reserve-requires-clause-own c = c.self.invariant.sayable c.index_mut.result.now.
 pub returns-in_err-room-clause-carries : goal.returns-in_err-room-clause-carries
 returns-in_err-room-clause-carries c =
     let p = err_from_is_err_and c.from_residual.result c.from_residual.ensures.1 in
-    let r : RouterView = record { net = c.self.inside.network.now; number = c.self.inside.number; own_open = c.self.inside.own_open; peers = c.self.inside.peers.items; tables = c.self.inside.tables; marks = c.self.inside.marks; stamp = c.self.inside.stamp } in
-    let v = c.args.peer in
+    let x = c.args.self.now in
     let early : nat_lt GREATEST_STAMP c.args.stamp ≡ false = grind (arith, nat_tests, c.if-stamp-gt-GREATEST_STAMP.false) in
     rw (p.1, p.2)
-    (subst (λ (x : RouterView). Carries (Err Memory) x v NoMessage (draft x.own_open NoMessage c.args.made.now) c.args.overflows c.args.stamp x) c.self.view_is
-    (ends_memory (nat_lt GREATEST_STAMP c.args.stamp) c.args.overflows (plain_of r) (record { router = moved (plain_of r).router v NoMessage (draft r.own_open NoMessage c.args.made.now); stamp = c.args.stamp })
-    (plain_of r) early c.if-overflows.false refl))
+    (ends_memory (nat_lt GREATEST_STAMP c.args.stamp) c.args.overflows (plain_of x) (record { router = moved (plain_of x).router c.args.peer NoMessage (draft x.own_open NoMessage c.args.made.now); stamp = c.args.stamp })
+    (plain_of x) early c.if-overflows.false refl)
 
 -- memory was wanting: the peer is as it was
 pub invariant_of-self : goal.invariant_of-self

@@ -1,5 +1,5 @@
-use Rattle.std.proofs.Common.{◌≡◌, ◌+◌, ◌≤◌, true, false, Option, arith, subst}
-use Rattle.std.specs.Prelude.{nat_lt, Ok, Err, MatchOption}
+use Rattle.std.proofs.Common.{◌≡◌, ◌+◌, ◌≤◌, Option, arith, subst}
+use Rattle.std.specs.Prelude.{Ok, Err, MatchOption}
 use Rattle.std.proofs.lemmas.Bool.Decides.{nat_tests}
 use Rattle.prefix_lanes.specs.Bits.{PrefixView}
 use Rattle.rib_tables.specs.Least.{HoldsOfAll, IsLeastWithout}
@@ -34,21 +34,21 @@ pub invariant_of-self-in-Ok-Some : goal.invariant_of-self-in-Ok-Some
 invariant_of-self-in-Ok-Some c =
     let r : RouterView = record { net = c.self.inside.network.now; number = c.self.inside.number; own_open = c.self.inside.own_open; peers = c.self.inside.peers.items; tables = c.self.inside.tables; marks = c.self.inside.marks; stamp = c.self.inside.stamp } in
     let t = c.decide.new.self in
-    let few : r.stamp + 1 ≤ GREATEST_STAMP = omega (arith, c.in-Ok.ensures.next.1) in
+    let few : r.stamp + 1 ≤ GREATEST_STAMP = grind (arith, nat_tests, c.in-Ok.ensures.next.1) in
     let least = subst (λ (o : Option PrefixView). MatchOption o (HoldsOfAll r.tables.net.origins (IsSettled r.tables)) (IsLeastWithout r.tables.net.origins (IsSettled r.tables))) c.in-Ok-Some.field-0-is c.in-Ok-Some.ensures.least in
     let does = subst (λ (o : Option PrefixView). MatchOption o (t ≡ r.tables) (Decides r.tables t)) c.in-Ok-Some.field-0-is c.in-Ok-Some.ensures.decides in
-    sound_deciding r c.self.invariant t c.in-Ok-Some.field-0-0 does least.is_named (r.stamp + 1) few
+    rw c.in-Ok.ensures.next.0 (sound_deciding r c.self.invariant t c.in-Ok-Some.field-0-0 does least.is_named (r.stamp + 1) few)
 
 pub returns-in-Ok-Some-clause-answers : goal.returns-in-Ok-Some-clause-answers
 returns-in-Ok-Some-clause-answers c =
     let r : RouterView = record { net = c.self.inside.network.now; number = c.self.inside.number; own_open = c.self.inside.own_open; peers = c.self.inside.peers.items; tables = c.self.inside.tables; marks = c.self.inside.marks; stamp = c.self.inside.stamp } in
     let laws = c.the_best_is_the_route.ensures in
     let t = c.decide.new.self in
-    let early : nat_lt GREATEST_STAMP (r.stamp + 1) ≡ false = grind (arith, nat_tests, c.in-Ok.ensures.next.1) in
     let least = subst (λ (o : Option PrefixView). MatchOption o (HoldsOfAll r.tables.net.origins (IsSettled r.tables)) (IsLeastWithout r.tables.net.origins (IsSettled r.tables))) c.in-Ok-Some.field-0-is c.in-Ok-Some.ensures.least in
     let does = subst (λ (o : Option PrefixView). MatchOption o (t ≡ r.tables) (Decides r.tables t)) c.in-Ok-Some.field-0-is c.in-Ok-Some.ensures.decides in
-    subst (λ (x : RouterView). Answers (Ok stepped.Did) x Decide (with_tables r t (r.stamp + 1))) c.self.view_is (λ g e ranks.
-    decides laws.over laws.one g r (record { sound = c.self.invariant; net = e; ranks = ranks; linked = laws.linked }) c.in-Ok-Some.field-0-0 least t does early)
+    rw c.in-Ok.ensures.next.0
+    (subst (λ (x : RouterView). Answers (Ok stepped.Did) x Decide (with_tables r t (r.stamp + 1))) c.self.view_is (λ g e ranks.
+    decides laws.over laws.one g r (record { sound = c.self.invariant; net = e; ranks = ranks; linked = laws.linked }) c.in-Ok-Some.field-0-0 least t does c.in-Ok.ensures.next.1))
 
 pub returns-in-Ok-None-clause-answers : goal.returns-in-Ok-None-clause-answers
 returns-in-Ok-None-clause-answers c =
@@ -61,12 +61,11 @@ returns-in-Ok-None-clause-answers c =
     (subst (λ (x : RouterView). Answers (Ok stepped.Nothing) x Decide r) c.self.view_is (λ g e ranks.
     decided_all laws.over laws.one g r (record { sound = c.self.invariant; net = e; ranks = ranks; linked = laws.linked }) least))
 
-pub returns-in-Err-clause-answers : goal.returns-in-Err-clause-answers
-returns-in-Err-clause-answers c =
+pub returns-in-Err-decide-clause-answers : goal.returns-in-Err-decide-clause-answers
+returns-in-Err-decide-clause-answers c =
     let r : RouterView = record { net = c.self.inside.network.now; number = c.self.inside.number; own_open = c.self.inside.own_open; peers = c.self.inside.peers.items; tables = c.self.inside.tables; marks = c.self.inside.marks; stamp = c.self.inside.stamp } in
     let laws = c.the_best_is_the_route.ensures in
-    let early : nat_lt GREATEST_STAMP (r.stamp + 1) ≡ false = grind (arith, nat_tests, c.in-Ok.ensures.next.1) in
-    let pending = c.in-Err.ensures.pending in
-    rw c.in-Err.ensures.err
+    let pending = c.in-Err-decide.ensures.pending in
+    rw c.in-Err-decide.ensures.err
     (subst (λ (x : RouterView). Answers (Err error.Memory) x Decide r) c.self.view_is (λ g e ranks.
-    no_memory_to_decide laws.over laws.one g r (record { sound = c.self.invariant; net = e; ranks = ranks; linked = laws.linked }) pending.0 pending.1 early))
+    no_memory_to_decide laws.over laws.one g r (record { sound = c.self.invariant; net = e; ranks = ranks; linked = laws.linked }) pending.0 pending.1 c.in-Ok.ensures.next.1))

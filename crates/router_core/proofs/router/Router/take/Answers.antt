@@ -83,8 +83,8 @@ returns-in-Shut-clause-answers c =
     takes_shut g r c.args.peer c.in-Some.at p (of_sound g r c.self.invariant e) found.2 c.index-in-Shut.ensures found.1 c.args.item.now.stamp (plain_of c.carry_out-in-Shut.new.self) a c.carry_out-in-Shut.result c.in-Shut.number free
     c.sign-made-in-Shut.ensures ends))
 
-pub returns-in_err-room-clause-answers : goal.returns-in_err-room-clause-answers
-returns-in_err-room-clause-answers c =
+pub returns-in_err-room-in-Piece-clause-answers : goal.returns-in_err-room-in-Piece-clause-answers
+returns-in_err-room-in-Piece-clause-answers c =
     let p = err_from_is_err_and c.from_residual.result c.from_residual.ensures.1 in
     let r : RouterView = record { net = c.self.inside.network.now; number = c.self.inside.number; own_open = c.self.inside.own_open; peers = c.self.inside.peers.items; tables = c.self.inside.tables; marks = c.self.inside.marks; stamp = c.self.inside.stamp } in
     let found = subst (λ (x : RouterView). IsFound x.peers c.args.peer c.in-Some.at) (sym c.self.view_is) c.in-Some.ensures.place in
@@ -95,8 +95,8 @@ returns-in_err-room-clause-answers c =
     refuses_piece g r c.args.peer c.in-Some.at c.index.result.now (of_sound g r c.self.invariant e) found.2 c.index.ensures found.1 c.args.item.now.stamp c.in-Piece.epoch c.in-Piece.octets
     (sym c.is_waiting.ensures ∙ c.if-is_waiting.false) early))
 
-pub returns-in-Piece-clause-answers : goal.returns-in-Piece-clause-answers
-returns-in-Piece-clause-answers c =
+pub returns-in_ok-room-in-Piece-clause-answers : goal.returns-in_ok-room-in-Piece-clause-answers
+returns-in_ok-room-in-Piece-clause-answers c =
     let r : RouterView = record { net = c.self.inside.network.now; number = c.self.inside.number; own_open = c.self.inside.own_open; peers = c.self.inside.peers.items; tables = c.self.inside.tables; marks = c.self.inside.marks; stamp = c.self.inside.stamp } in
     let found = subst (λ (x : RouterView). IsFound x.peers c.args.peer c.in-Some.at) (sym c.self.view_is) c.in-Some.ensures.place in
     let next : c.saturating_add-stamp.result ≡ max r.stamp c.args.item.now.stamp + 1 = omega (arith, c.if-stamp-gt-GREATEST_STAMP.false, c.max.ensures, c.saturating_add-stamp.ensures) in
