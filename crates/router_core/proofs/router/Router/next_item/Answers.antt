@@ -1,9 +1,8 @@
-use Rattle.std.proofs.Common.{◌≡◌, ◌∙◌, ◌+◌, ap, sym, subst, true, false, arith}
-use Rattle.std.specs.Prelude.{nat_lt, Ok, Err, Some, None}
+use Rattle.std.proofs.Common.{◌∙◌, ◌+◌, ap, sym, subst}
+use Rattle.std.specs.Prelude.{Ok, Err, Some, None}
 use Rattle.std.proofs.lemmas.Result.{err_from_is_err_and}
 use Rattle.outbox.specs.Items.{next_item}
 use Rattle.router_model.specs.declared.refusal.RouterError.TheVariants as error
-use Rattle.run_model.specs.declared.stamps.TheConstants.{GREATEST_STAMP}
 use Rattle.router_side.specs.SideOf.{side}
 use Rattle.router_core.specs.Views.{RouterView, IsFound, ShowsNext}
 use Rattle.router_core.proofs.Carrying.{of_sound}
