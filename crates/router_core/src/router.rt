@@ -70,7 +70,7 @@ fn next_stamp(last: u64) -> Result<u64, RouterError>
     Ok(next)
 }
 
-// The same, where the caller has room for the event, or has none.
+// The same, refused too where the caller has no room for the event.
 fn next_stamp_in(last: u64, room: Result<(), AllocError>) -> Result<u64, RouterError>
     requires { last ≤ GREATEST_STAMP }
     ensures next { IfOk result (λ next. (next ≡ last + 1) × (nat_lt GREATEST_STAMP (last + 1) ≡ false)) }

@@ -127,7 +127,7 @@ impl Router<'_> {
         self.tick_in(Ok(()))
     }
 
-    // The same, where the caller has room for the event, or has none.
+    // The same; where the caller has no room for the event, no step is done.
     pub(super) fn tick_in(&mut self, room: Result<(), AllocError>) -> Result<Stepped, RouterError>
         ensures answers { Answers result self.old Tick self.new }
         ensures full { NeedsRoom result room }

@@ -38,7 +38,7 @@ impl Router<'_> {
         self.decide_in(Ok(()))
     }
 
-    // The same, where the caller has room for the event, or has none.
+    // The same; where the caller has no room for the event, no step is done.
     pub(super) fn decide_in(&mut self, room: Result<(), AllocError>) -> Result<Stepped, RouterError>
         ensures answers { Answers result self.old Decide self.new }
         ensures full { NeedsRoom result room }
@@ -102,7 +102,7 @@ impl Router<'_> {
         self.advertise_in(Ok(()))
     }
 
-    // The same, where the caller has room for the event, or has none.
+    // The same; where the caller has no room for the event, no step is done.
     pub(super) fn advertise_in(
         &mut self,
         room: Result<(), AllocError>,

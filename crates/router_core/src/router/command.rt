@@ -26,7 +26,7 @@ impl Router<'_> {
         self.command_in(command, Ok(()))
     }
 
-    // The same, where the caller has room for the event, or has none.
+    // The same; where the caller has no room for the event, no step is done.
     fn command_in(
         &mut self,
         command: Command,

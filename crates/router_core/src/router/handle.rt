@@ -136,7 +136,7 @@ impl Router<'_> {
         self.handle_in(peer, Ok(()))
     }
 
-    // The same, where the caller has room for the event, or has none.
+    // The same; where the caller has no room for the event, no step is done.
     pub(super) fn handle_in(
         &mut self,
         peer: Asn,

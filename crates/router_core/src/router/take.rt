@@ -29,7 +29,7 @@ impl Router<'_> {
         self.take(peer, item, Ok(()))
     }
 
-    /// The same, where the caller may have no room.
+    /// Takes the next item of a peer as [`Router::take_item`] does, and is refused as that is.
     ///
     /// `room`: whether the caller has room for the event where the call steps; where it has none, a step
     /// is refused [`RouterError::Memory`], and any other answer is as it would be.
