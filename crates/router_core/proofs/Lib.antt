@@ -1,4 +1,5 @@
 pub mod Beginnings
+pub mod NoStep
 pub mod PeerLemmas
 pub mod Following
 pub mod Naming
@@ -25,4 +26,3 @@ pub mod Snapshots
 pub mod MarkTaking
 pub mod Moving
 pub mod Ticking
-pub mod Judging

@@ -3,7 +3,7 @@
 //! Its contract: each call answers, and leaves the router, as `router_model::specs::Calls` says, in
 //! every setting of the router's network: the step is done, there was nothing to do, or it is
 //! refused, and then the router is as it was (`specs/Views`). Want of memory is answered only where
-//! a growth was refused, after every other refusal.
+//! a growth was refused or the caller has no room (`specs/Calling`), after every other refusal.
 //!
 //! Each draft is made by value, judged, given room, and then carried out by appends alone
 //! (`router_side`).
