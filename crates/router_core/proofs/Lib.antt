@@ -25,4 +25,3 @@ pub mod Snapshots
 pub mod MarkTaking
 pub mod Moving
 pub mod Ticking
-pub mod Judging

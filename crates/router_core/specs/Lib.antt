@@ -3,4 +3,4 @@ pub mod Following
 pub mod Handling
 pub mod Recorded
 pub mod Whole
-pub mod Judging
+pub mod Calling

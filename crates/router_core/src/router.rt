@@ -1,18 +1,20 @@
 //! A router: its peers, its tables, what it records, and the stamp of its last event.
 
-ghost use Rattle.std.specs.Prelude.{◌≡◌, true, false, MatchOption, MatchResult};
+ghost use Rattle.std.specs.Prelude.{◌≡◌, ◌+◌, ◌≤◌, true, false, nat_lt, MatchOption, MatchResult, IfOk, IfErr, OnOk, IsOk};
 ghost use Rattle.ranked_policy.specs.Plans.{IsRouter};
-ghost use Rattle.router_model.specs.declared.refusal.RouterError.TheVariants.{Memory};
+ghost use Rattle.router_model.specs.declared.refusal.RouterError.TheVariants.{Memory, StampEnd};
 ghost use Rattle.router_model.specs.Settings.{linked};
+ghost use Rattle.run_model.specs.declared.stamps.TheConstants.{GREATEST_STAMP};
 ghost use Rattle.router_core.specs.Views.{Opens, plain_of, listed, IsFound};
+ghost use Rattle.router_core.specs.Calling.{no_step};
 
 mod all;
+mod call;
 mod carry;
 mod choose;
 mod command;
 mod handle;
 mod history;
-mod judge;
 mod offer;
 mod put;
 mod record;
@@ -21,15 +23,16 @@ mod take;
 use crate::opening::{new_peers, own_open};
 use crate::peers::{Peer, place_of};
 use bgp_codec::Message;
-pub use judge::Call;
+pub use call::Call;
 use prefix_lanes::Prefix;
 use ranked_policy::{Asn, Network};
 use rib_tables::Rib;
 use router_model::RouterError;
 use router_model::laws::linked_routers_are_peers;
+use run_model::GREATEST_STAMP;
 use session_fsm::SessionConfig;
 use snap_marker::MarkState;
-use std::alloc::Global;
+use std::alloc::{AllocError, Global};
 use std::marker::Model;
 
 /// One router of a network.
@@ -53,6 +56,30 @@ impl<'a> Model for Router<'a> {
     ghost view = { λ r. record { net = r.network.now; number = r.number; own_open = r.own_open; peers = r.peers.items; tables = r.tables; marks = r.marks; stamp = r.stamp } };
 
     ghost invariant = { λ r. IsSound (record { net = r.network.now; number = r.number; own_open = r.own_open; peers = r.peers.items; tables = r.tables; marks = r.marks; stamp = r.stamp }) };
+}
+
+// The stamp behind this one, where one is left.
+fn next_stamp(last: u64) -> Result<u64, RouterError>
+    requires { last ≤ GREATEST_STAMP }
+    ensures { MatchResult result (λ next. (next ≡ last + 1) × (nat_lt GREATEST_STAMP (last + 1) ≡ false)) (λ why. (why ≡ StampEnd) × (nat_lt GREATEST_STAMP (last + 1) ≡ true)) }
+{
+    let next = last + 1;
+    if next > GREATEST_STAMP {
+        return Err(RouterError::StampEnd);
+    }
+    Ok(next)
+}
+
+// The same, where the caller has room for the event, or has none.
+fn next_stamp_in(last: u64, room: Result<(), AllocError>) -> Result<u64, RouterError>
+    requires { last ≤ GREATEST_STAMP }
+    ensures next { IfOk result (λ next. (next ≡ last + 1) × (nat_lt GREATEST_STAMP (last + 1) ≡ false)) }
+    ensures room { OnOk result (IsOk room) }
+    ensures refused { IfErr result (λ why. why ≡ no_step last) }
+{
+    let next = next_stamp(last)?;
+    room?;
+    Ok(next)
 }
 
 impl<'a> Router<'a> {

@@ -1,6 +1,7 @@
 //! Why a router refuses a call, and what a step answers.
 
 use ranked_policy::Asn;
+use std::alloc::AllocError;
 use thiserror::Error;
 
 /// Why a call was refused; the router is as it was. The first that applies is answered: those up to `OldSnapshot` stand
@@ -40,6 +41,17 @@ pub enum RouterError {
     /// A growth was refused.
     #[error("memory")]
     Memory,
+}
+
+impl From<AllocError> for RouterError {
+    ghost use Rattle.std.specs.Prelude.{◌≡◌};
+    ghost use Rattle.router_model.specs.declared.refusal.RouterError.TheVariants.{Memory};
+
+    ghost from_gives = { λ _ error. error ≡ Memory };
+
+    fn from(_error: AllocError) -> RouterError {
+        RouterError::Memory
+    }
 }
 
 /// What a step that was not refused answers.

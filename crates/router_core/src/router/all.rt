@@ -10,17 +10,17 @@ ghost use Rattle.router_side.specs.Drafts.{draft};
 ghost use Rattle.router_side.specs.SideOf.{side};
 ghost use Rattle.router_core.specs.declared.peers.Peer as peer;
 ghost use Rattle.router_core.specs.Views.{IsSame, Answers};
+ghost use Rattle.router_core.specs.Calling.{NeedsRoom};
 ghost use Rattle.router_core.specs.Recorded.{Become};
 ghost use Rattle.router_core.specs.Whole.{draft_by, overflow_in, IsReady, AreReady, MovesSide, MovesAll};
 
-use super::Router;
 use super::carry::{carry, close};
+use super::{Router, next_stamp, next_stamp_in};
 use crate::peers::Peer;
 use bgp_codec::Message;
 use router_model::{RouterError, Stepped};
 use router_side::laws::sessions_keep_fresh;
 use router_side::{Given, SideEnd, Sketch};
-use run_model::GREATEST_STAMP;
 use session_fsm::FsmEvent;
 use std::alloc::{AllocError, Global};
 
@@ -124,13 +124,20 @@ impl Router<'_> {
         ensures answers { Answers result self.old Tick self.new }
         ensures same { IsSame self.old self.new }
     {
-        let stamp = self.stamp + 1;
-        if stamp > GREATEST_STAMP {
-            return Err(RouterError::StampEnd);
-        }
+        self.tick_in(Ok(()))
+    }
+
+    // The same, where the caller has room for the event, or has none.
+    pub(super) fn tick_in(&mut self, room: Result<(), AllocError>) -> Result<Stepped, RouterError>
+        ensures answers { Answers result self.old Tick self.new }
+        ensures full { NeedsRoom result room }
+        ensures same { IsSame self.old self.new }
+    {
+        let stamp = next_stamp(self.stamp)?;
         if overflows(Whole::Second, self.peers.as_slice(), &self.own_open) {
             return Err(RouterError::EpochEnd);
         }
+        room?;
         let alloc = *self.peers.allocator();
         let Ok(made) = prepare(alloc, Whole::Second, &mut self.peers, &self.own_open) else {
             return Err(RouterError::Memory);
@@ -141,14 +148,12 @@ impl Router<'_> {
     }
 
     // Every session stops, rising; then what is kept and originated is forgotten.
-    pub(super) fn restart(&mut self) -> Result<Stepped, RouterError>
+    pub(super) fn restart(&mut self, room: Result<(), AllocError>) -> Result<Stepped, RouterError>
         ensures answers { Answers result self.old (Obey Restart) self.new }
+        ensures full { NeedsRoom result room }
         ensures same { IsSame self.old self.new }
     {
-        let stamp = self.stamp + 1;
-        if stamp > GREATEST_STAMP {
-            return Err(RouterError::StampEnd);
-        }
+        let stamp = next_stamp_in(self.stamp, room)?;
         let alloc = *self.peers.allocator();
         let Ok(made) = prepare(alloc, Whole::Stop, &mut self.peers, &self.own_open) else {
             return Err(RouterError::Memory);

@@ -13,6 +13,7 @@ ghost use Rattle.router_side.specs.Drafts.{draft, hand};
 ghost use Rattle.router_side.specs.Freshness.{KeepsFresh};
 ghost use Rattle.router_side.specs.SideOf.{side, IsInFront, HasRoom};
 ghost use Rattle.router_core.specs.Views.{sides_of, IsFound, IsSame, Carries};
+ghost use Rattle.router_core.specs.Calling.{NeedsRoom};
 ghost use Rattle.router_core.specs.Following.{standing, Followed};
 
 use super::Router;
@@ -24,7 +25,7 @@ use router_model::{RouterError, Stepped};
 use router_side::{Given, SideEnd, Sketch};
 use run_model::GREATEST_STAMP;
 use snap_marker::MarkState;
-use std::alloc::Global;
+use std::alloc::{AllocError, Global};
 
 /// The incarnation in which the session is Established, where it is.
 fn standing(end: &SideEnd) -> Option<u32>
@@ -94,7 +95,8 @@ pub(super) fn close(marks: &mut MarkState, peer: Asn, left: Option<u32>)
 }
 
 impl Router<'_> {
-    // Carries out the draft of one side at a stamp, or refuses it and changes nothing.
+    // Carries out the draft of one side at a stamp, where the caller has room for the event, or refuses it
+    // and changes nothing.
     pub(super) fn carry_out(
         &mut self,
         peer: Asn,
@@ -102,10 +104,12 @@ impl Router<'_> {
         made: &Sketch,
         overflows: bool,
         stamp: u64,
+        room: Result<(), AllocError>,
     ) -> Result<Stepped, RouterError>
         requires place { IsFound self.old.peers peer at }
         requires fresh { overflows ≡ false → KeepsFresh (sides_of self.old peer) NoMessage (draft self.old.own_open NoMessage made.now) }
         ensures carries { Carries result self.old peer NoMessage (draft self.old.own_open NoMessage made.now) overflows stamp self.new }
+        ensures full { NeedsRoom result room }
         ensures same { IsSame self.old self.new }
     {
         if stamp > GREATEST_STAMP {
@@ -114,6 +118,7 @@ impl Router<'_> {
         if overflows {
             return Err(RouterError::EpochEnd);
         }
+        room?;
         let alloc = *self.peers.allocator();
         let nothing = Given::Nothing;
         let end = &mut self.peers[at].end;

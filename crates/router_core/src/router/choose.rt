@@ -3,8 +3,9 @@
 ghost use Rattle.std.specs.Prelude.{ℕ};
 ghost use Rattle.router_model.specs.Calls.{Decide, Advertise};
 ghost use Rattle.router_core.specs.Views.{IsSame, Answers, IsAt, IsNext, MayTell, Tells};
+ghost use Rattle.router_core.specs.Calling.{NeedsRoom};
 
-use super::Router;
+use super::{Router, next_stamp_in};
 use crate::choices::the_best_is_the_route;
 use crate::peers::Peer;
 use crate::telling::telling;
@@ -12,7 +13,7 @@ use bgp_codec::Message;
 use prefix_lanes::Prefix;
 use ranked_policy::Asn;
 use router_model::{OUTBOX_LIMIT, RouterError, Stepped};
-use run_model::GREATEST_STAMP;
+use std::alloc::AllocError;
 
 // Whom to tell next.
 pub(super) enum Next {
@@ -34,14 +35,25 @@ impl Router<'_> {
         ensures answers { Answers result self.old Decide self.new }
         ensures same { IsSame self.old self.new }
     {
+        self.decide_in(Ok(()))
+    }
+
+    // The same, where the caller has room for the event, or has none.
+    pub(super) fn decide_in(&mut self, room: Result<(), AllocError>) -> Result<Stepped, RouterError>
+        ensures answers { Answers result self.old Decide self.new }
+        ensures full { NeedsRoom result room }
+        ensures same { IsSame self.old self.new }
+    {
         the_best_is_the_route(&self.tables);
-        let stamp = self.stamp + 1;
-        if stamp > GREATEST_STAMP {
-            let Some(_) = self.tables.dirty() else {
-                return Ok(Stepped::Nothing);
-            };
-            return Err(RouterError::StampEnd);
-        }
+        let stamp = match next_stamp_in(self.stamp, room) {
+            Ok(stamp) => stamp,
+            Err(why) => {
+                let Some(_) = self.tables.dirty() else {
+                    return Ok(Stepped::Nothing);
+                };
+                return Err(why);
+            }
+        };
         let alloc = *self.peers.allocator();
         match self.tables.decide(alloc) {
             Ok(Some(_)) => {
@@ -87,23 +99,38 @@ impl Router<'_> {
         ensures answers { Answers result self.old Advertise self.new }
         ensures same { IsSame self.old self.new }
     {
+        self.advertise_in(Ok(()))
+    }
+
+    // The same, where the caller has room for the event, or has none.
+    pub(super) fn advertise_in(
+        &mut self,
+        room: Result<(), AllocError>,
+    ) -> Result<Stepped, RouterError>
+        ensures answers { Answers result self.old Advertise self.new }
+        ensures full { NeedsRoom result room }
+        ensures same { IsSame self.old self.new }
+    {
         match self.next_to_tell() {
             Next::Nobody => Ok(Stepped::Nothing),
             Next::Blocked(peer) => Err(RouterError::Blocked { peer }),
-            Next::Peer(at, prefix) => self.tell(at, &prefix),
+            Next::Peer(at, prefix) => self.tell(at, &prefix, room),
         }
     }
 
     // The kept path of a prefix is told to the peer at a place.
-    fn tell(&mut self, at: usize, prefix: &Prefix) -> Result<Stepped, RouterError>
+    fn tell(
+        &mut self,
+        at: usize,
+        prefix: &Prefix,
+        room: Result<(), AllocError>,
+    ) -> Result<Stepped, RouterError>
         requires { MayTell self.old at prefix.now }
         ensures tells { (v : ℕ) → IsAt self.old.peers v at → Tells result self.old v prefix.now self.new }
+        ensures full { NeedsRoom result room }
         ensures same { IsSame self.old self.new }
     {
-        let stamp = self.stamp + 1;
-        if stamp > GREATEST_STAMP {
-            return Err(RouterError::StampEnd);
-        }
+        let stamp = next_stamp_in(self.stamp, room)?;
         let alloc = *self.peers.allocator();
         let Ok(update) = telling(
             alloc,

@@ -3,15 +3,15 @@
 ghost use Rattle.router_model.specs.Calls.{Obey};
 ghost use Rattle.router_model.specs.declared.command.Command.TheVariants.{Start, Stop, Reset, Originate, Withdraw};
 ghost use Rattle.router_core.specs.Views.{IsSame, Answers};
-ghost use Rattle.router_core.specs.Judging.{call_of};
+ghost use Rattle.router_core.specs.Calling.{call_of, NeedsRoom};
 
-use super::{Call, Router};
+use super::{Call, Router, next_stamp_in};
 use prefix_lanes::Prefix;
 use ranked_policy::Asn;
 use router_model::{Command, RouterError, Stepped};
 use router_side::laws::sessions_keep_fresh;
-use run_model::GREATEST_STAMP;
 use session_fsm::FsmEvent;
+use std::alloc::AllocError;
 
 impl Router<'_> {
     /// Obeys a command. Nothing where a prefix is originated already, or is not.
@@ -23,35 +23,57 @@ impl Router<'_> {
         ensures answers { Answers result self.old (Obey command) self.new }
         ensures same { IsSame self.old self.new }
     {
+        self.command_in(command, Ok(()))
+    }
+
+    // The same, where the caller has room for the event, or has none.
+    fn command_in(
+        &mut self,
+        command: Command,
+        room: Result<(), AllocError>,
+    ) -> Result<Stepped, RouterError>
+        ensures answers { Answers result self.old (Obey command) self.new }
+        ensures full { NeedsRoom result room }
+        ensures same { IsSame self.old self.new }
+    {
         match command {
-            Command::Start(peer) => self.start(peer),
-            Command::Stop(peer) => self.stop(peer),
-            Command::Reset(peer) => self.reset(peer),
-            Command::Originate(prefix) => self.originate(&prefix),
-            Command::Withdraw(prefix) => self.withdraw(&prefix),
-            Command::Snapshot(number) => self.snapshot(number),
-            Command::Restart => self.restart(),
+            Command::Start(peer) => self.start(peer, room),
+            Command::Stop(peer) => self.stop(peer, room),
+            Command::Reset(peer) => self.reset(peer, room),
+            Command::Originate(prefix) => self.originate(&prefix, room),
+            Command::Withdraw(prefix) => self.withdraw(&prefix, room),
+            Command::Snapshot(number) => self.snapshot(number, room),
+            Command::Restart => self.restart(room),
         }
     }
 
     /// Does what the router is asked to do, but for putting and taking items: each call by its own name.
     /// Refused as that call is; then all is as it was.
-    pub fn perform(&mut self, call: &Call) -> Result<Stepped, RouterError>
+    ///
+    /// `room`: whether the caller has room for the event where the call steps; where it has none, a step
+    /// is refused [`RouterError::Memory`], and any other answer is as it would be.
+    pub fn perform(
+        &mut self,
+        call: &Call,
+        room: Result<(), AllocError>,
+    ) -> Result<Stepped, RouterError>
         ensures answers { Answers result self.old (call_of call.now) self.new }
+        ensures full { NeedsRoom result room }
         ensures same { IsSame self.old self.new }
     {
         match call {
-            Call::Obey(command) => self.command(*command),
-            Call::Tick => self.tick(),
-            Call::Handle(peer) => self.handle(*peer),
-            Call::Decide => self.decide(),
-            Call::Advertise => self.advertise(),
+            Call::Obey(command) => self.command_in(*command, room),
+            Call::Tick => self.tick_in(room),
+            Call::Handle(peer) => self.handle_in(*peer, room),
+            Call::Decide => self.decide_in(room),
+            Call::Advertise => self.advertise_in(room),
         }
     }
 
     // The session with a peer starts.
-    fn start(&mut self, peer: Asn) -> Result<Stepped, RouterError>
+    fn start(&mut self, peer: Asn, room: Result<(), AllocError>) -> Result<Stepped, RouterError>
         ensures answers { Answers result self.old (Obey (Start peer)) self.new }
+        ensures full { NeedsRoom result room }
         ensures same { IsSame self.old self.new }
     {
         sessions_keep_fresh();
@@ -62,12 +84,13 @@ impl Router<'_> {
             .end
             .meet(&self.own_open, FsmEvent::ManualStart);
         let (overflows, stamp) = (made.overflows, self.stamp + 1);
-        self.carry_out(peer, at, &made, overflows, stamp)
+        self.carry_out(peer, at, &made, overflows, stamp, room)
     }
 
     // It stops.
-    fn stop(&mut self, peer: Asn) -> Result<Stepped, RouterError>
+    fn stop(&mut self, peer: Asn, room: Result<(), AllocError>) -> Result<Stepped, RouterError>
         ensures answers { Answers result self.old (Obey (Stop peer)) self.new }
+        ensures full { NeedsRoom result room }
         ensures same { IsSame self.old self.new }
     {
         sessions_keep_fresh();
@@ -78,12 +101,13 @@ impl Router<'_> {
             .end
             .meet(&self.own_open, FsmEvent::ManualStop);
         let stamp = self.stamp + 1;
-        self.carry_out(peer, at, &made, false, stamp)
+        self.carry_out(peer, at, &made, false, stamp, room)
     }
 
     // It stops, and starts again.
-    fn reset(&mut self, peer: Asn) -> Result<Stepped, RouterError>
+    fn reset(&mut self, peer: Asn, room: Result<(), AllocError>) -> Result<Stepped, RouterError>
         ensures answers { Answers result self.old (Obey (Reset peer)) self.new }
+        ensures full { NeedsRoom result room }
         ensures same { IsSame self.old self.new }
     {
         sessions_keep_fresh();
@@ -92,12 +116,17 @@ impl Router<'_> {
         };
         let made = self.peers[at].end.reset(&self.own_open);
         let (overflows, stamp) = (made.overflows, self.stamp + 1);
-        self.carry_out(peer, at, &made, overflows, stamp)
+        self.carry_out(peer, at, &made, overflows, stamp, room)
     }
 
     // A prefix is originated from now on.
-    fn originate(&mut self, prefix: &Prefix) -> Result<Stepped, RouterError>
+    fn originate(
+        &mut self,
+        prefix: &Prefix,
+        room: Result<(), AllocError>,
+    ) -> Result<Stepped, RouterError>
         ensures answers { Answers result self.old (Obey (Originate prefix.now)) self.new }
+        ensures full { NeedsRoom result room }
         ensures same { IsSame self.old self.new }
     {
         if !self.network.is_origin(self.number, prefix) {
@@ -106,18 +135,20 @@ impl Router<'_> {
         if self.tables.is_originated(prefix) {
             return Ok(Stepped::Nothing);
         }
-        let stamp = self.stamp + 1;
-        if stamp > GREATEST_STAMP {
-            return Err(RouterError::StampEnd);
-        }
+        let stamp = next_stamp_in(self.stamp, room)?;
         self.tables.originate(prefix);
         self.stamp = stamp;
         Ok(Stepped::Did)
     }
 
     // It is originated no longer.
-    fn withdraw(&mut self, prefix: &Prefix) -> Result<Stepped, RouterError>
+    fn withdraw(
+        &mut self,
+        prefix: &Prefix,
+        room: Result<(), AllocError>,
+    ) -> Result<Stepped, RouterError>
         ensures answers { Answers result self.old (Obey (Withdraw prefix.now)) self.new }
+        ensures full { NeedsRoom result room }
         ensures same { IsSame self.old self.new }
     {
         if !self.network.is_origin(self.number, prefix) {
@@ -126,10 +157,7 @@ impl Router<'_> {
         if !self.tables.is_originated(prefix) {
             return Ok(Stepped::Nothing);
         }
-        let stamp = self.stamp + 1;
-        if stamp > GREATEST_STAMP {
-            return Err(RouterError::StampEnd);
-        }
+        let stamp = next_stamp_in(self.stamp, room)?;
         self.tables.withdraw(prefix);
         self.stamp = stamp;
         Ok(Stepped::Did)

@@ -13,10 +13,11 @@ ghost use Rattle.router_side.specs.Drafts.{hand};
 ghost use Rattle.router_side.specs.Sayings.{IsSayable};
 ghost use Rattle.router_side.specs.SideOf.{side, naming};
 ghost use Rattle.router_core.specs.Views.{IsSame, Answers};
+ghost use Rattle.router_core.specs.Calling.{NeedsRoom};
 ghost use Rattle.router_core.specs.Handling.{update_acted, copy_where, seen_where, Hears, HandlesFront};
 
-use super::Router;
 use super::carry::{carry_front, close};
+use super::{Router, next_stamp_in};
 use bgp_codec::{Message, Rule, Update};
 use ranked_policy::Asn;
 use rib_tables::Rib;
@@ -24,7 +25,6 @@ use rib_tables::laws::the_word_follows;
 use router_model::{RouterError, Stepped};
 use router_side::laws::what_comes_keeps_fresh;
 use router_side::{Given, SideEnd, opened};
-use run_model::GREATEST_STAMP;
 use snap_marker::MarkState;
 use std::alloc::{AllocError, Global};
 
@@ -133,6 +133,19 @@ impl Router<'_> {
         ensures answers { Answers result self.old (Handle peer) self.new }
         ensures same { IsSame self.old self.new }
     {
+        self.handle_in(peer, Ok(()))
+    }
+
+    // The same, where the caller has room for the event, or has none.
+    pub(super) fn handle_in(
+        &mut self,
+        peer: Asn,
+        room: Result<(), AllocError>,
+    ) -> Result<Stepped, RouterError>
+        ensures answers { Answers result self.old (Handle peer) self.new }
+        ensures full { NeedsRoom result room }
+        ensures same { IsSame self.old self.new }
+    {
         what_comes_keeps_fresh();
         the_word_follows();
         let Some(at) = self.find(peer) else {
@@ -141,10 +154,7 @@ impl Router<'_> {
         if !self.peers[at].end.is_waiting() {
             return Ok(Stepped::Nothing);
         }
-        let stamp = self.stamp + 1;
-        if stamp > GREATEST_STAMP {
-            return Err(RouterError::StampEnd);
-        }
+        let stamp = next_stamp_in(self.stamp, room)?;
         let alloc = *self.peers.allocator();
         let rule = Rule {
             width: self.network.settings().width,

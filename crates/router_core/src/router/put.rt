@@ -5,11 +5,10 @@ ghost use Rattle.router_model.specs.declared.refusal.Stepped.TheVariants.{Did};
 ghost use Rattle.router_model.specs.Calls.{Put};
 ghost use Rattle.router_core.specs.Views.{IsSame, Answers, ShowsNext, HasNext};
 
-use super::Router;
+use super::{Router, next_stamp};
 use outbox::Item;
 use ranked_policy::Asn;
 use router_model::RouterError;
-use run_model::GREATEST_STAMP;
 
 impl Router<'_> {
     /// A copy of the item that is put next towards a peer, with the stamp of its put: a control item,
@@ -27,10 +26,7 @@ impl Router<'_> {
         if !self.peers[at].end.has_item() {
             return Ok(None);
         }
-        let stamp = self.stamp + 1;
-        if stamp > GREATEST_STAMP {
-            return Err(RouterError::StampEnd);
-        }
+        let stamp = next_stamp(self.stamp)?;
         let cut = self.network.settings().cut;
         match self.peers[at].end.next_item(cut) {
             Ok(None) => Ok(None),

@@ -11,9 +11,10 @@ ghost use Rattle.router_model.specs.Step.{awaits};
 ghost use Rattle.router_model.specs.Calls.{Obey};
 ghost use Rattle.run_model.specs.declared.stamps.TheConstants.{GREATEST_STAMP};
 ghost use Rattle.router_core.specs.Views.{plain_of, Answers, IsFound, IsSame, TakesMark};
+ghost use Rattle.router_core.specs.Calling.{NeedsRoom};
 ghost use Rattle.router_core.specs.Recorded.{paths_of, own_of, channels_of, down_in, Become, HaveRoomToMark, marked_if_up, IsPart, IsPeer, IsStateOf, Records, RecordsAt};
 
-use super::Router;
+use super::{Router, next_stamp_in};
 use crate::choices::the_best_is_the_route;
 use crate::peers::Peer;
 use prefix_lanes::Prefix;
@@ -22,7 +23,6 @@ use rib_tables::Rib;
 use router_model::laws::linked_routers_are_peers;
 use router_model::{RouterError, Stepped};
 use router_side::SideEnd;
-use run_model::GREATEST_STAMP;
 use snap_marker::{Channel, KeptPath, Part};
 use std::alloc::{AllocError, Global};
 
@@ -275,22 +275,24 @@ impl Router<'_> {
     }
 
     // The command to record a snapshot.
-    pub(super) fn snapshot(&mut self, number: u32) -> Result<Stepped, RouterError>
+    pub(super) fn snapshot(
+        &mut self,
+        number: u32,
+        room: Result<(), AllocError>,
+    ) -> Result<Stepped, RouterError>
         ensures answers { Answers result self.old (Obey (Snapshot number)) self.new }
+        ensures full { NeedsRoom result room }
         ensures same { IsSame self.old self.new }
     {
         let last = self.marks.last();
         if number <= last {
             return Err(RouterError::OldSnapshot { last });
         }
-        let stamp = self.stamp + 1;
-        if stamp > GREATEST_STAMP {
-            return Err(RouterError::StampEnd);
-        }
+        let stamp = next_stamp_in(self.stamp, room)?;
         self.records(number, None, stamp)
     }
 
-    // The marker of a peer is taken, at a stamp that is left.
+    // The marker of a peer is taken at a stamp that is left, where the caller has room for the event.
     pub(super) fn take_mark(
         &mut self,
         peer: Asn,
@@ -298,12 +300,15 @@ impl Router<'_> {
         epoch: u32,
         number: u32,
         stamp: u64,
+        room: Result<(), AllocError>,
     ) -> Result<Stepped, RouterError>
         requires place { IsFound self.old.peers peer at }
         requires stamp { stamp ≤ GREATEST_STAMP }
         ensures takes { TakesMark result self.old peer epoch number stamp self.new }
+        ensures full { NeedsRoom result room }
         ensures same { IsSame self.old self.new }
     {
+        room?;
         if !heeds(&self.peers[at].end, epoch) {
             self.stamp = stamp;
             return Ok(Stepped::Did);

@@ -3,6 +3,7 @@
 ghost use Rattle.std.specs.Prelude.{◌≡◌};
 ghost use Rattle.router_model.specs.Calls.{Take};
 ghost use Rattle.router_core.specs.Views.{IsSame, Answers};
+ghost use Rattle.router_core.specs.Calling.{NeedsRoom};
 
 use super::Router;
 use link_epoch::Sign;
@@ -11,6 +12,7 @@ use ranked_policy::Asn;
 use router_model::{RouterError, Stepped};
 use router_side::laws::what_comes_keeps_fresh;
 use run_model::GREATEST_STAMP;
+use std::alloc::AllocError;
 
 impl Router<'_> {
     /// Takes the next item of a peer, whatever it is: a Dial or a Shut, a piece of octets, or a marker.
@@ -22,6 +24,23 @@ impl Router<'_> {
     /// [`RouterError::Memory`] where a growth was; then all is as it was.
     pub fn take_item(&mut self, peer: Asn, item: &Item) -> Result<Stepped, RouterError>
         ensures answers { Answers result self.old (Take peer item.now.stamp item.now.what) self.new }
+        ensures same { IsSame self.old self.new }
+    {
+        self.take(peer, item, Ok(()))
+    }
+
+    /// The same, where the caller may have no room.
+    ///
+    /// `room`: whether the caller has room for the event where the call steps; where it has none, a step
+    /// is refused [`RouterError::Memory`], and any other answer is as it would be.
+    pub fn take(
+        &mut self,
+        peer: Asn,
+        item: &Item,
+        room: Result<(), AllocError>,
+    ) -> Result<Stepped, RouterError>
+        ensures answers { Answers result self.old (Take peer item.now.stamp item.now.what) self.new }
+        ensures full { NeedsRoom result room }
         ensures same { IsSame self.old self.new }
     {
         what_comes_keeps_fresh();
@@ -39,18 +58,19 @@ impl Router<'_> {
             What::Dial(number) => {
                 let made = self.peers[at].end.sign(&self.own_open, Sign::Dial(*number));
                 let overflows = made.overflows;
-                self.carry_out(peer, at, &made, overflows, stamp)
+                self.carry_out(peer, at, &made, overflows, stamp, room)
             }
             What::Shut(number) => {
                 let made = self.peers[at].end.sign(&self.own_open, Sign::Shut(*number));
-                self.carry_out(peer, at, &made, false, stamp)
+                self.carry_out(peer, at, &made, false, stamp, room)
             }
             What::Piece(epoch, octets) => {
+                room?;
                 self.peers[at].end.take_piece(*epoch, octets.as_slice());
                 self.stamp = stamp;
                 Ok(Stepped::Did)
             }
-            What::Mark(epoch, number) => self.take_mark(peer, at, *epoch, *number, stamp),
+            What::Mark(epoch, number) => self.take_mark(peer, at, *epoch, *number, stamp, room),
         }
     }
 }
