@@ -1,9 +1,9 @@
 -- What a collector makes of a copy of an offer it makes of the offer.
-use Rattle.std.proofs.Common.{◌≡◌, ℕ, ◌∷◌, [], refl, sym, ap, ◌∙◌, subst, map}
+use Rattle.std.proofs.Common.{◌≡◌, ℕ, ◌∷◌, [], refl, sym, ap, ◌∙◌, map}
 use Rattle.std.specs.Prelude.{Ok, Err, Result}
 use Rattle.run_model.specs.Offers.{made_of}
 use Rattle.run_model.specs.Offers as model
-use Rattle.snap_marker.specs.Recordings.{RouterOffer, MadeOffer}
+use Rattle.snap_marker.specs.Recordings.{RouterOffer}
 use Rattle.snap_marker.specs.Parts.{router_of, number_of, offer_of}
 use Rattle.snap_marker.specs.declared.part.Offer.{Offer}
 use Rattle.snap_marker.specs.declared.part.Offer.TheVariants as offer
@@ -14,7 +14,7 @@ use Rattle.snap_collector.specs.declared.answer.CollectError.TheVariants as refu
 use Rattle.snap_collector.specs.Verdicts.{decides, is_member}
 use Rattle.snap_collector.specs.Collecting.{made_by, member_of, has_offered}
 use Rattle.snap_collector.specs.Collector.{CollectorView, made_for, with_offers}
-use Rattle.snap_collector.specs.Taking.{Takes, Keeps, IsNew, knows, has_decided, has_heard}
+use Rattle.snap_collector.specs.Taking.{Takes, IsNew, knows, has_decided, has_heard}
 
 number_is : (o : Offer) → model.number_of (offer_of o) ≡ number_of o
 number_is (offer.Part p) = refl

@@ -11,7 +11,7 @@ impl<'a, L: Lines, D: Desk, G: Gate> Worker<'a, L, D, G> {
     ghost use Rattle.std.specs.Prelude.{◌≡◌, IfOk};
     ghost use Rattle.worker_loop.specs.Following.{Did, Calls};
     ghost use Rattle.worker_loop.specs.Whole.{seen_of, IsSameWorker};
-    ghost use Rattle.router_core.specs.Judging.{call_of};
+    ghost use Rattle.router_core.specs.Calling.{call_of};
     ghost use Rattle.worker_loop.specs.Whole.{IsNamedBy};
 
     // Tries a call of the router.

@@ -1,5 +1,5 @@
-use Rattle.std.proofs.Common.{◌≡◌, ◌∙◌, ◌+◌, ◌<◌, ap, refl, arith, ◌++◌, ◌∷◌, [], ℕ}
-use Rattle.std.specs.Prelude.{max}
+use Rattle.std.proofs.Common.{◌≡◌, ◌∙◌, ◌+◌, ◌<◌, ap, refl, arith, ◌++◌, ◌∷◌, []}
+use Rattle.std.specs.Prelude.{max, Ok}
 use Rattle.offer_board.proofs.Boards.{next_board}
 use Rattle.offer_board.proofs.Copies.{made_alike, takes_the_copied}
 use Rattle.offer_board.proofs.board.BoardState.offer.Goals as goal
@@ -13,4 +13,4 @@ invariant_of-self-2 c =
     next_board c.kept_goes_on.ensures (record { collector = x.collector; offers = x.offers.items; stamp = x.stamp }) c.self.invariant c.offer.new.self _ at c.args.offer.now (record { stamp = at; offer = c.in_ok-copy.copy }) c.in_ok-taken.taken
     later c.if-stamp-gt-GREATEST_STAMP.false (c.push_reserved.ensures.items ∙ ap (λ l. l ++ record { stamp = at; offer = c.in_ok-copy.copy } ∷ []) c.reserve.ensures.items) refl
     (made_alike c.in_ok-copy.copy c.args.offer.now c.in_ok-copy.ensures.router c.in_ok-copy.ensures.offer)
-    (takes_the_copied c.in_ok-collected.collected c.args.offer.now c.in_ok-collected.ensures.router c.in_ok-collected.ensures.offer _ _ _ c.in_ok-taken.ensures)
+    (takes_the_copied c.in_ok-collected.collected c.args.offer.now c.in_ok-collected.ensures.router c.in_ok-collected.ensures.offer x.collector c.offer.new.self (Ok c.in_ok-taken.taken) c.in_ok-taken.ensures)

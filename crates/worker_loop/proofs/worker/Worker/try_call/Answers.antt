@@ -1,5 +1,5 @@
 use Rattle.std.proofs.Common.{◌∙◌, ap, refl, ◌++◌, ◌∷◌, [], ℕ}
-use Rattle.router_core.specs.Judging.{call_of}
+use Rattle.router_core.specs.Calling.{call_of}
 use Rattle.worker_loop.specs.Whole.{entry}
 use Rattle.worker_loop.proofs.Trying.{call_did, call_nothing, call_refused, if_passed}
 use Rattle.worker_loop.proofs.worker.Worker.try_call.Goals as goal
