@@ -64,7 +64,7 @@ fn is_same(
 
 // What a call answers. It ensures nothing, so that one answer is not carried along to the next.
 fn answer(router: &mut Router<'_>, call: &Call) -> Result<Stepped, RouterError> {
-    router.perform(call)
+    router.perform(call, Ok(()))
 }
 
 // What the call answers, asked again where memory was refused.

@@ -18,11 +18,15 @@ use Rattle.router_model.specs.declared.refusal.RouterError.TheVariants as error
 use Rattle.router_model.specs.declared.refusal.Stepped.TheVariants as stepped
 use Rattle.router_model.specs.Settings.{Setting}
 use Rattle.router_model.specs.State.{undecided, route}
+use Rattle.run_model.specs.Network.{alone}
+use Rattle.router_model.specs.Step as step
 use Rattle.router_model.specs.Step.{keeping}
 use Rattle.router_model.specs.Calls.{Decide, Gives, answer}
 use Rattle.run_model.specs.declared.stamps.TheConstants.{GREATEST_STAMP}
 use Rattle.router_core.specs.Views.{RouterView, IsSound, IsTabled, IsTellable, plain_of}
+use Rattle.router_core.specs.Calling.{no_step}
 use Rattle.bgp_codec.specs.AsNumbers.{AsnFits}
+use Rattle.router_core.proofs.NoStep.{gives_no_step}
 use Rattle.router_core.proofs.Naming.{is_prefix-true, is_prefix-from}
 use Rattle.router_core.proofs.Beginnings.{asn_fits}
 use Rattle.router_core.proofs.Originations.{with_tables, stays_sound}
@@ -104,11 +108,11 @@ module _ (over : BestOverWords) (one : OneBest) (g : Setting) (x : RouterView) (
   decided_all all = rw (← undecided_is over one g x c None all) (refl, refl)
 
   module _ (q : PrefixView) (least : IsLeastWithout x.tables.net.origins (IsSettled x.tables) q) where
-    pub first : undecided g x.number (plain_of x).router ≡ Some q
+    first : undecided g x.number (plain_of x).router ≡ Some q
     first = sym (undecided_is over one g x c (Some q) least)
 
-    pub late_to_decide : nat_lt GREATEST_STAMP (x.stamp + 1) ≡ true → Gives g x.number (Err error.StampEnd) (answer g x.number (plain_of x) Decide) (plain_of x) Decide (plain_of x)
-    late_to_decide late = rw (first, late) (refl, refl)
+    pub no_step_to_decide : Gives g x.number (Err (no_step x.stamp)) (answer g x.number (plain_of x) Decide) (plain_of x) Decide (plain_of x)
+    no_step_to_decide = rw first (gives_no_step g x.number (nat_lt GREATEST_STAMP (x.stamp + 1)) (plain_of x) Decide (alone step.Decides))
 
     pub no_memory_to_decide : nat_lt GREATEST_STAMP (x.stamp + 1) ≡ false → Gives g x.number (Err error.Memory) (answer g x.number (plain_of x) Decide) (plain_of x) Decide (plain_of x)
     no_memory_to_decide early = rw (first, early) (refl, refl)

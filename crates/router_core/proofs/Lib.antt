@@ -1,4 +1,5 @@
 pub mod Beginnings
+pub mod NoStep
 pub mod PeerLemmas
 pub mod Following
 pub mod Naming

@@ -23,6 +23,8 @@ use Rattle.router_model.specs.Calls.{Stamped, Obey, Gives, answer, judged, unles
 use Rattle.run_model.specs.declared.stamps.TheConstants.{GREATEST_STAMP}
 use Rattle.router_core.specs.Views.{RouterView, IsSound, sides_of, plain_of, Answers, TakesMark}
 use Rattle.router_core.specs.Recorded.{RecordsAt}
+use Rattle.router_core.specs.Calling.{no_step}
+use Rattle.router_core.proofs.NoStep.{gives_no_step}
 
 abbrev pub at_stamp : RouterView → MarkView → ℕ → RouterView
 at_stamp r m stamp = record { net = r.net; number = r.number; own_open = r.own_open; peers = r.peers; tables = r.tables; marks = m; stamp = stamp }
@@ -87,8 +89,10 @@ module _ (r : RouterView) (s : ℕ) where
   pub snaps_old : nat_lt r.marks.last s ≡ false → Answers (Err (error.OldSnapshot r.marks.last)) r (Obey (Snapshot s)) r
   snaps_old l = λ g q ranks. snap_is g (Err (error.OldSnapshot r.marks.last)) (plain_of r) false (nat_lt GREATEST_STAMP (r.stamp + 1)) l refl (refl, refl)
 
-  pub snaps_late : nat_lt r.marks.last s ≡ true → nat_lt GREATEST_STAMP (r.stamp + 1) ≡ true → Answers (Err error.StampEnd) r (Obey (Snapshot s)) r
-  snaps_late l t = λ g q ranks. snap_is g (Err error.StampEnd) (plain_of r) true true l t (refl, refl)
+  pub snaps_no_step : nat_lt r.marks.last s ≡ true → Answers (Err (no_step r.stamp)) r (Obey (Snapshot s)) r
+  snaps_no_step l = λ g q ranks.
+      let late = nat_lt GREATEST_STAMP (r.stamp + 1) in
+      snap_is g (Err (no_step r.stamp)) (plain_of r) true late l refl (gives_no_step g r.number late (plain_of r) (Obey (Snapshot s)) (alone (Obeys (Snapshot s))))
 
   pub snaps : (res : Result Stepped RouterError) (y : RouterView) → nat_lt r.marks.last s ≡ true → nat_lt GREATEST_STAMP (r.stamp + 1) ≡ false → RecordsAt res r s None (r.stamp + 1) y
       → Answers res r (Obey (Snapshot s)) y

@@ -14,9 +14,13 @@ use Rattle.router_model.specs.declared.command.Command.TheVariants.{Originate, W
 use Rattle.router_model.specs.declared.refusal.RouterError.TheVariants as error
 use Rattle.router_model.specs.declared.refusal.Stepped.TheVariants as stepped
 use Rattle.router_model.specs.Settings.{Setting, is_origin}
+use Rattle.run_model.specs.Network.{alone}
+use Rattle.router_model.specs.Step.{Obeys}
 use Rattle.router_model.specs.Calls.{Obey, Gives, answer}
 use Rattle.run_model.specs.declared.stamps.TheConstants.{GREATEST_STAMP}
 use Rattle.router_core.specs.Views.{RouterView, IsSound, IsTabled, plain_of}
+use Rattle.router_core.specs.Calling.{no_step}
+use Rattle.router_core.proofs.NoStep.{gives_no_step}
 use Rattle.router_core.proofs.Naming.{is_prefix-true, is_prefix-from, decides_lists, lists_is, origin_is}
 
 -- the router with other tables, at this stamp
@@ -124,13 +128,11 @@ module _ (g : Setting) (x : RouterView) (same : g.net ≡ x.net) (q : PrefixView
         → Gives g x.number (Ok stepped.Nothing) (answer g x.number (plain_of x) (Obey (Withdraw q))) (plain_of x) (Obey (Withdraw q)) (plain_of x)
     withdrawn_already e = rw (origin, listed, e) (refl, refl)
 
-    pub late_to_originate : o ≡ false → nat_lt GREATEST_STAMP (x.stamp + 1) ≡ true
-        → Gives g x.number (Err error.StampEnd) (answer g x.number (plain_of x) (Obey (Originate q))) (plain_of x) (Obey (Originate q)) (plain_of x)
-    late_to_originate e late = rw (origin, listed, e, late) (refl, refl)
+    pub no_step_to_originate : o ≡ false → Gives g x.number (Err (no_step x.stamp)) (answer g x.number (plain_of x) (Obey (Originate q))) (plain_of x) (Obey (Originate q)) (plain_of x)
+    no_step_to_originate e = rw (origin, listed, e) (gives_no_step g x.number (nat_lt GREATEST_STAMP (x.stamp + 1)) (plain_of x) (Obey (Originate q)) (alone (Obeys (Originate q))))
 
-    pub late_to_withdraw : o ≡ true → nat_lt GREATEST_STAMP (x.stamp + 1) ≡ true
-        → Gives g x.number (Err error.StampEnd) (answer g x.number (plain_of x) (Obey (Withdraw q))) (plain_of x) (Obey (Withdraw q)) (plain_of x)
-    late_to_withdraw e late = rw (origin, listed, e, late) (refl, refl)
+    pub no_step_to_withdraw : o ≡ true → Gives g x.number (Err (no_step x.stamp)) (answer g x.number (plain_of x) (Obey (Withdraw q))) (plain_of x) (Obey (Withdraw q)) (plain_of x)
+    no_step_to_withdraw e = rw (origin, listed, e) (gives_no_step g x.number (nat_lt GREATEST_STAMP (x.stamp + 1)) (plain_of x) (Obey (Withdraw q)) (alone (Obeys (Withdraw q))))
 
     left : (t : RibView) (ps : List PrefixView) (made : Bool) → t ≡ with_originated x.tables ps → ((p : PrefixView) → lists ps p ≡ cond (is_prefix q p) made (lists x.tables.originated p))
         → (stamp : ℕ) → plain_of (with_tables x t stamp) ≡ record { router = record (plain_of x).router { originated = λ p. cond (is_prefix q p) made (lists x.tables.originated p) }; stamp = stamp }

@@ -26,6 +26,8 @@ use Rattle.router_side.specs.SideOf.{side_opening}
 use Rattle.ranked_policy.specs.Plans.{Plan}
 use Rattle.router_model.specs.Settings.{Setting, linked}
 use Rattle.router_core.specs.Views.{RouterView, sides_of, listed, IsAt, config_of, plain_of, IsSound, Shows, HasNext}
+use Rattle.router_core.specs.Calling.{no_step}
+use Rattle.router_core.proofs.NoStep.{gives_no_step}
 use Rattle.router_core.proofs.PeerLemmas.{side_here}
 use Rattle.router_core.proofs.Carrying.{Changes, IsOf, with_peer, becomes, fronts, drafted, is_linked}
 
@@ -76,7 +78,7 @@ module _ (g : Setting) (r : RouterView) (v i : ℕ) (p : Peer) (of : IsOf g r) (
   abbrev Hands : Result Stepped RouterError → Stamped → Bool → Bool → Bool → Type 0
   Hands res y t b late = Gives g r.number res (judged (unless t error.NoSuchPeer) (if_so b (alone (Handles v))) late (overflows_at g r.number (plain_of r).router (if_so b (alone (Handles v))))) (plain_of r) (Handle v) y
 
-  pub hand_is : (res : Result Stepped RouterError) (y : Stamped) (b late : Bool) → is_waiting (side p.end).held ≡ b → nat_lt GREATEST_STAMP (r.stamp + 1) ≡ late → Hands res y true b late
+  hand_is : (res : Result Stepped RouterError) (y : Stamped) (b late : Bool) → is_waiting (side p.end).held ≡ b → nat_lt GREATEST_STAMP (r.stamp + 1) ≡ late → Hands res y true b late
       → Gives g r.number res (answer g r.number (plain_of r) (Handle v)) (plain_of r) (Handle v) y
   hand_is res y b late is at_stamp h =
       subst (λ (t : Bool). Hands res y t (is_waiting (sides_of r v).held) (nat_lt GREATEST_STAMP (r.stamp + 1))) (sym (is_linked g r v true of l))
@@ -86,9 +88,10 @@ module _ (g : Setting) (r : RouterView) (v i : ℕ) (p : Peer) (of : IsOf g r) (
   pub hands_nothing : is_waiting (side p.end).held ≡ false → Gives g r.number (Ok stepped.Nothing) (answer g r.number (plain_of r) (Handle v)) (plain_of r) (Handle v) (plain_of r)
   hands_nothing h = hand_is (Ok stepped.Nothing) (plain_of r) false (nat_lt GREATEST_STAMP (r.stamp + 1)) h refl (refl, refl)
 
-  pub hands_late : is_waiting (side p.end).held ≡ true → nat_lt GREATEST_STAMP (r.stamp + 1) ≡ true
-      → Gives g r.number (Err error.StampEnd) (answer g r.number (plain_of r) (Handle v)) (plain_of r) (Handle v) (plain_of r)
-  hands_late h late = hand_is (Err error.StampEnd) (plain_of r) true true h late (refl, refl)
+  pub hands_no_step : is_waiting (side p.end).held ≡ true → Gives g r.number (Err (no_step r.stamp)) (answer g r.number (plain_of r) (Handle v)) (plain_of r) (Handle v) (plain_of r)
+  hands_no_step h =
+      let late = nat_lt GREATEST_STAMP (r.stamp + 1) in
+      hand_is (Err (no_step r.stamp)) (plain_of r) true late h refl (gives_no_step g r.number late (plain_of r) (Handle v) (alone (Handles v)))
 
   pub hands_refused : (y : Stamped) → y ≡ plain_of r → is_waiting (side p.end).held ≡ true → nat_lt GREATEST_STAMP (r.stamp + 1) ≡ false
       → Gives g r.number (Err error.Memory) (answer g r.number (plain_of r) (Handle v)) (plain_of r) (Handle v) y

@@ -111,7 +111,7 @@ module _ (g : Setting) (r : RouterView) (v i : ℕ) (p : Peer) (of : IsOf g r) (
         (one_step g r y v NoMessage a (signed (open_of g.net r.number) (sides_of r v) (sign.Shut e)) next (Take v stamp (item.Shut e)) (takes v (item.Shut e)) res (λ w. false)
         (drafted g r v i p (λ o s. signed o s (sign.Shut e)) a of at here made) refl ends)
 
-  pub late_is : (what : What) (res : Result Stepped RouterError) (y : Stamped) (late : Bool) → is_waiting (side p.end).held ≡ false → nat_lt GREATEST_STAMP next ≡ late
+  late_is : (what : What) (res : Result Stepped RouterError) (y : Stamped) (late : Bool) → is_waiting (side p.end).held ≡ false → nat_lt GREATEST_STAMP next ≡ late
       → Gives g r.number res (judged None (Some (takes v what)) late (overflows_at g r.number (plain_of r).router (Some (takes v what)))) (plain_of r) (Take v stamp what) y
       → Gives g r.number res (answer g r.number (plain_of r) (Take v stamp what)) (plain_of r) (Take v stamp what) y
   late_is what res y late free is h =
@@ -127,6 +127,10 @@ module _ (g : Setting) (r : RouterView) (v i : ℕ) (p : Peer) (of : IsOf g r) (
       → Gives g r.number (Ok stepped.Did) (answer g r.number (plain_of r) (Take v stamp (item.Piece e octets))) (plain_of r) (Take v stamp (item.Piece e octets)) (plain_of (with_peer r i q r.tables r.marks next))
   takes_piece e octets q c is free late =
       late_is (item.Piece e octets) (Ok stepped.Did) (plain_of (with_peer r i q r.tables r.marks next)) false free late (refl, becomes r v i p q c next (λ s. fed s e octets) is)
+
+  pub refuses_piece : (e : ℕ) (octets : List ℕ) → is_waiting (side p.end).held ≡ false → nat_lt GREATEST_STAMP next ≡ false
+      → Gives g r.number (Err error.Memory) (answer g r.number (plain_of r) (Take v stamp (item.Piece e octets))) (plain_of r) (Take v stamp (item.Piece e octets)) (plain_of r)
+  refuses_piece e octets free early = late_is (item.Piece e octets) (Err error.Memory) (plain_of r) false free early (refl, refl)
 
   pub takes_mark : (res : Result Stepped RouterError) (y : Stamped) (e n : ℕ) → is_waiting (side p.end).held ≡ false → nat_lt GREATEST_STAMP next ≡ false
       → MatchResult res (λ did. (did ≡ stepped.Did) × (y ≡ record { router = taken g r.number (plain_of r).router v (item.Mark e n); stamp = next })) (λ why. (why ≡ error.Memory) × (y ≡ plain_of r))

@@ -23,11 +23,11 @@ NeedsRoom (Ok stepped.Did) room = IsOk room
 NeedsRoom (Ok stepped.Nothing) room = Unit {0}
 NeedsRoom (Err why) room = Unit {0}
 
--- why such a step is not done: no stamp is left, or else its caller has no room
-abbrev pub refusal_of : (stamp_ends : Bool) → RouterError
-refusal_of true = error.StampEnd
-refusal_of false = error.Memory
+-- why a step is not done: no stamp is left, or else its caller has no room
+abbrev pub why_no_step : (stamp_ends : Bool) → RouterError
+why_no_step true = error.StampEnd
+why_no_step false = error.Memory
 
 -- the same of a step behind this stamp
 abbrev pub no_step : ℕ → RouterError
-no_step last = refusal_of (nat_lt GREATEST_STAMP (last + 1))
+no_step last = why_no_step (nat_lt GREATEST_STAMP (last + 1))

@@ -4,12 +4,15 @@
 use prefix_lanes::Prefix;
 use ranked_policy::Asn;
 use router_core::{Call, Command, Item, Router, RouterError, Stepped};
+use std::alloc::AllocError;
 
 pub(super) type Answer = Result<Stepped, RouterError>;
 
 pub(super) const DID: Answer = Ok(Stepped::Did);
 
 pub(super) const NOTHING: Answer = Ok(Stepped::Nothing);
+
+pub(super) const MEMORY: Answer = Err(RouterError::Memory);
 
 pub(super) fn is_told(router: &mut Router<'_>, command: Command) -> Answer {
     router.command(command)
@@ -33,14 +36,6 @@ pub(super) fn advertises(router: &mut Router<'_>) -> Answer {
 
 pub(super) fn takes_item(router: &mut Router<'_>, peer: Asn, item: &Item) -> Answer {
     router.take_item(peer, item)
-}
-
-pub(super) fn judges(router: &mut Router<'_>, call: &Call) -> Answer {
-    router.judge(call)
-}
-
-pub(super) fn judges_take(router: &Router<'_>, peer: Asn, item: &Item) -> Answer {
-    router.judge_take(peer, item)
 }
 
 pub(super) fn may_take(router: &Router<'_>, peer: Asn) -> bool {
@@ -90,6 +85,15 @@ pub(super) fn does(router: &mut Router<'_>, call: &Call) -> Answer {
     }
 }
 
+// The same, where the caller has no room for the event.
+pub(super) fn does_without_room(router: &mut Router<'_>, call: &Call) -> Answer {
+    router.perform(call, Err(AllocError))
+}
+
+pub(super) fn takes_without_room(router: &mut Router<'_>, peer: Asn, item: &Item) -> Answer {
+    router.take(peer, item, Err(AllocError))
+}
+
 // So many seconds pass.
 pub(super) fn seconds(router: &mut Router<'_>, n: u32) -> bool {
     for _ in 0..n {
@@ -109,22 +113,32 @@ fn has_stamp(router: &Router<'_>, answer: Answer, last: u64, items: u64) -> bool
     }
 }
 
-// A call is answered as it was judged.
-pub(super) fn does_as_judged(router: &mut Router<'_>, call: &Call) -> bool {
+// What is answered without room, by what is with it.
+fn without_room(answer: Answer) -> Answer {
+    if answer == DID { MEMORY } else { answer }
+}
+
+// A call is answered without room as with it, but that a step is refused, and the stamp stays.
+pub(super) fn does_either_way(router: &mut Router<'_>, call: &Call) -> bool {
     let last = stamp(router);
-    let judged = judges(router, call);
+    let without = does_without_room(router, call);
+    let stays = stamp(router) == last;
     let answer = does(router, call);
-    answer == judged && has_stamp(router, answer, last, 0)
+    stays && without == without_room(answer) && has_stamp(router, answer, last, 0)
 }
 
 // An item too; it is refused where a message waits, and there alone.
-pub(super) fn takes_as_judged(router: &mut Router<'_>, peer: Asn, item: &Item) -> bool {
+pub(super) fn takes_either_way(router: &mut Router<'_>, peer: Asn, item: &Item) -> bool {
     let last = stamp(router);
     let held = !may_take(router, peer);
-    let judged = judges_take(router, peer, item);
+    let without = takes_without_room(router, peer, item);
+    let stays = stamp(router) == last;
     let answer = takes_item(router, peer, item);
     let refused = answer == Err(RouterError::Held { peer });
-    answer == judged && refused == held && has_stamp(router, answer, last, item.stamp)
+    stays
+        && without == without_room(answer)
+        && refused == held
+        && has_stamp(router, answer, last, item.stamp)
 }
 
 // A call is answered so, and the stamp stays.
@@ -133,10 +147,14 @@ pub(super) fn keeps_its_stamp(router: &mut Router<'_>, call: &Call, answer: Answ
     does(router, call) == answer && stamp(router) == last
 }
 
-// It is judged so, and the stamp stays.
-pub(super) fn judges_alone(router: &mut Router<'_>, call: &Call, answer: Answer) -> bool {
+// It is answered so without room, and the stamp stays.
+pub(super) fn keeps_its_stamp_without_room(
+    router: &mut Router<'_>,
+    call: &Call,
+    answer: Answer,
+) -> bool {
     let last = stamp(router);
-    judges(router, call) == answer && stamp(router) == last
+    does_without_room(router, call) == answer && stamp(router) == last
 }
 
 // A prefix is originated, or withdrawn, and what then is kept is told.

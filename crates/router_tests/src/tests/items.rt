@@ -1,6 +1,6 @@
 //! Items that a peer puts, and those that come out.
 
-use super::answers::{Answer, DID, handles, judges_take, puts_next, takes_item};
+use super::answers::{Answer, DID, handles, puts_next, takes_item, takes_without_room};
 use ranked_policy::Asn;
 use router_core::{Item, PieceOctets, Router, What};
 use std::alloc::{AllocError, Global};
@@ -137,17 +137,17 @@ pub(super) fn takes(
     }
 }
 
-// Whether it is judged so.
-pub(super) fn judges_item(
+// Whether it is where the caller has no room.
+pub(super) fn takes_so_without_room(
     alloc: Global,
-    router: &Router<'_>,
+    router: &mut Router<'_>,
     peer: Asn,
     stamp: u64,
     sent: &Sent<'_>,
     answer: Answer,
 ) -> bool {
     match made(alloc, stamp, sent) {
-        Some(item) => judges_take(router, peer, &item) == answer,
+        Some(item) => takes_without_room(router, peer, &item) == answer,
         None => false,
     }
 }

@@ -2,7 +2,7 @@
 //! proved once; in a function of as many calls each goal has all that the calls before it ensure.
 
 use super::answers::*;
-use super::items::{Sent, drains, hears, judges_item, puts, puts_at, puts_some, takes};
+use super::items::{Sent, drains, hears, puts, puts_at, puts_some, takes, takes_so_without_room};
 use super::offers::{Offered, offers, records_now};
 use prefix_lanes::Prefix;
 use ranked_policy::Asn;
@@ -40,10 +40,10 @@ pub(super) enum Step<'a> {
     Does(Asked, Answer),
     // The same, and the stamp stays.
     Stays(Asked, Answer),
-    // The call is judged so, and the stamp stays.
-    Judges(Asked, Answer),
-    // The call is answered as it is judged.
-    DoesAsJudged(Asked),
+    // The call is answered so where its caller has no room, and the stamp stays.
+    WithoutRoom(Asked, Answer),
+    // The call is answered without room as with it, but that a step is refused; then it is done.
+    EitherWay(Asked),
     // An item of a peer with this stamp is answered so.
     Takes(Asn, u64, Sent<'a>, Answer),
     // An item of a peer is taken, and the message that it brings is handled.
@@ -54,8 +54,8 @@ pub(super) enum Step<'a> {
     PutsAt(Asn, u64),
     // It is octets of this incarnation.
     PutsSome(Asn, u32),
-    // An item of a peer with this stamp is judged so.
-    JudgesTake(Asn, u64, Sent<'a>, Answer),
+    // An item of a peer with this stamp is answered so where the caller has no room.
+    TakesWithoutRoom(Asn, u64, Sent<'a>, Answer),
     // A prefix comes and goes until router 2 is told nothing more.
     Fills(Named),
     // What waits towards a peer is put, if it is little.
@@ -103,16 +103,16 @@ fn call(asked: Asked) -> Option<Call> {
 enum Way {
     Does(Answer),
     Stays(Answer),
-    Judges(Answer),
-    DoesAsJudged,
+    WithoutRoom(Answer),
+    EitherWay,
 }
 
 fn goes_so(one: &mut Router<'_>, call: &Call, way: Way) -> bool {
     match way {
         Way::Does(answer) => does(one, call) == answer,
         Way::Stays(answer) => keeps_its_stamp(one, call, answer),
-        Way::Judges(answer) => judges_alone(one, call, answer),
-        Way::DoesAsJudged => does_as_judged(one, call),
+        Way::WithoutRoom(answer) => keeps_its_stamp_without_room(one, call, answer),
+        Way::EitherWay => does_either_way(one, call),
     }
 }
 
@@ -149,15 +149,15 @@ fn goes(alloc: Global, one: &mut Router<'_>, step: &Step<'_>) -> bool {
     match step {
         Step::Does(asked, answer) => asked_so(one, *asked, Way::Does(*answer)),
         Step::Stays(asked, answer) => asked_so(one, *asked, Way::Stays(*answer)),
-        Step::Judges(asked, answer) => asked_so(one, *asked, Way::Judges(*answer)),
-        Step::DoesAsJudged(asked) => asked_so(one, *asked, Way::DoesAsJudged),
+        Step::WithoutRoom(asked, answer) => asked_so(one, *asked, Way::WithoutRoom(*answer)),
+        Step::EitherWay(asked) => asked_so(one, *asked, Way::EitherWay),
         Step::Takes(peer, stamp, sent, answer) => takes(alloc, one, *peer, *stamp, sent, *answer),
         Step::Hears(peer, sent) => hears(alloc, one, *peer, sent),
         Step::Puts(peer, sent) => puts(alloc, one, *peer, sent),
         Step::PutsAt(peer, stamp) => puts_at(one, *peer, *stamp),
         Step::PutsSome(peer, epoch) => puts_some(one, *peer, *epoch),
-        Step::JudgesTake(peer, stamp, sent, answer) => {
-            judges_item(alloc, one, *peer, *stamp, sent, *answer)
+        Step::TakesWithoutRoom(peer, stamp, sent, answer) => {
+            takes_so_without_room(alloc, one, *peer, *stamp, sent, *answer)
         }
         Step::Fills(named) => fills_with(one, *named),
         Step::Drains(peer) => drains(one, *peer),

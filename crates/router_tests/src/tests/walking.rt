@@ -1,8 +1,8 @@
-//! Random items and calls: what a router answers is what was judged, its stamps rise as they are to, and in
+//! Random items and calls: a router answers without room as with it, its stamps rise as they are to, and in
 //! the end it keeps what its peer said last.
 
 use super::answers::{
-    DID, NOTHING, decides, does_as_judged, is_told, keeps, may_take, puts_next, takes_as_judged,
+    DID, NOTHING, decides, does_either_way, is_told, keeps, may_take, puts_next, takes_either_way,
 };
 use super::items::{Sent, made};
 use super::offers::epoch;
@@ -142,14 +142,14 @@ fn seldom(number: u64) -> Command {
 
 fn takes(alloc: Global, two: &mut Router<'_>, stamp: u64, sent: &Sent<'_>) -> bool {
     match made(alloc, stamp, sent) {
-        Some(item) => takes_as_judged(two, 1, &item),
+        Some(item) => takes_either_way(two, 1, &item),
         None => false,
     }
 }
 
 fn steps(alloc: Global, two: &mut Router<'_>, walk: &mut Walk) -> bool {
     match next_act(two, walk) {
-        Act::Does(call) => does_as_judged(two, &call),
+        Act::Does(call) => does_either_way(two, &call),
         Act::Takes(stamp, sent) => takes(alloc, two, stamp, &sent),
     }
 }
@@ -277,7 +277,7 @@ fn walk_all(alloc: Global, seeds: u64) -> Result<Option<u64>, Fail> {
 }
 
 #[test]
-fn random_items_are_answered_as_judged(rt: HostRuntime) -> Result<(), Fail> {
+fn random_items_are_answered_alike_without_room(rt: HostRuntime) -> Result<(), Fail> {
     assert!(rt; walk_all(rt.alloc(), 32)? == None);
     Ok(())
 }

@@ -1,6 +1,7 @@
 use Rattle.std.proofs.Common.{◌≡◌, ◌∙◌, ◌≤◌, ap, sym, refl, subst, false, arith}
 use Rattle.std.specs.Prelude.{nat_lt, Ok, Err}
 use Rattle.std.proofs.lemmas.Bool.Decides.{nat_tests}
+use Rattle.std.proofs.lemmas.Result.{err_from_is_err_and}
 use Rattle.router_model.specs.declared.refusal.RouterError.TheVariants.{Memory}
 use Rattle.router_model.specs.declared.refusal.Stepped.TheVariants.{Did}
 use Rattle.router_model.specs.Sides.{Side, NoMessage, carried}
@@ -21,7 +22,17 @@ use Rattle.router_core.proofs.router.Router.carry_out.Goals as goal
 pub reserve-requires-clause-own : goal.reserve-requires-clause-own
 reserve-requires-clause-own c = c.self.invariant.sayable c.index_mut.result.now.end.width
 
--- room was wanting: the peer is as it was
+-- the caller has no room
+pub returns-in_err-room-clause-carries : goal.returns-in_err-room-clause-carries
+returns-in_err-room-clause-carries c =
+    let p = err_from_is_err_and c.from_residual.result c.from_residual.ensures.1 in
+    let x = c.args.self.now in
+    let early : nat_lt GREATEST_STAMP c.args.stamp ≡ false = grind (arith, nat_tests, c.if-stamp-gt-GREATEST_STAMP.false) in
+    rw (p.1, p.2)
+    (ends_memory (nat_lt GREATEST_STAMP c.args.stamp) c.args.overflows (plain_of x) (record { router = moved (plain_of x).router c.args.peer NoMessage (draft x.own_open NoMessage c.args.made.now); stamp = c.args.stamp })
+    (plain_of x) early c.if-overflows.false refl)
+
+-- memory was wanting: the peer is as it was
 pub invariant_of-self : goal.invariant_of-self
 invariant_of-self c =
     let r : RouterView = record { net = c.self.inside.network.now; number = c.self.inside.number; own_open = c.self.inside.own_open; peers = c.self.inside.peers.items; tables = c.self.inside.tables; marks = c.self.inside.marks; stamp = c.self.inside.stamp } in

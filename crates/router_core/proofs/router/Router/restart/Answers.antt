@@ -1,6 +1,7 @@
 use Rattle.std.proofs.Common.{◌≡◌, ◌∙◌, ◌+◌, ◌≤◌, false, ap, refl, subst, arith}
 use Rattle.std.specs.Prelude.{nat_lt, Ok, Err}
 use Rattle.std.proofs.lemmas.Bool.Decides.{nat_tests}
+use Rattle.std.proofs.lemmas.Result.{err_from_is_err_and}
 use Rattle.router_model.specs.declared.refusal.RouterError.TheVariants as error
 use Rattle.router_model.specs.declared.refusal.Stepped.TheVariants as stepped
 use Rattle.session_fsm.specs.declared.event.FsmEvent.TheVariants.{ManualStop}
@@ -10,10 +11,20 @@ use Rattle.router_model.specs.Step.{forgetting}
 use Rattle.router_model.specs.Calls.{Stamped, Obey}
 use Rattle.run_model.specs.declared.stamps.TheConstants.{GREATEST_STAMP}
 use Rattle.router_core.specs.Views.{RouterView, Answers, plain_of}
+use Rattle.router_core.specs.Calling.{no_step}
+use Rattle.router_core.proofs.NoStep.{ends_no_step}
 use Rattle.router_core.proofs.Snapshots.{with_peers, same_plain}
 use Rattle.router_core.proofs.Carrying.{ends_did, ends_memory}
 use Rattle.router_core.proofs.Ticking.{at_stamp, restarts, restarted, cleared, cleared_sound, prepared_sound, stops_fit, all_done}
 use Rattle.router_core.proofs.router.Router.restart.Goals as goal
+
+pub returns-in_err-stamp-clause-answers : goal.returns-in_err-stamp-clause-answers
+returns-in_err-stamp-clause-answers c =
+    let p = err_from_is_err_and c.from_residual.result c.from_residual.ensures.1 in
+    let r : RouterView = record { net = c.self.inside.network.now; number = c.self.inside.number; own_open = c.self.inside.own_open; peers = c.self.inside.peers.items; tables = c.self.inside.tables; marks = c.self.inside.marks; stamp = c.self.inside.stamp } in
+    rw (p.1, p.2, c.in_err-stamp.ensures.refused)
+    (subst (λ (x : RouterView). Answers (Err (no_step r.stamp)) x (Obey Restart) x) c.self.view_is (λ g e ranks.
+    restarts g r e c.self.invariant (Err (no_step r.stamp)) (plain_of r) (ends_no_step (nat_lt GREATEST_STAMP (r.stamp + 1)) (plain_of r) (restarted g r e c.self.invariant))))
 
 pub invariant_of-self : goal.invariant_of-self
 invariant_of-self c =
@@ -23,7 +34,7 @@ invariant_of-self c =
 pub returns-in_default-clause-answers : goal.returns-in_default-clause-answers
 returns-in_default-clause-answers c =
     let r : RouterView = record { net = c.self.inside.network.now; number = c.self.inside.number; own_open = c.self.inside.own_open; peers = c.self.inside.peers.items; tables = c.self.inside.tables; marks = c.self.inside.marks; stamp = c.self.inside.stamp } in
-    let early : nat_lt GREATEST_STAMP (r.stamp + 1) ≡ false = grind (arith, nat_tests, c.if-stamp-gt-GREATEST_STAMP.false) in
+    let early : nat_lt GREATEST_STAMP (r.stamp + 1) ≡ false = c.in_ok-stamp.ensures.next.1 in
     let qs = c.prepare.new.peers.items in
     let same = same_plain r qs r.marks c.prepare.ensures.same refl in
     subst (λ (x : RouterView). Answers (Err error.Memory) x (Obey Restart) (with_peers r qs r.marks r.stamp)) c.self.view_is (λ g e ranks.
@@ -42,19 +53,21 @@ pub invariant_of-self-3 : goal.invariant_of-self-3
 invariant_of-self-3 c =
     let r : RouterView = record { net = c.self.inside.network.now; number = c.self.inside.number; own_open = c.self.inside.own_open; peers = c.self.inside.peers.items; tables = c.self.inside.tables; marks = c.self.inside.marks; stamp = c.self.inside.stamp } in
     let w : RouterView = record { net = c.self-2.inside.network.now; number = c.self-2.inside.number; own_open = c.self-2.inside.own_open; peers = c.self-2.inside.peers.items; tables = c.self-2.inside.tables; marks = c.self-2.inside.marks; stamp = c.self-2.inside.stamp } in
-    let few : r.stamp + 1 ≤ GREATEST_STAMP = omega (arith, c.if-stamp-gt-GREATEST_STAMP.false) in
-    cleared_sound w c.clear.new.self (r.stamp + 1) c.self-2.invariant few c.clear.ensures
+    let few : r.stamp + 1 ≤ GREATEST_STAMP = grind (arith, nat_tests, c.in_ok-stamp.ensures.next.1) in
+    rw c.in_ok-stamp.ensures.next.0
+    (cleared_sound w c.clear.new.self (r.stamp + 1) c.self-2.invariant few c.clear.ensures)
 
 pub returns-clause-answers : goal.returns-clause-answers
 returns-clause-answers c =
     let r : RouterView = record { net = c.self.inside.network.now; number = c.self.inside.number; own_open = c.self.inside.own_open; peers = c.self.inside.peers.items; tables = c.self.inside.tables; marks = c.self.inside.marks; stamp = c.self.inside.stamp } in
     let w : RouterView = record { net = c.self-2.inside.network.now; number = c.self-2.inside.number; own_open = c.self-2.inside.own_open; peers = c.self-2.inside.peers.items; tables = c.self-2.inside.tables; marks = c.self-2.inside.marks; stamp = c.self-2.inside.stamp } in
-    let early : nat_lt GREATEST_STAMP (r.stamp + 1) ≡ false = grind (arith, nat_tests, c.if-stamp-gt-GREATEST_STAMP.false) in
+    let early : nat_lt GREATEST_STAMP (r.stamp + 1) ≡ false = c.in_ok-stamp.ensures.next.1 in
     let y = at_stamp w c.clear.new.self (r.stamp + 1) in
-    subst (λ (x : RouterView). Answers (Ok stepped.Did) x (Obey Restart) y) c.self.view_is (λ g e ranks.
+    rw c.in_ok-stamp.ensures.next.0
+    (subst (λ (x : RouterView). Answers (Ok stepped.Did) x (Obey Restart) y) c.self.view_is (λ g e ranks.
     restarts g r e c.self.invariant (Ok stepped.Did) (plain_of y)
     (ends_did (nat_lt GREATEST_STAMP (r.stamp + 1)) false (plain_of r) (restarted g r e c.self.invariant) (plain_of y) early refl
     (cleared w c.clear.new.self (r.stamp + 1) c.clear.ensures
     ∙ ap (λ (k : RouterView). record { router = forgetting (plain_of k).router; stamp = r.stamp + 1 }) c.self-2.view_is
     ∙ ap (λ (k : Stamped). record { router = forgetting k.router; stamp = r.stamp + 1 })
-    (all_done g r c.prepare.new.peers.items c.move_all.new.self (λ s. met r.own_open s ManualStop) e c.self.invariant c.prepare.ensures.same c.move_all.ensures (r.stamp + 1)))))
+    (all_done g r c.prepare.new.peers.items c.move_all.new.self (λ s. met r.own_open s ManualStop) e c.self.invariant c.prepare.ensures.same c.move_all.ensures (r.stamp + 1))))))

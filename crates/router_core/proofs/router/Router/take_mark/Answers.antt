@@ -1,6 +1,7 @@
-use Rattle.std.proofs.Common.{◌≡◌, ◌∙◌, ◌&&◌, true, false, Some, sym, ap, subst, arith}
+use Rattle.std.proofs.Common.{◌≡◌, ◌∙◌, ◌&&◌, true, false, Some, refl, sym, ap, subst, arith}
 use Rattle.std.specs.Prelude.{nat_lt, Ok}
 use Rattle.std.proofs.lemmas.Bool.Decides.{nat_tests}
+use Rattle.std.proofs.lemmas.Result.{err_from_is_err_and}
 use Rattle.router_model.specs.declared.refusal.Stepped.TheVariants as stepped
 use Rattle.router_model.specs.Settings.{peers}
 use Rattle.router_model.specs.Sides.{Side, is_up, uses}
@@ -13,6 +14,11 @@ use Rattle.router_core.proofs.Marking.{same_become}
 use Rattle.router_core.proofs.Snapshots.{Marks, same_alike, stays_sound}
 use Rattle.router_core.proofs.MarkTaking.{at_stamp, takes_nothing, takes_new, takes_old, is_link}
 use Rattle.router_core.proofs.router.Router.take_mark.Goals as goal
+
+pub returns-in_err-room-clause-takes : goal.returns-in_err-room-clause-takes
+returns-in_err-room-clause-takes c =
+    let p = err_from_is_err_and c.from_residual.result c.from_residual.ensures.1 in
+    rw (p.1, p.2) (λ g q ranks. (refl, refl))
 
 pub returns-then-not-heeds-clause-takes : goal.returns-then-not-heeds-clause-takes
 returns-then-not-heeds-clause-takes c =

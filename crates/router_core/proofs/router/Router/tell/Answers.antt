@@ -1,6 +1,7 @@
 use Rattle.std.proofs.Common.{◌≡◌, ℕ, ◌+◌, ◌<◌, ◌≤◌, false, length, arith, rules, refl, ap, sym, subst, ◌∙◌}
 use Rattle.std.specs.Prelude.{nat_lt, Ok, Err}
 use Rattle.std.proofs.lemmas.Bool.Decides.{nat_tests}
+use Rattle.std.proofs.lemmas.Result.{err_from_is_err_and}
 use Rattle.bgp_values.specs.declared.width.Width.{Width}
 use Rattle.bgp_codec.specs.declared.message.Message.TheVariants.{UpdateMsg}
 use Rattle.rib_tables.specs.Tables.{path_of}
@@ -13,10 +14,21 @@ use Rattle.run_model.specs.declared.stamps.TheConstants.{GREATEST_STAMP}
 use Rattle.router_side.specs.Sayings.{IsSayable}
 use Rattle.router_side.specs.SideOf.{side}
 use Rattle.router_core.specs.declared.peers.Peer.{Peer}
-use Rattle.router_core.specs.Views.{RouterView, IsAt, MayTell, Tells, sides_of}
+use Rattle.router_core.specs.Views.{RouterView, IsAt, MayTell, Tells, sides_of, plain_of, told_to}
+use Rattle.router_core.specs.Calling.{no_step}
+use Rattle.router_core.proofs.NoStep.{ends_no_step}
 use Rattle.router_core.proofs.Untold.{below, named, named_there, place, here, has_width, is_linked, up, number_is}
 use Rattle.router_core.proofs.Tellings.{with_peer_and_tables, sound_still, plain_still, sound_told, plain_told}
 use Rattle.router_core.proofs.router.Router.tell.Goals as goal
+
+pub returns-in_err-stamp-clause-tells : goal.returns-in_err-stamp-clause-tells
+returns-in_err-stamp-clause-tells c =
+    let p = err_from_is_err_and c.from_residual.result c.from_residual.ensures.1 in
+    let r : RouterView = record { net = c.self.inside.network.now; number = c.self.inside.number; own_open = c.self.inside.own_open; peers = c.self.inside.peers.items; tables = c.self.inside.tables; marks = c.self.inside.marks; stamp = c.self.inside.stamp } in
+    let q = c.args.prefix.now in
+    rw (p.1, p.2, c.in_err-stamp.ensures.refused)
+    (subst (λ (x : RouterView). (v : ℕ) → IsAt x.peers v c.args.at → Tells (Err (no_step r.stamp)) x v q x) c.self.view_is (λ v at.
+    ends_no_step (nat_lt GREATEST_STAMP (r.stamp + 1)) (plain_of r) (told_to (plain_of r) r.net r.number v q)))
 
 pub telling-requires-clause-named : goal.telling-requires-clause-named
 telling-requires-clause-named c =
@@ -63,7 +75,7 @@ returns-in_default-reserve_telling-clause-tells c =
     let is = c.index_mut.ensures.value in
     let kept : Peer = record { number = p.number; end = c.reserve_telling.new.self } in
     let still : side kept.end ≡ sides_of r p.number = c.reserve_telling.ensures.side ∙ here r c.self.invariant c.args.at q may p is in
-    let early : nat_lt GREATEST_STAMP (r.stamp + 1) ≡ false = grind (arith, nat_tests, c.if-stamp-gt-GREATEST_STAMP.false) in
+    let early : nat_lt GREATEST_STAMP (r.stamp + 1) ≡ false = c.in_ok-stamp.ensures.next.1 in
     subst (λ (x : RouterView). (v : ℕ) → IsAt x.peers v c.args.at → Tells (Err error.Memory) x v q (with_peer_and_tables r c.args.at kept r.tables r.stamp)) c.self.view_is (λ v at.
     rw early (refl, plain_still r c.self.invariant p.number c.args.at (place r c.self.invariant c.args.at q may p is) kept refl still))
 
@@ -103,7 +115,7 @@ returns-in_default-tell-clause-tells c =
     let is = c.index_mut.ensures.value in
     let kept : Peer = record { number = p.number; end = c.reserve_telling.new.self } in
     let still : side kept.end ≡ sides_of r p.number = c.reserve_telling.ensures.side ∙ here r c.self.invariant c.args.at q may p is in
-    let early : nat_lt GREATEST_STAMP (r.stamp + 1) ≡ false = grind (arith, nat_tests, c.if-stamp-gt-GREATEST_STAMP.false) in
+    let early : nat_lt GREATEST_STAMP (r.stamp + 1) ≡ false = c.in_ok-stamp.ensures.next.1 in
     rw c.in_default-tell.ensures.err
     (subst (λ (x : RouterView). (v : ℕ) → IsAt x.peers v c.args.at → Tells (Err error.Memory) x v q (with_peer_and_tables r c.args.at kept r.tables r.stamp)) c.self.view_is (λ v at.
     rw early (refl, plain_still r c.self.invariant p.number c.args.at (place r c.self.invariant c.args.at q may p is) kept refl still)))
@@ -141,8 +153,9 @@ invariant_of-self-2 c =
     let before : side c.reserve_telling.new.self ≡ sides_of r p.number = c.reserve_telling.ensures.side ∙ here r c.self.invariant c.args.at q may p is in
     let says : side told_peer.end ≡ told (sides_of r p.number) (telling (identifier r.net.routers r.number) q (path_of r.tables.kept q)) =
     c.tell-2.ensures ∙ ap (λ (s : Side). told s c.in-Ok.update) before ∙ ap (told (sides_of r p.number)) update in
-    let few : r.stamp + 1 ≤ GREATEST_STAMP = omega (arith, c.if-stamp-gt-GREATEST_STAMP.false) in
-    sound_told r c.self.invariant p.number c.args.at (place r c.self.invariant c.args.at q may p is) told_peer refl q (up r c.self.invariant c.args.at q may p is) c.tell.new.self c.in-Ok-tell.ensures.ok says (r.stamp + 1) few
+    let few : r.stamp + 1 ≤ GREATEST_STAMP = grind (arith, nat_tests, c.in_ok-stamp.ensures.next.1) in
+    rw c.in_ok-stamp.ensures.next.0
+    (sound_told r c.self.invariant p.number c.args.at (place r c.self.invariant c.args.at q may p is) told_peer refl q (up r c.self.invariant c.args.at q may p is) c.tell.new.self c.in-Ok-tell.ensures.ok says (r.stamp + 1) few)
 
 pub returns-clause-tells : goal.returns-clause-tells
 returns-clause-tells c =
@@ -157,8 +170,9 @@ returns-clause-tells c =
     let before : side c.reserve_telling.new.self ≡ sides_of r p.number = c.reserve_telling.ensures.side ∙ here r c.self.invariant c.args.at q may p is in
     let says : side told_peer.end ≡ told (sides_of r p.number) (telling (identifier r.net.routers r.number) q (path_of r.tables.kept q)) =
     c.tell-2.ensures ∙ ap (λ (s : Side). told s c.in-Ok.update) before ∙ ap (told (sides_of r p.number)) update in
-    let early : nat_lt GREATEST_STAMP (r.stamp + 1) ≡ false = grind (arith, nat_tests, c.if-stamp-gt-GREATEST_STAMP.false) in
+    let early : nat_lt GREATEST_STAMP (r.stamp + 1) ≡ false = c.in_ok-stamp.ensures.next.1 in
     let all : Tells (Ok stepped.Did) r p.number q (with_peer_and_tables r c.args.at told_peer c.tell.new.self (r.stamp + 1)) =
     rw early (refl, plain_told r c.self.invariant p.number c.args.at (place r c.self.invariant c.args.at q may p is) told_peer refl q (up r c.self.invariant c.args.at q may p is) c.tell.new.self c.in-Ok-tell.ensures.ok says (r.stamp + 1) refl) in
-    subst (λ (x : RouterView). (v : ℕ) → IsAt x.peers v c.args.at → Tells (Ok stepped.Did) x v q (with_peer_and_tables r c.args.at told_peer c.tell.new.self (r.stamp + 1))) c.self.view_is (λ v at.
-    subst (λ (n : ℕ). Tells (Ok stepped.Did) r n q (with_peer_and_tables r c.args.at told_peer c.tell.new.self (r.stamp + 1))) (number_is r c.self.invariant c.args.at q may p is v at) all)
+    rw c.in_ok-stamp.ensures.next.0
+    (subst (λ (x : RouterView). (v : ℕ) → IsAt x.peers v c.args.at → Tells (Ok stepped.Did) x v q (with_peer_and_tables r c.args.at told_peer c.tell.new.self (r.stamp + 1))) c.self.view_is (λ v at.
+    subst (λ (n : ℕ). Tells (Ok stepped.Did) r n q (with_peer_and_tables r c.args.at told_peer c.tell.new.self (r.stamp + 1))) (number_is r c.self.invariant c.args.at q may p is v at) all))

@@ -1,6 +1,7 @@
 use Rattle.std.proofs.Common.{◌≡◌, ◌∙◌, ◌+◌, ◌≤◌, ap, sym, refl, subst, true, false, arith}
 use Rattle.std.specs.Prelude.{nat_lt, max, Ok, Err}
 use Rattle.std.proofs.lemmas.Bool.Decides.{nat_tests}
+use Rattle.std.proofs.lemmas.Result.{err_from_is_err_and}
 use Rattle.bgp_framing.specs.Held.{is_waiting}
 use Rattle.outbox.specs.declared.item.What.TheVariants as item
 use Rattle.router_model.specs.declared.refusal.RouterError.TheVariants as error
@@ -16,8 +17,8 @@ use Rattle.router_core.specs.declared.peers.Peer.{Peer}
 use Rattle.router_core.specs.Views.{RouterView, IsFound, Answers, Carries, TakesMark, sides_of, plain_of}
 use Rattle.router_core.proofs.PeerLemmas.{here_same}
 use Rattle.router_core.proofs.Carrying.{Changes, with_peer, of_sound, stays, tracks_alike, records_same, keeps_here}
-use Rattle.router_core.proofs.Taking.{takes_held, takes_late, takes_dial, takes_shut, takes_piece, takes_mark, fed_is, shut_fits}
-use Rattle.router_core.proofs.router.Router.take_item.Goals as goal
+use Rattle.router_core.proofs.Taking.{takes_held, takes_late, takes_dial, takes_shut, takes_piece, refuses_piece, takes_mark, fed_is, shut_fits}
+use Rattle.router_core.proofs.router.Router.take.Goals as goal
 
 pub returns-then-is_waiting-clause-answers : goal.returns-then-is_waiting-clause-answers
 returns-then-is_waiting-clause-answers c =
@@ -82,8 +83,20 @@ returns-in-Shut-clause-answers c =
     takes_shut g r c.args.peer c.in-Some.at p (of_sound g r c.self.invariant e) found.2 c.index-in-Shut.ensures found.1 c.args.item.now.stamp (plain_of c.carry_out-in-Shut.new.self) a c.carry_out-in-Shut.result c.in-Shut.number free
     c.sign-made-in-Shut.ensures ends))
 
-pub returns-in-Piece-clause-answers : goal.returns-in-Piece-clause-answers
-returns-in-Piece-clause-answers c =
+pub returns-in_err-room-in-Piece-clause-answers : goal.returns-in_err-room-in-Piece-clause-answers
+returns-in_err-room-in-Piece-clause-answers c =
+    let p = err_from_is_err_and c.from_residual.result c.from_residual.ensures.1 in
+    let r : RouterView = record { net = c.self.inside.network.now; number = c.self.inside.number; own_open = c.self.inside.own_open; peers = c.self.inside.peers.items; tables = c.self.inside.tables; marks = c.self.inside.marks; stamp = c.self.inside.stamp } in
+    let found = subst (λ (x : RouterView). IsFound x.peers c.args.peer c.in-Some.at) (sym c.self.view_is) c.in-Some.ensures.place in
+    let next : c.saturating_add-stamp.result ≡ max r.stamp c.args.item.now.stamp + 1 = omega (arith, c.if-stamp-gt-GREATEST_STAMP.false, c.max.ensures, c.saturating_add-stamp.ensures) in
+    let early : nat_lt GREATEST_STAMP (max r.stamp c.args.item.now.stamp + 1) ≡ false = grind (arith, nat_tests, c.if-stamp-gt-GREATEST_STAMP.false, next) in
+    rw (p.1, p.2, c.in-Piece.is)
+    (subst (λ (x : RouterView). Answers (Err error.Memory) x (Take c.args.peer c.args.item.now.stamp (item.Piece c.in-Piece.epoch c.in-Piece.octets)) x) c.self.view_is (λ g e ranks.
+    refuses_piece g r c.args.peer c.in-Some.at c.index.result.now (of_sound g r c.self.invariant e) found.2 c.index.ensures found.1 c.args.item.now.stamp c.in-Piece.epoch c.in-Piece.octets
+    (sym c.is_waiting.ensures ∙ c.if-is_waiting.false) early))
+
+pub returns-in_ok-room-in-Piece-clause-answers : goal.returns-in_ok-room-in-Piece-clause-answers
+returns-in_ok-room-in-Piece-clause-answers c =
     let r : RouterView = record { net = c.self.inside.network.now; number = c.self.inside.number; own_open = c.self.inside.own_open; peers = c.self.inside.peers.items; tables = c.self.inside.tables; marks = c.self.inside.marks; stamp = c.self.inside.stamp } in
     let found = subst (λ (x : RouterView). IsFound x.peers c.args.peer c.in-Some.at) (sym c.self.view_is) c.in-Some.ensures.place in
     let next : c.saturating_add-stamp.result ≡ max r.stamp c.args.item.now.stamp + 1 = omega (arith, c.if-stamp-gt-GREATEST_STAMP.false, c.max.ensures, c.saturating_add-stamp.ensures) in

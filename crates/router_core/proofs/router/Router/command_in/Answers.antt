@@ -1,4 +1,4 @@
-use Rattle.router_core.proofs.router.Router.command.Goals as goal
+use Rattle.router_core.proofs.router.Router.command_in.Goals as goal
 
 -- each command is answered by its own call
 pub returns-in-Start-clause-answers : goal.returns-in-Start-clause-answers

@@ -1,5 +1,5 @@
 use Rattle.router_core.proofs.Advertising.{is_blocked, tells}
-use Rattle.router_core.proofs.router.Router.advertise.Goals as goal
+use Rattle.router_core.proofs.router.Router.advertise_in.Goals as goal
 
 pub returns-in-Blocked-clause-answers : goal.returns-in-Blocked-clause-answers
 returns-in-Blocked-clause-answers c = λ g e ranks. is_blocked g c.args.self.now e c.in-Blocked.peer c.in-Blocked.ensures

@@ -1,5 +1,5 @@
-use Rattle.std.proofs.Common.{◌≡◌, ◌+◌, ◌≤◌, true, false, Option, arith, subst}
-use Rattle.std.specs.Prelude.{nat_lt, Ok, Err, MatchOption}
+use Rattle.std.proofs.Common.{◌≡◌, ◌+◌, ◌≤◌, Option, arith, subst}
+use Rattle.std.specs.Prelude.{Ok, Err, MatchOption}
 use Rattle.std.proofs.lemmas.Bool.Decides.{nat_tests}
 use Rattle.prefix_lanes.specs.Bits.{PrefixView}
 use Rattle.rib_tables.specs.Least.{HoldsOfAll, IsLeastWithout}
@@ -9,9 +9,10 @@ use Rattle.router_model.specs.declared.refusal.Stepped.TheVariants as stepped
 use Rattle.router_model.specs.Calls.{Decide}
 use Rattle.run_model.specs.declared.stamps.TheConstants.{GREATEST_STAMP}
 use Rattle.router_core.specs.Views.{RouterView, Answers}
+use Rattle.router_core.specs.Calling.{no_step}
 use Rattle.router_core.proofs.Originations.{with_tables}
-use Rattle.router_core.proofs.Deciding.{decided_all, late_to_decide, no_memory_to_decide, decides, sound_deciding}
-use Rattle.router_core.proofs.router.Router.decide.Goals as goal
+use Rattle.router_core.proofs.Deciding.{decided_all, no_step_to_decide, no_memory_to_decide, decides, sound_deciding}
+use Rattle.router_core.proofs.router.Router.decide_in.Goals as goal
 
 pub returns-in_default-clause-answers : goal.returns-in_default-clause-answers
 returns-in_default-clause-answers c =
@@ -21,34 +22,33 @@ returns-in_default-clause-answers c =
     (subst (λ (x : RouterView). Answers (Ok stepped.Nothing) x Decide r) c.self.view_is (λ g e ranks.
     decided_all laws.over laws.one g r (record { sound = c.self.invariant; net = e; ranks = ranks; linked = laws.linked }) c.in_default.ensures.least))
 
-pub returns-then-stamp-gt-GREATEST_STAMP-clause-answers : goal.returns-then-stamp-gt-GREATEST_STAMP-clause-answers
-returns-then-stamp-gt-GREATEST_STAMP-clause-answers c =
+pub returns-in-Err-clause-answers : goal.returns-in-Err-clause-answers
+returns-in-Err-clause-answers c =
     let r : RouterView = record { net = c.self.inside.network.now; number = c.self.inside.number; own_open = c.self.inside.own_open; peers = c.self.inside.peers.items; tables = c.self.inside.tables; marks = c.self.inside.marks; stamp = c.self.inside.stamp } in
     let laws = c.the_best_is_the_route.ensures in
-    let late : nat_lt GREATEST_STAMP (r.stamp + 1) ≡ true = grind (arith, nat_tests, c.if-stamp-gt-GREATEST_STAMP.true) in
-    rw c.dirty.ensures.same
-    (subst (λ (x : RouterView). Answers (Err error.StampEnd) x Decide r) c.self.view_is (λ g e ranks.
-    late_to_decide laws.over laws.one g r (record { sound = c.self.invariant; net = e; ranks = ranks; linked = laws.linked }) c.in-Some.field-0 c.in-Some.ensures.least late))
+    rw (c.dirty.ensures.same, c.in-Err.ensures.refused)
+    (subst (λ (x : RouterView). Answers (Err (no_step r.stamp)) x Decide r) c.self.view_is (λ g e ranks.
+    no_step_to_decide laws.over laws.one g r (record { sound = c.self.invariant; net = e; ranks = ranks; linked = laws.linked }) c.in-Some.field-0 c.in-Some.ensures.least))
 
 pub invariant_of-self-in-Ok-Some : goal.invariant_of-self-in-Ok-Some
 invariant_of-self-in-Ok-Some c =
     let r : RouterView = record { net = c.self.inside.network.now; number = c.self.inside.number; own_open = c.self.inside.own_open; peers = c.self.inside.peers.items; tables = c.self.inside.tables; marks = c.self.inside.marks; stamp = c.self.inside.stamp } in
     let t = c.decide.new.self in
-    let few : r.stamp + 1 ≤ GREATEST_STAMP = omega (arith, c.if-stamp-gt-GREATEST_STAMP.false) in
+    let few : r.stamp + 1 ≤ GREATEST_STAMP = grind (arith, nat_tests, c.in-Ok.ensures.next.1) in
     let least = subst (λ (o : Option PrefixView). MatchOption o (HoldsOfAll r.tables.net.origins (IsSettled r.tables)) (IsLeastWithout r.tables.net.origins (IsSettled r.tables))) c.in-Ok-Some.field-0-is c.in-Ok-Some.ensures.least in
     let does = subst (λ (o : Option PrefixView). MatchOption o (t ≡ r.tables) (Decides r.tables t)) c.in-Ok-Some.field-0-is c.in-Ok-Some.ensures.decides in
-    sound_deciding r c.self.invariant t c.in-Ok-Some.field-0-0 does least.is_named (r.stamp + 1) few
+    rw c.in-Ok.ensures.next.0 (sound_deciding r c.self.invariant t c.in-Ok-Some.field-0-0 does least.is_named (r.stamp + 1) few)
 
 pub returns-in-Ok-Some-clause-answers : goal.returns-in-Ok-Some-clause-answers
 returns-in-Ok-Some-clause-answers c =
     let r : RouterView = record { net = c.self.inside.network.now; number = c.self.inside.number; own_open = c.self.inside.own_open; peers = c.self.inside.peers.items; tables = c.self.inside.tables; marks = c.self.inside.marks; stamp = c.self.inside.stamp } in
     let laws = c.the_best_is_the_route.ensures in
     let t = c.decide.new.self in
-    let early : nat_lt GREATEST_STAMP (r.stamp + 1) ≡ false = grind (arith, nat_tests, c.if-stamp-gt-GREATEST_STAMP.false) in
     let least = subst (λ (o : Option PrefixView). MatchOption o (HoldsOfAll r.tables.net.origins (IsSettled r.tables)) (IsLeastWithout r.tables.net.origins (IsSettled r.tables))) c.in-Ok-Some.field-0-is c.in-Ok-Some.ensures.least in
     let does = subst (λ (o : Option PrefixView). MatchOption o (t ≡ r.tables) (Decides r.tables t)) c.in-Ok-Some.field-0-is c.in-Ok-Some.ensures.decides in
-    subst (λ (x : RouterView). Answers (Ok stepped.Did) x Decide (with_tables r t (r.stamp + 1))) c.self.view_is (λ g e ranks.
-    decides laws.over laws.one g r (record { sound = c.self.invariant; net = e; ranks = ranks; linked = laws.linked }) c.in-Ok-Some.field-0-0 least t does early)
+    rw c.in-Ok.ensures.next.0
+    (subst (λ (x : RouterView). Answers (Ok stepped.Did) x Decide (with_tables r t (r.stamp + 1))) c.self.view_is (λ g e ranks.
+    decides laws.over laws.one g r (record { sound = c.self.invariant; net = e; ranks = ranks; linked = laws.linked }) c.in-Ok-Some.field-0-0 least t does c.in-Ok.ensures.next.1))
 
 pub returns-in-Ok-None-clause-answers : goal.returns-in-Ok-None-clause-answers
 returns-in-Ok-None-clause-answers c =
@@ -61,12 +61,11 @@ returns-in-Ok-None-clause-answers c =
     (subst (λ (x : RouterView). Answers (Ok stepped.Nothing) x Decide r) c.self.view_is (λ g e ranks.
     decided_all laws.over laws.one g r (record { sound = c.self.invariant; net = e; ranks = ranks; linked = laws.linked }) least))
 
-pub returns-in-Err-clause-answers : goal.returns-in-Err-clause-answers
-returns-in-Err-clause-answers c =
+pub returns-in-Err-decide-clause-answers : goal.returns-in-Err-decide-clause-answers
+returns-in-Err-decide-clause-answers c =
     let r : RouterView = record { net = c.self.inside.network.now; number = c.self.inside.number; own_open = c.self.inside.own_open; peers = c.self.inside.peers.items; tables = c.self.inside.tables; marks = c.self.inside.marks; stamp = c.self.inside.stamp } in
     let laws = c.the_best_is_the_route.ensures in
-    let early : nat_lt GREATEST_STAMP (r.stamp + 1) ≡ false = grind (arith, nat_tests, c.if-stamp-gt-GREATEST_STAMP.false) in
-    let pending = c.in-Err.ensures.pending in
-    rw c.in-Err.ensures.err
+    let pending = c.in-Err-decide.ensures.pending in
+    rw c.in-Err-decide.ensures.err
     (subst (λ (x : RouterView). Answers (Err error.Memory) x Decide r) c.self.view_is (λ g e ranks.
-    no_memory_to_decide laws.over laws.one g r (record { sound = c.self.invariant; net = e; ranks = ranks; linked = laws.linked }) pending.0 pending.1 early))
+    no_memory_to_decide laws.over laws.one g r (record { sound = c.self.invariant; net = e; ranks = ranks; linked = laws.linked }) pending.0 pending.1 c.in-Ok.ensures.next.1))
