@@ -1,6 +1,8 @@
 -- What ends a worker.
-use Rattle.std.proofs.Common.{◌≡◌, ℕ, Bool, true, false, not, ◌&&◌, refl, ap, sym, ◌∙◌, subst, Option, None, Some, inl, inr}
-use Rattle.std.specs.Prelude.{Result, Ok, Err, IsOk, OnOk, IfErr, nat_lt}
+use Rattle.std.proofs.Common.{◌≡◌, ℕ, ◌+◌, ◌<◌, ◌≤◌, arith, Bool, true, false, not, ◌&&◌, List, [], ◌∷◌, ◌++◌, length, get_or, length-append, refl, ap, sym, ◌∙◌, subst, Option, None, Some, inl, inr}
+use Rattle.std.specs.Prelude.{Result, Ok, Err, IsOk, IsErr, IsErrAnd, OnOk, OnErr, IfErr, nat_lt}
+use Rattle.std.proofs.lemmas.Bool.{eq-eqb}
+use Rattle.std.specs.List.{Contains}
 use Rattle.std.specs.Result.{result_err}
 use Rattle.bgp_framing.specs.Held.{is_waiting}
 use Rattle.outbox.specs.declared.item.Item.{Item}
@@ -15,6 +17,7 @@ use Rattle.router_model.specs.Calls.{Stamped, Call, Put, Take, Answer, Steps, Id
 use Rattle.router_core.specs.Views.{RouterView, plain_of, sides_of, Answers, IsSame, Shows, ShowsNext}
 use Rattle.worker_loop.specs.declared.worker.WorkerFault.{WorkerFault}
 use Rattle.worker_loop.specs.declared.worker.WorkerFault.TheVariants as fault
+use Rattle.worker_loop.specs.Acts.{grown}
 use Rattle.worker_loop.specs.Whole.{passing}
 use Rattle.worker_loop.specs.Ending.{ending, lost}
 
@@ -22,6 +25,19 @@ use Rattle.worker_loop.specs.Ending.{ending, lost}
 pub with_room : {T E : Type 0} → (room : Result T E) (P : Type 0) → IsOk room → OnOk room P → P
 with_room (Ok x) P is h = h
 with_room (Err why) P is h = absurd cc
+
+-- a caller has room for what is refused where it has none
+pub has_room : {T E : Type 0} → (room : Result T E) → OnErr room (false ≡ true) → IsOk room
+has_room (Ok x) h = refl
+has_room (Err why) h = absurd (let k = h in cc)
+
+pub if_err : {T E : Type 0} → (r : Result T E) (P Q : E → Type 0) → ((e : E) → P e → Q e) → IsErrAnd r P → IfErr r Q
+if_err (Ok x) P Q f h = tt
+if_err (Err e) P Q f h = f e h
+
+pub on_err : {T E : Type 0} → (r : Result T E) (P : Type 0) → P → OnErr r P
+on_err (Ok x) P h = tt
+on_err (Err e) P h = h
 
 if_ended : (r : Result (Unit {0}) WorkerFault) (P : WorkerFault → Type 0) → ((why : WorkerFault) → r ≡ Err why → P why) → IfErr r P
 if_ended (Ok x) P f = tt
@@ -76,6 +92,9 @@ put_wants x v item ends h wants g net set = due_by (x.stamp + 1) item ends (answ
 
 -- ---- takes
 
+pub taken_last : (f h : ℕ → List Item) (v : ℕ) (x : Item) → h ≡ grown f v x → h v ≡ f v ++ x ∷ []
+taken_last f h v x e = ap (λ k. k v) e ∙ rw (eq-eqb v v refl) refl
+
 unbarred : (v : ℕ) (link free : Bool) → (link && free) ≡ true → first_of (unless link error.NoSuchPeer) (unless free (error.Held v)) ≡ None
 unbarred v true true h = refl
 unbarred v true false h = absurd cc
@@ -113,3 +132,18 @@ take_ends x y v item why may h same g net set =
     (ap (λ (z : Stamped). ending (answer g x.number z call)) still
     ∙ take_by g x.number v item.stamp item.what (plain_of x) (plain_of y) why
     (ap (λ n. linked n x.number v && not (is_waiting (sides_of x v).held)) (net ∙ same.net) ∙ may) gives)
+
+-- ---- peers and chores
+
+pub peer_there : (peers now : List ℕ) (i v : ℕ) → i < length peers → v ≡ get_or peers i v → now ≡ peers → Contains now v
+peer_there peers now i v below is same = subst (λ xs. Contains xs v) (sym same) (i, below, sym is)
+
+pub few_given : {A : Type 0} → (before given : List A) (turn turns : ℕ) → given ≡ before → turn ≡ length before → turn < turns → length given < turns
+few_given before given turn turns same counted below = (let many : length given ≡ turn = ap length same ∙ sym counted in omega (arith, many, below))
+
+pub last_given : {A : Type 0} → (before given : List A) (last : A) (turn turns : ℕ) → given ≡ before ++ last ∷ [] → turn ≡ length before → turn < turns → length given ≤ turns
+last_given before given last turn turns same counted below =
+    let many : length given ≡ length before + 1 = ap length same ∙ length-append before (last ∷ []) in omega (arith, many, counted, below)
+
+pub few_is_most : (n turns : ℕ) → n < turns → n ≤ turns
+few_is_most n turns below = omega (arith, below)

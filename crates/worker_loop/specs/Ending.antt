@@ -35,6 +35,10 @@ lost (error.Held v) = fault.Refused
 lost error.StampEnd = fault.Refused
 lost error.EpochEnd = fault.Refused
 
+-- memory was wanting to write down the next of so many chores
+abbrev pub EndsBetween : ℕ → List Chore → WorkerFault → Type 0
+EndsBetween turns given why = (why ≡ fault.Memory) × (length given < turns)
+
 module _ {L D G : Type 0} where
   -- a call of its router ends it so, in every setting of the network
   abbrev pub EndsCall : Worker L D G → Call → WorkerFault → Type 0
@@ -78,10 +82,6 @@ module _ {L D G : Type 0} where
     pub chore : Chore
     pub last : given ≡ before ++ chore ∷ []
     pub ends : EndsChore taken_from w chore why
-
-  -- memory was wanting to write down the next chore
-  abbrev pub EndsBetween : ℕ → List Chore → WorkerFault → Type 0
-  EndsBetween turns given why = (why ≡ fault.Memory) × (length given < turns)
 
   -- why a worker ended that was given these of so many chores, all of which it wrote down
   pub record EndsFor (taken_from : L → ℕ → List Item) (turns : ℕ) (given : List Chore) (w : Worker L D G) (why : WorkerFault) : Type 0 where

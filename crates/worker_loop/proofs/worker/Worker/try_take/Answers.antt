@@ -1,7 +1,7 @@
-use Rattle.std.proofs.Common.{◌∙◌, ◌+◌, ◌≤◌, arith, vec_len, vec_capacity, ap, refl, ◌++◌, ◌∷◌, [], ℕ}
+use Rattle.std.proofs.Common.{◌∙◌, sym, ◌+◌, ◌≤◌, arith, vec_len, vec_capacity, ap, refl, ◌++◌, ◌∷◌, [], ℕ}
 use Rattle.world_core.specs.declared.schedule.Event.TheVariants.{Take}
 use Rattle.worker_loop.specs.Whole.{entry}
-use Rattle.worker_loop.proofs.Ending.{with_room, take_ends}
+use Rattle.worker_loop.proofs.Ending.{with_room, take_ends, taken_last}
 use Rattle.worker_loop.proofs.Trying.{take_did}
 use Rattle.worker_loop.proofs.worker.Worker.try_take.Goals as goal
 
@@ -19,7 +19,16 @@ returns-in-Ok-Did-clause-done g c =
     c.in-Some.ensures.taken c.take.ensures.put c.take.ensures.room refl
     (c.note.ensures ∙ ap (λ l. l ++ entry c.stamp.result (Take c.number.result c.args.peer) ∷ []) c.reserve-room.ensures.items
     ∙ ap (λ (n : ℕ). c.args.self.now.journal.events.items ++ entry n (Take c.number.result c.args.peer) ∷ []) c.stamp.ensures
-    ∙ ap (λ (n : ℕ). c.args.self.now.journal.events.items ++ entry c.take-router.new.self.stamp (Take n c.args.peer) ∷ []) (c.number.ensures ∙ c.take-router.ensures.same.number))
+    ∙ ap (λ (n : ℕ). c.args.self.now.journal.events.items ++ entry c.take-2.new.self.stamp (Take n c.args.peer) ∷ []) (c.number.ensures ∙ c.take-2.ensures.same.number))
 
-pub returns-in-Err-clause-ended : goal.returns-in-Err-clause-ended
-returns-in-Err-clause-ended g c = ?
+pub returns-clause-ended : goal.returns-clause-ended
+returns-clause-ended g c =
+    let x = c.args.self.now.router in
+    let i = c.in-Some.item in
+    record {
+      item = i;
+      before = g.L.Lines.taken_from c.args.self.now.lines c.args.peer;
+      taken = taken_last (g.L.Lines.taken_from c.args.self.now.lines) (g.L.Lines.taken_from c.take.new.self) c.args.peer i c.in-Some.ensures.taken;
+      ends = rw c.lost.ensures
+          (take_ends x c.take-2.new.self c.args.peer i c.in-Err.error (sym c.may_take.ensures ∙ c.if-not-may_take.false) c.in-Err.ensures.answers c.take-2.ensures.same);
+    }
