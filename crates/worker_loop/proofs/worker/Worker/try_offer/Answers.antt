@@ -1,6 +1,6 @@
 use Rattle.std.proofs.Common.{◌∙◌, ◌+◌, ◌≤◌, arith, vec_len, vec_capacity, ap, refl, ◌++◌, ◌∷◌, [], ℕ, ◌<◌, subst}
 use Rattle.run_model.specs.Offers.{made_of}
-use Rattle.snap_marker.specs.Recordings.{RouterOffer, MadeOffer}
+use Rattle.snap_marker.specs.Recordings.{MadeOffer}
 use Rattle.snap_marker.specs.Parts.{offer_of}
 use Rattle.world_core.specs.declared.schedule.Event.TheVariants.{Offer}
 use Rattle.worker_loop.specs.Acts.{with_offer}
