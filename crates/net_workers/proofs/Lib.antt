@@ -3,6 +3,7 @@ pub mod Lists
 pub mod Blocks
 pub mod Runs
 pub mod Records
+pub mod Faults
 pub mod Rooms
 pub mod Dealt
 pub mod Ways

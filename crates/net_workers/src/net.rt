@@ -6,7 +6,7 @@ ghost use Rattle.ranked_policy.specs.Plans.{IsRouter};
 ghost use Rattle.snap_marker.specs.Parts.{router_of};
 ghost use Rattle.snap_collector.specs.Collector.{AreMembers, made_for, with_offers};
 ghost use Rattle.offer_board.specs.Boards.{offers_in};
-ghost use Rattle.net_workers.specs.Ran.{first_fault, worked_of, lines_of, OffersOf, AreLimits, IsRecord};
+ghost use Rattle.net_workers.specs.Ran.{first_fault, FaultOf, worked_of, lines_of, OffersOf, AreLimits, IsRecord};
 ghost use Rattle.net_workers.specs.Runs.{RunKeepsPromises};
 ghost use Rattle.net_workers.specs.Ways.{AreWays, passed_in};
 
@@ -130,6 +130,7 @@ where
     requires fresh { AllByRecursion (λ gate. G.given gate ≡ []) gates.items }
     requires limits { AreLimits network.now turns (length gates.items) }
     ensures other { IfErr result (λ why. why ≢ RunFault.BadLimits) }
+    ensures fault { IfErr result (FaultOf G.given network.now turns) }
     ensures told { IfOk result (λ r. map (λ w. G.told w.gate) r.workers.items ≡ map G.told gates.items) }
     ensures ways { IfOk result (λ r. AreWays network.now r.ways.items) }
     ensures recorded { IfOk result (λ r. IsRecord G.given network.now turns (passed_in r.ways.items) r.workers.items r.collector r.gathered.items) }
@@ -184,6 +185,8 @@ where
     requires fresh { AllByRecursion (λ gate. G.given gate ≡ []) gates.items }
     ensures limits { OnOk result (AreLimits network.now limits.turns (length gates.items)) }
     ensures refused { IfErr result (λ why. why ≡ RunFault.BadLimits ↔ (AreLimits network.now limits.turns (length gates.items) → ⊥)) }
+    // The fault of a worker is that of the least router that has one, and it ended for it.
+    ensures fault { IfErr result (FaultOf G.given network.now limits.turns) }
     // Router by router, what the gate that comes back was told is what the one given was told.
     ensures told { IfOk result (λ r. map (λ w. G.told w.gate) r.workers.items ≡ map G.told gates.items) }
     ensures ways { IfOk result (λ r. AreWays network.now r.ways.items) }

@@ -1,7 +1,11 @@
 //! A worker's place at the board.
 
+ghost use Rattle.std.specs.Prelude.{◌≡◌, ◌<◌, vec_len, vec_capacity, IfOk, OnOk, OnErr, IsErr};
+ghost use Rattle.snap_marker.specs.Parts.{offer_of, router_of};
+
 use offer_board::{BoardState, CollectError, Made};
 use snap_marker::Offer;
+use std::alloc::AllocError;
 use std::sync::{Mutex, Wait};
 use worker_loop::{Desk, WorkerFault};
 
@@ -25,6 +29,22 @@ fn ended_by(error: CollectError) -> WorkerFault {
     }
 }
 
+impl Place {
+    // A copy of an offer, for which there is room. It is refused only where a growth was, here or with the
+    // caller.
+    fn prepared(&mut self, offer: &Offer, room: Result<(), AllocError>) -> Result<Offer, AllocError>
+        ensures made { self.new.made.items ≡ self.old.made.items }
+        ensures room { OnOk result (vec_len self.new.made < vec_capacity self.new.made) }
+        ensures offer { IfOk result (λ copy. offer_of copy ≡ offer_of offer.now) }
+        ensures router { IfOk result (λ copy. router_of copy ≡ router_of offer.now) }
+        ensures full { OnErr room (IsErr result) }
+    {
+        room?;
+        self.made.reserve(1)?;
+        offer.copied(*self.made.allocator())
+    }
+}
+
 impl Desk for Place {
     ghost use Rattle.offer_board.specs.Boards.{collected_in};
 
@@ -37,12 +57,17 @@ impl Desk for Place {
         rt: &R,
         board: &Board,
         stamp: u64,
-        offer: Offer,
+        offer: &Offer,
+        room: Result<(), AllocError>,
     ) -> Result<u64, WorkerFault> {
-        self.made.reserve(1)?;
-        let copy = offer.copied(*self.made.allocator())?;
-        match board.lock(rt).offer(stamp, copy) {
+        let own = self.prepared(offer, room);
+        let room = match &own {
+            Ok(_) => Ok(()),
+            Err(error) => Err(*error),
+        };
+        match board.lock(rt).offer(stamp, offer, room) {
             Ok((_taken, stamp)) => {
+                let Ok(offer) = own else { unreachable!() };
                 self.made.push_reserved(Made { stamp, offer });
                 Ok(stamp)
             }

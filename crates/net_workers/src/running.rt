@@ -1,12 +1,13 @@
 //! Workers in threads of their own.
 
-ghost use Rattle.std.specs.Prelude.{◌≡◌, ◌<◌, ℕ, [], length, map, true, All, IfOk, IfNone, slice_index_or};
+ghost use Rattle.std.specs.Prelude.{◌≡◌, ◌<◌, ℕ, [], length, map, true, All, IfOk, IfNone, IfSome, slice_index_or};
 ghost use Rattle.std.specs.List.{AllByRecursion};
 ghost use Rattle.ranked_policy.specs.Plans.{IsNetwork, IsRouter, numbers};
 ghost use Rattle.router_model.specs.Settings.{peers};
-ghost use Rattle.net_workers.specs.Lanes.{AreNew};
+ghost use Rattle.worker_loop.specs.Whole.{IsLaterWorker};
+ghost use Rattle.net_workers.specs.Lanes.{AreNew, wires_of};
 ghost use Rattle.net_workers.specs.Dealt.{AreDealt};
-ghost use Rattle.net_workers.specs.Ran.{IsFresh, Ran, lines_of};
+ghost use Rattle.net_workers.specs.Ran.{IsFresh, Ran, Ceased, lines_of};
 
 use crate::dealing::deal;
 use crate::ends::Ends;
@@ -106,6 +107,8 @@ fn run_one<R: Wait, G: Gate>(rt: &R, board: &Board, turns: u32, ended: &mut Ende
     requires chores { ended.old.worker.journal.chores.items ≡ [] }
     ensures ran { IfNone ended.new.fault (Ran G.given turns ended.old.worker ended.new.worker) }
     ensures told { G.told ended.new.worker.gate ≡ G.told ended.old.worker.gate }
+    ensures same { IsLaterWorker wires_of ended.old.worker ended.new.worker }
+    ensures ended { IfSome ended.new.fault (Ceased G.given turns ended.new.worker) }
 {
     ended.fault = ended.worker.work(rt, board, turns).err();
 }
@@ -121,6 +124,8 @@ where
     ensures ran { (i : ℕ) (d : _) → i < length workers.old → IfNone (slice_index_or workers.new i d).fault
         (Ran G.given turns (slice_index_or workers.old i d).worker (slice_index_or workers.new i d).worker) }
     ensures told { (i : ℕ) (d : _) → i < length workers.old → G.told (slice_index_or workers.new i d).worker.gate ≡ G.told (slice_index_or workers.old i d).worker.gate }
+    ensures same { (i : ℕ) (d : _) → i < length workers.old → IsLaterWorker wires_of (slice_index_or workers.old i d).worker (slice_index_or workers.new i d).worker }
+    ensures ended { (i : ℕ) (d : _) → i < length workers.old → IfSome (slice_index_or workers.new i d).fault (Ceased G.given turns (slice_index_or workers.new i d).worker) }
 {
     let threads = workers.len();
     if threads == 0 {
@@ -135,7 +140,7 @@ where
 }
 
 /// Runs each worker in a thread of its own, and ends as all have. A worker that ends without a fault
-/// did what its gate said.
+/// did what its gate said, and one with a fault ended for it.
 pub(crate) fn run_all<'a, R, G>(rt: &R, board: &Board, turns: u32, workers: &mut Vec<Ended<'a, G>>)
 where
     R: Threads + Wait + Sync,
@@ -146,6 +151,8 @@ where
     ensures ran { (i : ℕ) (d : _) → i < length workers.old.items → IfNone (slice_index_or workers.new.items i d).fault
         (Ran G.given turns (slice_index_or workers.old.items i d).worker (slice_index_or workers.new.items i d).worker) }
     ensures told { (i : ℕ) (d : _) → i < length workers.old.items → G.told (slice_index_or workers.new.items i d).worker.gate ≡ G.told (slice_index_or workers.old.items i d).worker.gate }
+    ensures same { (i : ℕ) (d : _) → i < length workers.old.items → IsLaterWorker wires_of (slice_index_or workers.old.items i d).worker (slice_index_or workers.new.items i d).worker }
+    ensures ended { (i : ℕ) (d : _) → i < length workers.old.items → IfSome (slice_index_or workers.new.items i d).fault (Ceased G.given turns (slice_index_or workers.new.items i d).worker) }
 {
     run_each(rt, board, turns, workers.as_mut_slice());
 }

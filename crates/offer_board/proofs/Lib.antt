@@ -1,3 +1,4 @@
 pub mod Lists
 pub mod Parts
+pub mod Copies
 pub mod Boards

@@ -1,6 +1,6 @@
 //! What lies under the lock: the collector, and every offer that was made.
 
-ghost use Rattle.std.specs.Prelude.{◌≡◌, [], IfOk};
+ghost use Rattle.std.specs.Prelude.{◌≡◌, [], IfOk, OnErr, IsErr};
 ghost use Rattle.snap_collector.specs.Collector.{AreMembers};
 ghost use Rattle.offer_board.specs.Boards.{BoardView, IsBoard, Offers};
 
@@ -56,26 +56,36 @@ impl BoardState {
     }
 
     /// Takes what a router offers, whose last event has the given stamp: the answer is what the
-    /// collector made of it, and the stamp of the offer, one above the router's last and the board's.
+    /// collector made of it, and the stamp of the offer, one above the router's last and the board's. The
+    /// board keeps copies.
     ///
-    /// Refused where the collector has a [refusal](Collector::refusal) for it, else
-    /// [`CollectError::StampEnd`] where that stamp would pass 2^62, and [`CollectError::Memory`] only where
-    /// neither is; then the board is as it was.
-    pub fn offer(&mut self, stamp: u64, offer: Offer) -> Result<(Taken, u64), CollectError>
-        ensures offers { Offers self.old self.new stamp offer result }
+    /// `room`: whether the caller has room for the offer where it is taken. Refused where the collector
+    /// has a [refusal](Collector::refusal) for it, else [`CollectError::StampEnd`] where that stamp would
+    /// pass 2^62, and [`CollectError::Memory`] only where neither is, and always then where the caller has
+    /// no room; then the board is as it was.
+    pub fn offer(
+        &mut self,
+        stamp: u64,
+        offer: &Offer,
+        room: Result<(), AllocError>,
+    ) -> Result<(Taken, u64), CollectError>
+        ensures offers { Offers self.old self.new stamp offer.now result }
+        ensures full { OnErr room (IsErr result) }
         ensures members { self.new.collector.members ≡ self.old.collector.members }
     {
         kept_goes_on();
-        if let Some(error) = self.collector.refusal(&offer) {
+        if let Some(error) = self.collector.refusal(offer) {
             return Err(error);
         }
         let stamp = self.stamp.max(stamp).saturating_add(1);
         if stamp > GREATEST_STAMP {
             return Err(CollectError::StampEnd);
         }
+        room?;
         self.offers.reserve(1)?;
         let copy = offer.copied(*self.offers.allocator())?;
-        let taken = self.collector.offer(offer)?;
+        let collected = offer.copied(*self.offers.allocator())?;
+        let taken = self.collector.offer(collected)?;
         self.offers.push_reserved(Made { stamp, offer: copy });
         self.stamp = stamp;
         Ok((taken, stamp))

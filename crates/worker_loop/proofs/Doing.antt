@@ -1,8 +1,7 @@
 -- What was done, put together.
-use Rattle.std.proofs.Common.{◌≡◌, ℕ, zero, suc, ◌<◌, ◌≤◌, arith, List, [], ◌∷◌, ◌++◌, length, get_or, map, All, refl, sym, ap, ◌∙◌, subst, append_assoc}
+use Rattle.std.proofs.Common.{◌≡◌, ℕ, zero, suc, ◌<◌, arith, List, [], ◌∷◌, ◌++◌, length, get_or, map, All, refl, sym, ap, ◌∙◌, subst, append_assoc}
 use Rattle.std.proofs.lemmas.List.{append-nil, map-append}
 use Rattle.std.specs.List.Sorted.{IsNonDecreasingBy}
-use Rattle.ranked_policy.specs.Plans.{IsRouter}
 use Rattle.run_model.specs.Network.{put_towards, taken_from}
 use Rattle.run_model.specs.Journals.{puts_towards, takes_from}
 use Rattle.run_model.specs.Stamps.{StampedItem, collected_by, stamped_offers, without_stamp}
@@ -13,12 +12,12 @@ use Rattle.router_model.specs.Step.{Own, Step, says}
 use Rattle.router_model.specs.Calls.{Stamped, Call, Handle}
 use Rattle.router_model.specs.Calls as calls
 use Rattle.router_runs.specs.Runs.{Logged, LoggedStep}
-use Rattle.run_model.specs.Network.{Journal, Event}
+use Rattle.run_model.specs.Network.{Event}
 use Rattle.worker_loop.specs.declared.chore.Chore.{Chore}
 use Rattle.worker_loop.specs.declared.chore.Chore.TheVariants as chore
-use Rattle.worker_loop.specs.Acts.{Act, Seen, Does, Moves, Leads, passed, journal_of, entry_of}
-use Rattle.worker_loop.specs.Following.{Stage, Then, Nothing, Each, Calls, Puts, Takes, Offers, Meets, Turns, Obeys, Follows}
-use Rattle.worker_loop.specs.Laws.{WhatFollowsIsDone, ActsAreJournals, StampsRise, IsJournalTo, IsOf}
+use Rattle.worker_loop.specs.Acts.{Act, Seen, Does, Leads, passed, journal_of, entry_of}
+use Rattle.worker_loop.specs.Following.{Stage, Then, Nothing, Each, Calls, Puts, Takes, Offers, Meets, Turns, Obeys}
+use Rattle.worker_loop.specs.Laws.{WhatFollowsIsDone, ActsAreJournals, StampsRise, IsOf}
 
 -- ---- one after the other
 

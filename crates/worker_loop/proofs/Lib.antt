@@ -1,4 +1,5 @@
 pub mod Acting
+pub mod Ending
 pub mod Trying
 pub mod Chaining
 pub mod Scripts

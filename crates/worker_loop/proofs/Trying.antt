@@ -13,9 +13,9 @@ use Rattle.router_model.specs.Step.{Own, RouterEvent, Step, next_offer}
 use Rattle.router_model.specs.Calls.{Stamped, Call, Put, Take, Answer, Steps, Idle, Refuses, answer, stamp_of, Gives, judged, bars, overflows_at, event_of, offer_made, IsEventOf}
 use Rattle.run_model.specs.declared.stamps.TheConstants.{GREATEST_STAMP}
 use Rattle.router_model.specs.Laws.{AnswersAreSteps}
-use Rattle.router_core.specs.declared.router.judge.Call as core
-use Rattle.router_core.specs.declared.router.judge.Call.TheVariants as own
-use Rattle.router_core.specs.Judging.{call_of}
+use Rattle.router_core.specs.declared.router.call.Call as core
+use Rattle.router_core.specs.declared.router.call.Call.TheVariants as own
+use Rattle.router_core.specs.Calling.{call_of}
 use Rattle.router_core.specs.Views.{Shows}
 use Rattle.world_core.specs.declared.schedule.Event.{Event}
 use Rattle.world_core.specs.World.{name_of}

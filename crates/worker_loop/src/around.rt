@@ -1,6 +1,6 @@
 //! What a worker meets: its gate, its lines, and the desk at which it makes offers.
 
-ghost use Rattle.std.specs.Prelude.{◌≡◌, ◌<◌, ◌≤◌, ◌++◌, ◌∷◌, [], List, ℕ, length, OnOk, OnErr, IfErr, IfOk, MatchOption};
+ghost use Rattle.std.specs.Prelude.{◌≡◌, ◌<◌, ◌≤◌, ◌++◌, ◌∷◌, [], List, ℕ, length, OnOk, OnErr, IfErr, IsErr, IfOk, MatchOption};
 ghost use Rattle.outbox.specs.declared.item.Item.{Item};
 ghost use Rattle.run_model.specs.Stamps.{Collected};
 ghost use Rattle.snap_collector.specs.Collecting.{made_by};
@@ -14,6 +14,7 @@ use crate::worker::WorkerFault;
 use outbox::Item;
 use ranked_policy::Asn;
 use snap_marker::Offer;
+use std::alloc::AllocError;
 use std::sync::Wait;
 
 /// Says what a worker is to do next. It may wait.
@@ -76,14 +77,19 @@ pub trait Desk {
     ghost made: { Self → List (Collected MadeOffer) };
 
     /// Makes an offer of a router whose last event has the given stamp, and answers that of the offer.
+    ///
+    /// `room`: whether the caller has room for the event where the offer is made; where it has none, an
+    /// offer that would be made is refused [`WorkerFault::Memory`], and any other answer is as it would be.
     fn offer<R: Wait>(
         &mut self,
         rt: &R,
         board: &Self::Board,
         stamp: u64,
-        offer: Offer,
+        offer: &Offer,
+        room: Result<(), AllocError>,
     ) -> Result<u64, WorkerFault>
-        ensures made { IfOk result (λ at. made self.new ≡ with_offer (made self.old) at (made_by offer)) }
+        ensures made { IfOk result (λ at. made self.new ≡ with_offer (made self.old) at (made_by offer.now)) }
         ensures later { IfOk result (λ at. stamp < at) }
-        ensures few { IfOk result (λ at. at ≤ GREATEST_STAMP) };
+        ensures few { IfOk result (λ at. at ≤ GREATEST_STAMP) }
+        ensures full { OnErr room (IsErr result) };
 }

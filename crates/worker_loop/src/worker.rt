@@ -92,16 +92,20 @@ fn pause(backoff: &Backoff, idle: bool) {
 }
 
 impl<'a, L: Lines, D: Desk, G: Gate> Worker<'a, L, D, G> {
-    ghost use Rattle.std.specs.Prelude.{◌≡◌, IfOk};
+    ghost use Rattle.std.specs.Prelude.{◌≡◌, IfOk, IfErr};
     ghost use Rattle.worker_loop.specs.Following.{Did, Follows};
+    ghost use Rattle.worker_loop.specs.Ending.{EndsFor};
     ghost use Rattle.worker_loop.specs.Whole.{seen_of, IsLaterWorker, IsWhole};
     ghost use Rattle.std.specs.Prelude.{[]};
 
     /// Does the chores that the gate gives: so many, or up to the first Stop. It backs off after a
     /// chore in which no event was done.
     ///
-    /// Refused [`WorkerFault::Refused`] where the router has no stamp or incarnation left or an offer
-    /// is refused, and [`WorkerFault::Memory`] where a growth was; then the worker ended in the middle.
+    /// Refused [`WorkerFault::Refused`] only where the router has no stamp or incarnation left for what
+    /// was tried, or the board refuses its offer; and [`WorkerFault::Memory`] only where the next chore
+    /// was to be written down, a step was due, or an offer waits: where nothing is due, a growth that is
+    /// refused ends no worker. Then the worker ended in the middle, with its router as it was before the
+    /// call that ended it; an item that was taken off its line for that call is lost.
     pub fn work<R: Wait>(&mut self, rt: &R, board: &D::Board, turns: u32) -> Result<(), WorkerFault>
         requires fresh { G.given self.old.gate ≡ [] }
         requires blank { self.old.journal.chores.items ≡ [] }
@@ -110,6 +114,7 @@ impl<'a, L: Lines, D: Desk, G: Gate> Worker<'a, L, D, G> {
         ensures chores { IfOk result (λ _. self.new.journal.chores.items ≡ G.given self.new.gate) }
         ensures same { IsLaterWorker L.wiring self.old self.new }
         ensures told { G.told self.new.gate ≡ G.told self.old.gate }
+        ensures ended { IfErr result (EndsFor L.taken_from turns (G.given self.new.gate) self.new) }
     {
         let backoff = Backoff::new();
         for turn in 0..turns {

@@ -1,8 +1,8 @@
 -- Counts of what was done in each direction, and what comes first by them.
 use Rattle.std.proofs.Common.{Less, Equal, Greater, ◌≡◌, ℕ, ◌+◌, ◌<◌, ◌≤◌, ◌==◌, Bool, true, false, ◌&&◌, cond, List, [], ◌∷◌, ◌++◌, length, take, get_or, refl, ap, sym, ◌∙◌, arith, suc, subst, add-zero}
-use Rattle.std.specs.Prelude.{if◌then◌else◌, ltb, nat_lt, ◌||◌, not, Some, Option}
+use Rattle.std.specs.Prelude.{if◌then◌else◌, ltb, nat_lt, ◌||◌, not, Some}
 use Rattle.std.specs.Option.{unwrap_or}
-use Rattle.std.specs.Ordering.{is_eq, nat_cmp, ordering_then}
+use Rattle.std.specs.Ordering.{is_eq, ordering_then}
 use Rattle.std.specs.BTreeMap.{get, is_at}
 use Rattle.std.proofs.Math.Seq.{take-suc}
 use Rattle.std.proofs.lemmas.List.{append-nil, length-take-le}

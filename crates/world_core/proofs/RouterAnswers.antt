@@ -1,6 +1,6 @@
 -- What a router gave, as what a world gives.
 use Rattle.std.proofs.Common.{◌≡◌, ℕ, ◌+◌, ◌<◌, length, get_or, arith, Bool, true, false, List, [], ◌∷◌, ◌++◌, refl, ap, sym, ◌∙◌, subst, Option, None, Some}
-use Rattle.std.specs.Prelude.{Result, Ok, Err, nat_lt, max, slice_get}
+use Rattle.std.specs.Prelude.{Result, Ok, Err, IsOk, OnOk, nat_lt, max, slice_get}
 use Rattle.std.proofs.lemmas.Bool.{eq-eqb}
 use Rattle.run_model.specs.Network.{alone, puts, takes, offers}
 use Rattle.outbox.specs.declared.item.What.{What}
@@ -10,17 +10,15 @@ use Rattle.snap_marker.specs.Recordings.{RouterOffer}
 use Rattle.snap_collector.specs.Collector.{CollectorView, made_for}
 use Rattle.outbox.specs.declared.item.Item.{Item}
 use Rattle.router_model.specs.declared.refusal.RouterError.{RouterError}
-use Rattle.router_model.specs.declared.refusal.Stepped.{Stepped}
 use Rattle.router_model.specs.declared.refusal.Stepped.TheVariants as stepped
 use Rattle.router_model.specs.Settings.{Setting}
 use Rattle.router_model.specs.Step.{RouterEvent, next_offer}
 use Rattle.router_model.specs.Calls.{Stamped, Call, Put, Answer, Steps, Idle, Refuses, answer, stamped_after, Gives, judged, put_event, bars, event_of, overflows_at, offer_made}
 use Rattle.run_model.specs.declared.stamps.TheConstants.{GREATEST_STAMP}
 use Rattle.router_core.specs.Views.{RouterView, plain_of, Shows}
-use Rattle.router_core.specs.Judging.{judged_as}
 use Rattle.world_core.specs.declared.schedule.Event.{Event}
 use Rattle.world_core.specs.World.{piped, joined}
-use Rattle.world_core.specs.Views.{refusal, without_room, DoneOr, Entered, EntersOffer}
+use Rattle.world_core.specs.Views.{refusal, DoneOr, Entered, EntersOffer}
 
 -- ---- what was done, what was nothing, and what was refused
 
@@ -43,15 +41,12 @@ refused g u (Steps e) x y call error done R h r =
 refused g u Idle x y call error done R h r = (let k = h.0 in absurd cc)
 refused g u (Refuses why) x y call error done R h r = (let k : error ≡ why = (let q = h.0 in cc) in ap refusal k, (h.1, r))
 
--- ---- where the run has no room
+-- ---- room for an event
 
-no_room : (a : Answer) (done : RouterEvent → Type 0) (still : Type 0) → still → Entered (without_room (judged_as a)) a done still
-no_room (Steps e) done still k = (refl, k)
-no_room Idle done still k = (refl, k)
-no_room (Refuses why) done still k = (refl, k)
-
-pub wants_room : (a : Answer) (judged : Result Stepped RouterError) (done : RouterEvent → Type 0) (still : Type 0) → judged ≡ judged_as a → still → Entered (without_room judged) a done still
-wants_room a judged done still is k = subst (λ j. Entered (without_room j) a done still) (sym is) (no_room a done still k)
+-- what a growth promises where it was not refused
+pub with_room : {T E : Type 0} → (room : Result T E) (P : Type 0) → IsOk room → OnOk room P → P
+with_room (Ok x) P is h = h
+with_room (Err why) P is h = absurd cc
 
 -- ---- a put
 

@@ -18,9 +18,9 @@ use Rattle.router_model.specs.Settings.{Setting, is_router}
 use Rattle.router_model.specs.Laws.{AnswersAreSteps}
 use Rattle.router_model.specs.Step.{RouterEvent, after}
 use Rattle.router_model.specs.Calls.{Stamped, Call, Obey, Tick, Put, Take, Handle, Decide, Advertise, Answer, Steps, Idle, Refuses, answer, stamp_of, stamped_after, IsEventOf}
-use Rattle.router_core.specs.declared.router.judge.Call as core
-use Rattle.router_core.specs.declared.router.judge.Call.TheVariants as asked
-use Rattle.router_core.specs.Judging.{call_of}
+use Rattle.router_core.specs.declared.router.call.Call as core
+use Rattle.router_core.specs.declared.router.call.Call.TheVariants as asked
+use Rattle.router_core.specs.Calling.{call_of}
 use Rattle.router_core.specs.Views.{RouterView, plain_of, IsSame}
 use Rattle.world_core.specs.declared.schedule.Event.{Event}
 use Rattle.world_core.specs.declared.schedule.StepFault.{StepFault}

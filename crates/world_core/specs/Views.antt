@@ -154,12 +154,6 @@ Entered r (Steps e) done still = DoneOr r (done e) still
 Entered r Idle done still = (r ≡ Ok stepped.Nothing) × still
 Entered r (Refuses why) done still = (r ≡ refusal why) × still
 
--- where the run has no room a step wants memory
-abbrev pub without_room : Result Stepped RouterError → Result Stepped StepFault
-without_room (Ok stepped.Did) = Err Memory
-without_room (Ok stepped.Nothing) = Ok stepped.Nothing
-without_room (Err why) = refusal why
-
 -- an event that is done joins the run
 abbrev pub Enters : Result Stepped StepFault → RouterView → List Event → Event → Call → RouterView → List Event → Type 0
 Enters r x run event call y run_after =

@@ -1,9 +1,9 @@
 //! Events of one router, which join the run where they are done.
 
 ghost use Rattle.std.specs.Prelude.{◌≡◌};
-ghost use Rattle.router_core.specs.Judging.{call_of};
+ghost use Rattle.router_core.specs.Calling.{call_of};
 ghost use Rattle.router_core.specs.Views.{IsSame};
-ghost use Rattle.world_core.specs.Views.{refusal, without_room, Enters, EntersPut, EntersTake, EntersOffer};
+ghost use Rattle.world_core.specs.Views.{refusal, Enters, EntersPut, EntersTake, EntersOffer};
 
 use crate::schedule::{Event, StepFault, join};
 use outbox::Item;
@@ -30,17 +30,6 @@ fn refusal(error: RouterError) -> Result<Stepped, StepFault>
     }
 }
 
-// What a call is where the run has no room for its event: a step wants memory.
-fn without_room(judged: Result<Stepped, RouterError>) -> Result<Stepped, StepFault>
-    ensures { result ≡ without_room judged }
-{
-    match judged {
-        Ok(Stepped::Did) => Err(StepFault::Memory),
-        Ok(Stepped::Nothing) => Ok(Stepped::Nothing),
-        Err(error) => refusal(error),
-    }
-}
-
 /// Does what a router is asked to do.
 pub(crate) fn enter(
     router: &mut Router<'_>,
@@ -51,10 +40,8 @@ pub(crate) fn enter(
     ensures enters { Enters result router.old run.old.items event.now (call_of call.now) router.new run.new.items }
     ensures same { IsSame router.old router.new }
 {
-    if run.reserve(1).is_err() {
-        return without_room(router.judge(call));
-    }
-    match router.perform(call) {
+    let room = run.reserve(1);
+    match router.perform(call, room) {
         Ok(Stepped::Did) => {
             join(run, event);
             Ok(Stepped::Did)
@@ -102,10 +89,8 @@ pub(crate) fn enter_take(
     let Some(item) = pipe.front() else {
         return Ok(Stepped::Nothing);
     };
-    if run.reserve(1).is_err() {
-        return without_room(router.judge_take(peer, item));
-    }
-    match router.take_item(peer, item) {
+    let room = run.reserve(1);
+    match router.take(peer, item, room) {
         Ok(Stepped::Did) => {
             join(run, event);
             pipe.pop_front();

@@ -3,7 +3,7 @@
 ghost use Rattle.std.specs.Prelude.{◌≡◌, ◌<◌, length, map, MatchResult, MatchOption, IfOk, true, false};
 ghost use Rattle.world_core.specs.declared.schedule.Event.TheVariants.{Put, Take, Handle, Offer};
 ghost use Rattle.router_model.specs.Settings.{peers};
-ghost use Rattle.router_core.specs.Judging.{call_of};
+ghost use Rattle.router_core.specs.Calling.{call_of};
 ghost use Rattle.world_core.specs.Views.{IsWhole, Answers, IsNoRouter, IsRouterOf};
 ghost use Rattle.world_core.specs.Steps.{view_of, IsSameNet, Asks, IsPlaceOf, FindsLink, FindsLinkTo, IsQuiet};
 

@@ -20,10 +20,11 @@ fn write_down(chores: &mut Vec<Chore>, chore: &Chore)
 }
 
 impl<'a, L: Lines, D: Desk, G: Gate> Worker<'a, L, D, G> {
-    ghost use Rattle.std.specs.Prelude.{◌≡◌, IfOk};
+    ghost use Rattle.std.specs.Prelude.{◌≡◌, IfOk, IfErr, OnErr};
     ghost use Rattle.worker_loop.specs.Following.{Did, Calls, Each, Meets, Turns, Obeys};
     ghost use Rattle.router_model.specs.Calls as calls;
     ghost use Rattle.worker_loop.specs.Whole.{seen_of, IsSameWorker, IsSameBut};
+    ghost use Rattle.worker_loop.specs.Ending.{EndsCall, EndsMeet, EndsMeeting, EndsTurn, EndsChore};
     ghost use Rattle.std.specs.Prelude.{length, [], ◌∷◌, ◌++◌};
 
     // The next chore, written down.
@@ -33,6 +34,9 @@ impl<'a, L: Lines, D: Desk, G: Gate> Worker<'a, L, D, G> {
         ensures chores { IfOk result (λ chore. self.new.journal.chores.items ≡ self.old.journal.chores.items ++ chore ∷ []) }
         ensures rest { IsSameBut self.old self.new }
         ensures told { G.told self.new.gate ≡ G.told self.old.gate }
+        ensures why { IfErr result (λ why. why ≡ WorkerFault.Memory) }
+        ensures none { OnErr result (G.given self.new.gate ≡ G.given self.old.gate) }
+        ensures as_they_were { OnErr result (self.new.journal.chores.items ≡ self.old.journal.chores.items) }
     {
         self.journal.chores.reserve(1)?;
         let chore = self.gate.next(rt, self.router.number(), turn);
@@ -44,6 +48,7 @@ impl<'a, L: Lines, D: Desk, G: Gate> Worker<'a, L, D, G> {
     fn meet<R: Wait>(&mut self, rt: &R, peer: Asn) -> Result<(), WorkerFault>
         ensures done { let a = seen_of L.put_to L.taken_from L.room D.made self.old in let b = seen_of L.put_to L.taken_from L.room D.made self.new in IfOk result (λ _. Did (λ g. Meets g self.old.router.number peer) self.old.router.net a b) }
         ensures same { IsSameWorker L.wiring self.old self.new }
+        ensures ended { IfErr result (EndsMeet L.taken_from self.new peer) }
     {
         self.try_put(rt, peer)?;
         self.try_take(rt, peer)?;
@@ -56,6 +61,7 @@ impl<'a, L: Lines, D: Desk, G: Gate> Worker<'a, L, D, G> {
     fn meet_all<R: Wait>(&mut self, rt: &R) -> Result<(), WorkerFault>
         ensures done { let a = seen_of L.put_to L.taken_from L.room D.made self.old in let b = seen_of L.put_to L.taken_from L.room D.made self.new in IfOk result (λ _. Did (λ g. Each (Meets g self.old.router.number) self.old.peers.items) self.old.router.net a b) }
         ensures same { IsSameWorker L.wiring self.old self.new }
+        ensures ended { IfErr result (EndsMeeting L.taken_from self.new) }
     {
         for place in 0..self.peers.len() {
             let peer = self.peers[place];
@@ -68,6 +74,7 @@ impl<'a, L: Lines, D: Desk, G: Gate> Worker<'a, L, D, G> {
     fn turn<R: Wait>(&mut self, rt: &R, board: &D::Board) -> Result<(), WorkerFault>
         ensures done { let a = seen_of L.put_to L.taken_from L.room D.made self.old in let b = seen_of L.put_to L.taken_from L.room D.made self.new in IfOk result (λ _. Did (λ g. Turns g self.old.router.number self.old.peers.items) self.old.router.net a b) }
         ensures same { IsSameWorker L.wiring self.old self.new }
+        ensures ended { IfErr result (EndsTurn L.taken_from self.new) }
     {
         self.meet_all(rt)?;
         let number = self.router.number();
@@ -81,6 +88,7 @@ impl<'a, L: Lines, D: Desk, G: Gate> Worker<'a, L, D, G> {
     fn command(&mut self, command: &Command) -> Result<(), WorkerFault>
         ensures done { let a = seen_of L.put_to L.taken_from L.room D.made self.old in let b = seen_of L.put_to L.taken_from L.room D.made self.new in IfOk result (λ _. Did (λ g. Calls g self.old.router.number (calls.Obey command.now)) self.old.router.net a b) }
         ensures same { IsSameWorker L.wiring self.old self.new }
+        ensures ended { IfErr result (EndsCall self.new (calls.Obey command.now)) }
     {
         let event = Event::Command(self.router.number(), *command);
         self.try_call(&Call::Obey(*command), event)
@@ -95,6 +103,7 @@ impl<'a, L: Lines, D: Desk, G: Gate> Worker<'a, L, D, G> {
     ) -> Result<(), WorkerFault>
         ensures done { let a = seen_of L.put_to L.taken_from L.room D.made self.old in let b = seen_of L.put_to L.taken_from L.room D.made self.new in IfOk result (λ _. Did (λ g. Obeys g self.old.router.number self.old.peers.items chore.now) self.old.router.net a b) }
         ensures same { IsSameWorker L.wiring self.old self.new }
+        ensures ended { IfErr result (EndsChore L.taken_from self.new chore.now) }
     {
         let number = self.router.number();
         match chore {

@@ -6,21 +6,22 @@ use std::sync::Wait;
 use world_core::Event;
 
 impl<'a, L: Lines, D: Desk, G: Gate> Worker<'a, L, D, G> {
-    ghost use Rattle.std.specs.Prelude.{◌≡◌, IfOk};
+    ghost use Rattle.std.specs.Prelude.{◌≡◌, IfOk, IfErr};
     ghost use Rattle.worker_loop.specs.Following.{Did, Offers};
     ghost use Rattle.worker_loop.specs.Whole.{seen_of, IsSameWorker};
+    ghost use Rattle.worker_loop.specs.Ending.{EndsOffer};
 
     // Makes the offer that waits in front, where one does.
     pub(super) fn try_offer<R: Wait>(&mut self, rt: &R, board: &D::Board) -> Result<(), WorkerFault>
         ensures done { let a = seen_of L.put_to L.taken_from L.room D.made self.old in let b = seen_of L.put_to L.taken_from L.room D.made self.new in IfOk result (λ _. Did (λ g. Offers g self.old.router.number) self.old.router.net a b) }
         ensures same { IsSameWorker L.wiring self.old self.new }
+        ensures ended { IfErr result (λ _. EndsOffer self.new) }
     {
         let Some(offer) = self.router.next_offer() else {
             return Ok(());
         };
-        self.journal.events.reserve(1)?;
-        let copy = offer.copied(*self.journal.events.allocator())?;
-        let stamp = self.desk.offer(rt, board, self.router.stamp(), copy)?;
+        let room = self.journal.events.reserve(1);
+        let stamp = self.desk.offer(rt, board, self.router.stamp(), offer, room)?;
         self.router.offer_made(stamp);
         let event = Event::Offer(self.router.number());
         note(&mut self.journal.events, stamp, event);

@@ -8,21 +8,23 @@ use router_model::laws::answers_are_steps;
 use world_core::Event;
 
 impl<'a, L: Lines, D: Desk, G: Gate> Worker<'a, L, D, G> {
-    ghost use Rattle.std.specs.Prelude.{◌≡◌, IfOk};
+    ghost use Rattle.std.specs.Prelude.{◌≡◌, IfOk, IfErr};
     ghost use Rattle.worker_loop.specs.Following.{Did, Calls};
     ghost use Rattle.worker_loop.specs.Whole.{seen_of, IsSameWorker};
-    ghost use Rattle.router_core.specs.Judging.{call_of};
+    ghost use Rattle.router_core.specs.Calling.{call_of};
     ghost use Rattle.worker_loop.specs.Whole.{IsNamedBy};
+    ghost use Rattle.worker_loop.specs.Ending.{EndsCall};
 
     // Tries a call of the router.
     pub(super) fn try_call(&mut self, call: &Call, event: Event) -> Result<(), WorkerFault>
         requires named { IsNamedBy event self.old.router.number (call_of call.now) }
         ensures done { let a = seen_of L.put_to L.taken_from L.room D.made self.old in let b = seen_of L.put_to L.taken_from L.room D.made self.new in IfOk result (λ _. Did (λ g. Calls g self.old.router.number (call_of call.now)) self.old.router.net a b) }
         ensures same { IsSameWorker L.wiring self.old self.new }
+        ensures ended { IfErr result (EndsCall self.new (call_of call.now)) }
     {
         answers_are_steps();
-        self.journal.events.reserve(1)?;
-        match self.router.perform(call) {
+        let room = self.journal.events.reserve(1);
+        match self.router.perform(call, room) {
             Ok(Stepped::Did) => {
                 note(&mut self.journal.events, self.router.stamp(), event);
                 Ok(())

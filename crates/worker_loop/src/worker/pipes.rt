@@ -1,5 +1,8 @@
 //! What the router of a worker puts and takes.
 
+ghost use Rattle.std.specs.Prelude.{◌≡◌};
+ghost use Rattle.worker_loop.specs.Ending.{lost};
+
 use super::{Worker, WorkerFault, note, passed_over};
 use crate::around::{Desk, Gate, Lines};
 use ranked_policy::Asn;
@@ -9,7 +12,9 @@ use std::sync::Wait;
 use world_core::Event;
 
 // Why a worker ends whose router refused an item that was taken off its line.
-fn lost(error: RouterError) -> WorkerFault {
+fn lost(error: RouterError) -> WorkerFault
+    ensures { result ≡ lost error }
+{
     match error {
         RouterError::Memory => WorkerFault::Memory,
         RouterError::NoSuchPeer
@@ -23,14 +28,17 @@ fn lost(error: RouterError) -> WorkerFault {
 }
 
 impl<'a, L: Lines, D: Desk, G: Gate> Worker<'a, L, D, G> {
-    ghost use Rattle.std.specs.Prelude.{◌≡◌, IfOk};
+    ghost use Rattle.std.specs.Prelude.{◌≡◌, IfOk, IfErr};
+    ghost use Rattle.router_model.specs.Calls.{Put};
     ghost use Rattle.worker_loop.specs.Following.{Did, Puts, Takes};
     ghost use Rattle.worker_loop.specs.Whole.{seen_of, IsSameWorker};
+    ghost use Rattle.worker_loop.specs.Ending.{EndsCall, EndsTake};
 
     // Tries to put the next item towards a peer.
     pub(super) fn try_put<R: Wait>(&mut self, rt: &R, peer: Asn) -> Result<(), WorkerFault>
         ensures done { let a = seen_of L.put_to L.taken_from L.room D.made self.old in let b = seen_of L.put_to L.taken_from L.room D.made self.new in IfOk result (λ _. Did (λ g. Puts g self.old.router.number peer) self.old.router.net a b) }
         ensures same { IsSameWorker L.wiring self.old self.new }
+        ensures ended { IfErr result (EndsCall self.new (Put peer)) }
     {
         answers_are_steps();
         let item = match self.router.next_item(peer) {
@@ -55,16 +63,17 @@ impl<'a, L: Lines, D: Desk, G: Gate> Worker<'a, L, D, G> {
     pub(super) fn try_take<R: Wait>(&mut self, rt: &R, peer: Asn) -> Result<(), WorkerFault>
         ensures done { let a = seen_of L.put_to L.taken_from L.room D.made self.old in let b = seen_of L.put_to L.taken_from L.room D.made self.new in IfOk result (λ _. Did (λ g. Takes g self.old.router.number peer) self.old.router.net a b) }
         ensures same { IsSameWorker L.wiring self.old self.new }
+        ensures ended { IfErr result (EndsTake L.taken_from self.new peer) }
     {
         answers_are_steps();
         if !self.router.may_take(peer) {
             return Ok(());
         }
-        self.journal.events.reserve(1)?;
         let Some(item) = self.lines.take(rt, peer) else {
             return Ok(());
         };
-        match self.router.take_item(peer, &item) {
+        let room = self.journal.events.reserve(1);
+        match self.router.take(peer, &item, room) {
             Ok(Stepped::Did) => {
                 let event = Event::Take(self.router.number(), peer);
                 note(&mut self.journal.events, self.router.stamp(), event);

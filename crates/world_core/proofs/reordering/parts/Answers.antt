@@ -1,5 +1,4 @@
-use Rattle.std.proofs.Common.{◌≤◌, ◌<◌, ◌∙◌, ◌+◌, ◌++◌, ◌∷◌, [], length, arith, ap, sym, true, false, refl, take, get_or, Vec}
-use Rattle.world_core.specs.declared.schedule.Event.{Event}
+use Rattle.std.proofs.Common.{◌≤◌, ◌<◌, ◌∙◌, ◌+◌, ◌++◌, ◌∷◌, [], length, arith, ap, sym, false, refl, take, get_or}
 use Rattle.world_core.specs.Counting.{count_of}
 use Rattle.world_core.specs.Picking.{puts_by}
 use Rattle.world_core.proofs.Counting.{puts_fit, next, joins_first, joins_later, parted_at}

@@ -1,6 +1,7 @@
 use Rattle.std.proofs.Common.{◌∙◌, ap, refl, ◌++◌, ◌∷◌, [], ℕ, ◌+◌}
 use Rattle.world_core.specs.declared.schedule.Event.TheVariants.{Put}
 use Rattle.worker_loop.specs.Whole.{entry}
+use Rattle.worker_loop.proofs.Ending.{put_ends, put_wants, if_err}
 use Rattle.worker_loop.proofs.Trying.{put_none, put_barred, put_full, put_did, if_passed}
 use Rattle.worker_loop.proofs.worker.Worker.try_put.Goals.{in-Ok, in-Err-put}
 use Rattle.worker_loop.proofs.worker.Worker.try_put.Goals as goal
@@ -31,3 +32,11 @@ returns-clause-done g c =
           (λ k net set. put_full k u c.args.peer _ _ _ c.in-Ok-Some.item (shows k net) w.in-Err-put.ensures.full
           refl (record { put = w.in-Err-put.ensures.err; taken = c.put.ensures.taken; room = c.put.ensures.room; made = refl }) c.reserve.ensures.items)
     ]
+
+pub returns-in-Err-clause-ended : goal.returns-in-Err-clause-ended
+returns-in-Err-clause-ended g c = rw c.passed_over.ensures (put_ends c.args.self.now.router c.args.peer c.in-Err.error c.in-Err.ensures)
+
+pub returns-in_err-reserve-clause-ended : goal.returns-in_err-reserve-clause-ended
+returns-in_err-reserve-clause-ended g c =
+    let shows = rw c.in-Ok-Some.field-0-is at c.in-Ok-Some.ensures in
+    if_err c.from_residual.result _ _ (λ ends is. put_wants c.args.self.now.router c.args.peer c.in-Ok-Some.item ends shows is) c.from_residual.ensures.1

@@ -1,6 +1,8 @@
-use Rattle.std.proofs.Common.{◌≢◌, ◌∙◌, ap, sym, ◌++◌, ◌∷◌, []}
+use Rattle.std.proofs.Common.{◌≢◌, inl, inr, length, subst, ◌∙◌, ap, sym, ◌++◌, ◌∷◌, []}
 use Rattle.worker_loop.specs.declared.chore.Chore.TheVariants.{Stop}
 use Rattle.worker_loop.specs.Following.{Obeys}
+use Rattle.worker_loop.specs.Ending.{EndsChore}
+use Rattle.worker_loop.proofs.Ending.{if_err, few_given, last_given, few_is_most}
 use Rattle.worker_loop.proofs.Chaining.{did_at, did_from, did_more, seen_same, same_on, next_same, all_more, one_longer, obeys_of}
 use Rattle.worker_loop.proofs.worker.Worker.work.Goals as goal
 
@@ -35,3 +37,32 @@ loop-turn-preserved g c =
       same = same_on _ _ _ _ here o.same.later;
       told = ap g.G.Gate.told o.same.gate ∙ n.told ∙ i.told;
     }
+
+pub returns-in_err-chore-clause-ended : goal.returns-in_err-chore-clause-ended
+returns-in_err-chore-clause-ended g c =
+    let i = c.loop-turn.invariant in
+    let n = c.in_err-chore.ensures in
+    let few = few_given (g.G.Gate.given c.loop-turn.self.gate) (g.G.Gate.given c.next_chore.new.self.gate) c.loop-turn.turn c.args.turns n.none i.counted c.loop-turn-test.true in
+    if_err c.from_residual.result _ _ (λ ends is. record {
+      chores = n.as_they_were ∙ i.chores ∙ sym n.none;
+      few = few_is_most (length (g.G.Gate.given c.next_chore.new.self.gate)) c.args.turns few;
+      ends = inl (is ∙ n.why, few);
+    }) c.from_residual.ensures.1
+
+pub returns-in_err-obey-clause-ended : goal.returns-in_err-obey-clause-ended
+returns-in_err-obey-clause-ended g c =
+    let i = c.loop-turn.invariant in
+    let n = c.in_ok-chore.ensures in
+    let o = c.in_err-obey.ensures in
+    let before = g.G.Gate.given c.loop-turn.self.gate in
+    let given = ap g.G.Gate.given o.same.gate ∙ n.given in
+    if_err c.from_residual-in_err-obey.result _ _ (λ ends is. record {
+      chores = o.same.chores ∙ n.chores ∙ ap (λ l. l ++ c.in_ok-chore.chore ∷ []) i.chores ∙ sym given;
+      few = last_given before (g.G.Gate.given c.obey.new.self.gate) c.in_ok-chore.chore c.loop-turn.turn c.args.turns given i.counted c.loop-turn-test.true;
+      ends = inr (record {
+        before = before;
+        chore = c.in_ok-chore.chore;
+        last = given;
+        ends = subst (EndsChore g.L.Lines.taken_from c.obey.new.self c.in_ok-chore.chore) (sym is) o.ended;
+      });
+    }) c.from_residual-in_err-obey.ensures.1

@@ -1,5 +1,5 @@
 use Rattle.std.proofs.Common.{◌∙◌, rules}
-use Rattle.router_core.specs.Judging.{call_of}
+use Rattle.router_core.specs.Calling.{call_of}
 use Rattle.world_core.specs.Steps.{view_of}
 use Rattle.world_core.proofs.Places.{is_below}
 use Rattle.world_core.proofs.Stepping.{stands, whole_router, is_own, own_asks}
