@@ -16,6 +16,7 @@ mod judge;
 mod offer;
 mod put;
 mod record;
+mod shown;
 mod take;
 
 use crate::opening::{new_peers, own_open};
