@@ -26,7 +26,8 @@ use Rattle.text_engines.proofs.CheckLemmas.{parted, limited_done, limited_stoppe
 use Rattle.play_engine.specs.declared.schedules.Stop.{Stop}
 use Rattle.play_engine.specs.Playing.{LeadTo, IsFirstRefused}
 use Rattle.play_engine.proofs.PlayLemmas.{lead_on}
-use Rattle.trace_engine.specs.Tracing.{event_line, events_text, reached, rest_in, rest_of, head_text, tail_text, count_of, begun_text, order_text, orders_text, stopped_text, stop_comment, OrdersTrace, HaltsAt, TracesOne, TracesEvents, TracesRounds, TracesWork, TracesOrder, TracesAll}
+use Rattle.schedule_text.specs.Events.{event_line}
+use Rattle.trace_engine.specs.Tracing.{events_text, reached, rest_in, rest_of, head_text, tail_text, count_of, begun_text, order_text, orders_text, stopped_text, stop_comment, OrdersTrace, HaltsAt, TracesOne, TracesEvents, TracesRounds, TracesWork, TracesOrder, TracesAll}
 use Rattle.trace_engine.specs.Tracings.{ScheduleTraces, network_lines, InputTraces, Traces}
 use Rattle.trace_engine.proofs.TextLemmas.{text_behind, silent, stops_text, halted_text, reached_is, did, idled, failed, orders_behind, rested, moved}
 

@@ -32,7 +32,8 @@ use Rattle.schedule_text.specs.declared.schedule.ScheduledOrder.{ScheduledOrder}
 use Rattle.schedule_text.specs.Schedules.{is_within, line_order, order_at, orders_of}
 use Rattle.schedule_text.specs.Sayings.{NamesRouter, NamesPeers, NamesPrefix, NamesNumber, Say, LinesAreReadAsTheySay}
 use Rattle.play_engine.specs.Playing.{all_events, LeadTo}
-use Rattle.trace_engine.specs.Tracing.{event_line, step_text, events_text, reached, place_text, head_line, head_text, idle_line, counted_line, ticked_line, tail_text, count_of, rest_of, order_text, orders_text}
+use Rattle.schedule_text.specs.Events.{event_line}
+use Rattle.trace_engine.specs.Tracing.{step_text, events_text, reached, place_text, head_line, head_text, idle_line, counted_line, ticked_line, tail_text, count_of, rest_of, order_text, orders_text}
 use Rattle.trace_engine.proofs.LineLemmas.{both_true, shown_both, decimal_shown, are_shown, IsNamed, named_from, number_from, Says, says_none, says_both, says_nothing}
 use Rattle.trace_engine.proofs.EventLemmas.{IsOriginated, MaySay, event_said}
 use Rattle.trace_engine.proofs.TextLemmas.{played_parts, reached_is}

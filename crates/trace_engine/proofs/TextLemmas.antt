@@ -14,7 +14,8 @@ use Rattle.world_core.specs.Orders.{StopsAt, IsRefused, events_of, round}
 use Rattle.world_core.proofs.Orders.{any_place}
 use Rattle.world_core.proofs.Resting.{grows}
 use Rattle.play_engine.specs.Playing.{all_events, LeadTo}
-use Rattle.trace_engine.specs.Tracing.{event_line, step_text, events_text, end_of, reached, rest_in, order_text, orders_text}
+use Rattle.schedule_text.specs.Events.{event_line}
+use Rattle.trace_engine.specs.Tracing.{step_text, events_text, end_of, reached, rest_in, order_text, orders_text}
 
 module _ (g : Setting) where
   -- ---- events

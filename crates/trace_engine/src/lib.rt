@@ -7,7 +7,6 @@
 #![tactic(auto)]
 
 mod comments;
-mod events;
 pub mod laws;
 mod network;
 mod orders;
@@ -16,4 +15,5 @@ mod steps;
 mod stream;
 mod trace;
 
+pub use network::put_network;
 pub use trace::trace_stream;

@@ -4,8 +4,8 @@ ghost use Rattle.std.specs.Prelude.{◌≡◌};
 ghost use Rattle.world_core.specs.Orders.{round, repeated};
 ghost use Rattle.trace_engine.specs.Tracing.{TracesOne, TracesEvents, TracesRounds};
 
-use crate::events::put_event;
 use router_model::Stepped;
+use schedule_text::event_line;
 use std::alloc::Global;
 use world_core::{Event, StepFault, World};
 
@@ -15,7 +15,7 @@ fn trace_event(world: &mut World<'_>, event: &Event, out: &mut Vec<u8>) -> Resul
     ensures same { world.new.net ≡ world.old.net }
 {
     match world.step(event)? {
-        Stepped::Did => put_event(event, out)?,
+        Stepped::Did => event_line(event, out)?,
         Stepped::Nothing => {}
     }
     Ok(())
