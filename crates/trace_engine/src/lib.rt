@@ -8,7 +8,9 @@
 
 mod comments;
 pub mod laws;
+mod lines;
 mod network;
+mod notes;
 mod orders;
 mod rounds;
 mod steps;
