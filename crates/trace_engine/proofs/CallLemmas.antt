@@ -1,6 +1,6 @@
 -- What calls give and leave, one behind the other.
 use Rattle.std.proofs.Common.{◌≡◌, ◌≢◌, ℕ, zero, suc, ◌+◌, ◌-◌, ◌==◌, ◌<◌, List, [], ◌∷◌, ◌++◌, length, take, drop, get_or, refl, ap, sym, subst, ◌∙◌, inl, inr, Ok, Err, append_assoc}
-use Rattle.std.specs.Prelude.{Option, Some, false, codes}
+use Rattle.std.specs.Prelude.{Option, None, Some, false, codes}
 use Rattle.std.proofs.lemmas.List.{append-nil, length-append, take_more}
 use Rattle.std.specs.Io.KnownBytes.{Appends}
 use Rattle.net_text.specs.Lexing.{lines_of}
@@ -94,7 +94,7 @@ one_halts x y event old new why h = λ g e ranks kind.
     )
 
 none_traced : (x : WorldView) (old : List ℕ) → TracesEvents (Ok tt) x [] old x old
-none_traced x old = λ g e ranks. (refl, [], refl, sym (append-nil old))
+none_traced x old = λ g e ranks. (refl, ([], refl, sym (append-nil old)))
 
 pub first_traced : (x : WorldView) (old : List ℕ) → TracesEvents (Ok tt) x [] old x old
 first_traced x old = none_traced x old
@@ -136,7 +136,7 @@ still y z once left mid new same k long = λ g e ranks.
     let a = k g (e ∙ same) ranks in
     let rest : wz ≡ wy = rests g once wy wz 0 a.0 long in
     let more = again g once wz (subst (λ (w : World). played g w 0 once ≡ Ok wz) (sym rest) a.0) left in
-    (more, [], silent g (repeated left once) wz wz 0 more refl, sym (append-nil new))
+    (more, ([], silent g (repeated left once) wz wz 0 more refl, sym (append-nil new)))
 
 pub still_on : (x y z : WorldView) (once : List Event) (n left all : ℕ) (old mid new : List ℕ) → (n + 1) + left ≡ all → y.net ≡ x.net → z.net ≡ y.net
     → TracesEvents (Ok tt) x (repeated n once) old y mid → TracesEvents (Ok tt) y once mid z new → length z.run ≡ length y.run → TracesEvents (Ok tt) x (repeated all once) old z new
@@ -179,6 +179,12 @@ pub ticks_halt : (x y : WorldView) (n : ℕ) (once : List Event) (old new : List
 ticks_halt x y n once old new why is h = λ g e ranks kind.
     subst (λ (es : List Event). HaltsAt g (plain_world x) (repeated n es) why (plain_world y) old new) (is ∙ ap second (sym e)) (h g e ranks kind)
 
+-- seconds that are all done are the order's
+pub ticks_done : (x y : WorldView) (n : ℕ) (once : List Event) (old new : List ℕ) → once ≡ second x.net → TracesEvents (Ok tt) x (repeated n once) old y new → TracesWork (Ok None) x (order.Ticks n) old y new
+ticks_done x y n once old new is h = λ g e ranks.
+    let k = subst (λ (es : List Event). (played g (plain_world x) 0 (repeated n es) ≡ Ok (plain_world y)) × Adds old new (EventsText g (plain_world x) (repeated n es))) (is ∙ ap second (sym e)) (h g e ranks) in
+    (k.0, k.1, refl)
+
 -- ---- an order
 
 pub order_done : (x y : WorldView) (o : ScheduledOrder) (old one two new : List ℕ) (rest : Option ℕ) (count : ℕ) → one ≡ old ++ head_text o.line o.order → TracesWork (Ok rest) x o.order one y two
@@ -193,9 +199,12 @@ order_done x y o old one two new rest count first work last counted = λ g e ran
     let said : tail_text o.line o.order count rest ≡ tail_text o.line o.order (count_of g w es) (rest_of g w o.order) =
     ap (λ (c : ℕ). tail_text o.line o.order c rest) is ∙ ap (λ (r : Option ℕ). tail_text o.line o.order (count_of g w es) r) a.2 in (
       a.0,
-      (head ++ events) ++ tail_text o.line o.order count rest,
-      (head ++ events, (events, a.1.1, refl), ap (λ (t : List ℕ). (head ++ events) ++ t) said),
-      last ∙ ap (λ (t : List ℕ). t ++ tail_text o.line o.order count rest) (a.1.2 ∙ ap (λ (t : List ℕ). t ++ events) first ∙ append_assoc old head events) ∙ append_assoc old (head ++ events) (tail_text o.line o.order count rest),
+      (
+        (head ++ events) ++ tail_text o.line o.order count rest,
+        (head ++ events, (events, a.1.1, refl), ap (λ (t : List ℕ). (head ++ events) ++ t) said),
+        last ∙ ap (λ (t : List ℕ). t ++ tail_text o.line o.order count rest) (a.1.2 ∙ ap (λ (t : List ℕ). t ++ events) first ∙ append_assoc old head events)
+            ∙ append_assoc old (head ++ events) (tail_text o.line o.order count rest),
+      ),
     )
 
 pub order_halts : (x y : WorldView) (o : ScheduledOrder) (old one new : List ℕ) (why : StepFault) → one ≡ old ++ head_text o.line o.order → TracesWork (Err why) x o.order one y new → TracesOrder (Err why) x o old y new
@@ -212,7 +221,7 @@ AreTraced x orders old y new =
     (g : Setting) → g.net ≡ x.net → ChoosesByRank g → LeadTo g (plain_world x) orders (plain_world y) × Adds old new (OrdersText g (plain_world x) orders)
 
 pub none_are : (x : WorldView) (old : List ℕ) → AreTraced x [] old x old
-none_are x old = λ g e ranks. (refl, [], refl, sym (append-nil old))
+none_are x old = λ g e ranks. (refl, ([], refl, sym (append-nil old)))
 
 pub orders_on : (x y z : WorldView) (orders : List ScheduledOrder) (i : ℕ) (o : ScheduledOrder) (old mid new : List ℕ) → i < length orders → o ≡ get_or orders i o → y.net ≡ x.net
     → AreTraced x (take i orders) old y mid → TracesOrder (Ok tt) y o mid z new → AreTraced x (take (i + 1) orders) old z new
@@ -233,9 +242,11 @@ orders_halt x y z orders i o old mid new why lt is same h k = λ g e ranks kind.
     let a = h g e ranks in
     let b = k g (e ∙ sym same) ranks kind in (
       record { before = take i orders; order = o; behind = drop (i + 1) orders; reached = wy; left = plain_world z; at = b.0; parts = parted orders i o lt is; stands = refl; done = a.0; stops = b.1 },
-      a.1.0 ++ b.2.0,
-      (a.1.0, b.2.0, a.1.1, b.2.1, refl),
-      b.2.2 ∙ ap (λ (t : List ℕ). t ++ b.2.0) a.1.2 ∙ append_assoc old a.1.0 b.2.0,
+      (
+        a.1.0 ++ b.2.0,
+        (a.1.0, b.2.0, a.1.1, b.2.1, refl),
+        b.2.2 ∙ ap (λ (t : List ℕ). t ++ b.2.0) a.1.2 ∙ append_assoc old a.1.0 b.2.0,
+      ),
     )
 
 -- ---- from a new world

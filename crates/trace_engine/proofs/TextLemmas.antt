@@ -74,9 +74,11 @@ module _ (g : Setting) where
       → (onward (world_of g w x 0 a) (λ next. Ok next) ≡ Ok y) × Adds old new (StepText g w x a (λ next r. r ≡ []))
   did (Does u e stamp) w y x old mid comments new h put are more = (
     ap Ok (sym h.1),
-    event_line x ++ comments,
-    (comments, [], are, refl, ap (λ (t : List ℕ). event_line x ++ t) (sym (append-nil comments))),
-    more ∙ ap (λ (t : List ℕ). t ++ comments) put ∙ append_assoc old (event_line x) comments,
+    (
+      event_line x ++ comments,
+      (comments, [], are, refl, ap (λ (t : List ℕ). event_line x ++ t) (sym (append-nil comments))),
+      more ∙ ap (λ (t : List ℕ). t ++ comments) put ∙ append_assoc old (event_line x) comments,
+    ),
   )
   did Nothing w y x old mid comments new h put are more = (let k = h.0 in absurd cc)
   did (Stops fault) w y x old mid comments new h put are more = (let k = h.0 in absurd cc)
@@ -84,7 +86,7 @@ module _ (g : Setting) where
   pub idled : (a : WorldAnswer) (w y : World) (x : Event) (old : List ℕ) → Gives g (Ok stepped.Nothing) a w x y
       → (onward (world_of g w x 0 a) (λ next. Ok next) ≡ Ok y) × Adds old old (StepText g w x a (λ next r. r ≡ []))
   idled (Does u e stamp) w y x old h = (let k = h.0 in absurd cc)
-  idled Nothing w y x old h = (ap Ok (sym h.1), [], refl, sym (append-nil old))
+  idled Nothing w y x old h = (ap Ok (sym h.1), ([], refl, sym (append-nil old)))
   idled (Stops fault) w y x old h = (let k = h.0 in absurd cc)
 
   pub failed : (a : WorldAnswer) (w y : World) (x : Event) (why : StepFault) → Gives g (Err why) a w x y → why ≢ Memory → (a ≡ Stops why) × (y ≡ w)

@@ -7,6 +7,7 @@ use ranked_policy::Asn;
 use router_core::What;
 use std::alloc::AllocError;
 
+// Writes a number, with what stands before it and behind it.
 fn write_number(out: &mut Tail, word: &[u8], number: u32, end: &[u8]) -> Result<(), AllocError> {
     out.put_text(word)?;
     out.put_decimal(number)?;
@@ -26,7 +27,7 @@ pub(crate) fn say_number(
     result
 }
 
-// Says an item: how many octets a piece has, and the number of all others.
+// Writes an item: how many octets a piece has, and the number of all others.
 fn write_item(out: &mut Tail, word: &[u8], what: &What) -> Result<(), AllocError> {
     out.put_text(word)?;
     match what {

@@ -32,6 +32,7 @@ pub(crate) struct Notes {
     kept: Vec<Asn>,
 }
 
+// The name of a state, as the end of a line.
 fn state_name(state: State) -> &'static [u8] {
     match state {
         State::Idle => b" Idle\n",
@@ -141,6 +142,7 @@ impl Notes {
         self.text.as_slice()
     }
 
+    // Forgets what was noted.
     fn clear(&mut self) {
         self.text.clear();
         self.sessions.clear();

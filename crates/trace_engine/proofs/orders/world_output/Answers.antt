@@ -13,8 +13,8 @@ returns-in-Ok c =
     (all_traced c.args.network.now c.args.world c.trace_all.new.world c.args.out.items c.args.orders.now c.trace_all.new.out.items c.requires c.in-Ok.ensures.traces))
     c.end_output.ensures
 
-pub returns-in-Err : goal.returns-in-Err
-returns-in-Err c =
+pub returns : goal.returns
+returns c =
     both_ok _ _ _ c.stop_output.result
     (λ printed kind is.
     subst (λ (o : Output). OrdersTrace c.args.network.now c.args.out.items c.args.orders.now o) (sym is)

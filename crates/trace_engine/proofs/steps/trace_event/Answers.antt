@@ -8,7 +8,7 @@ use Rattle.trace_engine.proofs.steps.trace_event.Goals as goal
 
 pub returns-in_err-step-clause-traces : goal.returns-in_err-step-clause-traces
 returns-in_err-step-clause-traces c =
-    let p = err_from_is_err_and c.from_residual.result c.from_residual.ensures.1 in
+    let p = err_from_is_err_and c.from_residual-in_err-step.result c.from_residual-in_err-step.ensures.1 in
     rw (p.1, p.2) (one_failed c.args.world.now c.step.new.self c.args.event.now c.args.out.now.items c.in_err-step.field-0.0 c.in_err-step.ensures.answers)
 
 pub returns-in_ok-put_comments-in-Did-clause-traces : goal.returns-in_ok-put_comments-in-Did-clause-traces
