@@ -144,13 +144,19 @@ The input is a network, a line 'schedule', and the orders of the schedule, as 'p
     rounds 2
 
 The output is the network's lines, the line 'schedule', and each event that was done as an order, so
-that it is an input for 'play' again, and 'play' prints the same for both; comments say what stood for
-many events, how many of them were done, and behind which round the network was at rest:
+that it is an input for 'play' again, and 'play' prints the same for both; comments say what an event
+did, what stood for many events, how many of them were done, and behind which round the network was
+at rest:
 
     originate 1 10.1.0.0/16
     # line 7: rounds 2
     decide 1
+    # keeps 10.1.0.0/16 1, kept none
     # line 7: 1 events, rest behind round 1
+
+Behind 'put' it says what that sends, behind 'take' what it takes, behind 'handle' what it hears,
+behind 'decide' what it keeps, behind 'advertise' whom it tells, behind 'offer' which snapshot it
+offers; then which session came to another state, and which snapshot the router records.
 
 A 'rounds' line ends as soon as a round does nothing. 'no rest by round N': each of them did
 something. 'nothing to do': the order of that line found nothing to do. Where an order is refused the

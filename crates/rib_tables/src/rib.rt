@@ -280,6 +280,21 @@ impl<'a> Rib<'a> {
         Some(self.rows[place].prefix)
     }
 
+    /// The prefix that [`Rib::decide`] decides next: the least of the network, by address and then by length, whose
+    /// kept path is not the best. `None` exactly where each kept path is. It takes no memory.
+    pub fn undecided(&self) -> Option<Prefix>
+        ensures { MatchOption result (HoldsOfAll self.now.net.origins (IsSettled self.now)) (IsLeastWithout self.now.net.origins (IsSettled self.now)) }
+    {
+        let mut dirty = self.dirty;
+        let (place, _) = first_undecided(
+            self.router,
+            self.peers.as_slice(),
+            self.rows.as_slice(),
+            &mut dirty,
+        )?;
+        Some(self.rows[place].prefix)
+    }
+
     /// Decides once (RFC 4271 section 9.1): the least prefix of the network, by address and then by
     /// length, whose kept path is not the best gets its best, and is answered. `None` exactly where
     /// each kept path is the best, and then nothing changes. Refused [`RibError::Memory`] where a

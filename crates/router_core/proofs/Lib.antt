@@ -18,6 +18,7 @@ pub mod Untold
 pub mod Advertising
 pub mod Carrying
 pub mod Serving
+pub mod Showing
 pub mod Taking
 pub mod Handling
 pub mod Marking

@@ -33,7 +33,7 @@ none_first : (ps : List Peer) (v : ℕ) → length ps ≤ position_or_len (is_nu
 none_first [] v h = refl
 none_first (p ∷ ps) v h = none_head (p.number == v) p ps v (position_or_len (is_number v) ps) refl (none_first ps v) h
 
-is_below : (ps : List Peer) (v i : ℕ) → IsAt ps v i → i < length ps
+pub is_below : (ps : List Peer) (v i : ℕ) → IsAt ps v i → i < length ps
 is_below [] v i h = absurd h
 is_below (p ∷ ps) v zero h = omega arith
 is_below (p ∷ ps) v (suc i) h = let l = is_below ps v i h.1 in omega arith

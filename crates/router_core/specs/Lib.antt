@@ -4,3 +4,4 @@ pub mod Handling
 pub mod Recorded
 pub mod Whole
 pub mod Calling
+pub mod Shown

@@ -18,6 +18,7 @@ mod history;
 mod offer;
 mod put;
 mod record;
+mod shown;
 mod take;
 
 use crate::opening::{new_peers, own_open};

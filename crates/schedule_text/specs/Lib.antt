@@ -1,3 +1,4 @@
 pub mod Schedules
 pub mod Sayings
+pub mod Events
 pub mod Reports

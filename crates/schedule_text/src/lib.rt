@@ -4,21 +4,25 @@
 //! rounds or ticks of all of them. [`read_schedule`] answers the orders that it spells, each with
 //! its line, or the first faulty line with its [`net_text::Code`].
 //!
-//! [`snapshot_line`] appends how a snapshot came out, [`now_line`] the heading of the routes at the
-//! end, [`route_line`] a router's path for a prefix, [`cut_line`] and [`cut_none_line`] where a snapshot cuts
-//! the events of a run, [`stop_line`] that a run refused the order of a line. A refused call leaves the buffer's octets as they were.
+//! [`event_line`] appends the order of an event; [`snapshot_line`] how a snapshot came out, [`now_line`] the heading of
+//! the routes at the end, [`route_line`] a router's path for a prefix, [`cut_line`] and [`cut_none_line`] where a
+//! snapshot cuts the events of a run, [`stop_line`] that a run refused the order of a line. A refused call leaves the
+//! buffer's octets as they were.
 //!
 //! The definitions stand in `specs/`: `Schedules` (keywords, their operands, whole texts), `Sayings`
-//! (which words say which order), `Reports` (lines of a run). [`laws`] has what they say together.
+//! (which words say which order), `Events` (the line of an event), `Reports` (lines of a run). [`laws`] has what they
+//! say together.
 //!
 //! Left out: what orders do.
 #![tactic(auto)]
 
+mod event;
 mod keyword;
 pub mod laws;
 mod operands;
 mod report;
 mod schedule;
 
+pub use event::event_line;
 pub use report::{cut_line, cut_none_line, now_line, route_line, snapshot_line, stop_line};
 pub use schedule::{ScheduledOrder, read_schedule};

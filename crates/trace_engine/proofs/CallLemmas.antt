@@ -1,6 +1,6 @@
 -- What calls give and leave, one behind the other.
 use Rattle.std.proofs.Common.{◌≡◌, ◌≢◌, ℕ, zero, suc, ◌+◌, ◌-◌, ◌==◌, ◌<◌, List, [], ◌∷◌, ◌++◌, length, take, drop, get_or, refl, ap, sym, subst, ◌∙◌, inl, inr, Ok, Err, append_assoc}
-use Rattle.std.specs.Prelude.{Option, Some, false, codes}
+use Rattle.std.specs.Prelude.{Option, None, Some, false, codes}
 use Rattle.std.proofs.lemmas.List.{append-nil, length-append, take_more}
 use Rattle.std.specs.Io.KnownBytes.{Appends}
 use Rattle.net_text.specs.Lexing.{lines_of}
@@ -26,15 +26,16 @@ use Rattle.text_engines.proofs.CheckLemmas.{parted, limited_done, limited_stoppe
 use Rattle.play_engine.specs.declared.schedules.Stop.{Stop}
 use Rattle.play_engine.specs.Playing.{LeadTo, IsFirstRefused}
 use Rattle.play_engine.proofs.PlayLemmas.{lead_on}
-use Rattle.trace_engine.specs.Tracing.{event_line, events_text, reached, rest_in, rest_of, head_text, tail_text, count_of, begun_text, order_text, orders_text, stopped_text, stop_comment, OrdersTrace, HaltsAt, TracesOne, TracesEvents, TracesRounds, TracesWork, TracesOrder, TracesAll}
+use Rattle.schedule_text.specs.Events.{event_line}
+use Rattle.trace_engine.specs.Tracing.{AreComments, EventsText, reached, rest_in, rest_of, head_text, tail_text, count_of, OrderText, OrdersText, StoppedText, stop_comment, limited, OrdersTrace, Adds, HaltsAt, TracesOne, TracesEvents, TracesRounds, TracesWork, TracesOrder, TracesAll}
 use Rattle.trace_engine.specs.Tracings.{ScheduleTraces, network_lines, InputTraces, Traces}
-use Rattle.trace_engine.proofs.TextLemmas.{text_behind, silent, stops_text, halted_text, reached_is, did, idled, failed, orders_behind, rested, moved}
+use Rattle.trace_engine.proofs.TextLemmas.{text_behind, silent, halted_text, reached_is, did, idled, failed, orders_behind, rested, moved}
 
 -- ---- one event
 
-pub one_did : (x y : WorldView) (event : Event) (old new : List ℕ) → Answers (Ok stepped.Did) x event y → new ≡ old ++ event_line event → TracesOne (Ok tt) x event old y new
-one_did x y event old new h put = λ g e ranks.
-    did g (world_answer g (plain_world x) event) (plain_world x) (plain_world y) event old new (h g e ranks) put
+pub one_did : (x y : WorldView) (event : Event) (old mid comments new : List ℕ) → Answers (Ok stepped.Did) x event y → mid ≡ old ++ event_line event → AreComments comments → new ≡ mid ++ comments → TracesOne (Ok tt) x event old y new
+one_did x y event old mid comments new h put are more = λ g e ranks.
+    did g (world_answer g (plain_world x) event) (plain_world x) (plain_world y) event old mid comments new (h g e ranks) put are more
 
 pub one_idled : (x y : WorldView) (event : Event) (old : List ℕ) → Answers (Ok stepped.Nothing) x event y → TracesOne (Ok tt) x event old y old
 one_idled x y event old h = λ g e ranks.
@@ -47,17 +48,18 @@ one_failed x y event old why h = λ g e ranks kind.
 
 -- ---- events
 
+-- a text behind another
+added : (P Q R : List ℕ → Type 0) (old mid new : List ℕ) → Adds old mid P → Adds mid new Q → ((s t : List ℕ) → P s → Q t → R (s ++ t)) → Adds old new R
+added P Q R old mid new a b both = (a.0 ++ b.0, both a.0 b.0 a.1 b.1, b.2 ∙ ap (λ (t : List ℕ). t ++ b.0) a.2 ∙ append_assoc old a.0 b.0)
+
 -- events behind others, all of them done
 pub joined : (x y z : WorldView) (es fs : List Event) (old mid new : List ℕ) → y.net ≡ x.net → TracesEvents (Ok tt) x es old y mid → TracesEvents (Ok tt) y fs mid z new → TracesEvents (Ok tt) x (es ++ fs) old z new
 joined x y z es fs old mid new same h k = λ g e ranks.
     let wx = plain_world x in
     let wy = plain_world y in
     let a = h g e ranks in
-    let b = k g (e ∙ sym same) ranks in (
-      on_to g es fs wx wy (plain_world z) a.0 b.0,
-      b.1 ∙ ap (λ (t : List ℕ). t ++ events_text g wy fs) a.1 ∙ append_assoc old (events_text g wx es) (events_text g wy fs)
-          ∙ ap (λ (t : List ℕ). old ++ t) (sym (text_behind g es fs wx wy 0 a.0)),
-    )
+    let b = k g (e ∙ sym same) ranks in
+    (on_to g es fs wx wy (plain_world z) a.0 b.0, added (EventsText g wx es) (EventsText g wy fs) (EventsText g wx (es ++ fs)) old mid new a.1 b.1 (λ s t p q. text_behind g es fs wx wy 0 s t a.0 p q))
 
 -- events behind others, one of them refused
 pub halts : (x y z : WorldView) (es fs gs : List Event) (old mid new : List ℕ) (why : StepFault) → y.net ≡ x.net → TracesEvents (Ok tt) x es old y mid → TracesEvents (Err why) y fs mid z new
@@ -68,8 +70,8 @@ halts x y z es fs gs old mid new why same h k = λ g e ranks kind.
     let wz = plain_world z in
     let a = h g e ranks in
     let b = k g (e ∙ sym same) ranks kind in
-    let s = b.0.1 in
-    let all : StopsAt g wx ((es ++ fs) ++ gs) (length es + b.0.0) why wz = record {
+    let s = b.1 in
+    let all : StopsAt g wx ((es ++ fs) ++ gs) (length es + b.0) why wz = record {
       before = es ++ s.before;
       event = s.event;
       behind = s.behind ++ gs;
@@ -80,24 +82,19 @@ halts x y z es fs gs old mid new why same h k = λ g e ranks kind.
       reached = on_to g es s.before wx wy wz a.0 s.reached;
       refused = s.refused;
     } in
-    let text : events_text g wx ((es ++ fs) ++ gs) ≡ events_text g wx es ++ events_text g wy fs =
-    halted_text g wx wz ((es ++ fs) ++ gs) (length es + b.0.0) why kind all
-    ∙ text_behind g es b.0.1.before wx wy 0 a.0
-    ∙ ap (λ (t : List ℕ). events_text g wx es ++ t) (sym (halted_text g wy wz fs b.0.0 why kind b.0.1)) in (
-      (length es + b.0.0, all),
-      b.1 ∙ ap (λ (t : List ℕ). t ++ events_text g wy fs) a.1 ∙ append_assoc old (events_text g wx es) (events_text g wy fs) ∙ ap (λ (t : List ℕ). old ++ t) (sym text),
-    )
+    (length es + b.0, all, added (EventsText g wx es) (EventsText g wy s.before) (EventsText g wx (es ++ s.before)) old mid new a.1 b.2 (λ q t p r. text_behind g es s.before wx wy 0 q t a.0 p r))
 
 one_halts : (x y : WorldView) (event : Event) (old new : List ℕ) (why : StepFault) → TracesOne (Err why) x event old y new → TracesEvents (Err why) x (event ∷ []) old y new
 one_halts x y event old new why h = λ g e ranks kind.
     let a = h g e ranks kind in
     let there : IsRefused g (plain_world y) event why = subst (λ (w : World). IsRefused g w event why) (sym a.1) (inl a.0) in (
-      (0, record { before = []; event = event; behind = []; parts = refl; place = refl; reached = ap Ok (sym a.1); refused = there }),
-      a.2 ∙ sym (append-nil old) ∙ ap (λ (t : List ℕ). old ++ t) (sym (stops_text g (plain_world x) event [] why kind (inl a.0))),
+      0,
+      record { before = []; event = event; behind = []; parts = refl; place = refl; reached = ap Ok (sym a.1); refused = there },
+      ([], refl, a.2 ∙ sym (append-nil old)),
     )
 
 none_traced : (x : WorldView) (old : List ℕ) → TracesEvents (Ok tt) x [] old x old
-none_traced x old = λ g e ranks. (refl, sym (append-nil old))
+none_traced x old = λ g e ranks. (refl, ([], refl, sym (append-nil old)))
 
 pub first_traced : (x : WorldView) (old : List ℕ) → TracesEvents (Ok tt) x [] old x old
 first_traced x old = none_traced x old
@@ -139,7 +136,7 @@ still y z once left mid new same k long = λ g e ranks.
     let a = k g (e ∙ same) ranks in
     let rest : wz ≡ wy = rests g once wy wz 0 a.0 long in
     let more = again g once wz (subst (λ (w : World). played g w 0 once ≡ Ok wz) (sym rest) a.0) left in
-    (more, sym (append-nil new) ∙ ap (λ (t : List ℕ). new ++ t) (sym (silent g (repeated left once) wz wz 0 more refl)))
+    (more, ([], silent g (repeated left once) wz wz 0 more refl, sym (append-nil new)))
 
 pub still_on : (x y z : WorldView) (once : List Event) (n left all : ℕ) (old mid new : List ℕ) → (n + 1) + left ≡ all → y.net ≡ x.net → z.net ≡ y.net
     → TracesEvents (Ok tt) x (repeated n once) old y mid → TracesEvents (Ok tt) y once mid z new → length z.run ≡ length y.run → TracesEvents (Ok tt) x (repeated all once) old z new
@@ -170,17 +167,23 @@ rest_on x y z n passed left mid new same is rest h other = λ g e ranks.
 pub rounds_done : (x y : WorldView) (n : ℕ) (old new : List ℕ) (rest : Option ℕ) → TracesEvents (Ok tt) x (repeated n (round x.net)) old y new
     → ((g : Setting) → g.net ≡ x.net → ChoosesByRank g → rest ≡ rest_in g (plain_world x) 0 n) → TracesRounds (Ok rest) x n old y new
 rounds_done x y n old new rest h found = λ g e ranks.
-    let k = subst (λ (p : Plan). (played g (plain_world x) 0 (repeated n (round p)) ≡ Ok (plain_world y)) × (new ≡ old ++ events_text g (plain_world x) (repeated n (round p)))) (sym e) (h g e ranks) in
+    let k = subst (λ (p : Plan). (played g (plain_world x) 0 (repeated n (round p)) ≡ Ok (plain_world y)) × Adds old new (EventsText g (plain_world x) (repeated n (round p)))) (sym e) (h g e ranks) in
     (k.0, k.1, found g e ranks)
 
 pub rounds_halt : (x y : WorldView) (n : ℕ) (old new : List ℕ) (why : StepFault) → TracesEvents (Err why) x (repeated n (round x.net)) old y new → TracesRounds (Err why) x n old y new
 rounds_halt x y n old new why h = λ g e ranks kind.
-    subst (λ (p : Plan). HaltsAt g (plain_world x) (repeated n (round p)) why (plain_world y) × (new ≡ old ++ events_text g (plain_world x) (repeated n (round p)))) (sym e) (h g e ranks kind)
+    subst (λ (p : Plan). HaltsAt g (plain_world x) (repeated n (round p)) why (plain_world y) old new) (sym e) (h g e ranks kind)
 
 -- seconds that are refused are the order's
 pub ticks_halt : (x y : WorldView) (n : ℕ) (once : List Event) (old new : List ℕ) (why : StepFault) → once ≡ second x.net → TracesEvents (Err why) x (repeated n once) old y new → TracesWork (Err why) x (order.Ticks n) old y new
 ticks_halt x y n once old new why is h = λ g e ranks kind.
-    subst (λ (es : List Event). HaltsAt g (plain_world x) (repeated n es) why (plain_world y) × (new ≡ old ++ events_text g (plain_world x) (repeated n es))) (is ∙ ap second (sym e)) (h g e ranks kind)
+    subst (λ (es : List Event). HaltsAt g (plain_world x) (repeated n es) why (plain_world y) old new) (is ∙ ap second (sym e)) (h g e ranks kind)
+
+-- seconds that are all done are the order's
+pub ticks_done : (x y : WorldView) (n : ℕ) (once : List Event) (old new : List ℕ) → once ≡ second x.net → TracesEvents (Ok tt) x (repeated n once) old y new → TracesWork (Ok None) x (order.Ticks n) old y new
+ticks_done x y n once old new is h = λ g e ranks.
+    let k = subst (λ (es : List Event). (played g (plain_world x) 0 (repeated n es) ≡ Ok (plain_world y)) × Adds old new (EventsText g (plain_world x) (repeated n es))) (is ∙ ap second (sym e)) (h g e ranks) in
+    (k.0, k.1, refl)
 
 -- ---- an order
 
@@ -190,31 +193,35 @@ order_done x y o old one two new rest count first work last counted = λ g e ran
     let w = plain_world x in
     let es = events_of g.net o.order in
     let a = work g e ranks in
-    let events = events_text g w es in
+    let events = a.1.0 in
     let head = head_text o.line o.order in
     let is : count ≡ count_of g w es = counted ∙ ap (λ (v : World). length v.run - length w.run) (sym (reached_is g w (plain_world y) es a.0)) in
     let said : tail_text o.line o.order count rest ≡ tail_text o.line o.order (count_of g w es) (rest_of g w o.order) =
     ap (λ (c : ℕ). tail_text o.line o.order c rest) is ∙ ap (λ (r : Option ℕ). tail_text o.line o.order (count_of g w es) r) a.2 in (
       a.0,
-      last ∙ ap (λ (t : List ℕ). t ++ tail_text o.line o.order count rest) (a.1 ∙ ap (λ (t : List ℕ). t ++ events) first ∙ append_assoc old head events)
-          ∙ append_assoc old (head ++ events) (tail_text o.line o.order count rest)
-          ∙ ap (λ (t : List ℕ). old ++ ((head ++ events) ++ t)) said,
+      (
+        (head ++ events) ++ tail_text o.line o.order count rest,
+        (head ++ events, (events, a.1.1, refl), ap (λ (t : List ℕ). (head ++ events) ++ t) said),
+        last ∙ ap (λ (t : List ℕ). t ++ tail_text o.line o.order count rest) (a.1.2 ∙ ap (λ (t : List ℕ). t ++ events) first ∙ append_assoc old head events)
+            ∙ append_assoc old (head ++ events) (tail_text o.line o.order count rest),
+      ),
     )
 
 pub order_halts : (x y : WorldView) (o : ScheduledOrder) (old one new : List ℕ) (why : StepFault) → one ≡ old ++ head_text o.line o.order → TracesWork (Err why) x o.order one y new → TracesOrder (Err why) x o old y new
 order_halts x y o old one new why first work = λ g e ranks kind.
-    let events = events_text g (plain_world x) (events_of g.net o.order) in
+    let head = head_text o.line o.order in
     let a = work g e ranks kind in
-    (a.0, a.1 ∙ ap (λ (t : List ℕ). t ++ events) first ∙ append_assoc old (head_text o.line o.order) events)
+    let t = a.2.0 in
+    (a.0, a.1, (head ++ t, (t, halted_text g (plain_world x) (plain_world y) (events_of g.net o.order) a.0 why t kind a.1 a.2.1, refl), a.2.2 ∙ ap (λ (s : List ℕ). s ++ t) first ∙ append_assoc old head t))
 
 -- ---- orders
 
 abbrev pub AreTraced : WorldView → List ScheduledOrder → List ℕ → WorldView → List ℕ → Type 0
 AreTraced x orders old y new =
-    (g : Setting) → g.net ≡ x.net → ChoosesByRank g → LeadTo g (plain_world x) orders (plain_world y) × (new ≡ old ++ orders_text g (plain_world x) orders)
+    (g : Setting) → g.net ≡ x.net → ChoosesByRank g → LeadTo g (plain_world x) orders (plain_world y) × Adds old new (OrdersText g (plain_world x) orders)
 
 pub none_are : (x : WorldView) (old : List ℕ) → AreTraced x [] old x old
-none_are x old = λ g e ranks. (refl, sym (append-nil old))
+none_are x old = λ g e ranks. (refl, ([], refl, sym (append-nil old)))
 
 pub orders_on : (x y z : WorldView) (orders : List ScheduledOrder) (i : ℕ) (o : ScheduledOrder) (old mid new : List ℕ) → i < length orders → o ≡ get_or orders i o → y.net ≡ x.net
     → AreTraced x (take i orders) old y mid → TracesOrder (Ok tt) y o mid z new → AreTraced x (take (i + 1) orders) old z new
@@ -224,11 +231,8 @@ orders_on x y z orders i o old mid new lt is same h k = λ g e ranks.
     let a = h g e ranks in
     let b = k g (e ∙ sym same) ranks in
     let more : take (i + 1) orders ≡ take i orders ++ o ∷ [] = take_more orders i o lt ∙ ap (λ (p : ScheduledOrder). take i orders ++ p ∷ []) (sym is) in
-    let text : orders_text g wx (take (i + 1) orders) ≡ orders_text g wx (take i orders) ++ order_text g wy o =
-    ap (orders_text g wx) more ∙ orders_behind g (take i orders) (o ∷ []) wx wy a.0 ∙ ap (λ (t : List ℕ). orders_text g wx (take i orders) ++ t) (append-nil (order_text g wy o)) in (
-      lead_on g wx wy (plain_world z) orders i o g.net refl lt is a.0 b.0,
-      b.1 ∙ ap (λ (t : List ℕ). t ++ order_text g wy o) a.1 ∙ append_assoc old (orders_text g wx (take i orders)) (order_text g wy o) ∙ ap (λ (t : List ℕ). old ++ t) (sym text),
-    )
+    let text = added (OrdersText g wx (take i orders)) (OrderText g wy o) (OrdersText g wx (take i orders ++ o ∷ [])) old mid new a.1 b.1 (λ s t p q. orders_behind g (take i orders) o wx wy s t a.0 p q) in
+    (lead_on g wx wy (plain_world z) orders i o g.net refl lt is a.0 b.0, subst (λ (os : List ScheduledOrder). Adds old new (OrdersText g wx os)) (sym more) text)
 
 pub orders_halt : (x y z : WorldView) (orders : List ScheduledOrder) (i : ℕ) (o : ScheduledOrder) (old mid new : List ℕ) (why : StepFault) → i < length orders → o ≡ get_or orders i o → y.net ≡ x.net
     → AreTraced x (take i orders) old y mid → TracesOrder (Err why) y o mid z new → TracesAll (Err (record { line = o.line; why = why })) x orders old z new
@@ -237,27 +241,33 @@ orders_halt x y z orders i o old mid new why lt is same h k = λ g e ranks kind.
     let wy = plain_world y in
     let a = h g e ranks in
     let b = k g (e ∙ sym same) ranks kind in (
-      record { before = take i orders; order = o; behind = drop (i + 1) orders; reached = wy; left = plain_world z; at = b.0.0; parts = parted orders i o lt is; stands = refl; done = a.0; stops = b.0.1 },
-      b.1 ∙ ap (λ (t : List ℕ). t ++ begun_text g wy o) a.1 ∙ append_assoc old (orders_text g wx (take i orders)) (begun_text g wy o),
+      record { before = take i orders; order = o; behind = drop (i + 1) orders; reached = wy; left = plain_world z; at = b.0; parts = parted orders i o lt is; stands = refl; done = a.0; stops = b.1 },
+      (
+        a.1.0 ++ b.2.0,
+        (a.1.0, b.2.0, a.1.1, b.2.1, refl),
+        b.2.2 ∙ ap (λ (t : List ℕ). t ++ b.2.0) a.1.2 ∙ append_assoc old a.1.0 b.2.0,
+      ),
     )
 
 -- ---- from a new world
 
-pub all_traced : (net : Plan) (x y : WorldView) (head : List ℕ) (orders : List ScheduledOrder) (new : List ℕ) → Opens net x → TracesAll (Ok tt) x orders head y new → OrdersTrace net head orders (output new DONE)
+pub all_traced : (net : Plan) (x y : WorldView) (head : List ℕ) (orders : List ScheduledOrder) (new : List ℕ) → Opens net x → TracesAll (Ok tt) x orders head y new → OrdersTrace net head orders (output (limited new) DONE)
 all_traced net x y head orders new opens h = λ g e ranks.
-    let k = subst (λ (w : World). LeadTo g w orders (plain_world y) × (new ≡ head ++ orders_text g w orders)) (opens.1 g e) (h g (e ∙ sym opens.0) ranks) in
-    inl (plain_world y, k.0, ap (λ (t : List ℕ). output t DONE) k.1)
+    let k = subst (λ (w : World). LeadTo g w orders (plain_world y) × Adds head new (OrdersText g w orders)) (opens.1 g e) (h g (e ∙ sym opens.0) ranks) in
+    inl (plain_world y, k.1.0, k.0, k.1.1, ap (λ (t : List ℕ). output (limited t) DONE) k.1.2)
 
 pub all_stopped : (net : Plan) (x y : WorldView) (head : List ℕ) (orders : List ScheduledOrder) (stop : Stop) (mid : List ℕ) → stop.why ≢ Memory → Opens net x → TracesAll (Err stop) x orders head y mid
-    → OrdersTrace net head orders (output (mid ++ stop_comment stop.line stop.why) REFUSED)
+    → OrdersTrace net head orders (output (limited (mid ++ stop_comment stop.line stop.why)) REFUSED)
 all_stopped net x y head orders stop mid kind opens h = λ g e ranks.
-    let k = subst (λ (w : World). (s : IsFirstRefused g w orders stop) × (mid ≡ head ++ stopped_text g w orders stop s)) (opens.1 g e) (h g (e ∙ sym opens.0) ranks kind) in
-    let said = stopped_text g (new_world g) orders stop k.0 in
+    let k = subst (λ (w : World). (s : IsFirstRefused g w orders stop) × Adds head mid (StoppedText g w orders stop s)) (opens.1 g e) (h g (e ∙ sym opens.0) ranks kind) in
+    let said = k.1.0 in
     inr (
       stop,
+      said,
       kind,
       k.0,
-      ap (λ (t : List ℕ). output t REFUSED) (ap (λ (t : List ℕ). t ++ stop_comment stop.line stop.why) k.1 ∙ append_assoc head said (stop_comment stop.line stop.why)),
+      k.1.1,
+      ap (λ (t : List ℕ). output (limited t) REFUSED) (ap (λ (t : List ℕ). t ++ stop_comment stop.line stop.why) k.1.2 ∙ append_assoc head said (stop_comment stop.line stop.why)),
     )
 
 -- ---- what is printed for what was read

@@ -18,7 +18,7 @@ use Rattle.net_text.specs.Words.{◌>>=◌, is_digit, is_number, value_of, is_oc
 use Rattle.net_text.specs.Printing.{line, address_text, prefix_text}
 use Rattle.schedule_text.specs.Schedules.{is_within}
 use Rattle.schedule_text.specs.Sayings.{NamesRouter, NamesPeers, NamesPrefix, NamesNumber, Say, LinesAreReadAsTheySay}
-use Rattle.trace_engine.specs.Tracing.{one_line, two_line, prefix_line, event_line}
+use Rattle.schedule_text.specs.Events.{one_line, two_line, prefix_line, event_line}
 use Rattle.trace_engine.proofs.LineLemmas.{are_shown, both_true, ascii_of, shown_both, decimal_number, decimal_value, decimal_shown, decimal_word, decimal_digits, digit_range, number_reads, IsNamed, asn_fits, router_reads, one_words, two_words, Says, says_line}
 
 -- ---- prefixes

@@ -1,9 +1,10 @@
 -- A trace spells the run, and is played to the same.
-use Rattle.std.proofs.Common.{◌≡◌, ◌≢◌, ℕ, zero, suc, ◌-◌, ◌==◌, Bool, true, false, List, [], ◌∷◌, ◌++◌, length, map, get_or, refl, ap, sym, subst, ◌∙◌, arith, append_assoc, inl, inr, Ok, Err, Option}
+use Rattle.std.proofs.Common.{◌≡◌, ◌≢◌, ℕ, zero, suc, ◌-◌, ◌==◌, ◌<◌, ◌≤◌, Bool, true, false, List, [], ◌∷◌, ◌++◌, length, map, get_or, refl, ap, sym, subst, ◌∙◌, arith, append_assoc, inl, inr, Ok, Err, Option}
 use Rattle.std.specs.Prelude.{Result, IsOk, codes, if◌then◌else◌, ◌&&◌, nat_lt}
 use Rattle.std.specs.List.{All, AllByRecursion}
 use Rattle.std.proofs.lemmas.Bool.{eq-eqb, lt-ltb}
-use Rattle.std.proofs.lemmas.List.{append-nil, append_cancel_left}
+use Rattle.std.proofs.lemmas.Bool.Decides.{nat_tests}
+use Rattle.std.proofs.lemmas.List.{append-nil, append_cancel_left, length-append}
 use Rattle.std.proofs.lemmas.Grind.{flat_map-append}
 use Rattle.ranked_policy.specs.Plans.{Plan, IsNetwork}
 use Rattle.router_model.specs.Settings.{Setting, ChoosesByRank}
@@ -27,14 +28,15 @@ use Rattle.schedule_text.specs.declared.schedule.ScheduledOrder.{ScheduledOrder}
 use Rattle.schedule_text.specs.Sayings.{LinesAreReadAsTheySay}
 use Rattle.schedule_text.specs.Schedules.{line_order, orders_of, IsGood, IsFirstFault, SpellsSchedule, RefusesSchedule}
 use Rattle.text_engines.specs.declared.status.TheConstants.{DONE}
+use Rattle.text_engines.specs.declared.transfer.TheConstants.{INPUT_LIMIT}
 use Rattle.text_engines.specs.Decoding.{Output, output}
 use Rattle.text_engines.specs.Inputs.{NetworkGives}
 use Rattle.play_engine.specs.declared.schedules.Stop.{Stop}
 use Rattle.play_engine.specs.Playing.{all_events, LeadTo, IsFirstRefused, IsReport, OrdersGive, ScheduleGives, Plays}
-use Rattle.trace_engine.specs.Tracing.{ends_in_return, whole_line, network_text, head_of_trace, orders_text, OrdersTrace}
+use Rattle.trace_engine.specs.Tracing.{ends_in_return, whole_line, network_text, head_of_trace, OrdersText, limit_comment, limited, OrdersTrace}
 use Rattle.trace_engine.specs.Tracings.{network_lines, ScheduleTraces, Traces}
 use Rattle.trace_engine.specs.Laws.{SpellsEvents, TracesSpellTheirRuns, TracesPlayBack}
-use Rattle.trace_engine.proofs.LineLemmas.{order_of, as_orders, line_parted}
+use Rattle.trace_engine.proofs.LineLemmas.{order_of, as_orders, line_parted, one_lines}
 use Rattle.trace_engine.proofs.RunLemmas.{MayOrder, lines_may, orders_say}
 use Rattle.trace_engine.proofs.TextLemmas.{played_parts}
 
@@ -50,10 +52,9 @@ all_of P (x ∷ xs) h = all_at P x xs h.0 (all_of P xs h.1)
 
 module _ (feeds : LinesEndByLineFeeds) (read : LinesAreReadAsTheySay) where
   pub spell_their_runs : TracesSpellTheirRuns
-  spell_their_runs g network before lines orders spelled w leads at =
+  spell_their_runs g network before lines orders spelled w leads text printed at =
       let may = subst (λ (os : List ScheduledOrder). AllByRecursion (λ o. MayOrder g network o.order) os) (sym spelled.are) (lines_may g network feeds read before lines) in
-      let k = orders_say g network feeds read orders (new_world g) w may leads in
-      let text = orders_text g (new_world g) orders in
+      let k = orders_say g network feeds read orders (new_world g) w text may leads printed in
       let whole : lines_of text ≡ k.says.lines = ap lines_of (sym (append-nil text)) ∙ k.says.parted [] ∙ append-nil k.says.lines in
       subst (λ (ls : List Text). SpellsEvents g.net at ls w.run) (sym whole)
       (record {
@@ -63,22 +64,6 @@ module _ (feeds : LinesEndByLineFeeds) (read : LinesAreReadAsTheySay) where
       })
 
 -- ---- the lines of a trace
-
-false_not_true : false ≡ true → ⊥
-false_not_true e = absurd cc
-
-first_whole : (x : ℕ) (texts : List Text) → x ≢ 10 → AllByRecursion IsOneLine texts → AllByRecursion IsOneLine (first_more x texts)
-first_whole x [] n h = ((n, tt), tt)
-first_whole x (t ∷ texts) n h = ((n, h.0), h.1)
-
-whole_by : (x : ℕ) (b c : Bool) (texts : List Text) → (x == 10) ≡ b → AllByRecursion IsOneLine texts → AllByRecursion IsOneLine (if b then [] ∷ texts else if c then texts else first_more x texts)
-whole_by x true c texts is h = (tt, h)
-whole_by x false true texts is h = h
-whole_by x false false texts is h = first_whole x texts (λ e. absurd (false_not_true (sym is ∙ eq-eqb x 10 e))) h
-
-one_lines : (text : Text) → AllByRecursion IsOneLine (lines_of text)
-one_lines [] = tt
-one_lines (x ∷ xs) = whole_by x (x == 10) ((x == 13) && begins_with 10 xs) (lines_of xs) refl (one_lines xs)
 
 kept_by : (P : Text → Type 0) (b : Bool) (l : Text) (ls : List Text) → P l → AllByRecursion P ls → AllByRecursion P (if b then [] else l ∷ ls)
 kept_by P true l ls here all = tt
@@ -255,40 +240,50 @@ traced input text (inl (inr all)) = traced_by input text _ _ all.1 (λ out gives
 traced input text (inr none) = absurd (not_done text _ refl none)
 
 whole_text : (net : Plan) (head : List ℕ) (orders : List ScheduledOrder) (text : List ℕ) (g : Setting) → g.net ≡ net → ChoosesByRank g → OrdersTrace net head orders (output text DONE)
-    → (w : World) × LeadTo g (new_world g) orders w × (text ≡ head ++ orders_text g (new_world g) orders)
+    → (w : World) × (body : List ℕ) × LeadTo g (new_world g) orders w × OrdersText g (new_world g) orders body × (text ≡ limited (head ++ body))
 whole_text net head orders text g e ranks h = elim (h g e ranks) [
-  | inl t ↦ (t.0, t.1, ap (λ (o : Output). o.text) t.2)
-  | inr s ↦ absurd (not_done text _ refl s.3)
+  | inl t ↦ (t.0, t.1, t.2, t.3, ap (λ (o : Output). o.text) t.4)
+  | inr s ↦ absurd (not_done text _ refl s.5)
 ]
+
+-- a text that an input may be has no comment that it is too long
+short_by : (limit : ℕ) (comment : List ℕ) (b : Bool) (t text : List ℕ) → nat_lt limit (length t) ≡ b → length text ≤ limit → text ≡ t ++ (if b then comment else []) → text ≡ t
+short_by limit comment true t text long short is =
+    let more : limit < length t = grind (arith, nat_tests, long) in
+    absurd (omega (arith, ap length is, length-append t comment, short, more))
+short_by limit comment false t text long short is = is ∙ append-nil t
+
+short_text : (t text : List ℕ) → length text ≤ INPUT_LIMIT → text ≡ limited t → text ≡ t
+short_text t text short is = short_by INPUT_LIMIT limit_comment (nat_lt INPUT_LIMIT (length t)) t text refl short is
 
 module _ (feeds : LinesEndByLineFeeds) (read : LinesAreReadAsTheySay) (one : OneNetwork) (spelt : SpeltIsNotRefused) (exists : EachNetworkHasASetting) (again : WhatIsPlayedIsReplayed) where
   -- the orders that the lines of a trace spell lead where those of the schedule lead
-  same_orders : (input text : List ℕ) (t : IsTraced input text) (body : List ℕ) → text ≡ head_of_trace (network_lines input) ++ body → (n : ℕ) (os : List ScheduledOrder) → SpellsSchedule t.net n (lines_of body) os
+  same_orders : (input text : List ℕ) (t : IsTraced input text) (body : List ℕ) → length text ≤ INPUT_LIMIT → text ≡ head_of_trace (network_lines input) ++ body → (n : ℕ) (os : List ScheduledOrder) → SpellsSchedule t.net n (lines_of body) os
       → (out : Output) → OrdersGive IsReport t.net os out → OrdersGive IsReport t.net t.orders out
-  same_orders input text t body is n os spelled out gives = λ g e ranks.
+  same_orders input text t body short is n os spelled out gives = λ g e ranks.
       let head = head_of_trace (network_lines input) in
       let k = whole_text t.net head t.orders text g e ranks t.traced in
       let w = k.0 in
-      let here : orders_text g (new_world g) t.orders ≡ body = append_cancel_left head (orders_text g (new_world g) t.orders) body (sym k.2 ∙ is) in
+      let here : k.1 ≡ body = append_cancel_left head k.1 body (sym (short_text (head ++ k.1) text short k.4) ∙ is) in
       let network = subst IsNetwork (sym e) t.spells.network in
-      let said = spell_their_runs feeds read g network t.before t.lines t.orders (subst (λ (net : Plan). SpellsSchedule net t.before t.lines t.orders) (sym e) t.spelled) w k.1 n in
+      let said = spell_their_runs feeds read g network t.before t.lines t.orders (subst (λ (net : Plan). SpellsSchedule net t.before t.lines t.orders) (sym e) t.spelled) w k.2 k.1 k.3 n in
       let same : os ≡ said.orders =
       spelled.are ∙ ap (λ (net : Plan). orders_of net n (lines_of body)) (sym e) ∙ ap (λ (b : List ℕ). orders_of g.net n (lines_of b)) (sym here) ∙ sym said.spelled.are in
       let events : all_events g.net os ≡ w.run = same_events g.net os w.run (ap (map order_of) same ∙ said.are) in
-      let leads : LeadTo g (new_world g) os w = ap (λ (es : List Event). played g (new_world g) 0 es) events ∙ again g (all_events g.net t.orders) w k.1 in
+      let leads : LeadTo g (new_world g) os w = ap (λ (es : List Event). played g (new_world g) 0 es) events ∙ again g (all_events g.net t.orders) w k.2 in
       elim (gives g e ranks) [
-        | inl r ↦ (let there : r.0 ≡ w = (let q = sym r.1 ∙ leads in cc) in inl (r.0, subst (λ (v : World). LeadTo g (new_world g) t.orders v) (sym there) k.1, r.2, r.3))
+        | inl r ↦ (let there : r.0 ≡ w = (let q = sym r.1 ∙ leads in cc) in inl (r.0, subst (λ (v : World). LeadTo g (new_world g) t.orders v) (sym there) k.2, r.2, r.3))
         | inr s ↦ absurd (no_halt g (new_world g) w os s.0 s.1 s.2 leads)
       ]
 
-  played_lines : (input text : List ℕ) (t : IsTraced input text) (body : List ℕ) → text ≡ head_of_trace (network_lines input) ++ body
+  played_lines : (input text : List ℕ) (t : IsTraced input text) (body : List ℕ) → length text ≤ INPUT_LIMIT → text ≡ head_of_trace (network_lines input) ++ body
       → ((n : ℕ) → All (IsGood t.net) (lines_of body)) → (n : ℕ) (out : Output) → NetworkGives (ScheduleGives IsReport) (network_lines input) n (lines_of body) out → Plays input out
-  played_lines input text t body is good n out (inl r) = absurd (r.2 (spelt (network_lines input) t.net r.0 r.1 t.spells r.3))
-  played_lines input text t body is good n out (inr k) =
+  played_lines input text t body short is good n out (inl r) = absurd (r.2 (spelt (network_lines input) t.net r.0 r.1 t.spells r.3))
+  played_lines input text t body short is good n out (inr k) =
       let same : k.0 ≡ t.net = one (network_lines input) k.0 t.net k.1 t.spells in
       elim (subst (λ (net : Plan). ScheduleGives IsReport net n (lines_of body) out) same k.2) [
         | inl r ↦ absurd (no_fault t.net n (lines_of body) r.0 r.1 (good n) (refused_at t.net n (lines_of body) r.0 r.1 r.2 r.3))
-        | inr s ↦ t.whole out (same_orders input text t body is n s.0 s.1 out s.2)
+        | inr s ↦ t.whole out (same_orders input text t body short is n s.0 s.1 out s.2)
       ]
 
   all_lines : (input text : List ℕ) (t : IsTraced input text) (body : List ℕ) → text ≡ head_of_trace (network_lines input) ++ body → lines_of text ≡ network_lines input ++ codes "schedule" ∷ lines_of body
@@ -300,19 +295,20 @@ module _ (feeds : LinesEndByLineFeeds) (read : LinesAreReadAsTheySay) (one : One
       let s = exists t.net t.spells.network in
       let g = s.setting in
       let k = whole_text t.net (head_of_trace (network_lines input)) t.orders text g s.over s.chooses t.traced in
-      let body = orders_text g (new_world g) t.orders in
-      let lines = all_lines input text t body k.2 in
+      let body = k.1 in
+      let is = short_text (head_of_trace (network_lines input) ++ body) text short k.4 in
+      let lines = all_lines input text t body is in
       let plain_lines = plain (codes "schedule") (lines_of input) in
       let front = ap (before_section (codes "schedule")) lines ∙ front_is (codes "schedule") (codes "schedule") (network_lines input) (lines_of body) plain_lines refl in
       let rest = ap (behind_section (codes "schedule")) lines ∙ rest_is (codes "schedule") (codes "schedule") (network_lines input) (lines_of body) plain_lines refl in
       let n = length (lines_of text) - length (behind_section (codes "schedule") (lines_of text)) in
       let good : (m : ℕ) → All (IsGood t.net) (lines_of body) =
       λ m. subst (λ (net : Plan). All (IsGood net) (lines_of body)) s.over
-      (spell_their_runs feeds read g (subst IsNetwork (sym s.over) t.spells.network) t.before t.lines t.orders (subst (λ (net : Plan). SpellsSchedule net t.before t.lines t.orders) (sym s.over) t.spelled) k.0 k.1 m).spelled.good in
+      (spell_their_runs feeds read g (subst IsNetwork (sym s.over) t.spells.network) t.before t.lines t.orders (subst (λ (net : Plan). SpellsSchedule net t.before t.lines t.orders) (sym s.over) t.spelled) k.0 k.2 body k.3 m).spelled.good in
       elim plays [
         | inl p ↦ elim p [
           | inl long ↦ absurd (omega (arith, long.0, short))
-          | inr all ↦ played_lines input text t body k.2 good n out
+          | inr all ↦ played_lines input text t body short is good n out
               (subst (λ (b : List Text). NetworkGives (ScheduleGives IsReport) (network_lines input) n b out) rest (subst (λ (f : List Text). NetworkGives (ScheduleGives IsReport) f n (behind_section (codes "schedule") (lines_of text)) out) front all.1))
         ]
         | inr none ↦ inr none

@@ -2,7 +2,7 @@
 use Rattle.std.proofs.Common.{◌≡◌, ◌≢◌, ℕ, zero, suc, ◌+◌, ◌-◌, ◌/◌, ◌%◌, ◌^◌, ◌<◌, ◌≤◌, ◌==◌, Bool, true, false, List, [], ◌∷◌, ◌++◌, length, map, refl, ap, sym, subst, ◌∙◌, arith, append_assoc, Option, Some, None, Result, Ok, Err}
 use Rattle.std.specs.Prelude.{◌&&◌, ◌||◌, not, nat_le, nat_lt, min, decimal, if◌then◌else◌, IsOk}
 use Rattle.std.specs.List.{AllByRecursion, list_all}
-use Rattle.std.proofs.lemmas.Bool.{and_parts, ne_eqb, le-leb, leb-true, lt-ltb}
+use Rattle.std.proofs.lemmas.Bool.{and_parts, ne_eqb, eq-eqb, le-leb, leb-true, lt-ltb}
 use Rattle.std.proofs.lemmas.List.{append-nil}
 use Rattle.std.proofs.lemmas.List.Folds.{list_all-append}
 use Rattle.std.proofs.lemmas.Fmt.{digits_value-decimal, decimal_nonempty}
@@ -18,12 +18,13 @@ use Rattle.world_core.specs.declared.schedule.Order.{Order}
 use Rattle.world_core.specs.declared.schedule.Order.TheVariants as order
 use Rattle.net_text.specs.declared.code.Code.{Code}
 use Rattle.net_text.specs.declared.code.Code.TheVariants.{Unreadable, UnknownRouter, OutOfLimit}
-use Rattle.net_text.specs.Lexing.{Text, lines_of, without_return, is_blank, ends_word, is_ascii, is_skipped}
+use Rattle.net_text.specs.Lexing.{Text, lines_of, first_more, begins_with, without_return, is_blank, ends_word, is_ascii, is_skipped}
 use Rattle.net_text.specs.Layout.{IsWord, HasWords, IsOneLine, LinesEndByLineFeeds}
 use Rattle.net_text.specs.Words.{◌>>=◌, is_digit, is_number, value_behind, value_of, number_word, router_word, is_router}
 use Rattle.net_text.specs.Printing.{line}
 use Rattle.schedule_text.specs.declared.schedule.ScheduledOrder.{ScheduledOrder}
 use Rattle.schedule_text.specs.Schedules.{line_order, order_at, orders_of, IsGood}
+use Rattle.trace_engine.specs.Tracing.{comment_line, comments_text, AreComments}
 
 -- ---- octets
 
@@ -314,3 +315,49 @@ module _ (feeds : LinesEndByLineFeeds) where
         good = (good_by (line_order net t) (Ok None) none refl, tt);
         orders = λ at. ap (λ (r : Result (Option Order) Code). map order_of (order_at (at + 1) r ++ [])) none;
       }
+
+  -- the mark of a comment is a word of its own
+  comment_skipped : (t : Text) → is_skipped (without_return (35 ∷ 32 ∷ t)) ≡ true
+  comment_skipped [] = refl
+  comment_skipped (y ∷ ys) = refl
+
+  -- a comment orders nothing, whatever it says
+  says_comment : (net : Plan) (t : Text) → IsOneLine t → Says net (comment_line t) []
+  says_comment net t h =
+      let l = without_return (35 ∷ 32 ∷ t) in
+      let none : line_order net l ≡ Ok None = skipped_by (is_skipped l) _ (comment_skipped t) in
+      record {
+        lines = l ∷ [];
+        parted = λ rest. ap lines_of (append_assoc (35 ∷ 32 ∷ t) (10 ∷ []) rest) ∙ feeds.front (35 ∷ 32 ∷ t) rest ((λ e. absurd cc), ((λ e. absurd cc), h));
+        good = (good_by (line_order net l) (Ok None) none refl, tt);
+        orders = λ at. ap (λ (r : Result (Option Order) Code). map order_of (order_at (at + 1) r ++ [])) none;
+      }
+
+  says_lines : (net : Plan) (ls : List Text) → AllByRecursion IsOneLine ls → Says net (comments_text ls) []
+  says_lines net [] h = says_none net
+  says_lines net (l ∷ ls) h = says_both net (comment_line l) (comments_text ls) [] [] (says_comment net l h.0) (says_lines net ls h.1)
+
+  pub says_comments : (net : Plan) (text : List ℕ) → AreComments text → Says net text []
+  says_comments net text c = subst (λ (t : List ℕ). Says net t []) (sym c.are) (says_lines net c.lines c.are_lines)
+
+-- ---- the lines of a text have no line end
+
+false_not_true : false ≡ true → ⊥
+false_not_true e = absurd cc
+
+first_whole : (x : ℕ) (texts : List Text) → x ≢ 10 → AllByRecursion IsOneLine texts → AllByRecursion IsOneLine (first_more x texts)
+first_whole x [] n h = ((n, tt), tt)
+first_whole x (t ∷ texts) n h = ((n, h.0), h.1)
+
+whole_by : (x : ℕ) (b c : Bool) (texts : List Text) → (x == 10) ≡ b → AllByRecursion IsOneLine texts → AllByRecursion IsOneLine (if b then [] ∷ texts else if c then texts else first_more x texts)
+whole_by x true c texts is h = (tt, h)
+whole_by x false true texts is h = h
+whole_by x false false texts is h = first_whole x texts (λ e. absurd (false_not_true (sym is ∙ eq-eqb x 10 e))) h
+
+pub one_lines : (text : Text) → AllByRecursion IsOneLine (lines_of text)
+one_lines [] = tt
+one_lines (x ∷ xs) = whole_by x (x == 10) ((x == 13) && begins_with 10 xs) (lines_of xs) refl (one_lines xs)
+
+-- each line of a text as a comment
+pub all_comments : (text comments : List ℕ) → comments ≡ comments_text (lines_of text) → AreComments comments
+all_comments text comments are = record { lines = lines_of text; are_lines = one_lines text; are = are }

@@ -32,8 +32,9 @@ use Rattle.schedule_text.specs.declared.schedule.ScheduledOrder.{ScheduledOrder}
 use Rattle.schedule_text.specs.Schedules.{is_within, line_order, order_at, orders_of}
 use Rattle.schedule_text.specs.Sayings.{NamesRouter, NamesPeers, NamesPrefix, NamesNumber, Say, LinesAreReadAsTheySay}
 use Rattle.play_engine.specs.Playing.{all_events, LeadTo}
-use Rattle.trace_engine.specs.Tracing.{event_line, step_text, events_text, reached, place_text, head_line, head_text, idle_line, counted_line, ticked_line, tail_text, count_of, rest_of, order_text, orders_text}
-use Rattle.trace_engine.proofs.LineLemmas.{both_true, shown_both, decimal_shown, are_shown, IsNamed, named_from, number_from, Says, says_none, says_both, says_nothing}
+use Rattle.schedule_text.specs.Events.{event_line}
+use Rattle.trace_engine.specs.Tracing.{StepText, EventsText, reached, place_text, head_line, head_text, idle_line, counted_line, ticked_line, tail_text, count_of, rest_of, OrderText, OrdersText}
+use Rattle.trace_engine.proofs.LineLemmas.{both_true, shown_both, decimal_shown, are_shown, IsNamed, named_from, number_from, Says, says_none, says_both, says_nothing, says_comments}
 use Rattle.trace_engine.proofs.EventLemmas.{IsOriginated, MaySay, event_said}
 use Rattle.trace_engine.proofs.TextLemmas.{played_parts, reached_is}
 
@@ -187,24 +188,24 @@ module _ (g : Setting) (network : IsNetwork g.net) where
       pub run : y.run ≡ w.run ++ done
       pub says : Says g.net text done
 
-    done_by : (a : WorldAnswer) (w y : World) (x : Event) (xs : List Event) (at : ℕ) → world_answer g w x ≡ a → Speaks x
-        → ((next : World) → played g next (at + 1) xs ≡ Ok y → SaysDone next y (events_text g next xs))
-        → onward (world_of g w x at a) (λ next. played g next (at + 1) xs) ≡ Ok y → SaysDone w y (step_text g w x a (λ next. events_text g next xs))
-    done_by (Does u e stamp) w y x xs at is speaks go h =
-        let k = go (world_after g w x u e stamp) h in
-        record {
-          done = x ∷ k.done;
-          run = k.run ∙ append_assoc w.run (x ∷ []) k.done;
-          says = says_both g.net (event_line x) (events_text g (world_after g w x u e stamp) xs) (x ∷ []) k.done (event_said feeds read g.net x (speaks w u e stamp is)) k.says;
-        }
-    done_by Nothing w y x xs at is speaks go h = go w h
-    done_by (Stops fault) w y x xs at is speaks go h = absurd cc
+    done_by : (a : WorldAnswer) (w y : World) (x : Event) (xs : List Event) (at : ℕ) (text : List ℕ) → world_answer g w x ≡ a → Speaks x
+        → ((next : World) (t : List ℕ) → played g next (at + 1) xs ≡ Ok y → EventsText g next xs t → SaysDone next y t)
+        → onward (world_of g w x at a) (λ next. played g next (at + 1) xs) ≡ Ok y → StepText g w x a (λ next t. EventsText g next xs t) text → SaysDone w y text
+    done_by (Does u e stamp) w y x xs at text is speaks go h s =
+        let k = go (world_after g w x u e stamp) s.1 h s.3 in
+        let behind = says_both g.net s.0 s.1 [] k.done (says_comments feeds g.net s.0 s.2) k.says in
+        let whole = says_both g.net (event_line x) (s.0 ++ s.1) (x ∷ []) k.done (event_said feeds read g.net x (speaks w u e stamp is)) behind in
+        record { done = x ∷ k.done; run = k.run ∙ append_assoc w.run (x ∷ []) k.done; says = subst (λ (t : List ℕ). Says g.net t (x ∷ k.done)) (sym s.4) whole }
+    done_by Nothing w y x xs at text is speaks go h s = go w text h s
+    done_by (Stops fault) w y x xs at text is speaks go h s = absurd cc
 
-    pub events_say : (xs : List Event) (w y : World) (at : ℕ) → AllByRecursion Speaks xs → played g w at xs ≡ Ok y → SaysDone w y (events_text g w xs)
-    events_say [] w y at all h =
-        let same : w ≡ y = cc in
-        record { done = []; run = ap (λ (v : World). v.run) (sym same) ∙ sym (append-nil w.run); says = says_none g.net }
-    events_say (x ∷ xs) w y at all h = done_by (world_answer g w x) w y x xs at refl all.0 (λ next k. events_say xs next y (at + 1) all.1 k) h
+    nothing_done : (w y : World) (text : List ℕ) → w ≡ y → text ≡ [] → SaysDone w y text
+    nothing_done w y text same none =
+        record { done = []; run = ap (λ (v : World). v.run) (sym same) ∙ sym (append-nil w.run); says = subst (λ (t : List ℕ). Says g.net t []) (sym none) (says_none g.net) }
+
+    pub events_say : (xs : List Event) (w y : World) (at : ℕ) (text : List ℕ) → AllByRecursion Speaks xs → played g w at xs ≡ Ok y → EventsText g w xs text → SaysDone w y text
+    events_say [] w y at text all h s = (let same : w ≡ y = cc in nothing_done w y text same s)
+    events_say (x ∷ xs) w y at text all h s = done_by (world_answer g w x) w y x xs at text refl all.0 (λ next t k l. events_say xs next y (at + 1) t all.1 k l) h s
 
     -- a text of comments, then events, then comments
     around : (front text end : List ℕ) (w y : World) → Says g.net front [] → SaysDone w y text → Says g.net end [] → SaysDone w y ((front ++ text) ++ end)
@@ -213,26 +214,25 @@ module _ (g : Setting) (network : IsNetwork g.net) where
         let whole = says_both g.net (front ++ text) end k.done [] first l in
         record { done = k.done; run = k.run; says = subst (λ (es : List Event). Says g.net ((front ++ text) ++ end) es) (append-nil k.done) whole }
 
-    order_says : (o : ScheduledOrder) (w y : World) → MayOrder o.order → played g w 0 (events_of g.net o.order) ≡ Ok y → SaysDone w y (order_text g w o)
-    order_says o w y may h =
-        around (head_text o.line o.order) (events_text g w (events_of g.net o.order)) (tail_text o.line o.order (count_of g w (events_of g.net o.order)) (rest_of g w o.order)) w y
-        (heads_say feeds g.net o.line o.order) (events_say (events_of g.net o.order) w y 0 (order_speaks o.order may) h)
-        (tails_say feeds g.net o.line o.order (count_of g w (events_of g.net o.order)) (rest_of g w o.order))
+    order_says : (o : ScheduledOrder) (w y : World) (text : List ℕ) → MayOrder o.order → played g w 0 (events_of g.net o.order) ≡ Ok y → OrderText g w o text → SaysDone w y text
+    order_says o w y text may h s =
+        let begun = s.1 in
+        let end = tail_text o.line o.order (count_of g w (events_of g.net o.order)) (rest_of g w o.order) in
+        subst (SaysDone w y) (sym (s.2 ∙ ap (λ (t : List ℕ). t ++ end) begun.2))
+        (around (head_text o.line o.order) begun.0 end w y (heads_say feeds g.net o.line o.order) (events_say (events_of g.net o.order) w y 0 begun.0 (order_speaks o.order may) h begun.1)
+        (tails_say feeds g.net o.line o.order (count_of g w (events_of g.net o.order)) (rest_of g w o.order)))
 
-    pub orders_say : (os : List ScheduledOrder) (w y : World) → AllByRecursion (λ o. MayOrder o.order) os → LeadTo g w os y → SaysDone w y (orders_text g w os)
-    orders_say [] w y all h =
-        let same : w ≡ y = cc in
-        record { done = []; run = ap (λ (v : World). v.run) (sym same) ∙ sym (append-nil w.run); says = says_none g.net }
-    orders_say (o ∷ os) w y all h =
+    pub orders_say : (os : List ScheduledOrder) (w y : World) (text : List ℕ) → AllByRecursion (λ o. MayOrder o.order) os → LeadTo g w os y → OrdersText g w os text → SaysDone w y text
+    orders_say [] w y text all h s = (let same : w ≡ y = cc in nothing_done w y text same s)
+    orders_say (o ∷ os) w y text all h s =
         let k = played_parts g (events_of g.net o.order) (all_events g.net os) w y 0 h in
         let is : reached g w (events_of g.net o.order) ≡ k.0 = reached_is g w k.0 (events_of g.net o.order) k.1 in
-        let one = order_says o w k.0 all.0 k.1 in
-        let more = orders_say os k.0 y all.1 k.2 in
-        let text = says_both g.net (order_text g w o) (orders_text g k.0 os) one.done more.done one.says more.says in
+        let one = order_says o w k.0 s.0 all.0 k.1 s.2 in
+        let more = orders_say os k.0 y s.1 all.1 k.2 (subst (λ (v : World). OrdersText g v os s.1) is s.3) in
         record {
           done = one.done ++ more.done;
           run = more.run ∙ ap (λ (l : List Event). l ++ more.done) one.run ∙ append_assoc w.run one.done more.done;
-          says = subst (λ (v : World). Says g.net (order_text g w o ++ orders_text g v os) (one.done ++ more.done)) (sym is) text;
+          says = subst (λ (t : List ℕ). Says g.net t (one.done ++ more.done)) (sym s.4) (says_both g.net s.0 s.1 one.done more.done one.says more.says);
         }
 
     -- ---- orders that were read

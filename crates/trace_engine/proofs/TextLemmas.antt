@@ -1,5 +1,5 @@
 -- The text of events and of orders, one behind the other.
-use Rattle.std.proofs.Common.{◌≡◌, ◌≢◌, ℕ, suc, ◌+◌, ◌==◌, ◌≤◌, arith, List, [], ◌∷◌, ◌++◌, length, refl, ap, sym, ◌∙◌, inl, inr, Ok, Err, append_assoc}
+use Rattle.std.proofs.Common.{◌≡◌, ◌≢◌, ℕ, suc, ◌+◌, ◌==◌, ◌≤◌, arith, List, [], ◌∷◌, ◌++◌, length, refl, ap, sym, subst, ◌∙◌, inl, inr, Ok, Err, append_assoc}
 use Rattle.std.specs.Prelude.{Bool, false, Some, if◌then◌else◌}
 use Rattle.std.proofs.lemmas.List.{append-nil, length-append}
 use Rattle.std.proofs.lemmas.Bool.{eq-eqb}
@@ -14,31 +14,36 @@ use Rattle.world_core.specs.Orders.{StopsAt, IsRefused, events_of, round}
 use Rattle.world_core.proofs.Orders.{any_place}
 use Rattle.world_core.proofs.Resting.{grows}
 use Rattle.play_engine.specs.Playing.{all_events, LeadTo}
-use Rattle.trace_engine.specs.Tracing.{event_line, step_text, events_text, end_of, reached, rest_in, order_text, orders_text}
+use Rattle.schedule_text.specs.Events.{event_line}
+use Rattle.trace_engine.specs.Tracing.{AreComments, StepText, EventsText, end_of, reached, rest_in, OrderText, OrdersText, Adds}
 
 module _ (g : Setting) where
   -- ---- events
 
-  behind_by : (a : WorldAnswer) (w y : World) (x : Event) (at : ℕ) (xs ys : List Event)
-      → ((next : World) → played g next (at + 1) xs ≡ Ok y → events_text g next (xs ++ ys) ≡ events_text g next xs ++ events_text g y ys)
+  behind_by : (a : WorldAnswer) (w y : World) (x : Event) (at : ℕ) (xs ys : List Event) (s t : List ℕ)
+      → ((next : World) (r : List ℕ) → played g next (at + 1) xs ≡ Ok y → EventsText g next xs r → EventsText g next (xs ++ ys) (r ++ t))
       → onward (world_of g w x at a) (λ next. played g next (at + 1) xs) ≡ Ok y
-      → step_text g w x a (λ next. events_text g next (xs ++ ys)) ≡ step_text g w x a (λ next. events_text g next xs) ++ events_text g y ys
-  behind_by (Does u e stamp) w y x at xs ys go h =
-      ap (λ (t : List ℕ). event_line x ++ t) (go (world_after g w x u e stamp) h)
-      ∙ sym (append_assoc (event_line x) (events_text g (world_after g w x u e stamp) xs) (events_text g y ys))
-  behind_by Nothing w y x at xs ys go h = go w h
-  behind_by (Stops fault) w y x at xs ys go h = absurd cc
+      → StepText g w x a (λ next r. EventsText g next xs r) s → StepText g w x a (λ next r. EventsText g next (xs ++ ys) r) (s ++ t)
+  behind_by (Does u e stamp) w y x at xs ys s t go h k = (
+    k.0,
+    k.1 ++ t,
+    k.2,
+    go (world_after g w x u e stamp) k.1 h k.3,
+    ap (λ (r : List ℕ). r ++ t) k.4 ∙ append_assoc (event_line x) (k.0 ++ k.1) t ∙ ap (λ (r : List ℕ). event_line x ++ r) (append_assoc k.0 k.1 t),
+  )
+  behind_by Nothing w y x at xs ys s t go h k = go w s h k
+  behind_by (Stops fault) w y x at xs ys s t go h k = absurd cc
 
   -- events that are all done, and others
-  pub text_behind : (xs ys : List Event) (w y : World) (at : ℕ) → played g w at xs ≡ Ok y → events_text g w (xs ++ ys) ≡ events_text g w xs ++ events_text g y ys
-  text_behind [] ys w y at h =
+  pub text_behind : (xs ys : List Event) (w y : World) (at : ℕ) (s t : List ℕ) → played g w at xs ≡ Ok y → EventsText g w xs s → EventsText g y ys t → EventsText g w (xs ++ ys) (s ++ t)
+  text_behind [] ys w y at s t h none k =
       let same : w ≡ y = cc in
-      ap (λ (x : World). events_text g x ys) same
-  text_behind (x ∷ xs) ys w y at h = behind_by (world_answer g w x) w y x at xs ys (λ next k. text_behind xs ys next y (at + 1) k) h
+      subst (λ (r : List ℕ). EventsText g w ys (r ++ t)) (sym none) (subst (λ (v : World). EventsText g v ys t) (sym same) k)
+  text_behind (x ∷ xs) ys w y at s t h r k = behind_by (world_answer g w x) w y x at xs ys s t (λ next q l m. text_behind xs ys next y (at + 1) q t l m k) h r
 
   silent_by : (a : WorldAnswer) (w y : World) (x : Event) (at : ℕ) (xs : List Event) → length y.run ≡ length w.run
-      → (played g w (at + 1) xs ≡ Ok y → events_text g w xs ≡ [])
-      → onward (world_of g w x at a) (λ next. played g next (at + 1) xs) ≡ Ok y → step_text g w x a (λ next. events_text g next xs) ≡ []
+      → (played g w (at + 1) xs ≡ Ok y → EventsText g w xs [])
+      → onward (world_of g w x at a) (λ next. played g next (at + 1) xs) ≡ Ok y → StepText g w x a (λ next r. EventsText g next xs r) []
   silent_by (Does u e stamp) w y x at xs same go h =
       let l : length (w.run ++ x ∷ []) ≤ length y.run = grows g xs (world_after g w x u e stamp) y (at + 1) h in
       absurd (omega (arith, l, same, length-append w.run (x ∷ [])))
@@ -46,37 +51,42 @@ module _ (g : Setting) where
   silent_by (Stops fault) w y x at xs same go h = absurd cc
 
   -- events that do nothing have no text
-  pub silent : (xs : List Event) (w y : World) (at : ℕ) → played g w at xs ≡ Ok y → length y.run ≡ length w.run → events_text g w xs ≡ []
+  pub silent : (xs : List Event) (w y : World) (at : ℕ) → played g w at xs ≡ Ok y → length y.run ≡ length w.run → EventsText g w xs []
   silent [] w y at h same = refl
   silent (x ∷ xs) w y at h same = silent_by (world_answer g w x) w y x at xs same (λ k. silent xs w y (at + 1) k same) h
 
-  pub stops_text : (w : World) (x : Event) (xs : List Event) (why : StepFault) → why ≢ Memory → IsRefused g w x why → events_text g w (x ∷ xs) ≡ []
-  stops_text w x xs why kind (inl is) = ap (λ (a : WorldAnswer). step_text g w x a (λ next. events_text g next xs)) is
+  stops_text : (w : World) (x : Event) (xs : List Event) (why : StepFault) → why ≢ Memory → IsRefused g w x why → EventsText g w (x ∷ xs) []
+  stops_text w x xs why kind (inl is) = subst (λ (a : WorldAnswer). StepText g w x a (λ next r. EventsText g next xs r) []) (sym is) refl
   stops_text w x xs why kind (inr m) = absurd (kind m.3)
 
-  -- the text up to an event that is refused
-  pub halted_text : (w y : World) (events : List Event) (at : ℕ) (why : StepFault) → why ≢ Memory → (s : StopsAt g w events at why y) → events_text g w events ≡ events_text g w s.before
-  halted_text w y events at why kind s =
-      ap (events_text g w) s.parts
-      ∙ text_behind s.before (s.event ∷ s.behind) w y 0 s.reached
-      ∙ ap (λ (t : List ℕ). events_text g w s.before ++ t) (stops_text y s.event s.behind why kind s.refused)
-      ∙ append-nil (events_text g w s.before)
+  -- the text up to an event that is refused is that of all
+  pub halted_text : (w y : World) (events : List Event) (at : ℕ) (why : StepFault) (t : List ℕ) → why ≢ Memory → (s : StopsAt g w events at why y) → EventsText g w s.before t → EventsText g w events t
+  halted_text w y events at why t kind s k =
+      subst (λ (es : List Event). EventsText g w es t) (sym s.parts)
+      (subst (EventsText g w (s.before ++ s.event ∷ s.behind)) (append-nil t) (text_behind s.before (s.event ∷ s.behind) w y 0 t [] s.reached k (stops_text y s.event s.behind why kind s.refused)))
 
   pub reached_is : (w y : World) (events : List Event) → played g w 0 events ≡ Ok y → reached g w events ≡ y
   reached_is w y events h = ap (end_of w) h
 
   -- ---- one event
 
-  pub did : (a : WorldAnswer) (w y : World) (x : Event) (old new : List ℕ) → Gives g (Ok stepped.Did) a w x y → new ≡ old ++ event_line x
-      → (onward (world_of g w x 0 a) (λ next. Ok next) ≡ Ok y) × (new ≡ old ++ step_text g w x a (λ next. []))
-  did (Does u e stamp) w y x old new h put = (ap Ok (sym h.1), put ∙ ap (λ (t : List ℕ). old ++ t) (sym (append-nil (event_line x))))
-  did Nothing w y x old new h put = (let k = h.0 in absurd cc)
-  did (Stops fault) w y x old new h put = (let k = h.0 in absurd cc)
+  pub did : (a : WorldAnswer) (w y : World) (x : Event) (old mid comments new : List ℕ) → Gives g (Ok stepped.Did) a w x y → mid ≡ old ++ event_line x → AreComments comments → new ≡ mid ++ comments
+      → (onward (world_of g w x 0 a) (λ next. Ok next) ≡ Ok y) × Adds old new (StepText g w x a (λ next r. r ≡ []))
+  did (Does u e stamp) w y x old mid comments new h put are more = (
+    ap Ok (sym h.1),
+    (
+      event_line x ++ comments,
+      (comments, [], are, refl, ap (λ (t : List ℕ). event_line x ++ t) (sym (append-nil comments))),
+      more ∙ ap (λ (t : List ℕ). t ++ comments) put ∙ append_assoc old (event_line x) comments,
+    ),
+  )
+  did Nothing w y x old mid comments new h put are more = (let k = h.0 in absurd cc)
+  did (Stops fault) w y x old mid comments new h put are more = (let k = h.0 in absurd cc)
 
   pub idled : (a : WorldAnswer) (w y : World) (x : Event) (old : List ℕ) → Gives g (Ok stepped.Nothing) a w x y
-      → (onward (world_of g w x 0 a) (λ next. Ok next) ≡ Ok y) × (old ≡ old ++ step_text g w x a (λ next. []))
+      → (onward (world_of g w x 0 a) (λ next. Ok next) ≡ Ok y) × Adds old old (StepText g w x a (λ next r. r ≡ []))
   idled (Does u e stamp) w y x old h = (let k = h.0 in absurd cc)
-  idled Nothing w y x old h = (ap Ok (sym h.1), sym (append-nil old))
+  idled Nothing w y x old h = (ap Ok (sym h.1), ([], refl, sym (append-nil old)))
   idled (Stops fault) w y x old h = (let k = h.0 in absurd cc)
 
   pub failed : (a : WorldAnswer) (w y : World) (x : Event) (why : StepFault) → Gives g (Err why) a w x y → why ≢ Memory → (a ≡ Stops why) × (y ≡ w)
@@ -100,18 +110,21 @@ module _ (g : Setting) where
 
   -- ---- orders
 
-  -- orders that are all obeyed, and others
-  pub orders_behind : (os ps : List ScheduledOrder) (w y : World) → LeadTo g w os y → orders_text g w (os ++ ps) ≡ orders_text g w os ++ orders_text g y ps
-  orders_behind [] ps w y h =
+  -- orders that are all obeyed, and one more
+  pub orders_behind : (os : List ScheduledOrder) (o : ScheduledOrder) (w y : World) (s t : List ℕ) → LeadTo g w os y → OrdersText g w os s → OrderText g y o t → OrdersText g w (os ++ o ∷ []) (s ++ t)
+  orders_behind [] o w y s t h none k =
       let same : w ≡ y = cc in
-      ap (λ (x : World). orders_text g x ps) same
-  orders_behind (o ∷ os) ps w y h =
-      let k = played_parts (events_of g.net o.order) (all_events g.net os) w y 0 h in
-      let is : reached g w (events_of g.net o.order) ≡ k.0 = reached_is w k.0 (events_of g.net o.order) k.1 in
-      ap (λ (x : World). order_text g w o ++ orders_text g x (os ++ ps)) is
-      ∙ ap (λ (t : List ℕ). order_text g w o ++ t) (orders_behind os ps k.0 y k.2)
-      ∙ sym (append_assoc (order_text g w o) (orders_text g k.0 os) (orders_text g y ps))
-      ∙ ap (λ (x : World). (order_text g w o ++ orders_text g x os) ++ orders_text g y ps) (sym is)
+      subst (λ (r : List ℕ). OrdersText g w (o ∷ []) (r ++ t)) (sym none) (t, [], subst (λ (v : World). OrderText g v o t) (sym same) k, refl, sym (append-nil t))
+  orders_behind (p ∷ os) o w y s t h k more =
+      let l = played_parts (events_of g.net p.order) (all_events g.net os) w y 0 h in
+      let is : reached g w (events_of g.net p.order) ≡ l.0 = reached_is w l.0 (events_of g.net p.order) l.1 in
+      let rest = orders_behind os o l.0 y k.1 t l.2 (subst (λ (v : World). OrdersText g v os k.1) is k.3) more in (
+        k.0,
+        k.1 ++ t,
+        k.2,
+        subst (λ (v : World). OrdersText g v (os ++ o ∷ []) (k.1 ++ t)) (sym is) rest,
+        ap (λ (r : List ℕ). r ++ t) k.4 ∙ append_assoc k.0 k.1 t,
+      )
 
   -- ---- rounds
 

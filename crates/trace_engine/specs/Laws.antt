@@ -12,7 +12,7 @@ use Rattle.play_engine.specs.Playing.{LeadTo, Plays}
 use Rattle.text_engines.specs.declared.status.TheConstants.{DONE}
 use Rattle.text_engines.specs.declared.transfer.TheConstants.{INPUT_LIMIT}
 use Rattle.text_engines.specs.Decoding.{Output, output}
-use Rattle.trace_engine.specs.Tracing.{orders_text}
+use Rattle.trace_engine.specs.Tracing.{OrdersText}
 use Rattle.trace_engine.specs.Tracings.{Traces}
 
 -- no line has a fault, and those that are no comments order these events, one after the other
@@ -25,7 +25,7 @@ pub record SpellsEvents (net : Plan) (before : ℕ) (lines : List Text) (events 
 abbrev pub TracesSpellTheirRuns : Type 0
 TracesSpellTheirRuns =
     (g : Setting) → IsNetwork g.net → (before : ℕ) (lines : List Text) (orders : List ScheduledOrder) → SpellsSchedule g.net before lines orders
-    → (w : World) → LeadTo g (new_world g) orders w → (at : ℕ) → SpellsEvents g.net at (lines_of (orders_text g (new_world g) orders)) w.run
+    → (w : World) → LeadTo g (new_world g) orders w → (text : List ℕ) → OrdersText g (new_world g) orders text → (at : ℕ) → SpellsEvents g.net at (lines_of text) w.run
 
 -- what `play` prints for a trace is what it prints for the input
 abbrev pub TracesPlayBack : Type 0

@@ -1,13 +1,9 @@
 -- The text of a trace: the orders that a schedule's run is, with comments of what stood for many events.
 use Rattle.std.specs.Prelude.{◌≡◌, ◌≢◌, ℕ, zero, suc, ◌+◌, ◌-◌, ◌==◌, ◌&&◌, nat_lt, Bool, List, [], ◌∷◌, ◌++◌, length, get_or, Option, None, Some, Result, Ok, Err, MatchResult, codes, decimal, if◌then◌else◌, ◌⊎◌}
-use Rattle.std.specs.List.{flat_map}
-use Rattle.prefix_lanes.specs.Bits.{PrefixView}
+use Rattle.std.specs.List.{AllByRecursion, flat_map}
 use Rattle.ranked_policy.specs.Plans.{Plan}
-use Rattle.router_model.specs.declared.command.Command.{Command}
-use Rattle.router_model.specs.declared.command.Command.TheVariants as command
 use Rattle.router_model.specs.Settings.{Setting, ChoosesByRank}
 use Rattle.world_core.specs.declared.schedule.Event.{Event}
-use Rattle.world_core.specs.declared.schedule.Event.TheVariants as event
 use Rattle.world_core.specs.declared.schedule.Order.{Order}
 use Rattle.world_core.specs.declared.schedule.Order.TheVariants as order
 use Rattle.world_core.specs.declared.schedule.StepFault.{StepFault}
@@ -16,12 +12,15 @@ use Rattle.world_core.specs.World.{World, WorldAnswer, Does, Nothing, Stops, Pla
 use Rattle.world_core.specs.Orders.{events_of, repeated, round, StopsAt}
 use Rattle.world_core.specs.Views.{WorldView, plain_world}
 use Rattle.net_text.specs.Lexing.{Text}
-use Rattle.net_text.specs.Printing.{line, prefix_text}
+use Rattle.net_text.specs.Layout.{IsOneLine}
+use Rattle.net_text.specs.Printing.{line}
 use Rattle.schedule_text.specs.declared.schedule.ScheduledOrder.{ScheduledOrder}
+use Rattle.schedule_text.specs.Events.{event_line}
 use Rattle.schedule_text.specs.Reports.{stop_line}
 use Rattle.play_engine.specs.declared.schedules.Stop.{Stop}
 use Rattle.play_engine.specs.Playing.{LeadTo, IsFirstRefused}
 use Rattle.text_engines.specs.declared.status.TheConstants.{DONE, REFUSED}
+use Rattle.text_engines.specs.declared.transfer.TheConstants.{INPUT_LIMIT}
 use Rattle.text_engines.specs.Decoding.{Output, output}
 
 -- ---- the network
@@ -41,50 +40,34 @@ network_text lines = flat_map whole_line lines
 abbrev pub head_of_trace : List Text → List ℕ
 head_of_trace lines = network_text lines ++ line (codes "schedule")
 
--- ---- the line of an event
+-- ---- comments behind an event
 
--- a word with a number behind it, with two, and with a number and a prefix
-unfoldable pub one_line : List ℕ → ℕ → List ℕ
-one_line word u = line (word ++ decimal u)
+-- a text as a comment
+abbrev pub comment_line : Text → List ℕ
+comment_line text = line (codes "# " ++ text)
 
-unfoldable pub two_line : List ℕ → ℕ → ℕ → List ℕ
-two_line word u v = line (word ++ (decimal u ++ (codes " " ++ decimal v)))
+abbrev pub comments_text : List Text → List ℕ
+comments_text lines = flat_map comment_line lines
 
-unfoldable pub prefix_line : List ℕ → ℕ → PrefixView → List ℕ
-prefix_line word u q = line (word ++ (decimal u ++ prefix_text q))
-
-abbrev pub command_line : ℕ → Command → List ℕ
-command_line u (command.Start v) = two_line (codes "start ") u v
-command_line u (command.Stop v) = two_line (codes "stop ") u v
-command_line u (command.Reset v) = two_line (codes "reset ") u v
-command_line u (command.Originate q) = prefix_line (codes "originate ") u q
-command_line u (command.Withdraw q) = prefix_line (codes "withdraw ") u q
-command_line u (command.Snapshot s) = two_line (codes "snapshot ") u s
-command_line u command.Restart = one_line (codes "restart ") u
-
--- the order that is this one event
-abbrev pub event_line : Event → List ℕ
-event_line (event.Command u c) = command_line u c
-event_line (event.Tick u) = one_line (codes "tick ") u
-event_line (event.Put u v) = two_line (codes "put ") u v
-event_line (event.Take u v) = two_line (codes "take ") u v
-event_line (event.Handle u v) = two_line (codes "handle ") u v
-event_line (event.Decide u) = one_line (codes "decide ") u
-event_line (event.Advertise u) = one_line (codes "advertise ") u
-event_line (event.Offer u) = one_line (codes "offer ") u
+-- lines that each begin with `# `
+pub record AreComments (text : List ℕ) : Type 0 where
+  pub lines : List Text
+  pub are_lines : AllByRecursion IsOneLine lines
+  pub are : text ≡ comments_text lines
 
 -- ---- events
 
--- an event that is done is written, and the world goes on; one that finds nothing to do is not; behind one that is refused nothing
--- is done
-abbrev pub step_text : Setting → World → Event → WorldAnswer → (World → List ℕ) → List ℕ
-step_text g w event (Does u e stamp) more = event_line event ++ more (world_after g w event u e stamp)
-step_text g w event Nothing more = more w
-step_text g w event (Stops fault) more = []
+-- an event that is done is written, with comments behind it, and the world goes on; one that finds nothing to do is not; behind one
+-- that is refused nothing is done
+abbrev pub StepText : Setting → World → Event → WorldAnswer → (World → List ℕ → Type 0) → List ℕ → Type 0
+StepText g w event (Does u e stamp) More text =
+    (comments : List ℕ) × (rest : List ℕ) × AreComments comments × More (world_after g w event u e stamp) rest × (text ≡ event_line event ++ (comments ++ rest))
+StepText g w event Nothing More text = More w text
+StepText g w event (Stops fault) More text = text ≡ []
 
-abbrev pub events_text : Setting → World → List Event → List ℕ
-events_text g w [] = []
-events_text g w (event ∷ events) = step_text g w event (world_answer g w event) (λ next. events_text g next events)
+abbrev pub EventsText : Setting → World → List Event → List ℕ → Type 0
+EventsText g w [] text = text ≡ []
+EventsText g w (event ∷ events) text = StepText g w event (world_answer g w event) (λ next rest. EventsText g next events rest) text
 
 -- the world that they lead to, where all are done
 abbrev pub end_of : World → Played → World
@@ -150,80 +133,95 @@ abbrev pub count_of : Setting → World → List Event → ℕ
 count_of g w events = length (reached g w events).run - length w.run
 
 -- an order up to the event that is refused, and one of which none is
-abbrev pub begun_text : Setting → World → ScheduledOrder → List ℕ
-begun_text g w o = head_text o.line o.order ++ events_text g w (events_of g.net o.order)
+abbrev pub BegunText : Setting → World → ScheduledOrder → List ℕ → Type 0
+BegunText g w o text = (events : List ℕ) × EventsText g w (events_of g.net o.order) events × (text ≡ head_text o.line o.order ++ events)
 
-abbrev pub order_text : Setting → World → ScheduledOrder → List ℕ
-order_text g w o =
-    begun_text g w o ++ tail_text o.line o.order (count_of g w (events_of g.net o.order)) (rest_of g w o.order)
+abbrev pub OrderText : Setting → World → ScheduledOrder → List ℕ → Type 0
+OrderText g w o text =
+    (begun : List ℕ) × BegunText g w o begun × (text ≡ begun ++ tail_text o.line o.order (count_of g w (events_of g.net o.order)) (rest_of g w o.order))
 
 -- orders of which none is refused
-abbrev pub orders_text : Setting → World → List ScheduledOrder → List ℕ
-orders_text g w [] = []
-orders_text g w (o ∷ orders) = order_text g w o ++ orders_text g (reached g w (events_of g.net o.order)) orders
+abbrev pub OrdersText : Setting → World → List ScheduledOrder → List ℕ → Type 0
+OrdersText g w [] text = text ≡ []
+OrdersText g w (o ∷ orders) text =
+    (first : List ℕ) × (rest : List ℕ) × OrderText g w o first × OrdersText g (reached g w (events_of g.net o.order)) orders rest × (text ≡ first ++ rest)
 
 -- orders up to the first that is refused
-abbrev pub stopped_text : (g : Setting) (w : World) (orders : List ScheduledOrder) (stop : Stop) → IsFirstRefused g w orders stop → List ℕ
-stopped_text g w orders stop s = orders_text g w s.before ++ begun_text g s.reached s.order
+abbrev pub StoppedText : (g : Setting) (w : World) (orders : List ScheduledOrder) (stop : Stop) → IsFirstRefused g w orders stop → List ℕ → Type 0
+StoppedText g w orders stop s text = (done : List ℕ) × (begun : List ℕ) × OrdersText g w s.before done × BegunText g s.reached s.order begun × (text ≡ done ++ begun)
 
 -- ---- what is printed for orders, behind what stands before them
+
+-- a trace of so many octets is longer than an input may be
+abbrev pub limit_comment : List ℕ
+limit_comment = line (codes "# too long to be played: an input has at most 16777216 octets")
+
+abbrev pub limit_text : ℕ → List ℕ
+limit_text n = if nat_lt INPUT_LIMIT n then limit_comment else []
+
+abbrev pub limited : List ℕ → List ℕ
+limited text = text ++ limit_text (length text)
 
 abbrev pub OrdersTrace : Plan → List ℕ → List ScheduledOrder → Output → Type 0
 OrdersTrace net head orders out =
     (g : Setting) → g.net ≡ net → ChoosesByRank g
-    → ((w : World) × LeadTo g (new_world g) orders w × (out ≡ output (head ++ orders_text g (new_world g) orders) DONE))
-    ⊎ ((stop : Stop) × (stop.why ≢ Memory) × (s : IsFirstRefused g (new_world g) orders stop) × (out ≡ output (head ++ (stopped_text g (new_world g) orders stop s ++ stop_comment stop.line stop.why)) REFUSED))
+    → ((w : World) × (text : List ℕ) × LeadTo g (new_world g) orders w × OrdersText g (new_world g) orders text × (out ≡ output (limited (head ++ text)) DONE))
+    ⊎ ((stop : Stop) × (text : List ℕ) × (stop.why ≢ Memory) × (s : IsFirstRefused g (new_world g) orders stop) × StoppedText g (new_world g) orders stop s text × (out ≡ output (limited (head ++ (text ++ stop_comment stop.line stop.why))) REFUSED))
 
 -- ---- what calls are to give and to leave, in every setting of the network that chooses by rank; nothing is said of want of memory
+
+-- a text stands behind what stood there
+abbrev pub Adds : List ℕ → List ℕ → (List ℕ → Type 0) → Type 0
+Adds old new Is = (text : List ℕ) × Is text × (new ≡ old ++ text)
 
 -- one event
 abbrev pub TracesOne : Result (Unit {0}) StepFault → WorldView → Event → List ℕ → WorldView → List ℕ → Type 0
 TracesOne r x event old y new =
     (g : Setting) → g.net ≡ x.net → ChoosesByRank g
     → MatchResult r
-    (λ _. (played g (plain_world x) 0 (event ∷ []) ≡ Ok (plain_world y)) × (new ≡ old ++ events_text g (plain_world x) (event ∷ [])))
+    (λ _. (played g (plain_world x) 0 (event ∷ []) ≡ Ok (plain_world y)) × Adds old new (EventsText g (plain_world x) (event ∷ [])))
     (λ why. why ≢ Memory → (world_answer g (plain_world x) event ≡ Stops why) × (plain_world y ≡ plain_world x) × (new ≡ old))
 
--- the first event that is refused, and the text up to it
-abbrev pub HaltsAt : Setting → World → List Event → StepFault → World → Type 0
-HaltsAt g w events why y = (at : ℕ) × StopsAt g w events at why y
+-- the first event that is refused, and the text of those before it
+abbrev pub HaltsAt : Setting → World → List Event → StepFault → World → List ℕ → List ℕ → Type 0
+HaltsAt g w events why y old new = (at : ℕ) × (s : StopsAt g w events at why y) × Adds old new (EventsText g w s.before)
 
 -- events
 abbrev pub TracesEvents : Result (Unit {0}) StepFault → WorldView → List Event → List ℕ → WorldView → List ℕ → Type 0
 TracesEvents r x events old y new =
     (g : Setting) → g.net ≡ x.net → ChoosesByRank g
     → MatchResult r
-    (λ _. (played g (plain_world x) 0 events ≡ Ok (plain_world y)) × (new ≡ old ++ events_text g (plain_world x) events))
-    (λ why. why ≢ Memory → HaltsAt g (plain_world x) events why (plain_world y) × (new ≡ old ++ events_text g (plain_world x) events))
+    (λ _. (played g (plain_world x) 0 events ≡ Ok (plain_world y)) × Adds old new (EventsText g (plain_world x) events))
+    (λ why. why ≢ Memory → HaltsAt g (plain_world x) events why (plain_world y) old new)
 
 -- so many rounds
 abbrev pub TracesRounds : Result (Option ℕ) StepFault → WorldView → ℕ → List ℕ → WorldView → List ℕ → Type 0
 TracesRounds r x n old y new =
     (g : Setting) → g.net ≡ x.net → ChoosesByRank g
     → MatchResult r
-    (λ rest. (played g (plain_world x) 0 (repeated n (round g.net)) ≡ Ok (plain_world y)) × (new ≡ old ++ events_text g (plain_world x) (repeated n (round g.net))) × (rest ≡ rest_in g (plain_world x) 0 n))
-    (λ why. why ≢ Memory → HaltsAt g (plain_world x) (repeated n (round g.net)) why (plain_world y) × (new ≡ old ++ events_text g (plain_world x) (repeated n (round g.net))))
+    (λ rest. (played g (plain_world x) 0 (repeated n (round g.net)) ≡ Ok (plain_world y)) × Adds old new (EventsText g (plain_world x) (repeated n (round g.net))) × (rest ≡ rest_in g (plain_world x) 0 n))
+    (λ why. why ≢ Memory → HaltsAt g (plain_world x) (repeated n (round g.net)) why (plain_world y) old new)
 
 -- the events of an order
 abbrev pub TracesWork : Result (Option ℕ) StepFault → WorldView → Order → List ℕ → WorldView → List ℕ → Type 0
 TracesWork r x order old y new =
     (g : Setting) → g.net ≡ x.net → ChoosesByRank g
     → MatchResult r
-    (λ rest. (played g (plain_world x) 0 (events_of g.net order) ≡ Ok (plain_world y)) × (new ≡ old ++ events_text g (plain_world x) (events_of g.net order)) × (rest ≡ rest_of g (plain_world x) order))
-    (λ why. why ≢ Memory → HaltsAt g (plain_world x) (events_of g.net order) why (plain_world y) × (new ≡ old ++ events_text g (plain_world x) (events_of g.net order)))
+    (λ rest. (played g (plain_world x) 0 (events_of g.net order) ≡ Ok (plain_world y)) × Adds old new (EventsText g (plain_world x) (events_of g.net order)) × (rest ≡ rest_of g (plain_world x) order))
+    (λ why. why ≢ Memory → HaltsAt g (plain_world x) (events_of g.net order) why (plain_world y) old new)
 
 -- an order
 abbrev pub TracesOrder : Result (Unit {0}) StepFault → WorldView → ScheduledOrder → List ℕ → WorldView → List ℕ → Type 0
 TracesOrder r x o old y new =
     (g : Setting) → g.net ≡ x.net → ChoosesByRank g
     → MatchResult r
-    (λ _. (played g (plain_world x) 0 (events_of g.net o.order) ≡ Ok (plain_world y)) × (new ≡ old ++ order_text g (plain_world x) o))
-    (λ why. why ≢ Memory → HaltsAt g (plain_world x) (events_of g.net o.order) why (plain_world y) × (new ≡ old ++ begun_text g (plain_world x) o))
+    (λ _. (played g (plain_world x) 0 (events_of g.net o.order) ≡ Ok (plain_world y)) × Adds old new (OrderText g (plain_world x) o))
+    (λ why. why ≢ Memory → (at : ℕ) × StopsAt g (plain_world x) (events_of g.net o.order) at why (plain_world y) × Adds old new (BegunText g (plain_world x) o))
 
 -- orders
 abbrev pub TracesAll : Result (Unit {0}) Stop → WorldView → List ScheduledOrder → List ℕ → WorldView → List ℕ → Type 0
 TracesAll r x orders old y new =
     (g : Setting) → g.net ≡ x.net → ChoosesByRank g
     → MatchResult r
-    (λ _. LeadTo g (plain_world x) orders (plain_world y) × (new ≡ old ++ orders_text g (plain_world x) orders))
-    (λ stop. stop.why ≢ Memory → (s : IsFirstRefused g (plain_world x) orders stop) × (new ≡ old ++ stopped_text g (plain_world x) orders stop s))
+    (λ _. LeadTo g (plain_world x) orders (plain_world y) × Adds old new (OrdersText g (plain_world x) orders))
+    (λ stop. stop.why ≢ Memory → (s : IsFirstRefused g (plain_world x) orders stop) × Adds old new (StoppedText g (plain_world x) orders stop s))

@@ -1,11 +1,14 @@
-//! The comments of an order: what it orders, and how it ended.
+//! The comments of a trace: what an order orders and how it ended, what an event did, and that a trace is too long.
 
-ghost use Rattle.std.specs.Prelude.{◌≡◌, ◌++◌, OnOk};
-ghost use Rattle.trace_engine.specs.Tracing.{place_text, head_line, head_text, idle_line, counted_line, ticked_line, tail_text, stop_comment};
+ghost use Rattle.std.specs.Prelude.{◌≡◌, ◌++◌, length, OnOk};
+ghost use Rattle.net_text.specs.Lexing.{lines_of};
+ghost use Rattle.trace_engine.specs.Tracing.{place_text, head_line, head_text, idle_line, counted_line, ticked_line, tail_text, stop_comment, comment_line, comments_text, limit_text};
 
 use net_text::Tail;
+use net_text::lexing::next_line;
 use schedule_text::{ScheduledOrder, stop_line};
 use std::alloc::AllocError;
+use text_engines::INPUT_LIMIT;
 use world_core::{Order, StepFault};
 
 // Writes of which line a comment is.
@@ -143,4 +146,36 @@ pub(crate) fn put_stop(line: usize, why: StepFault, out: &mut Vec<u8>) -> Result
 {
     out.extend_from_slice(b"# ")?;
     stop_line(line, why, out)
+}
+
+// Appends a line as a comment.
+fn put_comment(line: &[u8], out: &mut Vec<u8>) -> Result<(), AllocError>
+    ensures { OnOk result (out.new.items ≡ out.old.items ++ comment_line line.now) }
+{
+    out.extend_from_slice(b"# ")?;
+    out.extend_from_slice(line)?;
+    out.extend_from_slice(b"\n")
+}
+
+/// Appends each line of a text as a comment.
+pub(crate) fn put_comments(text: &[u8], out: &mut Vec<u8>) -> Result<(), AllocError>
+    ensures { OnOk result (out.new.items ≡ out.old.items ++ comments_text (lines_of text.now)) }
+{
+    let mut left = text;
+    'lines: while !left.is_empty() {
+        let (line, rest) = next_line(left);
+        put_comment(line, out)?;
+        left = rest;
+    }
+    Ok(())
+}
+
+/// Appends that a trace is longer than an input may be, where it is.
+pub(crate) fn put_limit(out: &mut Vec<u8>) -> Result<(), AllocError>
+    ensures { OnOk result (out.new.items ≡ out.old.items ++ limit_text (length out.old.items)) }
+{
+    if out.len() <= INPUT_LIMIT {
+        return Ok(());
+    }
+    out.extend_from_slice(b"# too long to be played: an input has at most 16777216 octets\n")
 }

@@ -1,19 +1,22 @@
 //! The engine of `bgpnet trace`: it reads a network and a schedule, has a world of routers obey the orders, and
-//! writes the run as a schedule: the network's lines, then each event that was done as an order.
+//! writes the run as a schedule: the network's lines, then each event that was done as an order, with comments of what
+//! it did.
 //!
 //! The contract of `bgpnet trace` is that of [`trace_stream`]: what is written is the text of what was read, to the
-//! octet. The definitions stand in `specs/`: `Tracing` (the text of events and orders) and `Tracings` (that of an
-//! input). No thread is started here.
+//! octet, but for what the comments behind an event say. The definitions stand in `specs/`: `Tracing` (the text of
+//! events and orders) and `Tracings` (that of an input). No thread is started here.
 #![tactic(auto)]
 
 mod comments;
-mod events;
 pub mod laws;
+mod lines;
 mod network;
+mod notes;
 mod orders;
 mod rounds;
 mod steps;
 mod stream;
 mod trace;
 
+pub use network::put_network;
 pub use trace::trace_stream;

@@ -25,8 +25,9 @@ fn put_line(line: &[u8], out: &mut Vec<u8>) -> Result<(), AllocError>
     out.extend_from_slice(b"\n")
 }
 
-/// Appends the lines of a text.
-pub(crate) fn put_network(text: &[u8], out: &mut Vec<u8>) -> Result<(), AllocError>
+/// Appends the lines of a text, each as it is read. It is refused only where memory was, and then a beginning of them
+/// may stand there.
+pub fn put_network(text: &[u8], out: &mut Vec<u8>) -> Result<(), AllocError>
     ensures { OnOk result (out.new.items ≡ out.old.items ++ network_text (lines_of text.now)) }
 {
     let mut left = text;

@@ -5,10 +5,11 @@ ghost use Rattle.net_text.specs.Lexing.{lines_of};
 ghost use Rattle.text_engines.specs.declared.status.TheConstants.{REFUSED};
 ghost use Rattle.text_engines.specs.Decoding.{output};
 ghost use Rattle.world_core.specs.Views.{Opens};
-ghost use Rattle.trace_engine.specs.Tracing.{TracesWork, TracesOrder, TracesAll, OrdersTrace, head_of_trace, stop_comment};
+ghost use Rattle.trace_engine.specs.Tracing.{TracesWork, TracesOrder, TracesAll, OrdersTrace, head_of_trace, stop_comment, limited};
 
-use crate::comments::{put_head, put_stop, put_tail};
+use crate::comments::{put_head, put_limit, put_stop, put_tail};
 use crate::network::put_network;
+use crate::notes::Notes;
 use crate::rounds::{round_of, second_of};
 use crate::steps::{trace_events, trace_rounds, trace_seconds};
 use play_engine::Stop;
@@ -25,20 +26,21 @@ fn trace_work(
     alloc: Global,
     world: &mut World<'_>,
     order: &Order,
+    notes: &mut Notes,
     out: &mut Vec<u8>,
 ) -> Result<Option<u32>, StepFault>
     ensures traces { TracesWork result world.old order.now out.old.items world.new out.new.items }
     ensures same { world.new.net ≡ world.old.net }
 {
     match order {
-        Order::One(event) => trace_events(world, &[*event], out)?,
+        Order::One(event) => trace_events(world, &[*event], notes, out)?,
         Order::Rounds(times) => {
             let round = round_of(alloc, world.network())?;
-            return trace_rounds(world, round.as_slice(), *times, out);
+            return trace_rounds(world, round.as_slice(), *times, notes, out);
         }
         Order::Ticks(times) => {
             let second = second_of(alloc, world.network())?;
-            trace_seconds(world, second.as_slice(), *times, out)?;
+            trace_seconds(world, second.as_slice(), *times, notes, out)?;
         }
     }
     Ok(None)
@@ -49,6 +51,7 @@ fn trace_order(
     alloc: Global,
     world: &mut World<'_>,
     scheduled: &ScheduledOrder,
+    notes: &mut Notes,
     out: &mut Vec<u8>,
 ) -> Result<(), StepFault>
     ensures traces { TracesOrder result world.old scheduled.now out.old.items world.new out.new.items }
@@ -56,7 +59,7 @@ fn trace_order(
 {
     put_head(scheduled, out)?;
     let before = world.run().len();
-    let rest = trace_work(alloc, world, &scheduled.order, out)?;
+    let rest = trace_work(alloc, world, &scheduled.order, notes, out)?;
     let count = world.run().len().saturating_sub(before);
     put_tail(scheduled, count, rest, out)?;
     Ok(())
@@ -67,13 +70,14 @@ fn trace_all(
     alloc: Global,
     world: &mut World<'_>,
     orders: &[ScheduledOrder],
+    notes: &mut Notes,
     out: &mut Vec<u8>,
 ) -> Result<(), Stop>
     ensures traces { TracesAll result world.old orders.now out.old.items world.new out.new.items }
     ensures same { world.new.net ≡ world.old.net }
 {
     for scheduled in orders {
-        if let Err(why) = trace_order(alloc, world, scheduled, out) {
+        if let Err(why) = trace_order(alloc, world, scheduled, notes, out) {
             return Err(Stop {
                 line: scheduled.line,
                 why,
@@ -83,16 +87,24 @@ fn trace_all(
     Ok(())
 }
 
+// What is printed, with a comment where it is longer than an input may be, and the status.
+fn end_output(mut out: Vec<u8>, status: u8) -> Result<(Vec<u8>, u8), AllocError>
+    ensures { IfOk result (λ printed. output printed.0.items printed.1 ≡ output (limited out.items) status) }
+{
+    put_limit(&mut out)?;
+    Ok((out, status))
+}
+
 // What is printed where an order is refused, behind the trace up to it, and the status; want of memory is no such refusal.
 fn stop_output(stop: Stop, mut out: Vec<u8>) -> Result<(Vec<u8>, u8), AllocError>
     ensures kind { IfOk result (λ printed. stop.why ≢ StepFault.Memory) }
-    ensures output { IfOk result (λ printed. output printed.0.items printed.1 ≡ output (out.items ++ stop_comment stop.line stop.why) REFUSED) }
+    ensures output { IfOk result (λ printed. output printed.0.items printed.1 ≡ output (limited (out.items ++ stop_comment stop.line stop.why)) REFUSED) }
 {
     if stop.why == StepFault::Memory {
         return Err(AllocError);
     }
     put_stop(stop.line, stop.why, &mut out)?;
-    Ok((out, REFUSED))
+    end_output(out, REFUSED)
 }
 
 // What is printed, behind what was, for orders in a world in which nothing was done. The world is left to the end of the
@@ -107,10 +119,11 @@ fn world_output(
     requires { Opens network.now world }
     ensures { IfOk result (λ printed. OrdersTrace network.now out.items orders.now (output printed.0.items printed.1)) }
 {
-    match trace_all(alloc, &mut world, orders, &mut out) {
+    let mut notes = Notes::new(alloc);
+    match trace_all(alloc, &mut world, orders, &mut notes, &mut out) {
         Ok(()) => {
             forget(world);
-            Ok((out, DONE))
+            end_output(out, DONE)
         }
         Err(stop) => {
             forget(world);

@@ -9,8 +9,8 @@ use std::alloc::Global;
 use text_engines::{InputError, IoStopped, Sink, Source, read_input, want_of_memory, write_out};
 
 /// Reads a network and a schedule, and writes the run that the schedule leads to as a schedule: the network's
-/// lines, the line `schedule`, and the order of each event that was done, with comments of what stood for many
-/// events; or the first line that is refused. Answers the status.
+/// lines, the line `schedule`, and the order of each event that was done, with comments of what it did and of what
+/// stood for many events; or the first line that is refused. Answers the status.
 ///
 /// Where an order is refused its trace ends with a comment that says so. Where memory is refused it writes `memory`
 /// alone and answers 3. It stops only where a read or a write failed, and then what was written is a beginning of

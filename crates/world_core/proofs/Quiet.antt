@@ -53,16 +53,20 @@ empty_is (i ∷ items) l = absurd (omega arith)
 none_here : (items : List Item) → items ≡ [] → slice_get items 0 ≡ None
 none_here items h = ap (λ (all : List Item). slice_get all 0) h
 
+-- the pipe that a link's place names is the one from the peer
+pub items_at : (x : WorldView) (u v i k : ℕ) (box : Inbox) (p : Pipe) → LinkAt x u v i k → box ≡ get_or x.inboxes i box → p ≡ get_or box.pipes.items k p → pipes_of x.inboxes v u ≡ p.items.items
+items_at x u v i k box p at is_box is_pipe =
+    let from_here : IsAt (λ p. p.peer) box.pipes.items v k = subst (λ (b : Inbox). IsAt (λ p. p.peer) b.pipes.items v k) (sym is_box) (at.pipe box) in
+    ap (λ (ps : List Pipe). items_from ps v) (here (λ b. b.router) (λ b. b.pipes.items) [] x.inboxes u i box at.here.inbox ∙ ap (λ (b : Inbox). b.pipes.items) (sym is_box))
+    ∙ here (λ p. p.peer) (λ p. p.items.items) [] box.pipes.items v k p from_here ∙ ap (λ (q : Pipe). q.items.items) (sym is_pipe)
+
 pub quiet : (x : WorldView) (u v i k : ℕ) (xr : RouterView) (box : Inbox) (p : Pipe) → IsWhole x → LinkAt x u v i k → xr ≡ get_or x.routers i xr → box ≡ get_or x.inboxes i box → p ≡ get_or box.pipes.items k p
     → p.items.items ≡ [] → ((cut : ℕ) → (linked xr.net xr.number v && (not (is_some (next_item cut (sides_of xr v).outbox)) && not (is_waiting (sides_of xr v).held))) ≡ true)
     → IsQuiet x u v
 quiet x u v i k xr box p whole at is_router is_box is_pipe none rest =
     let s = stands x u i xr whole at.here is_router in
     let w = plain_world x in
-    let from_here : IsAt (λ p. p.peer) box.pipes.items v k = subst (λ (b : Inbox). IsAt (λ p. p.peer) b.pipes.items v k) (sym is_box) (at.pipe box) in
-    let items : pipes_of x.inboxes v u ≡ [] =
-    ap (λ (ps : List Pipe). items_from ps v) (here (λ b. b.router) (λ b. b.pipes.items) [] x.inboxes u i box at.here.inbox ∙ ap (λ (b : Inbox). b.pipes.items) (sym is_box))
-    ∙ here (λ p. p.peer) (λ p. p.items.items) [] box.pipes.items v k p from_here ∙ ap (λ (q : Pipe). q.items.items) (sym is_pipe) ∙ none in
+    let items : pipes_of x.inboxes v u ≡ [] = items_at x u v i k box p at is_box is_pipe ∙ none in
     let joined : (g : Setting) → g.net ≡ x.net → linked xr.net xr.number v ≡ true → linked g.net u v ≡ true =
     λ g e l. ap (λ (n : ℕ). linked g.net n v) (sym s.0) ∙ ap (λ (n : Plan). linked n xr.number v) (e ∙ sym s.1) ∙ l in
     record {

@@ -1,5 +1,5 @@
 -- A world of the code as a world of the definitions: its lists of routers and pipes as functions of numbers.
-use Rattle.std.specs.Prelude.{ℕ, zero, suc, ◌+◌, ◌≡◌, ◌≢◌, ◌==◌, max, Bool, cond, List, [], ◌∷◌, ◌++◌, drop, map, take, slice_get, Option, None, Some, Result, Ok, Err, MatchResult}
+use Rattle.std.specs.Prelude.{ℕ, zero, suc, ◌+◌, ◌≡◌, ◌≢◌, ◌==◌, max, Bool, cond, List, [], ◌∷◌, ◌++◌, drop, map, take, slice_get, Option, None, Some, Result, Ok, Err, MatchResult, ◌⊎◌}
 use Rattle.std.specs.List.{AllByRecursion}
 use Rattle.run_model.specs.Network.{offered_by}
 use Rattle.outbox.specs.declared.item.Item.{Item}
@@ -21,7 +21,7 @@ use Rattle.world_core.specs.declared.schedule.StepFault.{StepFault}
 use Rattle.world_core.specs.declared.schedule.StepFault.TheVariants.{Refused, Memory}
 use Rattle.world_core.specs.declared.schedule.PlayFault.{PlayFault}
 use Rattle.world_core.specs.World as world
-use Rattle.world_core.specs.World.{World, new_world, Played, WorldAnswer, Does, Nothing, Stops, of_offer, piped, joined, IsStepped, IsReplayed}
+use Rattle.world_core.specs.World.{World, new_world, Played, WorldAnswer, Does, Nothing, Stops, of_offer, where_linked, piped, joined, IsStepped, IsReplayed}
 use Rattle.world_core.specs.Orders.{IsObeyed, IsPlayed}
 use Rattle.world_core.specs.Keeping.{KeepsItsPromises}
 
@@ -107,6 +107,14 @@ pub record IsRouterOf (x : WorldView) (u : ℕ) (r : RouterView) : Type 0 where
 
 abbrev pub IsNoRouter : WorldView → ℕ → Type 0
 IsNoRouter x u = IsRouter x.net.routers u → ⊥
+
+-- the oldest item that a peer put towards a router and the router did not take
+abbrev pub comes_next : WorldView → ℕ → ℕ → Option Item
+comes_next x u v = slice_get (pipes_of x.inboxes v u) 0
+
+-- none is on its way, or a take is refused in every setting of the network, since no link joins the two
+abbrev pub NothingComes : WorldView → ℕ → ℕ → Type 0
+NothingComes x u v = (comes_next x u v ≡ None) ⊎ ((why : StepFault) × ((g : Setting) → g.net ≡ x.net → (a : WorldAnswer) → where_linked g u v a ≡ Stops why))
 
 -- it comes out of its own events again, in every setting of its network
 abbrev pub ComesOut : WorldView → Type 0

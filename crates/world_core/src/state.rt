@@ -1,15 +1,16 @@
 //! What a world holds, and what each event does to it.
 
-ghost use Rattle.std.specs.Prelude.{◌≡◌, ◌<◌, length, map, MatchResult, MatchOption, IfOk, true, false};
+ghost use Rattle.std.specs.Prelude.{◌≡◌, ◌<◌, length, map, MatchResult, MatchOption, Some, IfOk, true, false};
 ghost use Rattle.world_core.specs.declared.schedule.Event.TheVariants.{Put, Take, Handle, Offer};
 ghost use Rattle.router_model.specs.Settings.{peers};
 ghost use Rattle.router_core.specs.Calling.{call_of};
-ghost use Rattle.world_core.specs.Views.{IsWhole, Answers, IsNoRouter, IsRouterOf};
+ghost use Rattle.world_core.specs.Views.{IsWhole, Answers, IsNoRouter, IsRouterOf, comes_next, NothingComes};
 ghost use Rattle.world_core.specs.Steps.{view_of, IsSameNet, Asks, IsPlaceOf, FindsLink, FindsLinkTo, IsQuiet};
 
 use crate::entering::{enter, enter_offer, enter_put, enter_take};
 use crate::inbox::{Inbox, Pipe, place_of};
 use crate::schedule::{Event, StepFault};
+use outbox::Item;
 use ranked_policy::{Asn, Network};
 use router_core::{Call, Router};
 use router_model::Stepped;
@@ -159,6 +160,17 @@ impl<'a> State<'a> {
             None => self.routers[at].is_quiet(peer),
             Some(_) => false,
         }
+    }
+
+    /// The item that a router takes next from a peer, where one is on its way.
+    pub fn next_to_take(&self, number: Asn, peer: Asn) -> Option<&Item>
+        requires { IsWhole (view_of self.now) }
+        ensures { MatchOption result (NothingComes (view_of self.now) number peer) (λ item. comes_next (view_of self.now) number peer ≡ Some item.now) }
+    {
+        let Ok((at, pipe)) = self.link(number, peer) else {
+            return None;
+        };
+        self.inboxes[at].pipes[pipe].items.front()
     }
 
     /// Does one event.

@@ -1,11 +1,11 @@
 //! A world: a network of routers that does what a schedule names.
 
-ghost use Rattle.std.specs.Prelude.{◌≡◌, map, IfOk, IfErr, MatchOption};
+ghost use Rattle.std.specs.Prelude.{◌≡◌, map, Some, IfOk, IfErr, MatchOption};
 ghost use Rattle.world_core.specs.declared.schedule.StepFault.TheVariants.{Memory};
 ghost use Rattle.snap_collector.specs.Collecting.{member_of};
 ghost use Rattle.snap_collector.specs.Collector.{AreMembers};
 ghost use Rattle.world_core.specs.Verdicts.{members_of, JudgesItsRuns, SettledCanBeBelieved};
-ghost use Rattle.world_core.specs.Views.{Opens, Answers, ComesOut, KeepsPromises, IsNoRouter, IsRouterOf};
+ghost use Rattle.world_core.specs.Views.{Opens, Answers, ComesOut, KeepsPromises, IsNoRouter, IsRouterOf, comes_next, NothingComes};
 
 use crate::laws::{
     collectors_judge_their_runs, members_are_the_routers, played_worlds_keep_their_promises,
@@ -14,6 +14,7 @@ use crate::laws::{
 use crate::opening::opening;
 use crate::schedule::{Event, StepFault};
 use crate::state::State;
+use outbox::Item;
 use ranked_policy::{Asn, Network};
 use router_core::Router;
 use router_model::Stepped;
@@ -75,6 +76,14 @@ impl<'a> World<'a> {
         ensures { MatchOption result (IsNoRouter self.now number) (λ router. IsRouterOf self.now number router.now) }
     {
         self.state.router(number)
+    }
+
+    /// The item that a router takes next from a peer: the oldest that the peer put and it did not take. None where
+    /// there is none, and where no link joins the two.
+    pub fn next_to_take(&self, number: Asn, peer: Asn) -> Option<&Item>
+        ensures { MatchOption result (NothingComes self.now number peer) (λ item. comes_next self.now number peer ≡ Some item.now) }
+    {
+        self.state.next_to_take(number, peer)
     }
 
     /// The network.

@@ -1,7 +1,7 @@
 use Rattle.std.proofs.Common.{ap, ◌∙◌}
 use Rattle.std.proofs.lemmas.Result.{err_from_is_err_and}
 use Rattle.world_core.specs.Orders.{second}
-use Rattle.trace_engine.proofs.CallLemmas.{ticks_halt}
+use Rattle.trace_engine.proofs.CallLemmas.{ticks_done, ticks_halt}
 use Rattle.trace_engine.proofs.orders.trace_work.Goals as goal
 
 pub returns-in_err-trace_events-in-One-clause-traces : goal.returns-in_err-trace_events-in-One-clause-traces
@@ -18,3 +18,9 @@ returns-in_err-trace_seconds-in-Ticks-clause-traces c =
     rw (p.1, p.2, c.in-Ticks.is)
     (ticks_halt c.args.world.now c.trace_seconds.new.world _ _ c.args.out.now.items c.trace_seconds.new.out.items c.in_err-trace_seconds-in-Ticks.field-0.0
     (c.as_slice-in-Ticks.ensures.value ∙ c.in_ok-second-in-Ticks.ensures ∙ ap second c.network-in-Ticks.ensures) c.in_err-trace_seconds-in-Ticks.ensures.traces)
+
+pub returns-in_ok-trace_seconds-in-Ticks-clause-traces : goal.returns-in_ok-trace_seconds-in-Ticks-clause-traces
+returns-in_ok-trace_seconds-in-Ticks-clause-traces c =
+    rw c.in-Ticks.is
+    (ticks_done c.args.world.now c.trace_seconds.new.world _ _ c.args.out.now.items c.trace_seconds.new.out.items
+    (c.as_slice-in-Ticks.ensures.value ∙ c.in_ok-second-in-Ticks.ensures ∙ ap second c.network-in-Ticks.ensures) c.in_ok-trace_seconds-in-Ticks.ensures.traces)
