@@ -6,3 +6,4 @@ pub mod Records
 pub mod Rooms
 pub mod Dealt
 pub mod Ways
+pub mod CalledJournals
