@@ -7,6 +7,7 @@
 //! `Recording` (the text of a record, and that of an input) and `Laws`.
 #![tactic(auto)]
 
+pub mod laws;
 mod record;
 mod text;
 
