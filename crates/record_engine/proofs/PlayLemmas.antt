@@ -137,7 +137,7 @@ module _ (hold : HoldTimesFit) (feeds : LinesEndByLineFeeds) (one : OneNetwork) 
           | inl r ↦ (
               let same : r.0 ≡ z.0 = (let q = sym r.1 ∙ leads in cc) in
               record { world = z.0; plays = z.1; did = z.2; routers = z.3; report = subst (λ (w : World). IsReport g w out) same r.3 }
-            )
+              )
           | inr s ↦ absurd (no_halt g (new_world g) z.0 os s.0 s.1 s.2 leads)
         ]
 
