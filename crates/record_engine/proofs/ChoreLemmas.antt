@@ -1,5 +1,5 @@
 -- The numbers of the snapshots that routers are told to take.
-use Rattle.std.proofs.Common.{◌≡◌, ℕ, zero, suc, ◌+◌, ◌-◌, ◌/◌, ◌%◌, ◌<◌, ◌≤◌, ◌==◌, arith, Bool, true, false, cond, List, [], ◌∷◌, ◌++◌, length, map, refl, ap, sym, subst, ◌∙◌}
+use Rattle.std.proofs.Common.{◌≡◌, ℕ, zero, suc, ◌+◌, ◌-◌, ◌/◌, ◌%◌, ◌<◌, ◌≤◌, ◌==◌, arith, Bool, true, false, cond, List, [], ◌∷◌, ◌++◌, length, map, refl, sym, subst, ◌∙◌, inl, inr}
 use Rattle.std.specs.Prelude.{◌||◌, nat_lt, slice_index_or}
 use Rattle.std.specs.List.{AllByRecursion, Contains}
 use Rattle.std.proofs.Math.Nat.{div-eq_of_lt}
@@ -96,11 +96,11 @@ first_low most told h (suc n) = all_both (IsLow most) (first_chores (chore_at to
 chores_low : (most : ℕ) (net : Plan) (turns : ℕ) (p : Passed) (ws : List (Worked RunGate)) → AllByRecursion (HasWorked given_by net turns p) ws
     → AllByRecursion (λ w. IsLowTold most (told_of w.gate)) ws → (u : ℕ) → AllByRecursion (IsLow most) (chores_of ws u)
 chores_low most net turns p [] worked low u = tt
-chores_low most net turns p (w ∷ ws) worked low u = at (w.router.number == u)
+chores_low most net turns p (w ∷ ws) worked low u = at (w.router.number == u) (chores_low most net turns p ws worked.1 low.1 u)
   where
-    at : (b : Bool) → AllByRecursion (IsLow most) (cond b w.journal.chores.items (chores_of ws u))
-    at true = subst (AllByRecursion (IsLow most)) (sym worked.0.chores) (first_low most (told_of w.gate) low.0 w.gate.count)
-    at false = chores_low most net turns p ws worked.1 low.1 u
+    at : (b : Bool) → AllByRecursion (IsLow most) (chores_of ws u) → AllByRecursion (IsLow most) (cond b w.journal.chores.items (chores_of ws u))
+    at true rest = subst (AllByRecursion (IsLow most)) (sym worked.0.chores) (first_low most (told_of w.gate) low.0 w.gate.count)
+    at false rest = rest
 
 -- the options leave room for so few snapshots alone
 pub few_snapshots : (net : Plan) (options : RunOptions) → HasRoom net options → options.snapshots ≤ MOST_TURNS

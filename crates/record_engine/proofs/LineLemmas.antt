@@ -1,6 +1,6 @@
 -- The lines of a record: those of its network begin no schedule, and the others say its events.
-use Rattle.std.proofs.Common.{◌≡◌, ◌≢◌, ℕ, zero, suc, ◌+◌, ◌<◌, ◌≤◌, ◌==◌, arith, Bool, true, false, List, [], ◌∷◌, ◌++◌, length, map, refl, ap, sym, subst, ◌∙◌, Ok, Err}
-use Rattle.std.specs.Prelude.{Result, codes, not, ◌&&◌, nat_le, nat_lt, if◌then◌else◌}
+use Rattle.std.proofs.Common.{◌≡◌, ◌≢◌, ℕ, zero, suc, ◌+◌, ◌-◌, ◌^◌, ◌<◌, ◌≤◌, ◌==◌, arith, Bool, true, false, List, [], ◌∷◌, ◌++◌, length, map, refl, ap, sym, subst, ◌∙◌, Ok, Err}
+use Rattle.std.specs.Prelude.{Result, codes, decimal, not, ◌&&◌, ◌||◌, nat_le, nat_lt, if◌then◌else◌}
 use Rattle.std.specs.List.{AllByRecursion, Contains, flat_map, list_any}
 use Rattle.std.proofs.lemmas.Bool.{and_parts, eqb-true, eq-eqb, le-leb, ltb-true, or_right}
 use Rattle.std.proofs.lemmas.List.{append-nil, length-append}
@@ -26,12 +26,11 @@ use Rattle.worker_loop.specs.declared.chore.Chore.TheVariants as chore
 use Rattle.worker_loop.specs.Laws.{IsOrdered}
 use Rattle.net_text.specs.declared.code.Code.{Code}
 use Rattle.net_text.specs.declared.code.Code.TheVariants as kinds
-use Rattle.net_text.specs.declared.draft.Draft.{Draft}
 use Rattle.net_text.specs.Layout.{LinesEndByLineFeeds}
 use Rattle.net_text.specs.Lexing.{Text, words_of, same, says_nothing, is_ascii, is_section, is_the_word}
-use Rattle.net_text.specs.Lines.{line_reading, words_line}
-use Rattle.net_text.specs.Networks.{refused_at, then_on, reading, SpellsNetwork, empty_draft}
-use Rattle.net_text.specs.Printing.{line}
+use Rattle.net_text.specs.Lines.{words_line}
+use Rattle.net_text.specs.Networks.{then_on, reading, SpellsNetwork, empty_draft}
+use Rattle.net_text.specs.Printing.{prefix_text}
 use Rattle.net_text.specs.Words.{is_named}
 use Rattle.schedule_text.specs.Events.{one_line, two_line, prefix_line, event_line}
 use Rattle.schedule_text.specs.Sayings.{LinesAreReadAsTheySay}
@@ -51,38 +50,43 @@ same_is (x ∷ xs) (y ∷ ys) h =
     let k = and_parts (x == y) (same xs ys) h in
     ap (λ (n : ℕ). n ∷ xs) (eqb-true x y k.0) ∙ ap (λ (t : Text). y ∷ t) (same_is xs ys k.1)
 
--- what a line makes of a draft, by its words
-abbrev read_by : Draft → Bool → List Text → Result Draft Code
-read_by d ascii words = if says_nothing words then Ok d else if not ascii then Err kinds.BadForm else words_line d words
+-- any reading of lines by their words, to which the bare word is a fault
+module _ {S : Type 0} (words_read : S → List Text → Result S Code) (fails : (s : S) → words_read s (codes "schedule" ∷ []) ≡ Err kinds.BadForm) where
+  -- what a line makes of s
+  abbrev read_by : S → Bool → List Text → Result S Code
+  read_by s ascii words = if says_nothing words then Ok s else if not ascii then Err kinds.BadForm else words_read s words
 
-no_reading : (d t : Draft) (ascii : Bool) → read_by d ascii (codes "schedule" ∷ []) ≡ Ok t → ⊥
-no_reading d t true h = absurd cc
-no_reading d t false h = absurd cc
+  no_reading : (s t : S) (ascii : Bool) → read_by s ascii (codes "schedule" ∷ []) ≡ Ok t → ⊥
+  no_reading s t true h = absurd (let k : Err kinds.BadForm ≡ Ok t = sym (fails s) ∙ h in cc)
+  no_reading s t false h = absurd cc
 
-by_word : (d t : Draft) (ascii : Bool) (w : Text) (b : Bool) → same w (codes "schedule") ≡ b → read_by d ascii (w ∷ []) ≡ Ok t → b ≡ false
-by_word d t ascii w true is h =
-    let word = same_is w (codes "schedule") is in
-    absurd (no_reading d t ascii (subst (λ (v : Text). read_by d ascii (v ∷ []) ≡ Ok t) word h))
-by_word d t ascii w false is h = refl
+  by_word : (s t : S) (ascii : Bool) (w : Text) (b : Bool) → same w (codes "schedule") ≡ b → read_by s ascii (w ∷ []) ≡ Ok t → b ≡ false
+  by_word s t ascii w true is h =
+      let word = same_is w (codes "schedule") is in
+      absurd (no_reading s t ascii (subst (λ (v : Text). read_by s ascii (v ∷ []) ≡ Ok t) word h))
+  by_word s t ascii w false is h = refl
 
-by_words : (d t : Draft) (ascii : Bool) (words : List Text) → read_by d ascii words ≡ Ok t → is_the_word (codes "schedule") words ≡ false
-by_words d t ascii [] h = refl
-by_words d t ascii (w ∷ []) h = by_word d t ascii w (same w (codes "schedule")) refl h
-by_words d t ascii (w ∷ v ∷ words) h = refl
+  by_words : (s t : S) (ascii : Bool) (words : List Text) → read_by s ascii words ≡ Ok t → is_the_word (codes "schedule") words ≡ false
+  by_words s t ascii [] h = refl
+  by_words s t ascii (w ∷ []) h = by_word s t ascii w (same w (codes "schedule")) refl h
+  by_words s t ascii (w ∷ v ∷ words) h = refl
 
-plain_by : (at : ℕ) (d e : Draft) (l : Text) (ls : List Text) (r : Result Draft Code) → line_reading d l ≡ r
-    → ((t : Draft) → reading (λ n s words. line_reading s words) (at + 1) t ls ≡ Ok e → AllByRecursion (IsPlain (codes "schedule")) ls)
-    → then_on (at + 1) r (λ t. reading (λ n s words. line_reading s words) (at + 1) t ls) ≡ Ok e → AllByRecursion (IsPlain (codes "schedule")) (l ∷ ls)
-plain_by at d e l ls (Ok t) is go h = (by_words d t (is_ascii l) (words_of l) is, go t h)
-plain_by at d e l ls (Err code) is go h = absurd cc
+  abbrev lines_read : ℕ → S → Text → Result S Code
+  lines_read n s l = read_by s (is_ascii l) (words_of l)
 
-plain_in : (at : ℕ) (d e : Draft) (lines : List Text) → reading (λ n s words. line_reading s words) at d lines ≡ Ok e → AllByRecursion (IsPlain (codes "schedule")) lines
-plain_in at d e [] h = tt
-plain_in at d e (l ∷ ls) h = plain_by at d e l ls (line_reading d l) refl (λ t k. plain_in (at + 1) t e ls k) h
+  plain_by : (at : ℕ) (s e : S) (l : Text) (ls : List Text) (r : Result S Code) → read_by s (is_ascii l) (words_of l) ≡ r
+      → ((t : S) → reading lines_read (at + 1) t ls ≡ Ok e → AllByRecursion (IsPlain (codes "schedule")) ls)
+      → then_on (at + 1) r (λ t. reading lines_read (at + 1) t ls) ≡ Ok e → AllByRecursion (IsPlain (codes "schedule")) (l ∷ ls)
+  plain_by at s e l ls (Ok t) is go h = (by_words s t (is_ascii l) (words_of l) is, go t h)
+  plain_by at s e l ls (Err code) is go h = absurd cc
+
+  plain_in : (at : ℕ) (s e : S) (lines : List Text) → reading lines_read at s lines ≡ Ok e → AllByRecursion (IsPlain (codes "schedule")) lines
+  plain_in at s e [] h = tt
+  plain_in at s e (l ∷ ls) h = plain_by at s e l ls (read_by s (is_ascii l) (words_of l)) refl (λ t k. plain_in (at + 1) t e ls k) h
 
 -- no line of a network begins a schedule
 pub plain_lines : (lines : List Text) (net : Plan) → SpellsNetwork lines net → AllByRecursion (IsPlain (codes "schedule")) lines
-plain_lines lines net spells = plain_in 0 (empty_draft lines) (record { named = spells.named; net = net }) lines spells.whole
+plain_lines lines net spells = plain_in words_line (λ d. refl) 0 (empty_draft lines) _ lines spells.whole
 
 -- ---- the events of a run
 
@@ -149,22 +153,33 @@ module _ (feeds : LinesEndByLineFeeds) (read : LinesAreReadAsTheySay) (net : Pla
 some_end : (t : List ℕ) → 0 < length (t ++ 10 ∷ [])
 some_end t = omega (arith, length-append t (10 ∷ []))
 
+one_some : (word : List ℕ) (u : ℕ) → 0 < length (one_line word u)
+unfolding one_line
+one_some word u = some_end (word ++ decimal u)
+
+two_some : (word : List ℕ) (u v : ℕ) → 0 < length (two_line word u v)
+unfolding two_line
+two_some word u v = some_end (word ++ (decimal u ++ (codes " " ++ decimal v)))
+
+prefix_some : (word : List ℕ) (u : ℕ) (q : PrefixView) → 0 < length (prefix_line word u q)
+unfolding prefix_line
+prefix_some word u q = some_end (word ++ (decimal u ++ prefix_text q))
+
 some_line : (e : Event) → 0 < length (event_line e)
-unfolding one_line two_line prefix_line
-some_line (event.Command u (command.Start v)) = some_end _
-some_line (event.Command u (command.Stop v)) = some_end _
-some_line (event.Command u (command.Reset v)) = some_end _
-some_line (event.Command u (command.Originate q)) = some_end _
-some_line (event.Command u (command.Withdraw q)) = some_end _
-some_line (event.Command u (command.Snapshot s)) = some_end _
-some_line (event.Command u command.Restart) = some_end _
-some_line (event.Tick u) = some_end _
-some_line (event.Put u v) = some_end _
-some_line (event.Take u v) = some_end _
-some_line (event.Handle u v) = some_end _
-some_line (event.Decide u) = some_end _
-some_line (event.Advertise u) = some_end _
-some_line (event.Offer u) = some_end _
+some_line (event.Command u (command.Start v)) = two_some (codes "start ") u v
+some_line (event.Command u (command.Stop v)) = two_some (codes "stop ") u v
+some_line (event.Command u (command.Reset v)) = two_some (codes "reset ") u v
+some_line (event.Command u (command.Originate q)) = prefix_some (codes "originate ") u q
+some_line (event.Command u (command.Withdraw q)) = prefix_some (codes "withdraw ") u q
+some_line (event.Command u (command.Snapshot s)) = two_some (codes "snapshot ") u s
+some_line (event.Command u command.Restart) = one_some (codes "restart ") u
+some_line (event.Tick u) = one_some (codes "tick ") u
+some_line (event.Put u v) = two_some (codes "put ") u v
+some_line (event.Take u v) = two_some (codes "take ") u v
+some_line (event.Handle u v) = two_some (codes "handle ") u v
+some_line (event.Decide u) = one_some (codes "decide ") u
+some_line (event.Advertise u) = one_some (codes "advertise ") u
+some_line (event.Offer u) = one_some (codes "offer ") u
 
 -- there are no more events than octets
 pub few_events : (es : List Event) → length es ≤ length (events_text es)

@@ -6,6 +6,7 @@ use Rattle.std.proofs.lemmas.List.{append-nil, length-append, length-map}
 use Rattle.ranked_policy.specs.Plans.{Plan, IsNetwork, IsRouter, numbers}
 use Rattle.run_model.specs.Network as runs
 use Rattle.run_model.specs.declared.stamps.TheConstants.{GREATEST_STAMP}
+use Rattle.router_model.specs.declared.command.Command.TheVariants as command
 use Rattle.router_model.specs.Settings.{Setting, IsSetting}
 use Rattle.router_model.specs.Laws.{LinkedRoutersArePeers}
 use Rattle.router_runs.specs.Existence.{EachNetworkHasASetting}
@@ -21,6 +22,7 @@ use Rattle.net_text.specs.Networks.{SpellsNetwork}
 use Rattle.schedule_text.specs.declared.schedule.ScheduledOrder.{ScheduledOrder}
 use Rattle.schedule_text.specs.Sayings.{LinesAreReadAsTheySay}
 use Rattle.schedule_text.specs.Schedules.{orders_of, IsGood, SpellsSchedule}
+use Rattle.worker_loop.specs.declared.chore.Chore.TheVariants as chore
 use Rattle.net_workers.specs.declared.record.Worked.{Worked}
 use Rattle.net_workers.specs.declared.record.RunFault.TheVariants as fault
 use Rattle.net_workers.specs.declared.record.TheConstants.{MOST_TURNS}
@@ -37,7 +39,7 @@ use Rattle.trace_engine.proofs.LawLemmas.{all_of, one_lines, front_is, rest_is, 
 use Rattle.trace_engine.proofs.LineLemmas.{order_of, as_orders, Says}
 use Rattle.run_engine.specs.declared.chores.RunOptions.{RunOptions}
 use Rattle.run_engine.specs.declared.gates.RunGate.{RunGate}
-use Rattle.run_engine.specs.Gates.{HasRoom}
+use Rattle.run_engine.specs.Gates.{HasRoom, spacing_of}
 use Rattle.run_engine.specs.Running.{RunRecord, IsRefusedInside, faulty}
 use Rattle.record_engine.specs.Recording.{events_of, events_text, record_text, RecordGives, PrintsRecord, Records}
 use Rattle.record_engine.specs.Laws.{EndsAsRecorded, PlaysAsRecorded, RecordsPlayBack}
@@ -105,7 +107,9 @@ module _ (hold : HoldTimesFit) (feeds : LinesEndByLineFeeds) (one : OneNetwork) 
     may g e set =
         let r = ran g e set in
         let few = few_snapshots t.net options t.room in
-        let low = λ (u s : ℕ) c. numbers_low (2 ^ 32 - 1) t.net options.turns _ options.snapshots (passed_in threads.ways) threads.workers (omega (arith, few)) threads.recorded.worked threads.gates u s c in
+        let small : options.snapshots ≤ 2 ^ 32 - 1 = omega (arith, few) in
+        let low : (u s : ℕ) → Contains (chores_of threads.workers u) (chore.Command (command.Snapshot s)) → s ≤ 2 ^ 32 - 1 =
+        numbers_low (2 ^ 32 - 1) t.net options.turns (spacing_of t.net options) options.snapshots (passed_in threads.ways) threads.workers small threads.recorded.worked threads.gates in
         subst (λ (net : Plan). AllByRecursion (MaySay net) events) e
         (subst (AllByRecursion (MaySay g.net)) r.events
         (run_may links g set.network (chores_of threads.workers) low r.order (runs.opening (λ u. new_logged g)) r.state r.called r.ordered))
@@ -129,7 +133,7 @@ module _ (hold : HoldTimesFit) (feeds : LinesEndByLineFeeds) (one : OneNetwork) 
         )
 
     ends : (g : Setting) (e : g.net ≡ t.net) (set : IsSetting g) (n : ℕ) (os : List ScheduledOrder) (out : Output) → map order_of os ≡ as_orders events → OrdersGive IsReport t.net os out
-        → EndsAsRecorded threads g out
+        → EndsAsRecorded options t.net threads g out
     ends g e set n os out are gives =
         let z = to_the_end g e set in
         let leads : LeadTo g (new_world g) os z.0 = ap (λ (es : List Event). played g (new_world g) 0 es) (same_events g.net os events are) ∙ z.1 in

@@ -17,7 +17,7 @@ use Rattle.record_engine.specs.Recording.{PrintsRecord, Records, events_of}
 
 -- the world that did the events of the record, none of which is refused or finds nothing to do; its routers are where the threads
 -- left them, with the paths that they keep; and this is what is reported of it
-pub record EndsAsRecorded {options : RunOptions} {net : Plan} (r : RunRecord options net) (g : Setting) (out : Output) : Type 0 where
+pub record EndsAsRecorded (options : RunOptions) (net : Plan) (r : RunRecord options net) (g : Setting) (out : Output) : Type 0 where
   pub world : World
   pub plays : played g (new_world g) 0 (events_of r.gathered) ≡ Ok world
   pub did : world.run ≡ events_of r.gathered
@@ -29,7 +29,7 @@ pub record PlaysAsRecorded (options : RunOptions) (input text : List ℕ) (out :
   pub net : Plan
   pub spells : SpellsNetwork (lines_of input) net
   pub prints : PrintsRecord options (lines_of input) net (output text DONE)
-  pub ends : (g : Setting) → g.net ≡ net → IsSetting g → EndsAsRecorded prints.threads g out
+  pub ends : (g : Setting) → g.net ≡ net → IsSetting g → EndsAsRecorded options net prints.threads g out
 
 -- `play` leads a record, of a length that an input may have, to where the threads ended; or memory runs out
 abbrev pub RecordsPlayBack : Type 0
