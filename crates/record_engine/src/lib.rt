@@ -12,3 +12,4 @@ mod record;
 mod text;
 
 pub use record::record_stream;
+pub use text::record_text;

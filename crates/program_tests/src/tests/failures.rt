@@ -35,7 +35,15 @@ static ROWS: [Row; 2] = [
 ];
 
 // The words of each engine.
-static ENGINES: [&[&str]; 5] = [&["decode"], &["check"], &["play"], &["cut", "1"], &["run"]];
+static ENGINES: [&[&str]; 7] = [
+    &["decode"],
+    &["check"],
+    &["play"],
+    &["trace"],
+    &["cut", "1"],
+    &["run"],
+    &["record"],
+];
 
 // Gives three octets at a time, and fails at a read.
 #[derive(Drop)]
