@@ -1,8 +1,7 @@
 -- A journal at the word of chores, and the run that such journals are.
-use Rattle.std.proofs.Common.{◌≡◌, ℕ, List, [], ◌∷◌, refl, sym, ap, subst, ◌∙◌}
+use Rattle.std.proofs.Common.{◌≡◌, ℕ, List, [], ◌∷◌, sym, ap, subst, ◌∙◌}
 use Rattle.std.specs.List.{AllByRecursion}
 use Rattle.outbox.specs.declared.item.What.{What}
-use Rattle.run_model.specs.Network as runs
 use Rattle.run_model.specs.Network.{Journal, Run}
 use Rattle.run_model.specs.Journals.{IsJournal}
 use Rattle.run_model.specs.Stamps.{without_stamp, without_stamps}

@@ -1,16 +1,14 @@
 -- The lines of a record: those of its network begin no schedule, and the others say its events.
-use Rattle.std.proofs.Common.{◌≡◌, ◌≢◌, ℕ, zero, suc, ◌+◌, ◌-◌, ◌^◌, ◌<◌, ◌≤◌, ◌==◌, arith, Bool, true, false, List, [], ◌∷◌, ◌++◌, length, map, refl, ap, sym, subst, ◌∙◌, Ok, Err}
-use Rattle.std.specs.Prelude.{Result, codes, decimal, not, ◌&&◌, ◌||◌, nat_le, nat_lt, if◌then◌else◌}
-use Rattle.std.specs.List.{AllByRecursion, Contains, flat_map, list_any}
-use Rattle.std.proofs.lemmas.Bool.{and_parts, eqb-true, eq-eqb, le-leb, ltb-true, or_right}
-use Rattle.std.proofs.lemmas.List.{append-nil, length-append}
+use Rattle.std.proofs.Common.{◌≡◌, ℕ, ◌+◌, ◌-◌, ◌^◌, ◌<◌, ◌≤◌, ◌==◌, arith, Bool, true, false, List, [], ◌∷◌, ◌++◌, length, refl, ap, sym, subst, ◌∙◌, Ok, Err}
+use Rattle.std.specs.Prelude.{Result, codes, decimal, not, ◌&&◌, ◌||◌, nat_le, if◌then◌else◌}
+use Rattle.std.specs.List.{AllByRecursion, Contains, list_any}
+use Rattle.std.proofs.lemmas.Bool.{and_parts, eqb-true, eq-eqb, le-leb, ltb-true}
+use Rattle.std.proofs.lemmas.List.{length-append}
 use Rattle.std.proofs.lemmas.List.Folds.{list_any-from_Any}
 use Rattle.prefix_lanes.specs.Bits.{PrefixView, is_prefix}
 use Rattle.ranked_policy.specs.Plans.{Plan, IsNetwork, IsRouter, numbers}
 use Rattle.ranked_policy.specs.declared.network.Origin.{Origin}
-use Rattle.run_model.specs.Network as runs
 use Rattle.run_model.specs.Network.{alone, puts, takes, offers}
-use Rattle.router_model.specs.declared.command.Command.{Command}
 use Rattle.router_model.specs.declared.command.Command.TheVariants as command
 use Rattle.router_model.specs.Settings.{Setting, is_router, is_origin, linked}
 use Rattle.router_model.specs.State.{Router}
@@ -27,7 +25,7 @@ use Rattle.worker_loop.specs.Laws.{IsOrdered}
 use Rattle.net_text.specs.declared.code.Code.{Code}
 use Rattle.net_text.specs.declared.code.Code.TheVariants as kinds
 use Rattle.net_text.specs.Layout.{LinesEndByLineFeeds}
-use Rattle.net_text.specs.Lexing.{Text, words_of, same, says_nothing, is_ascii, is_section, is_the_word}
+use Rattle.net_text.specs.Lexing.{Text, words_of, same, says_nothing, is_ascii, is_the_word}
 use Rattle.net_text.specs.Lines.{words_line}
 use Rattle.net_text.specs.Networks.{then_on, reading, SpellsNetwork, empty_draft}
 use Rattle.net_text.specs.Printing.{prefix_text}

@@ -1,9 +1,9 @@
 -- A record is played to where the threads ended.
-use Rattle.std.proofs.Common.{◌≡◌, ◌≢◌, ℕ, zero, suc, ◌+◌, ◌-◌, ◌^◌, ◌<◌, ◌≤◌, arith, Bool, true, false, List, [], ◌∷◌, ◌++◌, length, map, refl, ap, sym, subst, ◌∙◌, inl, inr, Ok, Err}
+use Rattle.std.proofs.Common.{◌≡◌, ℕ, suc, ◌+◌, ◌-◌, ◌^◌, ◌≤◌, arith, List, [], ◌∷◌, ◌++◌, length, map, refl, ap, sym, subst, ◌∙◌, inl, inr, Ok}
 use Rattle.std.specs.Prelude.{codes}
 use Rattle.std.specs.List.{All, AllByRecursion, Contains}
 use Rattle.std.proofs.lemmas.List.{append-nil, length-append, length-map}
-use Rattle.ranked_policy.specs.Plans.{Plan, IsNetwork, IsRouter, numbers}
+use Rattle.ranked_policy.specs.Plans.{Plan, IsRouter, numbers}
 use Rattle.run_model.specs.Network as runs
 use Rattle.run_model.specs.declared.stamps.TheConstants.{GREATEST_STAMP}
 use Rattle.router_model.specs.declared.command.Command.TheVariants as command
@@ -13,25 +13,23 @@ use Rattle.router_runs.specs.Existence.{EachNetworkHasASetting}
 use Rattle.router_runs.specs.Runs.{RunState, new_logged}
 use Rattle.router_core.specs.Views.{plain_of}
 use Rattle.world_core.specs.declared.schedule.Event.{Event}
-use Rattle.world_core.specs.World.{World, new_world, played, named, AgreesWith}
-use Rattle.world_core.specs.Replays.{CalledRunsArePlayed, PlaysTo}
+use Rattle.world_core.specs.World.{World, new_world, played, AgreesWith}
+use Rattle.world_core.specs.Replays.{CalledRunsArePlayed}
 use Rattle.net_text.specs.Laws.{OneNetwork, HoldTimesFit, SpeltIsNotRefused}
 use Rattle.net_text.specs.Layout.{LinesEndByLineFeeds}
 use Rattle.net_text.specs.Lexing.{Text, lines_of, before_section, behind_section}
 use Rattle.net_text.specs.Networks.{SpellsNetwork}
 use Rattle.schedule_text.specs.declared.schedule.ScheduledOrder.{ScheduledOrder}
 use Rattle.schedule_text.specs.Sayings.{LinesAreReadAsTheySay}
-use Rattle.schedule_text.specs.Schedules.{orders_of, IsGood, SpellsSchedule}
+use Rattle.schedule_text.specs.Schedules.{IsGood}
 use Rattle.worker_loop.specs.declared.chore.Chore.TheVariants as chore
 use Rattle.net_workers.specs.declared.record.Worked.{Worked}
-use Rattle.net_workers.specs.declared.record.RunFault.TheVariants as fault
-use Rattle.net_workers.specs.declared.record.TheConstants.{MOST_TURNS}
 use Rattle.net_workers.specs.Runs.{IsRunOfThreads, chores_of}
 use Rattle.net_workers.specs.Ways.{passed_in}
-use Rattle.play_engine.specs.Playing.{all_events, LeadTo, IsReport, OrdersGive, ScheduleGives, Plays}
+use Rattle.play_engine.specs.Playing.{LeadTo, IsReport, OrdersGive, ScheduleGives}
 use Rattle.text_engines.specs.declared.status.TheConstants.{DONE}
 use Rattle.text_engines.specs.declared.transfer.TheConstants.{INPUT_LIMIT}
-use Rattle.text_engines.specs.Decoding.{Output, output, memory_output}
+use Rattle.text_engines.specs.Decoding.{Output, output}
 use Rattle.text_engines.specs.Inputs.{NetworkGives}
 use Rattle.trace_engine.specs.Tracing.{head_of_trace}
 use Rattle.trace_engine.proofs.EventLemmas.{MaySay}
@@ -40,7 +38,7 @@ use Rattle.trace_engine.proofs.LineLemmas.{order_of, as_orders, Says}
 use Rattle.run_engine.specs.declared.chores.RunOptions.{RunOptions}
 use Rattle.run_engine.specs.declared.gates.RunGate.{RunGate}
 use Rattle.run_engine.specs.Gates.{HasRoom, spacing_of}
-use Rattle.run_engine.specs.Running.{RunRecord, IsRefusedInside, faulty}
+use Rattle.run_engine.specs.Running.{RunRecord, IsRefusedInside}
 use Rattle.record_engine.specs.Recording.{events_of, events_text, record_text, RecordGives, PrintsRecord, Records}
 use Rattle.record_engine.specs.Laws.{EndsAsRecorded, PlaysAsRecorded, RecordsPlayBack}
 use Rattle.record_engine.proofs.ChoreLemmas.{few_snapshots, numbers_low}

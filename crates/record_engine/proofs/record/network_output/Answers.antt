@@ -1,4 +1,4 @@
-use Rattle.std.proofs.Common.{inl, inr}
+use Rattle.std.proofs.Common.{inr}
 use Rattle.net_text.specs.Lexing.{lines_of}
 use Rattle.text_engines.specs.Decoding.{output}
 use Rattle.text_engines.proofs.CheckLemmas.{if_ok, both_ok}
