@@ -224,3 +224,30 @@ to 1000000. 'bgpnet --help' has the codes, and the lines of a network.
 
 Status 0: done. 1: a refused input. 2: other words than these. 3: memory was refused ('memory').
 4: a read or a write failed.";
+
+/// What the help of `record` says below its options: an example, and the statuses.
+pub const RECORD_HELP: &str = "\
+The input is a network:
+
+    router 1 10.0.0.1
+    router 2 10.0.0.2
+    link 1 2
+    origin 1 10.1.0.0/16
+
+Each router runs in a thread of its own, as 'run --help' says. The output is the network's lines, the
+line 'schedule', and each event that the threads did as an order, so that it is an input for 'play',
+'trace' and 'cut'. It begins so:
+
+    router 1 10.0.0.1
+    router 2 10.0.0.2
+    link 1 2
+    origin 1 10.1.0.0/16
+    schedule
+    start 1 2
+
+What comes behind differs from run to run. 'play' leads to where the threads ended, each time, and says
+how each snapshot came out; with '--turns 2000' and '--snapshots 4' the output is short. 'refused LINE
+CODE' is as for 'run'. An output of more than 16777216 octets is no input.
+
+Status 0: done. 1: a refused input. 2: other words than these. 3: memory was refused ('memory').
+4: a read or a write failed.";

@@ -1,8 +1,8 @@
 //! The words behind the program's name, and the engines that they ask for.
 //!
-//! [`run_with`] reads the words and hands them to an engine of `text_engines`, `play_engine`, `trace_engine` or
-//! `run_engine`, a function over a reader and a writer that says exactly what it writes for what it reads; or it writes a
-//! help, or what is wrong with the words. Its one contract: a status is answered where no read and no write
+//! [`run_with`] reads the words and hands them to an engine of `text_engines`, `play_engine`, `trace_engine`, `run_engine`
+//! or `record_engine`, a function over a reader and a writer that says exactly what it writes for what it reads; or it
+//! writes a help, or what is wrong with the words. Its one contract: a status is answered where no read and no write
 //! failed, and only there. [`status_of`] is the status that the program ends with.
 #![tactic(auto)]
 
@@ -12,8 +12,11 @@ ghost use Rattle.text_engines.specs.declared.status.TheConstants.{STOPPED};
 mod helps;
 mod words;
 
-pub use helps::{CHECK_HELP, CUT_HELP, DECODE_HELP, PLAY_HELP, RUN_HELP, TOP_HELP, TRACE_HELP};
+pub use helps::{
+    CHECK_HELP, CUT_HELP, DECODE_HELP, PLAY_HELP, RECORD_HELP, RUN_HELP, TOP_HELP, TRACE_HELP,
+};
 use play_engine::{cut_stream, play_stream};
+use record_engine::record_stream;
 use run_engine::run_stream;
 use std::alloc::{AllocError, Global};
 use std::sync::Wait;
@@ -49,6 +52,7 @@ where
         Ok(Asked::Trace) => trace_stream(alloc, reader, writer),
         Ok(Asked::Cut(number)) => cut_stream(alloc, number, reader, writer),
         Ok(Asked::Run(options)) => run_stream(rt, alloc, &options, reader, writer),
+        Ok(Asked::Record(options)) => record_stream(rt, alloc, &options, reader, writer),
         Ok(Asked::Text(text, status)) => {
             write_out(writer, text.as_bytes())?;
             Ok(status)

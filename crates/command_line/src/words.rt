@@ -4,7 +4,9 @@ ghost use Rattle.std.specs.Prelude.{◌≡◌};
 ghost use Rattle.std.specs.List.{list_all};
 ghost use Rattle.net_text.specs.Words.{is_digit};
 
-use crate::helps::{CHECK_HELP, CUT_HELP, DECODE_HELP, PLAY_HELP, RUN_HELP, TOP_HELP, TRACE_HELP};
+use crate::helps::{
+    CHECK_HELP, CUT_HELP, DECODE_HELP, PLAY_HELP, RECORD_HELP, RUN_HELP, TOP_HELP, TRACE_HELP,
+};
 use bgp_codec::{NOBODY, Rule};
 use bgp_values::{Width, greatest_asn};
 use clap::error::ErrorKind;
@@ -28,6 +30,8 @@ pub enum Asked {
     Cut(u32),
     /// Run a network in threads.
     Run(RunOptions),
+    /// Run a network in threads, and write what they did as a schedule.
+    Record(RunOptions),
     /// A text to write, and the status to end with.
     Text(String, u8),
 }
@@ -122,17 +126,35 @@ fn asked_cut(alloc: Global, found: &ArgMatches) -> Result<Asked, AllocError> {
     }
 }
 
-fn asked_run(alloc: Global, found: &ArgMatches) -> Result<Asked, AllocError> {
+// The options of a run in threads, or what is said of the words.
+fn run_options(
+    alloc: Global,
+    found: &ArgMatches,
+) -> Result<Result<RunOptions, String>, AllocError> {
     if let Some(text) = sign_of(alloc, found, "turns", "--turns <N>")? {
-        return Ok(Asked::Text(text, USAGE));
+        return Ok(Err(text));
     }
     if let Some(text) = sign_of(alloc, found, "snapshots", "--snapshots <K>")? {
-        return Ok(Asked::Text(text, USAGE));
+        return Ok(Err(text));
     }
-    Ok(Asked::Run(RunOptions {
+    Ok(Ok(RunOptions {
         turns: found.get_one::<u32>("turns").unwrap_or(TURNS),
         snapshots: found.get_one::<u32>("snapshots").unwrap_or(SNAPSHOTS),
     }))
+}
+
+fn asked_run(alloc: Global, found: &ArgMatches) -> Result<Asked, AllocError> {
+    match run_options(alloc, found)? {
+        Ok(options) => Ok(Asked::Run(options)),
+        Err(text) => Ok(Asked::Text(text, USAGE)),
+    }
+}
+
+fn asked_record(alloc: Global, found: &ArgMatches) -> Result<Asked, AllocError> {
+    match run_options(alloc, found)? {
+        Ok(options) => Ok(Asked::Record(options)),
+        Err(text) => Ok(Asked::Text(text, USAGE)),
+    }
 }
 
 fn decode_command<'a>(alloc: Global) -> Result<Command<'a>, AllocError> {
@@ -168,7 +190,13 @@ fn cut_command<'a>(alloc: Global) -> Result<Command<'a>, AllocError> {
         .arg(number)
 }
 
-fn run_command<'a>(alloc: Global) -> Result<Command<'a>, AllocError> {
+// A word that runs a network in threads.
+fn threads_command<'a>(
+    alloc: Global,
+    name: &'a str,
+    about: &'a str,
+    help: &'a str,
+) -> Result<Command<'a>, AllocError> {
     let turns = Arg::new(alloc, "turns")
         .long("turns")
         .value_name("N")
@@ -179,11 +207,24 @@ fn run_command<'a>(alloc: Global) -> Result<Command<'a>, AllocError> {
         .value_name("K")
         .value_parser(clap::value_parser!(u32).range(1..=i64::from(MOST_SNAPSHOTS)))
         .help("The snapshots that are taken, 1 to 1000 [default: 20]");
-    Command::new(alloc, "run")
-        .about("Runs a network in threads")
-        .after_help(RUN_HELP)
+    Command::new(alloc, name)
+        .about(about)
+        .after_help(help)
         .arg(turns)?
         .arg(snapshots)
+}
+
+fn run_command<'a>(alloc: Global) -> Result<Command<'a>, AllocError> {
+    threads_command(alloc, "run", "Runs a network in threads", RUN_HELP)
+}
+
+fn record_command<'a>(alloc: Global) -> Result<Command<'a>, AllocError> {
+    threads_command(
+        alloc,
+        "record",
+        "Runs a network in threads, and prints what they did as a schedule",
+        RECORD_HELP,
+    )
 }
 
 // The words that the program takes.
@@ -210,7 +251,8 @@ fn command<'a>(alloc: Global) -> Result<Command<'a>, AllocError> {
         .subcommand(play)?
         .subcommand(trace)?
         .subcommand(cut_command(alloc)?)?
-        .subcommand(run_command(alloc)?)
+        .subcommand(run_command(alloc)?)?
+        .subcommand(record_command(alloc)?)
 }
 
 // What words that were taken ask for.
@@ -229,6 +271,9 @@ fn asked_by(alloc: Global, matches: &ArgMatches) -> Result<Asked, AllocError> {
     }
     if let Some(found) = matches.subcommand_matches("run") {
         return asked_run(alloc, found);
+    }
+    if let Some(found) = matches.subcommand_matches("record") {
+        return asked_record(alloc, found);
     }
     match matches.subcommand_matches("decode") {
         Some(found) => asked_decode(alloc, found),

@@ -7,3 +7,4 @@ pub mod Faults
 pub mod Rooms
 pub mod Dealt
 pub mod Ways
+pub mod CalledJournals

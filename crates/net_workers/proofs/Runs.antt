@@ -24,7 +24,7 @@ use Rattle.snap_collector.specs.Collecting.{member_of}
 use Rattle.snap_collector.specs.Collector.{AreMembers, made_for, with_offers, kept_of}
 use Rattle.snap_collector.specs.Verdicts.{verdict}
 use Rattle.snap_collector.specs.Laws.{VerdictsAreOutcomes, CollectedAreKept}
-use Rattle.router_model.specs.Settings.{Setting, IsSetting}
+use Rattle.router_model.specs.Settings.{Setting, IsSetting, peers}
 use Rattle.router_model.specs.Step as step
 use Rattle.router_model.specs.Step.{Own, RouterEvent}
 use Rattle.router_runs.specs.Runs.{Logged, logged_steps, new_logged}
@@ -34,15 +34,17 @@ use Rattle.worker_loop.specs.declared.chore.Chore.{Chore}
 use Rattle.worker_loop.specs.declared.journal.Entry.{Entry}
 use Rattle.worker_loop.specs.Acts.{Act, passed, journal_of, entry_of}
 use Rattle.offer_board.specs.Boards.{collected_in}
-use Rattle.worker_loop.specs.Laws.{ActsAreJournals, IsJournalTo, StampsRise}
+use Rattle.worker_loop.specs.Laws.{ActsAreJournals, IsJournalTo, StampsRise, WhatFollowsIsCalled}
 use Rattle.net_workers.specs.declared.record.Worked.{Worked}
 use Rattle.net_workers.specs.Gathered.{router_of, all_events}
 use Rattle.net_workers.specs.Ran.{Passed, IsTold, HasWorked}
-use Rattle.net_workers.specs.Runs.{RecordsAreRuns, RecordsKeepTheirPromises}
+use Rattle.net_workers.specs.Called.{Orders, called_steps}
+use Rattle.net_workers.specs.Runs.{chores_of, RecordsAreRuns, RecordsKeepTheirPromises}
 use Rattle.router_runs.specs.Model.{network_of}
 use Rattle.world_core.specs.Verdicts.{MembersAreOfTheNetwork}
 use Rattle.router_runs.specs.Promises.{UpdatesPassInOrder, NothingIsActedOnAfterTheClose}
 use Rattle.router_runs.specs.Snapshots.{CloseLosesTheRecording, SnapshotsHoldInRuns}
+use Rattle.net_workers.proofs.CalledJournals.{IsCalledJournal, called_journal, of_orders, called_run, ordered_run}
 use Rattle.net_workers.proofs.Blocks.{Block, IsFit, acts_of, acts_by, routers_of, by, rises_map, own_acts, all_fit, routers_rise, own_rise, events_are}
 
 -- ---- lines of journals
@@ -164,6 +166,23 @@ module _ {G : Type 0} (given : G → List Chore) (plan : Plan) (turns : ℕ) (p 
           subst (λ v. IsJournal (logged_steps g) v (new_logged g) (without_stamps (journal_of all.0.acts)) to.last) (eqb-true w.router.number u h) to.journal
       at false h rest = rest
 
+  -- by the calls that its chores led to
+  leads_called : WhatFollowsIsCalled → (ws : List (Worked G)) → AllByRecursion (HasWorked given plan turns p) ws → (all : AllByRecursion Told ws) (known : Known ws) (u : ℕ)
+      → IsCalledJournal g (chores_of ws u) u (new_logged g) (without_stamps (journal_of (acts_by (blocks ws all) u))) (finish ws all known u)
+  leads_called follows [] worked all known u = refl
+  leads_called follows (w ∷ ws) worked all known u = at (w.router.number == u) refl (leads_called follows ws worked.1 all.1 known.1 u)
+    where
+      at : (c : Bool) → (w.router.number == u) ≡ c → IsCalledJournal g (chores_of ws u) u (new_logged g) (without_stamps (journal_of (acts_by (blocks ws all.1) u))) (finish ws all.1 known.1 u)
+          → IsCalledJournal g (cond c w.journal.chores.items (chores_of ws u)) u (new_logged g) (without_stamps (journal_of (cond c all.0.acts (acts_by (blocks ws all.1) u)))) (cond c (journal_to w known.0 all.0).last (finish ws all.1 known.1 u))
+      at true h rest =
+          let to = journal_to w known.0 all.0 in
+          let t = all.0 in
+          let by_calls = follows g set.network w.router.number (peers g.net w.router.number) (given w.gate) t.first t.last t.acts t.follows in
+          let own = called_journal g (given w.gate) w.router.number t.first.router t.last.router t.acts (new_logged g) to.last (ap (λ s. s.router) (sym t.opening)) to.journal by_calls in
+          subst (λ v. IsCalledJournal g w.journal.chores.items v (new_logged g) (without_stamps (journal_of t.acts)) to.last) (eqb-true w.router.number u h)
+          (subst (λ cs. IsCalledJournal g cs w.router.number (new_logged g) (without_stamps (journal_of t.acts)) to.last) (sym worked.0.chores) own)
+      at false h rest = rest
+
   -- what they put and took
   abbrev Items : ℕ → (ℕ → List Item) → (ℕ → List Item) → List Act → Type 0
   Items u put taken acts = ((v : ℕ) → puts_towards v (journal_of acts) ≡ map passed (put v)) × ((v : ℕ) → takes_from v (journal_of acts) ≡ map passed (taken v))
@@ -262,9 +281,9 @@ module _ {G : Type 0} (given : G → List Chore) (plan : Plan) (turns : ℕ) (p 
 -- ---- all together
 
 pub records_are_runs : {G : Type 0} (given : G → List Chore) → ActsAreJournals → StampsRise → SortingByStampGathers stamp_of line_router → GatheringLifts entry_of stamp_of line_router
-    → GatheredEventsAreStamped Own What MadeOffer → StampsGiveTheCollectorsOrder Own What MadeOffer → ((g : Setting) → ThreadsAreARun (logged_steps g)) → CausalOrdersEndAlike Logged Own What MadeOffer
+    → GatheredEventsAreStamped Own What MadeOffer → StampsGiveTheCollectorsOrder Own What MadeOffer → ((g : Setting) → ThreadsAreARun (logged_steps g)) → ((o : Orders) → ThreadsAreARun (called_steps o)) → WhatFollowsIsCalled → CausalOrdersEndAlike Logged Own What MadeOffer
     → StampsChangeNoItem Own What MadeOffer → RecordsAreRuns given
-records_are_runs {G} given journals rise sorting lifts stamped_law collectors threads alike items plan turns p workers c gathered is turn g net set =
+records_are_runs {G} given journals rise sorting lifts stamped_law collectors threads threads_called follows alike items plan turns p workers c gathered is turn g net set =
     let all = told_all given plan turns p g net set journals rise workers is.worked in
     let bs : List Block = blocks given plan turns p g net set journals rise workers all in
     let acts : List Act = acts_of bs in
@@ -308,11 +327,16 @@ records_are_runs {G} given journals rise sorting lifts stamped_law collectors th
     let offered : stamped_offers ms ≡ board = collectors board ms stamped.rise is.collects.rising same_offers in
     let last : ℕ → Logged = finish given plan turns p g net set journals rise workers all known in
     let ran = threads g (λ u. new_logged g) last journal board ms (leads given plan turns p g net set journals rise workers all known) stamped offered in
+    let orders : Orders = record { setting = g; chores = chores_of workers } in
+    let so = threads_called orders (λ u. new_logged g) last journal board ms
+    (λ u. of_orders orders u (without_stamps (journal u)) (new_logged g) (last u) (leads_called given plan turns p g net set journals rise follows workers is.worked all known u)) stamped offered in
     let ends = alike last (λ u. without_stamps (journal u)) (offers_on board) (order_of ms) ran.0 in (
       record {
         order = order_of ms;
         state = closing last (offers_on board) (order_of ms);
         run = ran.1;
+        called = called_run orders (order_of ms) (opening (λ u. new_logged g)) (closing last (offers_on board) (order_of ms)) so.1;
+        ordered = ordered_run orders (order_of ms) (opening (λ u. new_logged g)) (closing last (offers_on board) (order_of ms)) so.1;
         events = named_are ms ∙ ap (map (λ e. e.event)) lifted.1;
         routers = finals given plan turns p g net set journals rise workers all known rising_numbers;
         put = λ u v. ap (λ s. s.put u v) ends ∙ ((items v (journal u)).0 ∙ (ap (map (λ x. x.item)) ((passed_at u).0 v) ∙ whats (p.put u v)));

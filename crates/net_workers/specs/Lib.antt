@@ -4,3 +4,4 @@ pub mod Ran
 pub mod Runs
 pub mod Ways
 pub mod Dealt
+pub mod Called

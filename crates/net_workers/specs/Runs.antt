@@ -1,12 +1,13 @@
 -- What the threads did is one run of the network.
-use Rattle.std.specs.Prelude.{ℕ, ◌≡◌, true, List, [], map}
+use Rattle.std.specs.Prelude.{ℕ, ◌≡◌, ◌==◌, true, cond, List, [], ◌∷◌, map}
 use mathlib.Core.List.{IsPrefix}
 use Rattle.std.specs.List.{AllByRecursion}
 use Rattle.ranked_policy.specs.Plans.{Plan}
+use Rattle.run_model.specs.Network as runs
 use Rattle.run_model.specs.Offers.{HasOutcome}
 use Rattle.run_model.specs.Stamps.{offers_on}
 use Rattle.router_model.specs.Settings.{Setting, IsSetting, linked}
-use Rattle.router_runs.specs.Runs.{RunOrder, RunState, IsRunTo, side_of}
+use Rattle.router_runs.specs.Runs.{RunOrder, RunState, IsRunTo, new_logged, side_of}
 use Rattle.router_runs.specs.Model.{network_of}
 use Rattle.router_runs.specs.Promises.{PassesInOrder, ActsOnNothingAfterCloses}
 use Rattle.router_runs.specs.Snapshots.{ClosesLoseRecordings, SnapshotsHold}
@@ -14,8 +15,10 @@ use Rattle.router_core.specs.Views.{plain_of}
 use Rattle.snap_collector.specs.Collector.{CollectorView, made_for, with_offers}
 use Rattle.world_core.specs.Verdicts.{judged}
 use Rattle.world_core.specs.World.{named}
+use Rattle.world_core.specs.Replays.{IsCalledRun}
 use Rattle.worker_loop.specs.declared.chore.Chore.{Chore}
 use Rattle.worker_loop.specs.declared.journal.Entry.{Entry}
+use Rattle.worker_loop.specs.Laws.{IsOrdered}
 use Rattle.net_workers.specs.declared.record.Worked.{Worked}
 use Rattle.net_workers.specs.Ran.{Passed, IsRecord}
 
@@ -23,12 +26,20 @@ use Rattle.net_workers.specs.Ran.{Passed, IsRecord}
 abbrev pub InTurn : Passed → Type 0
 InTurn p = (u v : ℕ) → IsPrefix (p.taken v u) (p.put u v)
 
+-- the chores of a router, by its journal
+abbrev pub chores_of : {G : Type 0} → List (Worked G) → ℕ → List Chore
+chores_of [] u = []
+chores_of (w ∷ ws) u = cond (w.router.number == u) w.journal.chores.items (chores_of ws u)
+
 -- the gathered events are a run of the network, and its last state has the routers, the items that were put and taken, and the
--- offers that the collector was made
+-- offers that the collector was made; each event is what its router's call answers, and a command only where one of the router's
+-- chores is that command
 pub record IsRunOfThreads {G : Type 0} (g : Setting) (p : Passed) (workers : List (Worked G)) (gathered : List Entry) : Type 0 where
   pub order : RunOrder
   pub state : RunState
   pub run : IsRunTo g order state
+  pub called : IsCalledRun g (runs.opening (λ u. new_logged g)) order state
+  pub ordered : AllByRecursion (λ d. IsOrdered (chores_of workers d.router) d.event) order
   pub events : named order ≡ map (λ e. e.event) gathered
   pub routers : AllByRecursion (λ w. (state.routers w.router.number).router ≡ (plain_of w.router).router) workers
   pub put : (u v : ℕ) → state.put u v ≡ map (λ i. i.what) (p.put u v)

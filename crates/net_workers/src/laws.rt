@@ -8,13 +8,13 @@ use router_runs::{
     snapshots_of_runs, updates_pass_in_order,
 };
 use run_model::orders::{
-    JournalLines, WholeLines, causal_orders_end_alike, gathered_events_are_stamped,
+    JournalLines, Routers, WholeLines, causal_orders_end_alike, gathered_events_are_stamped,
     gathering_lifts, sorting_by_stamp_gathers, stamps_change_no_item,
     stamps_give_the_collectors_order, threads_are_a_run,
 };
 use snap_collector::laws::{collected_are_kept, verdicts_are_outcomes};
 use worker_loop::Gate;
-use worker_loop::laws::{acts_are_journals, stamps_rise};
+use worker_loop::laws::{acts_are_journals, stamps_rise, what_follows_is_called};
 use world_core::laws::members_are_of_the_network;
 
 /// The lines of journals. No value of it is made.
@@ -50,8 +50,33 @@ impl WholeLines for Events {
     ghost router = { λ e. router_of e.event };
 }
 
+/// The routers of a network at the word of their chores: each event is what the call of its router answers, and a command only
+/// where one of the chores is that command. No value of it is made.
+struct CalledRouters;
+
+impl Routers for CalledRouters {
+    ghost use Rattle.outbox.specs.declared.item.What.{What};
+    ghost use Rattle.snap_marker.specs.Recordings.{MadeOffer};
+    ghost use Rattle.router_model.specs.Step as steps;
+    ghost use Rattle.router_runs.specs.Runs.{Logged};
+    ghost use Rattle.net_workers.specs.Called.{Orders, called_steps};
+
+    ghost Setting = { Orders };
+
+    ghost State = { Logged };
+
+    ghost Own = { steps.Own };
+
+    ghost Item = { What };
+
+    ghost Offer = { MadeOffer };
+
+    ghost step = { called_steps };
+}
+
 /// Every record is one of a run of the network: the gathered events are that run, and its last state has the routers, the
-/// items that were put and taken, and the offers of the record (`runs`). So all promises of runs hold of it: UPDATEs and
+/// items that were put and taken, and the offers of the record (`runs`). Each event is what the call of its router answers, and a
+/// command only where one of the router's chores is that command. So all promises of runs hold of it: UPDATEs and
 /// octets passed in order, none was acted on after a close, a close lost the recording of its router, how a snapshot comes
 /// out by the collector is how it comes out in that run, and what is settled is a stable path assignment that stays
 /// (`promises`).
@@ -70,6 +95,8 @@ pub fn records_are_runs<G: Gate>()
     gathered_events_are_stamped::<NetworkRouters>();
     stamps_give_the_collectors_order::<NetworkRouters>();
     threads_are_a_run::<NetworkRouters>();
+    threads_are_a_run::<CalledRouters>();
+    what_follows_is_called();
     causal_orders_end_alike::<NetworkRouters>();
     stamps_change_no_item::<NetworkRouters>();
     updates_pass_in_order();

@@ -136,14 +136,14 @@ abbrev pub IsRefusedInside : Output → Type 0
 IsRefusedInside out = ((u : ℕ) × (out ≡ faulty (fault.WorkerRefused u))) ⊎ (out ≡ faulty fault.BoardDiffers)
 
 -- for so many chores of each worker, at the word of these gates
-abbrev pub ThreadsGive : {G T : Type 0} → (G → List Chore) → (G → T) → Demand → Plan → (turns : ℕ) → List G → (last : ℕ) → Output → Type 0
-ThreadsGive given told demand net turns gates last out =
+abbrev pub ThreadsGive : {G T : Type 0} → (G → List Chore) → (G → T) → Plan → (turns : ℕ) → List G → (last : ℕ) → Output → Type 0
+ThreadsGive given told net turns gates last out =
     ((AreLimits net turns (length gates) → ⊥) × (out ≡ faulty fault.BadLimits))
-    ⊎ (AreLimits net turns (length gates) × (IsRefusedInside out ⊎ SnapshotsGive given told demand net turns (map told gates) last out))
+    ⊎ (AreLimits net turns (length gates) × (IsRefusedInside out ⊎ SnapshotsGive given told AsRecorded net turns (map told gates) last out))
 
 -- what a run at the word of any gates prints: that, or that memory ran out
 abbrev pub Gated : {G T : Type 0} → (G → List Chore) → (G → T) → Plan → (turns : ℕ) → List G → (last : ℕ) → Output → Type 0
-Gated given told net turns gates last out = ThreadsGive given told AsRecorded net turns gates last out ⊎ (out ≡ memory_output)
+Gated given told net turns gates last out = ThreadsGive given told net turns gates last out ⊎ (out ≡ memory_output)
 
 -- ---- what is printed for a network
 
@@ -156,17 +156,24 @@ HasSetting net = (g : Setting) × (g.net ≡ net) × IsSetting g
 abbrev pub RunRecord : RunOptions → Plan → Type 0
 RunRecord options net = ThreadsRecord given_by told_of net options.turns (told_each net (spacing_of net options) options.snapshots net.routers)
 
+-- why it does not run: the chores have no room, or another fault
+abbrev pub IsFaultOfRun : RunOptions → Plan → RunFault → Type 0
+IsFaultOfRun options net why = ((why ≡ fault.BadLimits) × (HasRoom net options → ⊥)) ⊎ ((why ≢ fault.BadLimits) × HasRoom net options)
+
 abbrev pub RunGives : RunOptions → Plan → Output → Type 0
 RunGives options net out =
     ((HasRoom net options → ⊥) × (out ≡ faulty fault.BadLimits))
     ⊎ (HasRoom net options
     × (IsRefusedInside out ⊎ ((r : RunRecord options net) × (PrintsStableRoutes r options.snapshots out ⊎ PrintsUnsettled r EveryOrigin options.snapshots out))))
 
--- for its lines
-abbrev pub LinesRun : RunOptions → List Text → Output → Type 0
-LinesRun options lines out =
+-- for its lines, where this says what is printed for the network that they spell
+abbrev pub LinesPrint : (Plan → Output → Type 0) → List Text → Output → Type 0
+LinesPrint Gives lines out =
     ((at : ℕ) × (code : Code) × (code ≢ kinds.Memory) × RefusesNetwork lines at code × (out ≡ refused at (code_text code)))
-    ⊎ ((net : Plan) × SpellsNetwork lines net × RunGives options net out)
+    ⊎ ((net : Plan) × SpellsNetwork lines net × Gives net out)
+
+abbrev pub LinesRun : RunOptions → List Text → Output → Type 0
+LinesRun options lines out = LinesPrint (RunGives options) lines out
 
 -- for an input, which may be too long
 abbrev pub InputRuns : RunOptions → List ℕ → Output → Type 0

@@ -7,13 +7,17 @@ ghost use Rattle.text_engines.specs.Decoding.{output};
 ghost use Rattle.text_engines.specs.Engine.{PrintedBy, PrintedFrontBy, WrittenBy, WrittenFrontBy};
 ghost use Rattle.run_engine.specs.Running.{HasSetting, RunGives, LinesRun, InputRuns, Runs, Gated};
 
-use crate::chores::{RunOptions, new_gates, spacing};
-use crate::settled::Demand;
+use crate::chores::RunOptions;
+use crate::network::run_network;
+use crate::settled::{Demand, settled_output};
 use crate::threads::{fault_output, threads_output};
+use bgp_codec::Message;
 use net_text::{Code, read_network};
-use net_workers::{Gate, Limits, RunFault};
-use ranked_policy::Network;
+use net_workers::{Gate, Limits};
+use prefix_lanes::Prefix;
+use ranked_policy::{Network, Path};
 use router_runs::each_network_has_a_setting;
+use run_model::outcome_is_one;
 use std::alloc::{AllocError, Global};
 use std::sync::Wait;
 use std::thread::Threads;
@@ -21,6 +25,7 @@ use text_engines::{
     INPUT_LIMIT, InputError, IoStopped, Sink, Source, read_input, refused_output, text_output,
     want_of_memory, write_out,
 };
+use world_core::laws::members_are_the_routers;
 
 /// Runs a network in threads at the word of these gates, which have given no chore yet, and writes
 /// the routes of the least settled snapshot from 1 to the last, or `unsettled`; answers the status.
@@ -49,7 +54,7 @@ where
     // A failed write leaves a beginning of the text.
     ensures stopped { OnErr result (WrittenFrontBy (Gated G.given G.told network.now limits.turns gates.items last) (T.contents sink.old) (T.contents sink.new)) }
 {
-    match threads_output(rt, alloc, network, gates, limits, last, Demand::AsRecorded) {
+    match threads_output(rt, alloc, network, gates, limits, last) {
         Ok((text, status)) => {
             write_out(sink, text.as_slice())?;
             Ok(status)
@@ -77,16 +82,20 @@ where
     R: Threads + Wait + Sync,
     ensures { IfOk result (λ printed. RunGives options.now network.now (output printed.0.items printed.1)) }
 {
+    let _ = network.built();
     has_setting(network);
-    let Some(spacing) = spacing(network, options) else {
-        return fault_output(alloc, RunFault::BadLimits);
-    };
-    let last = options.snapshots;
-    let gates = new_gates(alloc, network, spacing, last)?;
-    let limits = Limits {
-        turns: options.turns,
-    };
-    threads_output(rt, alloc, network, gates, limits, last, Demand::EveryOrigin)
+    members_are_the_routers();
+    outcome_is_one::<Message, Prefix, Path>();
+    match run_network(rt, alloc, options, network) {
+        Ok(record) => settled_output(
+            alloc,
+            network,
+            &record.collector,
+            options.snapshots,
+            Demand::EveryOrigin,
+        ),
+        Err(fault) => fault_output(alloc, fault),
+    }
 }
 
 // What is printed for an input, and the status.

@@ -32,8 +32,8 @@ pub fn fault_output(alloc: Global, fault: RunFault) -> Result<(Vec<u8>, u8), All
 }
 
 /// What is printed of a network that runs in threads at the word of these gates, and the status: the
-/// routes of the first of the snapshots from 1 to the last that came out settled and whose parts are
-/// as they are demanded, or `unsettled`; or that the run was refused.
+/// routes of the first of the snapshots from 1 to the last that came out settled, or `unsettled`; or that
+/// the run was refused.
 pub fn threads_output<R, G>(
     rt: &R,
     alloc: Global,
@@ -41,19 +41,18 @@ pub fn threads_output<R, G>(
     gates: Vec<G>,
     limits: Limits,
     last: u32,
-    demand: Demand,
 ) -> Result<(Vec<u8>, u8), AllocError>
 where
     R: Threads + Wait + Sync,
     G: Gate + Send + Drop,
     requires fresh { AllByRecursion (λ gate. G.given gate ≡ []) gates.items }
-    ensures { IfOk result (λ printed. ThreadsGive G.given G.told demand network.now limits.turns gates.items last (output printed.0.items printed.1)) }
+    ensures { IfOk result (λ printed. ThreadsGive G.given G.told network.now limits.turns gates.items last (output printed.0.items printed.1)) }
 {
     let _ = network.built();
     members_are_the_routers();
     outcome_is_one::<Message, Prefix, Path>();
     match run_net(rt, alloc, network, gates, limits) {
-        Ok(record) => settled_output(alloc, network, &record.collector, last, demand),
+        Ok(record) => settled_output(alloc, network, &record.collector, last, Demand::AsRecorded),
         Err(fault) => fault_output(alloc, fault),
     }
 }

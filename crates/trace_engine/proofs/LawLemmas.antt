@@ -46,7 +46,7 @@ all_at : (P : Text → Type 0) (x : Text) (xs : List Text) → P x → All P xs 
 all_at P x xs here all zero d lt = here
 all_at P x xs here all (suc k) d lt = all k d (omega (arith, lt))
 
-all_of : (P : Text → Type 0) (xs : List Text) → AllByRecursion P xs → All P xs
+pub all_of : (P : Text → Type 0) (xs : List Text) → AllByRecursion P xs → All P xs
 all_of P [] h = λ k d lt. absurd (omega (arith, lt))
 all_of P (x ∷ xs) h = all_at P x xs h.0 (all_of P xs h.1)
 
@@ -73,7 +73,7 @@ kept : (P : Text → Type 0) (name : Text) (lines : List Text) → AllByRecursio
 kept P name [] h = tt
 kept P name (l ∷ ls) h = kept_by P (is_section name l) l (before_section name ls) h.0 (kept P name ls h.1)
 
-abbrev IsPlain : Text → Text → Type 0
+abbrev pub IsPlain : Text → Text → Type 0
 IsPlain name l = is_section name l ≡ false
 
 plain_by : (name : Text) (b : Bool) (l : Text) (ls : List Text) → is_section name l ≡ b → AllByRecursion (IsPlain name) ls → AllByRecursion (IsPlain name) (if b then [] else l ∷ ls)
@@ -84,11 +84,11 @@ plain : (name : Text) (lines : List Text) → AllByRecursion (IsPlain name) (bef
 plain name [] = tt
 plain name (l ∷ ls) = plain_by name (is_section name l) l (before_section name ls) refl (plain name ls)
 
-front_is : (name s : Text) (front rest : List Text) → AllByRecursion (IsPlain name) front → is_section name s ≡ true → before_section name (front ++ s ∷ rest) ≡ front
+pub front_is : (name s : Text) (front rest : List Text) → AllByRecursion (IsPlain name) front → is_section name s ≡ true → before_section name (front ++ s ∷ rest) ≡ front
 front_is name s [] rest h is = ap (λ (b : Bool). if b then [] else s ∷ before_section name rest) is
 front_is name s (l ∷ ls) rest h is = ap (λ (b : Bool). if b then [] else l ∷ before_section name (ls ++ s ∷ rest)) h.0 ∙ ap (λ (k : List Text). l ∷ k) (front_is name s ls rest h.1 is)
 
-rest_is : (name s : Text) (front rest : List Text) → AllByRecursion (IsPlain name) front → is_section name s ≡ true → behind_section name (front ++ s ∷ rest) ≡ rest
+pub rest_is : (name s : Text) (front rest : List Text) → AllByRecursion (IsPlain name) front → is_section name s ≡ true → behind_section name (front ++ s ∷ rest) ≡ rest
 rest_is name s [] rest h is = ap (λ (b : Bool). if b then rest else behind_section name rest) is
 rest_is name s (l ∷ ls) rest h is = ap (λ (b : Bool). if b then ls ++ s ∷ rest else behind_section name (ls ++ s ∷ rest)) h.0 ∙ rest_is name s ls rest h.1 is
 
@@ -133,14 +133,14 @@ module _ (feeds : LinesEndByLineFeeds) where
       ap lines_of (append_assoc (whole_line l) (network_text ls) rest) ∙ whole_line_by (ends_in_return l) l (network_text ls ++ rest) refl h.0
       ∙ ap (λ (k : List Text). l ∷ k) (network_parted ls rest h.1)
 
-  trace_parted : (front : List Text) (body : Text) → AllByRecursion IsOneLine front → lines_of (head_of_trace front ++ body) ≡ front ++ codes "schedule" ∷ lines_of body
+  pub trace_parted : (front : List Text) (body : Text) → AllByRecursion IsOneLine front → lines_of (head_of_trace front ++ body) ≡ front ++ codes "schedule" ∷ lines_of body
   trace_parted front body h =
       ap lines_of (append_assoc (network_text front) (line (codes "schedule")) body) ∙ network_parted front (line (codes "schedule") ++ body) h
       ∙ ap (λ (k : List Text). front ++ k) (line_parted feeds (codes "schedule") body refl)
 
 -- ---- what is played of it
 
-refused_at : (net : Plan) (before : ℕ) (lines : List Text) (at : ℕ) (code : Code) → code ≢ kinds.Memory → RefusesSchedule net before lines at code → IsFirstFault net before lines at code
+pub refused_at : (net : Plan) (before : ℕ) (lines : List Text) (at : ℕ) (code : Code) → code ≢ kinds.Memory → RefusesSchedule net before lines at code → IsFirstFault net before lines at code
 refused_at net before lines at kinds.BadForm k h = h
 refused_at net before lines at kinds.Unreadable k h = h
 refused_at net before lines at kinds.UnknownRouter k h = h
@@ -160,12 +160,12 @@ not_good : (r : Result (Option Order) Code) (code : Code) → r ≡ Err code →
 not_good (Ok o) code is h = absurd cc
 not_good (Err e) code is h = absurd cc
 
-no_fault : (net : Plan) (before : ℕ) (lines : List Text) (at : ℕ) (code : Code) → All (IsGood net) lines → IsFirstFault net before lines at code → ⊥
+pub no_fault : (net : Plan) (before : ℕ) (lines : List Text) (at : ℕ) (code : Code) → All (IsGood net) lines → IsFirstFault net before lines at code → ⊥
 no_fault net before lines at code all f =
     let good = good_in (IsGood net) f.front f.faulty f.behind (subst (All (IsGood net)) f.parted all) in
     not_good (line_order net f.faulty) code f.fault good
 
-same_events : (net : Plan) (os : List ScheduledOrder) (es : List Event) → map order_of os ≡ as_orders es → all_events net os ≡ es
+pub same_events : (net : Plan) (os : List ScheduledOrder) (es : List Event) → map order_of os ≡ as_orders es → all_events net os ≡ es
 same_events net [] [] h = refl
 same_events net [] (e ∷ es) h = absurd cc
 same_events net (o ∷ os) [] h = absurd cc
@@ -189,7 +189,7 @@ module _ (g : Setting) where
       let same : k.0 ≡ y = (let e = sym k.1 ∙ s.reached in cc) in
       not_refused y z s.event (s.behind ++ more) why kind s.refused (subst (λ (v : World). played g v 0 (s.event ∷ (s.behind ++ more)) ≡ Ok z) same k.2)
 
-  no_halt : (w z : World) (os : List ScheduledOrder) (stop : Stop) → stop.why ≢ Memory → IsFirstRefused g w os stop → LeadTo g w os z → ⊥
+  pub no_halt : (w z : World) (os : List ScheduledOrder) (stop : Stop) → stop.why ≢ Memory → IsFirstRefused g w os stop → LeadTo g w os z → ⊥
   no_halt w z os stop kind s h =
       let events : all_events g.net os ≡ all_events g.net s.before ++ (events_of g.net s.order.order ++ all_events g.net s.behind) =
       ap (all_events g.net) s.parts ∙ flat_map-append (λ o. events_of g.net o.order) s.before (s.order ∷ s.behind) in
@@ -210,7 +210,7 @@ pub record IsTraced (input text : List ℕ) : Type 0 where
   pub whole : (out : Output) → OrdersGive IsReport net orders out → Plays input out
 
 -- what was printed whole is no refusal
-not_done : (text : List ℕ) (out : Output) → (out.status == 0) ≡ false → output text DONE ≡ out → ⊥
+pub not_done : (text : List ℕ) (out : Output) → (out.status == 0) ≡ false → output text DONE ≡ out → ⊥
 not_done text out other e =
     let k : true ≡ false = ap (λ (o : Output). o.status == 0) e ∙ other in
     absurd cc

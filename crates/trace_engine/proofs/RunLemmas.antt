@@ -107,7 +107,7 @@ canonical_at : (b : Bool) (p q : PrefixView) (more : Bool) → is_prefix p q ≡
 canonical_at true p q more is h here go = subst IsCanonical (same_prefix p q is) here
 canonical_at false p q more is h here go = go h
 
-canonical_by : (origins : List Origin) (q : PrefixView) → All (λ o. IsCanonical o.prefix) origins → is_named origins q ≡ true → IsCanonical q
+pub canonical_by : (origins : List Origin) (q : PrefixView) → All (λ o. IsCanonical o.prefix) origins → is_named origins q ≡ true → IsCanonical q
 canonical_by [] q all h = absurd cc
 canonical_by (o ∷ os) q all h =
     canonical_at (is_prefix o.prefix q) o.prefix q (is_named os q) refl h (all_front (λ k. IsCanonical k.prefix) o os all) (canonical_by os q (all_rest (λ k. IsCanonical k.prefix) o os all))
@@ -130,7 +130,7 @@ all_flat P f [] h = tt
 all_flat P f (x ∷ xs) h = all_both P (f x) (flat_map f xs) (h x) (all_flat P f xs h)
 
 module _ (g : Setting) (network : IsNetwork g.net) where
-  named_of : (u : ℕ) → settings.is_router g u ≡ true → IsNamed g.net u
+  pub named_of : (u : ℕ) → settings.is_router g u ≡ true → IsNamed g.net u
   named_of u h = record {
     in_range = asn_by g.net.settings.width u (range_by (IsAsn g.net.settings.width) (numbers g.net.routers) u network.plan.in_range h);
     known = known_by g.net.routers u h;

@@ -15,7 +15,7 @@ use Rattle.worker_loop.specs.Whole.{entry}
 
 -- ---- one event leads on
 
-unstamped : (s : ℕ) (e : RouterEvent) → without_stamp (with_stamp s e) ≡ e
+pub unstamped : (s : ℕ) (e : RouterEvent) → without_stamp (with_stamp s e) ≡ e
 unstamped s (alone e) = refl
 unstamped s (puts v i) = refl
 unstamped s (takes v i) = refl

@@ -4,3 +4,4 @@ pub mod Trying
 pub mod Chaining
 pub mod Scripts
 pub mod Doing
+pub mod Called

@@ -1,14 +1,20 @@
 -- What follows from chores.
-use Rattle.std.specs.Prelude.{ℕ, ◌≡◌, List, All}
+use Rattle.std.specs.Prelude.{ℕ, ◌≡◌, List, [], ◌∷◌, map, All}
+use Rattle.std.specs.List.{Contains}
 use Rattle.std.specs.List.Sorted.{IsNonDecreasingBy}
-use Rattle.ranked_policy.specs.Plans.{IsRouter}
+use Rattle.ranked_policy.specs.Plans.{IsNetwork, IsRouter}
+use Rattle.run_model.specs.Network.{alone, puts, takes, offers}
 use Rattle.run_model.specs.Journals.{IsJournal}
-use Rattle.run_model.specs.Stamps.{FitsItem, without_stamps}
+use Rattle.run_model.specs.Stamps.{FitsItem, without_stamp, without_stamps}
 use Rattle.router_model.specs.Settings.{Setting}
+use Rattle.router_model.specs.Step as step
+use Rattle.router_model.specs.Step.{RouterEvent}
 use Rattle.router_model.specs.Calls.{Stamped}
 use Rattle.router_runs.specs.Runs.{Logged, logged_steps}
+use Rattle.world_core.specs.Replays.{IsCalled}
 use Rattle.worker_loop.specs.declared.chore.Chore.{Chore}
-use Rattle.worker_loop.specs.Acts.{Act, Seen, Does, Leads, journal_of}
+use Rattle.worker_loop.specs.declared.chore.Chore.TheVariants as chore
+use Rattle.worker_loop.specs.Acts.{Act, Seen, Does, Moves, Leads, journal_of}
 use Rattle.worker_loop.specs.Following.{Follows}
 
 -- what follows from chores was done
@@ -36,3 +42,28 @@ abbrev pub StampsRise : Type 0
 StampsRise =
     (g : Setting) (u : ℕ) (x y : Stamped) (acts : List Act) → Leads g u x acts y
     → IsNonDecreasingBy (λ a. a.stamp) acts × All (IsOf u) acts
+
+-- ---- what is done is what calls answer, at the word of chores
+
+-- an event is a command only where a chore is that command
+abbrev pub IsOrdered : List Chore → RouterEvent → Type 0
+IsOrdered chores (alone (step.Obeys c)) = Contains chores (chore.Command c)
+IsOrdered chores (alone step.Ticks) = Unit {0}
+IsOrdered chores (alone (step.Handles v)) = Unit {0}
+IsOrdered chores (alone step.Decides) = Unit {0}
+IsOrdered chores (alone (step.Advertises v)) = Unit {0}
+IsOrdered chores (puts v i) = Unit {0}
+IsOrdered chores (takes v i) = Unit {0}
+IsOrdered chores (offers made) = Unit {0}
+
+-- events lead a router on, one after another, each of them what its call answers, and a command only where a chore is that command
+abbrev pub LeadsByCalls : Setting → ℕ → List Chore → Stamped → List Act → Stamped → Type 0
+LeadsByCalls g u chores x [] z = x ≡ z
+LeadsByCalls g u chores x (a ∷ acts) z =
+    (y : Stamped) × Moves g u x a y × IsCalled g u x.router (without_stamp a.event.event) × IsOrdered chores (without_stamp a.event.event)
+    × LeadsByCalls g u chores y acts z
+
+abbrev pub WhatFollowsIsCalled : Type 0
+WhatFollowsIsCalled =
+    (g : Setting) → IsNetwork g.net → (u : ℕ) (peers : List ℕ) (chores : List Chore) (a b : Seen) (acts : List Act)
+    → Follows g u peers chores a acts b → LeadsByCalls g u chores a.router acts b.router

@@ -1,7 +1,10 @@
 //! What follows from the chores of a worker. Each law is the contract of a function without work of its
 //! own.
 
-ghost use Rattle.worker_loop.specs.Laws.{ActsAreJournals, StampsRise, WhatFollowsIsDone};
+ghost use Rattle.worker_loop.specs.Laws.{ActsAreJournals, StampsRise, WhatFollowsIsCalled, WhatFollowsIsDone};
+
+use router_model::laws::answers_are_steps;
+use world_core::laws::answers_are_called;
 
 /// The events that follow from chores lead the worker's router from one of its states to the other, each
 /// by a step of its own and at a later stamp; and they are the items that it put and took, the offers that
@@ -20,3 +23,14 @@ pub fn acts_are_journals()
 pub fn stamps_rise()
     ensures { StampsRise }
 {}
+
+/// Each event that follows from chores is what the call of its router answers, and a command only where one of the chores is
+/// that command.
+///
+/// Premise: the network is one.
+pub fn what_follows_is_called()
+    ensures { WhatFollowsIsCalled }
+{
+    answers_are_steps();
+    answers_are_called();
+}

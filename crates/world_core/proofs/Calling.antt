@@ -23,7 +23,7 @@ use Rattle.run_cuts.specs.Choices.{IsChosen, HasRoom, IsChosenRun, ChosenRunsPas
 use Rattle.world_core.specs.declared.schedule.Event.{Event}
 use Rattle.world_core.specs.declared.schedule.Event.TheVariants as schedule
 use Rattle.world_core.specs.World.{World, new_world, WorldAnswer, Does, Nothing, Stops, of_offer, called, taking_of, world_answer, world_after, world_of, onward, played, named, AgreesWith}
-use Rattle.world_core.specs.Replays.{IsCalled, IsCalledRun, WorldsHaveTheirRuns, NoneIsFull, CutsArePlayed}
+use Rattle.world_core.specs.Replays.{IsCalled, IsCalledRun, AnswersAreCalled, WorldsHaveTheirRuns, NoneIsFull, CutsArePlayed}
 use Rattle.world_core.proofs.Playing.{doing, followed, answered, router_there, link_there, is_there}
 use Rattle.world_core.proofs.Replaying.{same_test, chosen_runs_are_played}
 
@@ -53,6 +53,9 @@ module _ (g : Setting) (u : ℕ) (x : Stamped) where
   called_by (Handle v) e h is = subst (IsCalled g u x.router) (sym is) tt
   called_by Decide e h is = subst (IsCalled g u x.router) (sym is) tt
   called_by Advertise e h is = told_called (find (has_room g u x.router) (peers g.net u)) e refl (judged_event _ _ _ _ e h)
+
+pub answers_are_called : AnswersAreSteps → AnswersAreCalled
+answers_are_called answers g net u x call e h = called_by g u x call e h (answers g net u x call e h).0
 
 module _ (answers : AnswersAreSteps) (g : Setting) (net : IsNetwork g.net) (w : World) where
   by_call : (k : ℕ) (call : Call) (u : ℕ) (e : RouterEvent) (stamp : ℕ) → called g w k call ≡ Does u e stamp → IsCalled g u (w.routers u).router e

@@ -28,7 +28,7 @@ use Rattle.router_runs.specs.Runs.{Logged, LoggedStep, RunOrder, RunState, new_l
 use Rattle.run_cuts.specs.Choices.{IsChosen, HasRoom, IsChosenRun}
 use Rattle.world_core.specs.declared.schedule.Event.{Event}
 use Rattle.world_core.specs.World.{World, new_world, WorldAnswer, Does, of_answer, of_offer, called, taking_of, where_router, where_linked, world_answer, piped, board_after, world_after, world_of, onward, played, name_of, named, AgreesWith}
-use Rattle.world_core.specs.Replays.{ChosenRunsArePlayed}
+use Rattle.world_core.specs.Replays.{IsCalled, IsCalledRun, ChosenRunsArePlayed, CalledRunsArePlayed}
 use Rattle.world_core.proofs.Playing.{Doing, TakesNext, followed}
 
 pub known_router : (g : Setting) (u : ℕ) → IsRouter g.net.routers u → is_router g u ≡ true
@@ -169,40 +169,38 @@ module _ (links : LinkedRoutersArePeers) (g : Setting) (net : IsNetwork g.net) (
   made_is : (made : MadeOffer) → made.router ≡ u → record { router = u; offer = made.offer } ≡ made
   made_is made is i = record { router = sym is i; offer = made.offer }
 
-  answered : (e : RouterEvent) (y : Router) → Step g u x.router e y → IsChosen g u x.router e → HasRoom g u x.router → Next e → Answered g w (name_of u e) u e n
-  answered (alone (Obeys c)) y did chosen room next = record {
+  answered : (e : RouterEvent) (y : Router) → Step g u x.router e y → IsCalled g u x.router e → Next e → Answered g w (name_of u e) u e n
+  answered (alone (Obeys c)) y did called_so next = record {
     stamp = x.stamp + 1;
     answers = at_router _ ∙ does (Obey c) (alone (Obeys c)) (command_free g u x c y did) (command_is g u x c y did) did.numbers own_low;
     low = own_low;
   }
-  answered (alone Ticks) y did chosen room next = record {
+  answered (alone Ticks) y did called_so next = record {
     stamp = x.stamp + 1;
     answers = at_router _ ∙ does Tick (alone Ticks) refl refl did.numbers own_low;
     low = own_low;
   }
-  answered (alone (Handles v)) y did chosen room next = record {
+  answered (alone (Handles v)) y did called_so next = record {
     stamp = x.stamp + 1;
     answers = at_link v did.may.0 _ ∙ does (Handle v) (alone (Handles v)) (ap (λ b. unless b error.NoSuchPeer) did.may.0) (ap (λ b. if_so b (alone (Handles v))) did.may.1) did.numbers own_low;
     low = own_low;
   }
-  answered (alone Decides) y did chosen room next = record {
+  answered (alone Decides) y did called_so next = record {
     stamp = x.stamp + 1;
     answers = at_router _ ∙ does Decide (alone Decides) refl (ap (λ b. if_so b (alone Decides)) did.may) did.numbers own_low;
     low = own_low;
   }
-  answered (alone (Advertises v)) y did chosen room next =
-      let found = finds g u x room v chosen in
-      record {
-        stamp = x.stamp + 1;
-        answers = at_router _ ∙ does Advertise (alone (Advertises v)) (ap (λ o. blocked o (find (is_waiting_peer g u x.router) (peers g.net u))) found) (ap advertise_event found) did.numbers own_low;
-        low = own_low;
-      }
-  answered (puts v i) y did chosen room next = record {
+  answered (alone (Advertises v)) y did called_so next = record {
     stamp = x.stamp + 1;
-    answers = at_link v did.may.0 _ ∙ does (Put v) (puts v i) (ap (λ b. unless b error.NoSuchPeer) did.may.0) (ap (put_event v) chosen) did.numbers own_low;
+    answers = at_router _ ∙ does Advertise (alone (Advertises v)) (ap (λ o. blocked o (find (is_waiting_peer g u x.router) (peers g.net u))) called_so) (ap advertise_event called_so) did.numbers own_low;
     low = own_low;
   }
-  answered (takes v i) y did chosen room next =
+  answered (puts v i) y did called_so next = record {
+    stamp = x.stamp + 1;
+    answers = at_link v did.may.0 _ ∙ does (Put v) (puts v i) (ap (λ b. unless b error.NoSuchPeer) did.may.0) (ap (put_event v) called_so) did.numbers own_low;
+    low = own_low;
+  }
+  answered (takes v i) y did called_so next =
       let p = next.0 in
       let pipe : w.pipes v u ≡ p ∷ next.1 = next.2 in
       let here : AllLow n (p ∷ next.1) = subst (AllLow n) pipe (low.pipes v u) in
@@ -215,7 +213,7 @@ module _ (links : LinkedRoutersArePeers) (g : Setting) (net : IsNetwork g.net) (
             ∙ does (Take v p.stamp p.what) (takes v i) (λ k. first_of (unless (did.may.0 k) error.NoSuchPeer) (unless (not (did.may.1 k)) (error.Held v))) (ap (λ q. Some (takes v q)) next.3) did.numbers le;
         low = le;
       }
-  answered (offers made) y did chosen room next =
+  answered (offers made) y did called_so next =
       let own = low.routers u in
       let top = low.board in
       let le : max x.stamp w.board + 1 ≤ suc n = omega (arith, own, top) in
@@ -256,13 +254,13 @@ record Onward (g : Setting) (w : World) (u : ℕ) (e : RouterEvent) (n : ℕ) (n
 
 module _ (answers : AnswersAreSteps) (links : LinkedRoutersArePeers) (g : Setting) (net : IsNetwork g.net) where
   one : (w : World) (state next : RunState) (u : ℕ) (e : RouterEvent) (n : ℕ) → AgreesWith g w state → IsLow w n → suc n ≤ GREATEST_STAMP
-      → runs.NetworkStep (logged_steps g) state (record { router = u; event = e }) next → IsChosen g u (state.routers u).router e → HasRoom g u (state.routers u).router → Onward g w u e n next
-  one w state next u e n agrees low left did chosen room =
+      → runs.NetworkStep (logged_steps g) state (record { router = u; event = e }) next → IsCalled g u (state.routers u).router e → Onward g w u e n next
+  one w state next u e n agrees low left did called_so =
       let known = known_router g u did.1.known in
       let same : (w.routers u).router ≡ (state.routers u).router = agrees.routers u did.1.known in
       let step : Step g u (w.routers u).router e (did.0).router = subst (λ r. Step g u r e (did.0).router) (sym same) did.1.step in
       let item = takes_next g w state next u e agrees did in
-      let a = answered links g net w n low left u known e (did.0).router step (subst (λ r. IsChosen g u r e) (sym same) chosen) (subst (HasRoom g u) (sym same) room) item in
+      let a = answered links g net w n low left u known e (did.0).router step (subst (λ r. IsCalled g u r e) (sym same) called_so) item in
       let doing : Doing g w (name_of u e) u e = record { known = known; does = record { may = step.may; numbers = step.numbers; leaves = refl }; name = refl; next = item } in
       let f = followed answers g w (name_of u e) u e a.stamp state agrees doing in
       let own : f.does.0 ≡ did.0 = same_after g u (state.routers u) f.does.0 did.0 e f.does.1 did.1 in
@@ -279,14 +277,14 @@ module _ (answers : AnswersAreSteps) (links : LinkedRoutersArePeers) (g : Settin
     pub agrees : AgreesWith g world last
     pub did : world.run ≡ w.run ++ named ds
 
-  reaches : (ds : RunOrder) (w : World) (state last : RunState) (n at : ℕ) → AgreesWith g w state → IsLow w n → n + length ds ≤ GREATEST_STAMP → IsChosenRun g state ds last → Reaches w at ds last
+  reaches : (ds : RunOrder) (w : World) (state last : RunState) (n at : ℕ) → AgreesWith g w state → IsLow w n → n + length ds ≤ GREATEST_STAMP → IsCalledRun g state ds last → Reaches w at ds last
   reaches [] w state last n at agrees low left r = record { world = w; plays = refl; agrees = subst (AgreesWith g w) r agrees; did = sym (append-nil w.run) }
   reaches (d ∷ ds) w state last n at agrees low left r =
       let u = d.router in let e = d.event in
-      let here = one w state r.0 u e n agrees low (omega (arith, left)) r.1 r.2 r.3 in
+      let here = one w state r.0 u e n agrees low (omega (arith, left)) r.1 r.2 in
       let event = name_of u e in
       let next : World = world_after g w event u e here.answered.stamp in
-      let rest = reaches ds next r.0 last (suc n) (at + 1) here.agrees here.low (omega (arith, left)) r.4 in
+      let rest = reaches ds next r.0 last (suc n) (at + 1) here.agrees here.low (omega (arith, left)) r.3 in
       record {
         world = rest.world;
         plays = ap (λ a. onward (world_of g w event at a) (λ z. played g z (at + 1) (named ds))) here.answered.answers ∙ rest.plays;
@@ -294,9 +292,30 @@ module _ (answers : AnswersAreSteps) (links : LinkedRoutersArePeers) (g : Settin
         did = rest.did ∙ append_assoc w.run (event ∷ []) (named ds);
       }
 
-pub chosen_runs_are_played : AnswersAreSteps → LinkedRoutersArePeers → ChosenRunsArePlayed
-chosen_runs_are_played answers links g set order last chosen short =
+pub called_runs_are_played : AnswersAreSteps → LinkedRoutersArePeers → CalledRunsArePlayed
+called_runs_are_played answers links g set order last called_so short =
     let first : AgreesWith g (new_world g) (runs.opening (λ u. new_logged g)) = record { routers = λ u k. refl; pipes = λ a b. refl; offers_made = λ s. refl } in
     let low : IsLow (new_world g) 0 = record { routers = λ u. omega arith; pipes = λ a b. tt; board = omega arith } in
-    let r = reaches answers links g set.network order (new_world g) (runs.opening (λ u. new_logged g)) last 0 0 first low (omega (arith, short)) chosen in
+    let r = reaches answers links g set.network order (new_world g) (runs.opening (λ u. new_logged g)) last 0 0 first low (omega (arith, short)) called_so in
     record { world = r.world; plays = r.plays; agrees = r.agrees; did = r.did }
+
+-- ---- where every outbox has room, what is chosen is what the call answers
+
+called_one : (g : Setting) (u : ℕ) (x : Stamped) (e : RouterEvent) → HasRoom g u x.router → IsChosen g u x.router e → IsCalled g u x.router e
+called_one g u x (puts v i) room is = is
+called_one g u x (alone (Advertises v)) room is = finds g u x room v is
+called_one g u x (alone (Obeys c)) room is = tt
+called_one g u x (alone Ticks) room is = tt
+called_one g u x (alone (Handles v)) room is = tt
+called_one g u x (alone Decides) room is = tt
+called_one g u x (takes v i) room is = tt
+called_one g u x (offers made) room is = tt
+
+called_all : (g : Setting) (ds : RunOrder) (old new : RunState) → IsChosenRun g old ds new → IsCalledRun g old ds new
+called_all g [] old new r = r
+called_all g (d ∷ ds) old new r =
+    (r.0, r.1, called_one g d.router (record { router = (old.routers d.router).router; stamp = 0 }) d.event r.3 r.2, called_all g ds r.0 new r.4)
+
+pub chosen_runs_are_played : AnswersAreSteps → LinkedRoutersArePeers → ChosenRunsArePlayed
+chosen_runs_are_played answers links g set order last chosen short =
+    called_runs_are_played answers links g set order last (called_all g order (runs.opening (λ u. new_logged g)) last chosen) short

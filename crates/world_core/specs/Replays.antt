@@ -11,7 +11,8 @@ use Rattle.router_model.specs.declared.limits.TheConstants.{OUTBOX_LIMIT}
 use Rattle.router_model.specs.Settings.{Setting, IsSetting, peers}
 use Rattle.router_model.specs.State.{Router}
 use Rattle.router_model.specs.Step.{RouterEvent, Obeys, Ticks, Handles, Decides, Advertises}
-use Rattle.router_model.specs.Calls.{has_room}
+use Rattle.ranked_policy.specs.Plans.{IsNetwork}
+use Rattle.router_model.specs.Calls.{Stamped, Call, Steps, answer, has_room}
 use Rattle.router_runs.specs.Runs.{RunOrder, RunState, IsRunTo, new_logged, logged_steps, side_of}
 use Rattle.router_runs.specs.Snapshots.{HaveMade}
 use Rattle.run_cuts.specs.Choices.{IsChosenRun}
@@ -50,6 +51,17 @@ abbrev pub IsCalledRun : Setting → RunState → RunOrder → RunState → Type
 IsCalledRun g old [] new = old ≡ new
 IsCalledRun g old (d ∷ ds) new =
     (next : RunState) × runs.NetworkStep (logged_steps g) old d next × IsCalled g d.router (old.routers d.router).router d.event × IsCalledRun g next ds new
+
+-- a run of what calls answer is played to its end, whatever waits in the outboxes
+abbrev pub CalledRunsArePlayed : Type 0
+CalledRunsArePlayed =
+    (g : Setting) → IsSetting g → (order : RunOrder) (last : RunState) → IsCalledRun g (runs.opening (λ u. new_logged g)) order last
+    → length order ≤ GREATEST_STAMP → PlaysTo g order last
+
+-- and a step that a call answers is what that call answers
+abbrev pub AnswersAreCalled : Type 0
+AnswersAreCalled =
+    (g : Setting) → IsNetwork g.net → (u : ℕ) (x : Stamped) (call : Call) (e : RouterEvent) → answer g u x call ≡ Steps e → IsCalled g u x.router e
 
 -- the run that a world played
 pub record PlayedRun (g : Setting) (w : World) : Type 0 where

@@ -7,7 +7,7 @@ ghost use Rattle.world_core.specs.Loops.{OneMore};
 ghost use Rattle.world_core.specs.Picking.{NamesAreEnough};
 ghost use Rattle.world_core.specs.Tested.{TestsTellWhatIsInside};
 ghost use Rattle.world_core.specs.Through.{PickedIsThrough};
-ghost use Rattle.world_core.specs.Replays.{ChosenRunsArePlayed, WorldsHaveTheirRuns, CutsArePlayed};
+ghost use Rattle.world_core.specs.Replays.{ChosenRunsArePlayed, CalledRunsArePlayed, AnswersAreCalled, WorldsHaveTheirRuns, CutsArePlayed};
 
 use router_model::laws::{
     answers_are_steps, idle_where_nothing_may_come, linked_routers_are_peers,
@@ -93,6 +93,26 @@ pub fn chosen_runs_are_played()
 {
     answers_are_steps();
     linked_routers_are_peers();
+}
+
+/// The events of a run in which each event is what its router's call answers are played to the end of that run, whatever
+/// waits in the outboxes.
+///
+/// Premises: the network is one, routers choose by rank, the hold time fits an OPEN; the run has no more events than there
+/// are stamps.
+pub fn called_runs_are_played()
+    ensures { CalledRunsArePlayed }
+{
+    answers_are_steps();
+    linked_routers_are_peers();
+}
+
+/// Where the call of a router answers a step, a put takes as much as it may, and an UPDATE goes to the least peer that waits and
+/// has room.
+pub fn answers_are_called()
+    ensures { AnswersAreCalled }
+{
+    answers_are_steps();
 }
 
 /// What is played is a run in which each event is what its router's call answers.

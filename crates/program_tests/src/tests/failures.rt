@@ -61,13 +61,14 @@ static ROWS: [Row; 6] = [
 ];
 
 // The words of each engine.
-static ENGINES: [&[&str]; 6] = [
+static ENGINES: [&[&str]; 7] = [
     &["decode"],
     &["check"],
     &["play"],
+    &["trace"],
     &["cut", "1"],
     &["run"],
-    &["trace"],
+    &["record"],
 ];
 
 // Gives three octets at a time, and fails at a read.

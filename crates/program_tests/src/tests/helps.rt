@@ -1,6 +1,6 @@
 //! The examples of the helps: what is printed for each is what the help says.
 
-use command_line::{CHECK_HELP, CUT_HELP, DECODE_HELP, PLAY_HELP, RUN_HELP, run_with};
+use command_line::{CHECK_HELP, CUT_HELP, DECODE_HELP, PLAY_HELP, RECORD_HELP, RUN_HELP, run_with};
 use std::alloc::{AllocError, Global};
 use std::sync::Wait;
 use std::test::Fail;
@@ -98,5 +98,34 @@ fn has_example(alloc: Global, help: &str, input: &str, text: &str) -> Result<boo
 #[test]
 fn the_example_of_run(rt: HostRuntime) -> Result<(), Fail> {
     assert!(rt; has_example(rt.alloc(), RUN_HELP, PAIR, BOTH)?);
+    Ok(())
+}
+
+// What the network in the help of `record` begins with in a schedule.
+const BEGUN: &str = "schedule\nstart 1 2\n";
+
+// Whether the program prints a text that begins so for the network of two routers, with status 0.
+fn begins_with<R: Threads + Wait + Sync>(
+    rt: &R,
+    alloc: Global,
+    words: &[&str],
+    text: &str,
+) -> bool {
+    let mut reader = Watched::new(PAIR.as_bytes());
+    let mut writer = Watched::new(Vec::new(alloc));
+    let got = run_with(rt, alloc, words, &mut reader, &mut writer).ok();
+    let out: Vec<u8> = writer.into_inner();
+    out.as_slice().starts_with(text.as_bytes()) && got == Some(0)
+}
+
+// What comes behind the first order is decided by the threads.
+#[test]
+fn the_example_of_record(rt: HostRuntime) -> Result<(), Fail> {
+    let alloc = rt.alloc();
+    let begun = format!(in alloc; "{PAIR}{BEGUN}")?;
+    let shown = format!(in alloc; "{PAIR}{PAIR}{BEGUN}")?;
+    assert!(rt; has_example(alloc, RECORD_HELP, shown.as_str(), "")?);
+    let words = ["record", "--turns", "2000", "--snapshots", "4"];
+    assert!(rt; begins_with(&rt, alloc, &words, begun.as_str()));
     Ok(())
 }

@@ -1,10 +1,16 @@
-//! Records of networks in threads, played back by a world.
+//! Records of networks in threads, played back by a world, and their text.
+
+ghost use Rattle.std.specs.Prelude.{◌≡◌, [], IfOk};
+ghost use Rattle.std.specs.List.{AllByRecursion};
+ghost use Rattle.worker_loop.specs.Script.{given_by};
 
 use net_text::read_network;
-use net_workers::{Limits, Record, run_net};
+use net_workers::{Chore, Limits, Record, ScriptGate, run_net};
+use prefix_lanes::Prefix;
 use ranked_policy::Network;
+use record_engine::record_text;
 use router_core::Router;
-use router_model::Stepped;
+use router_model::{Command, Stepped};
 use run_engine::new_gates;
 use std::alloc::{AllocError, Global};
 use std::sync::Wait;
@@ -97,6 +103,65 @@ fn a_record_plays_back(rt: HostRuntime) -> Result<(), Fail> {
             }
             Err(_) => Err("a network")?,
         }
+    }
+    Ok(())
+}
+
+// What two routers do that hear nothing of each other: both start, router 1 originates, and takes one turn.
+const DONE: &str = "schedule\nstart 1 2\nstart 2 1\noriginate 1 10.1.0.0/16\nput 1 2\ndecide 1\n";
+
+// The gates of both.
+fn lone_gates(alloc: Global, prefix: Prefix) -> Result<Vec<ScriptGate>, AllocError>
+    ensures { IfOk result (λ gates. AllByRecursion (λ gate. given_by gate ≡ []) gates.items) }
+{
+    let one = ScriptGate::new(vec![in alloc;
+        (0, Chore::Command(Command::Start(2))),
+        (1, Chore::Command(Command::Originate(prefix))),
+        (3, Chore::Stop),
+    ]?);
+    let other = ScriptGate::new(vec![in alloc;
+        (0, Chore::Command(Command::Start(1))),
+        (1, Chore::Stop),
+    ]?);
+    let mut gates = Vec::new(alloc);
+    gates.push(one)?;
+    gates.push(other)?;
+    Ok(gates)
+}
+
+// Whether the text of the record of two such routers is this.
+fn has_text<R: Threads + Wait + Sync>(
+    rt: &R,
+    alloc: Global,
+    lines: &str,
+    network: &Network,
+    gates: Vec<ScriptGate>,
+    text: &str,
+) -> Result<bool, AllocError>
+    requires { AllByRecursion (λ gate. given_by gate ≡ []) gates.items }
+{
+    match run_net(rt, alloc, network, gates, Limits { turns: 10 }) {
+        Ok(record) => {
+            let got = record_text(alloc, lines.as_bytes(), record.gathered.as_slice())?;
+            Ok(got.as_slice() == text.as_bytes())
+        }
+        Err(_) => Ok(false),
+    }
+}
+
+// By stamp, then by router.
+#[test]
+fn the_text_of_a_record(rt: HostRuntime) -> Result<(), Fail> {
+    let alloc = rt.alloc();
+    let prefix = Prefix::new(0x0a01_0000, 16).ok_or("a prefix")?;
+    let lines = NETWORKS[0];
+    match read_network(alloc, lines.as_bytes()) {
+        Ok(network) => {
+            let gates = lone_gates(alloc, prefix)?;
+            let text = format!(in alloc; "{lines}{DONE}")?;
+            assert!(rt; has_text(&rt, alloc, lines, &network, gates, text.as_str())?);
+        }
+        Err(_) => Err("a network")?,
     }
     Ok(())
 }

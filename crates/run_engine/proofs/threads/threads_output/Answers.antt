@@ -1,6 +1,6 @@
 use Rattle.std.proofs.Common.{inr, inl, sym, ap, subst}
 use Rattle.text_engines.specs.Decoding.{Output, output}
-use Rattle.run_engine.specs.Running.{ThreadsGive}
+use Rattle.run_engine.specs.declared.settled.Demand.TheVariants.{AsRecorded}
 use Rattle.text_engines.proofs.CheckLemmas.{if_ok, both_ok}
 use Rattle.run_engine.proofs.RunLemmas.{snapshots_give, fault_gives}
 use Rattle.run_engine.proofs.threads.threads_output.Goals as goal
@@ -11,7 +11,7 @@ returns-in-Ok g c =
     if_ok _ _ c.settled_output.result
     (λ printed gives. inr (
       c.in-Ok.ensures.limits,
-      inr (snapshots_give c.outcome_is_one.ensures c.members_are_the_routers.ensures c.args.demand c.args.network.now c.built.ensures.network
+      inr (snapshots_give c.outcome_is_one.ensures c.members_are_the_routers.ensures AsRecorded c.args.network.now c.built.ensures.network
           (record {
             workers = r.workers.items;
             ways = r.ways.items;
@@ -28,5 +28,5 @@ returns-in-Ok g c =
 pub returns-in-Err : goal.returns-in-Err
 returns-in-Err g c =
     both_ok _ _ _ c.fault_output.result
-    (λ printed kind is. fault_gives g.G.Gate.given g.G.Gate.told c.args.demand c.args.network.now c.args.limits.turns c.args.gates.items c.args.last (output printed.0.items printed.1) c.in-Err.fault kind c.in-Err.ensures.refused is)
+    (λ printed kind is. fault_gives g.G.Gate.given g.G.Gate.told c.args.network.now c.args.limits.turns c.args.gates.items c.args.last (output printed.0.items printed.1) c.in-Err.fault kind c.in-Err.ensures.refused is)
     c.fault_output.ensures.kind c.fault_output.ensures.output

@@ -1,0 +1,4 @@
+pub mod ChoreLemmas
+pub mod LineLemmas
+pub mod PlayLemmas
+pub mod RecordLemmas

@@ -1,0 +1,34 @@
+use Rattle.std.proofs.Common.{inr}
+use Rattle.net_text.specs.Lexing.{lines_of}
+use Rattle.text_engines.specs.Decoding.{output}
+use Rattle.text_engines.proofs.CheckLemmas.{if_ok, both_ok}
+use Rattle.record_engine.proofs.RecordLemmas.{record_fails}
+use Rattle.record_engine.proofs.record.network_output.Goals as goal
+
+pub returns-in-Ok : goal.returns-in-Ok
+returns-in-Ok g c =
+    let r = c.in-Ok.record in
+    if_ok _ _ c.entries_output.result
+    (λ printed is. inr (
+      c.in-Ok.ensures.room,
+      inr (record {
+        threads = record {
+          workers = r.workers.items;
+          ways = r.ways.items;
+          collector = r.collector;
+          gathered = r.gathered.items;
+          recorded = c.in-Ok.ensures.recorded;
+          pipes = c.in-Ok.ensures.ways;
+          gates = c.in-Ok.ensures.told;
+        };
+        promises = c.in-Ok.ensures.promises;
+        printed = rw c.as_slice.ensures.value at is;
+      }),
+    ))
+    c.entries_output.ensures
+
+pub returns-in-Err : goal.returns-in-Err
+returns-in-Err g c =
+    both_ok _ _ _ c.fault_output.result
+    (λ printed kind is. record_fails c.args.options.now (lines_of c.args.lines.now) c.args.network.now (output printed.0.items printed.1) c.in-Err.fault kind c.in-Err.ensures.refused is)
+    c.fault_output.ensures.kind c.fault_output.ensures.output

@@ -1,0 +1,15 @@
+//! The engine of `bgpnet record`: it runs a network in threads, as `bgpnet run` does, and writes what they did as a
+//! network and a schedule, for `bgpnet play`: the network's lines, then each event of the record as an order, in the
+//! order of their stamps.
+//!
+//! The contract of `bgpnet record` is that of [`record_stream`]: what is written is the text of a record of threads
+//! of what was read. [`laws`] says that `play` leads where the threads ended. The definitions stand in `specs/`:
+//! `Recording` (the text of a record, and that of an input) and `Laws`.
+#![tactic(auto)]
+
+pub mod laws;
+mod record;
+mod text;
+
+pub use record::record_stream;
+pub use text::record_text;

@@ -1,0 +1,112 @@
+//! `bgpnet record`: what a network in threads did, as a schedule.
+
+ghost use Rattle.std.specs.Prelude.{◌≡◌, ◌⊎◌, IfOk, OnOk, OnErr, true, false};
+ghost use Rattle.net_text.specs.Lexing.{lines_of};
+ghost use Rattle.text_engines.specs.Decoding.{output};
+ghost use Rattle.text_engines.specs.Engine.{PrintedBy, PrintedFrontBy};
+ghost use Rattle.record_engine.specs.Recording.{events_of, record_output, RecordGives, InputRecords, Records};
+
+use crate::text::record_text;
+use net_text::{Code, read_network};
+use net_workers::Entry;
+use ranked_policy::Network;
+use run_engine::{RunOptions, fault_output, run_network};
+use std::alloc::{AllocError, Global};
+use std::sync::Wait;
+use std::thread::Threads;
+use text_engines::status::DONE;
+use text_engines::{
+    INPUT_LIMIT, InputError, IoStopped, Sink, Source, read_input, refused_output, text_output,
+    want_of_memory, write_out,
+};
+
+// What is printed of these entries, and the status.
+fn entries_output(
+    alloc: Global,
+    lines: &[u8],
+    entries: &[Entry],
+) -> Result<(Vec<u8>, u8), AllocError>
+    ensures { IfOk result (λ printed. output printed.0.items printed.1 ≡ record_output (lines_of lines.now) (events_of entries.now)) }
+{
+    Ok((record_text(alloc, lines, entries)?, DONE))
+}
+
+// What is printed for a network of these lines, and the status.
+fn network_output<R>(
+    rt: &R,
+    alloc: Global,
+    options: &RunOptions,
+    lines: &[u8],
+    network: &Network,
+) -> Result<(Vec<u8>, u8), AllocError>
+where
+    R: Threads + Wait + Sync,
+    ensures { IfOk result (λ printed. RecordGives options.now (lines_of lines.now) network.now (output printed.0.items printed.1)) }
+{
+    match run_network(rt, alloc, options, network) {
+        Ok(record) => entries_output(alloc, lines, record.gathered.as_slice()),
+        Err(fault) => fault_output(alloc, fault),
+    }
+}
+
+// What is printed for an input, and the status.
+fn input_output<R>(
+    rt: &R,
+    alloc: Global,
+    options: &RunOptions,
+    input: Vec<u8>,
+) -> Result<(Vec<u8>, u8), AllocError>
+where
+    R: Threads + Wait + Sync,
+    ensures { IfOk result (λ printed. InputRecords options.now input.items (output printed.0.items printed.1)) }
+{
+    if input.len() > INPUT_LIMIT {
+        return refused_output(alloc, 0, Code::OutOfLimit.text());
+    }
+    let lines = input.as_slice();
+    match read_network(alloc, lines) {
+        Ok(network) => network_output(rt, alloc, options, lines, &network),
+        Err(refused) => text_output(alloc, &refused),
+    }
+}
+
+/// Reads a network, runs it in threads as `bgpnet run` does, and writes what they did as a schedule: the network's
+/// lines, the line `schedule`, and each event as an order, by its stamp, then by its router; or the first line that
+/// is refused, or why the run was. Answers the status.
+///
+/// Where memory is refused it writes `memory` alone and answers 3. It stops only where a read or a
+/// write failed, and then what was written is a beginning of the text.
+pub fn record_stream<R, S, T>(
+    rt: &R,
+    alloc: Global,
+    options: &RunOptions,
+    source: &mut S,
+    sink: &mut T,
+) -> Result<u8, IoStopped>
+where
+    R: Threads + Wait + Sync,
+    S: Source,
+    T: Sink,
+    // What is written is what is printed of a run in threads of what was read, and nothing else.
+    ensures done { IfOk result (λ status. PrintedBy (Records options.now) (S.remaining source.old) (T.contents sink.old) (T.contents sink.new) status) }
+    // It answers a status only where no read and no write failed, and stops only where one did.
+    ensures unfailed { OnOk result ((S.failed source.new ≡ S.failed source.old) × (T.failed sink.new ≡ T.failed sink.old)) }
+    ensures failed { OnErr result ((S.failed source.new ≡ true) ⊎ (T.failed sink.new ≡ true)) }
+    // Where a read failed nothing is written.
+    ensures silent { S.failed source.old ≡ false → S.failed source.new ≡ true → T.contents sink.new ≡ T.contents sink.old }
+    // A failed read or write leaves a beginning of the text.
+    ensures stopped { OnErr result (PrintedFrontBy (Records options.now) (S.remaining source.old) (T.contents sink.old) (T.contents sink.new)) }
+{
+    let input = match read_input(alloc, source) {
+        Ok(input) => input,
+        Err(InputError::Memory) => return want_of_memory(sink),
+        Err(InputError::Stopped) => return Err(IoStopped),
+    };
+    match input_output(rt, alloc, options, input) {
+        Ok((text, status)) => {
+            write_out(sink, text.as_slice())?;
+            Ok(status)
+        }
+        Err(_) => want_of_memory(sink),
+    }
+}

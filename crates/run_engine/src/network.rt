@@ -1,0 +1,48 @@
+//! A network that runs in threads as `bgpnet run` and `bgpnet record` have it run.
+
+ghost use Rattle.std.specs.Prelude.{◌≡◌, map, IfOk, IfErr, OnOk};
+ghost use Rattle.net_workers.specs.Ran.{IsRecord};
+ghost use Rattle.net_workers.specs.Runs.{RunKeepsPromises};
+ghost use Rattle.net_workers.specs.Ways.{AreWays, passed_in};
+ghost use Rattle.run_engine.specs.Gates.{HasRoom, given_by, told_of, told_each, spacing_of};
+ghost use Rattle.run_engine.specs.Running.{IsFaultOfRun};
+
+use crate::chores::{RunOptions, new_gates, spacing};
+use crate::gates::RunGate;
+use net_workers::{Limits, Record, RunFault, run_net};
+use ranked_policy::Network;
+use std::alloc::Global;
+use std::sync::Wait;
+use std::thread::Threads;
+
+/// Runs a network in threads: each router starts its session with each peer, originates each prefix of which it is
+/// the origin, and goes on in turns; the least router takes the snapshots of the options, evenly spaced.
+///
+/// Refused [`RunFault::BadLimits`] where the chores leave no room for the openings and the snapshots, before
+/// anything is done; else as [`run_net`] refuses.
+pub fn run_network<'a, R>(
+    rt: &R,
+    alloc: Global,
+    options: &RunOptions,
+    network: &'a Network,
+) -> Result<Record<'a, RunGate>, RunFault>
+where
+    R: Threads + Wait + Sync,
+    ensures room { OnOk result (HasRoom network.now options.now) }
+    ensures refused { IfErr result (IsFaultOfRun options.now network.now) }
+    // Router by router, each was told its opening and its turns, and the least its snapshots.
+    ensures told { IfOk result (λ r. map (λ w. told_of w.gate) r.workers.items ≡ told_each network.now (spacing_of network.now options.now) options.now.snapshots network.now.routers) }
+    ensures ways { IfOk result (λ r. AreWays network.now r.ways.items) }
+    ensures recorded { IfOk result (λ r. IsRecord given_by network.now options.now.turns (passed_in r.ways.items) r.workers.items r.collector r.gathered.items) }
+    // The record is one of a run of the network, in which UPDATEs passed in order and whose snapshots can be believed.
+    ensures promises { IfOk result (λ r. RunKeepsPromises network.now (passed_in r.ways.items) r.workers.items r.collector r.gathered.items) }
+{
+    let Some(spacing) = spacing(network, options) else {
+        return Err(RunFault::BadLimits);
+    };
+    let gates = new_gates(alloc, network, spacing, options.snapshots)?;
+    let limits = Limits {
+        turns: options.turns,
+    };
+    run_net(rt, alloc, network, gates, limits)
+}
