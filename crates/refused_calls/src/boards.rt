@@ -22,7 +22,7 @@ fn lost(number: u32) -> Offer {
 
 // What a board answers. It ensures nothing, so that one answer is not carried along to the next.
 fn answer(board: &mut BoardState, number: u32) -> Answer {
-    board.offer(u64::from(number), lost(number))
+    board.offer(u64::from(number), &lost(number), Ok(()))
 }
 
 // What the readers of a board say.

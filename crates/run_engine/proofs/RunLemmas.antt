@@ -27,7 +27,7 @@ use Rattle.net_workers.specs.declared.record.RunFault.TheVariants as fault
 use Rattle.net_workers.specs.declared.record.TheConstants.{MOST_TURNS}
 use Rattle.net_workers.specs.Ran.{AreLimits}
 use Rattle.net_workers.specs.Ways.{passed_in}
-use Rattle.net_workers.specs.Runs.{KeepsPromises, RunKeepsPromises}
+use Rattle.net_workers.specs.Runs.{KeepsPromises}
 use Rattle.run_engine.specs.declared.chores.RunOptions.{RunOptions}
 use Rattle.run_engine.specs.declared.gates.RunGate.{RunGate}
 use Rattle.run_engine.specs.declared.settled.Demand.{Demand}
@@ -169,7 +169,7 @@ module _ (one : One) (g : Setting) (state : RunState) (c : CollectorView) (are :
 -- ---- what is printed
 
 module _ (one : One) (routers : MembersAreTheRouters) {G T : Type 0} {given : G → List Chore} {told : G → T} {turns : ℕ} {tellings : List T} (demand : Demand) (net : Plan) (is : IsNetwork net)
-    (r : ThreadsRecord given told net turns tellings) (promises : RunKeepsPromises net (passed_in r.ways) r.workers r.collector r.gathered) where
+    (r : ThreadsRecord given told net turns tellings) where
   abbrev c : CollectorView
   c = r.collector
 
@@ -178,7 +178,7 @@ module _ (one : One) (routers : MembersAreTheRouters) {G T : Type 0} {given : G 
 
   module _ (g : Setting) (e : g.net ≡ net) (set : IsSetting g) where
     abbrev kept : KeepsPromises g (passed_in r.ways) r.workers c r.gathered
-    kept = promises g e set
+    kept = r.promises g e set
 
     are_members : map member_of c.members ≡ members_of g.net
     are_members = members_are ∙ ap members_of (sym e)

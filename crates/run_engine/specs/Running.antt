@@ -26,7 +26,7 @@ use Rattle.worker_loop.specs.declared.journal.Entry.{Entry}
 use Rattle.net_workers.specs.declared.record.Worked.{Worked}
 use Rattle.net_workers.specs.declared.record.Way.{Way}
 use Rattle.net_workers.specs.Ran.{AreLimits, IsRecord}
-use Rattle.net_workers.specs.Runs.{IsRunOfThreads}
+use Rattle.net_workers.specs.Runs.{IsRunOfThreads, RunKeepsPromises}
 use Rattle.net_workers.specs.Ways.{AreWays, passed_in}
 use Rattle.run_engine.specs.declared.chores.RunOptions.{RunOptions}
 use Rattle.run_engine.specs.declared.settled.Demand.{Demand}
@@ -58,8 +58,8 @@ Meets EveryOrigin net parts = EveryOriginOriginates net parts
 
 -- ---- what the threads did
 
--- a record of threads that ran so many chores each, and of their pipes: what they did is one run of the network; and each router
--- was told what stands for it here, routers rising
+-- a record of threads that ran so many chores each, and of their pipes: what they did is one run of the network, which keeps the
+-- promises of runs; and each router was told what stands for it here, routers rising
 pub record ThreadsRecord {G T : Type 0} (given : G → List Chore) (told : G → T) (net : Plan) (turns : ℕ) (tellings : List T) : Type 0 where
   pub workers : List (Worked G)
   pub ways : List Way
@@ -68,6 +68,7 @@ pub record ThreadsRecord {G T : Type 0} (given : G → List Chore) (told : G →
   pub recorded : IsRecord given net turns (passed_in ways) workers collector gathered
   pub pipes : AreWays net ways
   pub gates : map (λ w. told w.gate) workers ≡ tellings
+  pub promises : RunKeepsPromises net (passed_in ways) workers collector gathered
 
 -- ---- how its snapshots came out
 

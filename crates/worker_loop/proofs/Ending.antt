@@ -1,10 +1,9 @@
 -- What ends a worker.
-use Rattle.std.proofs.Common.{◌≡◌, ℕ, ◌+◌, ◌<◌, ◌≤◌, arith, Bool, true, false, not, ◌&&◌, List, [], ◌∷◌, ◌++◌, length, get_or, length-append, refl, ap, sym, ◌∙◌, subst, Option, None, Some}
+use Rattle.std.proofs.Common.{◌≡◌, ℕ, ◌+◌, ◌<◌, ◌≤◌, arith, Bool, true, false, ◌&&◌, List, [], ◌∷◌, ◌++◌, length, get_or, length-append, refl, ap, sym, ◌∙◌, subst, Option, None, Some}
 use Rattle.std.specs.Prelude.{Result, Ok, Err, IsOk, IsErrAnd, OnOk, OnErr, IfErr, nat_lt}
 use Rattle.std.proofs.lemmas.Bool.{eq-eqb}
 use Rattle.std.specs.List.{Contains}
 use Rattle.std.specs.Result.{result_err}
-use Rattle.bgp_framing.specs.Held.{is_waiting}
 use Rattle.outbox.specs.declared.item.Item.{Item}
 use Rattle.outbox.specs.declared.item.What.{What}
 use Rattle.run_model.specs.Network.{alone, puts, takes, offers}
@@ -13,8 +12,8 @@ use Rattle.router_model.specs.declared.refusal.RouterError.{RouterError}
 use Rattle.router_model.specs.declared.refusal.RouterError.TheVariants as error
 use Rattle.router_model.specs.Settings.{Setting, IsSetting, linked}
 use Rattle.router_model.specs.Step.{RouterEvent}
-use Rattle.router_model.specs.Calls.{Stamped, Call, Put, Take, Answer, Steps, Idle, Refuses, answer, stamp_of, Gives, judged, first_of, unless, overflows_at}
-use Rattle.router_core.specs.Views.{RouterView, plain_of, sides_of, Answers, IsSame, Shows, ShowsNext}
+use Rattle.router_model.specs.Calls.{Stamped, Call, Put, Take, Answer, Steps, Idle, Refuses, answer, stamp_of, Gives, judged, bars, first_of, unless, overflows_at}
+use Rattle.router_core.specs.Views.{RouterView, plain_of, Answers, IsSame, Shows, ShowsNext}
 use Rattle.worker_loop.specs.declared.worker.WorkerFault.{WorkerFault}
 use Rattle.worker_loop.specs.declared.worker.WorkerFault.TheVariants as fault
 use Rattle.worker_loop.specs.Acts.{grown}
@@ -111,27 +110,28 @@ lost_by g u call x y why e true overflows h = (let same : why ≡ error.StampEnd
 lost_by g u call x y why e false true h = (let same : why ≡ error.EpochEnd = (let k = h.0 in cc) in ap (λ k. Some (lost k)) (sym same))
 lost_by g u call x y why e false false h = ap (λ k. Some (lost k)) (sym h.0)
 
-take_by : (g : Setting) (u v stamp : ℕ) (what : What) (x y : Stamped) (why : RouterError) → (linked g.net u v && not (is_waiting (x.router.sides v).held)) ≡ true
+take_by : (g : Setting) (u v stamp : ℕ) (what : What) (x y : Stamped) (why : RouterError) → bars g u x.router (Take v stamp what) ≡ None
     → Gives g u (Err why) (answer g u x (Take v stamp what)) x (Take v stamp what) y → ending (answer g u x (Take v stamp what)) ≡ Some (lost why)
-take_by g u v stamp what x y why may h =
-    let free = unbarred v (linked g.net u v) (not (is_waiting (x.router.sides v).held)) may in
+take_by g u v stamp what x y why free h =
     let late = nat_lt GREATEST_STAMP (stamp_of g u x (Take v stamp what)) in
     let overflows = overflows_at g u x.router (Some (takes v what)) in
     ap (λ (b : Option RouterError). ending (judged b (Some (takes v what)) late overflows)) free
     ∙ lost_by g u (Take v stamp what) x y why (takes v what) late overflows
     (subst (λ (b : Option RouterError). Gives g u (Err why) (judged b (Some (takes v what)) late overflows) x (Take v stamp what) y) free h)
 
-pub take_ends : (x y : RouterView) (v : ℕ) (item : Item) (why : RouterError) → (linked x.net x.number v && not (is_waiting (sides_of x v).held)) ≡ true
+-- an item that the router may take ends it by its stamp, its numbers, or want of memory alone
+pub take_ends : (x y : RouterView) (v : ℕ) (item : Item) (why : RouterError) (free : Bool) → (linked x.net x.number v && free) ≡ true
+    → ((g : Setting) → bars g x.number (plain_of x).router (Take v item.stamp item.what) ≡ first_of (unless (linked g.net x.number v) error.NoSuchPeer) (unless free (error.Held v)))
     → Answers (Err why) x (Take v item.stamp item.what) y → IsSame x y
     → (g : Setting) → g.net ≡ y.net → IsSetting g → ending (answer g y.number (plain_of y) (Take v item.stamp item.what)) ≡ Some (lost why)
-take_ends x y v item why may h same g net set =
+take_ends x y v item why free may barred h same g net set =
     let call : Call = Take v item.stamp item.what in
     let gives = h g (net ∙ same.net) set.chooses in
     let still = left_alone g x.number call (plain_of x) (plain_of y) why (answer g x.number (plain_of x) call) gives in
     subst (λ (n : ℕ). ending (answer g n (plain_of y) call) ≡ Some (lost why)) (sym same.number)
     (ap (λ (z : Stamped). ending (answer g x.number z call)) still
     ∙ take_by g x.number v item.stamp item.what (plain_of x) (plain_of y) why
-    (ap (λ n. linked n x.number v && not (is_waiting (sides_of x v).held)) (net ∙ same.net) ∙ may) gives)
+    (barred g ∙ unbarred v (linked g.net x.number v) free (ap (λ n. linked n x.number v && free) (net ∙ same.net) ∙ may)) gives)
 
 -- ---- peers and chores
 

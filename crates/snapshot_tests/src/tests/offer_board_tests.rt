@@ -17,7 +17,7 @@ type Row = (u64, Offered, Answer);
 
 // This call ensures nothing, so that one answer is not carried along to the next.
 fn answers(board: &mut BoardState, stamp: u64, offer: Result<Offer, AllocError>) -> Answer {
-    board.offer(stamp, offer?)
+    board.offer(stamp, &offer?, Ok(()))
 }
 
 fn is_answered(alloc: Global, board: &mut BoardState, row: &Row) -> bool {
