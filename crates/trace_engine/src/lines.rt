@@ -27,6 +27,21 @@ pub(crate) fn say_number(
     result
 }
 
+// Writes a number of octets.
+fn write_count(out: &mut Tail, word: &[u8], count: usize) -> Result<(), AllocError> {
+    out.put_text(word)?;
+    out.put_len(count)?;
+    out.put_text(b" octets\n")
+}
+
+/// Says how many octets are sent.
+pub(crate) fn say_count(word: &[u8], count: usize, text: &mut Vec<u8>) -> Result<(), AllocError> {
+    let mut tail = Tail::behind(text);
+    let result = write_count(&mut tail, word, count);
+    *text = tail.finish(result.is_ok());
+    result
+}
+
 // Writes an item: how many octets a piece has, and the number of all others.
 fn write_item(out: &mut Tail, word: &[u8], what: &What) -> Result<(), AllocError> {
     out.put_text(word)?;
@@ -34,10 +49,7 @@ fn write_item(out: &mut Tail, word: &[u8], what: &What) -> Result<(), AllocError
         What::Dial(number) => write_number(out, b"dial ", *number, b"\n"),
         What::Shut(number) => write_number(out, b"shut ", *number, b"\n"),
         What::Mark(_, snapshot) => write_number(out, b"marker ", *snapshot, b"\n"),
-        What::Piece(_, octets) => {
-            out.put_len(octets.as_slice().len())?;
-            out.put_text(b" octets\n")
-        }
+        What::Piece(_, octets) => write_count(out, b"", octets.as_slice().len()),
     }
 }
 

@@ -1,8 +1,9 @@
 //! What is noted of an event: what it will send, take, hear, tell or offer, and what changed by it.
 
-use crate::lines::{say_change, say_fault, say_item, say_number, say_path};
+use crate::lines::{say_change, say_count, say_fault, say_item, say_number, say_path};
 use bgp_codec::{CodecError, Message, Rule, decode};
 use bgp_framing::{Next, next_message};
+use bgp_values::{HEADER_LEN, MESSAGE_LIMIT};
 use net_text::message_line;
 use prefix_lanes::Prefix;
 use ranked_policy::{Asn, MOST_LINKS, Network};
@@ -10,6 +11,9 @@ use router_core::{Command, Offer, Router, RouterError, What};
 use session_fsm::State;
 use std::alloc::{AllocError, Global};
 use world_core::{Event, World};
+
+/// The most whole messages in a piece: each has a header at least.
+const MOST_IN_A_PIECE: usize = MESSAGE_LIMIT / HEADER_LEN;
 
 /// A session as it was: its peer and its state.
 #[derive(Clone, Copy)]
@@ -44,17 +48,18 @@ fn state_name(state: State) -> &'static [u8] {
     }
 }
 
-// The message that a piece is, where it is one whole message, as the peer reads it.
-fn whole_message(alloc: Global, octets: &[u8], rule: &Rule) -> Result<Option<Message>, AllocError> {
+// The whole message that stands in front of octets, as the peer reads it, and what stands behind it.
+fn message_in_front<'a>(
+    alloc: Global,
+    octets: &'a [u8],
+    rule: &Rule,
+) -> Result<Option<(Message, &'a [u8])>, AllocError> {
     let Next::Whole(_, end) = next_message(alloc, octets) else {
         return Ok(None);
     };
     let (frame, rest) = octets.split_at(end);
-    if !rest.is_empty() {
-        return Ok(None);
-    }
     match decode(alloc, frame, rule) {
-        Ok(message) => Ok(Some(message)),
+        Ok(message) => Ok(Some((message, rest))),
         Err(CodecError::Fault(_)) => Ok(None),
         Err(CodecError::TooLong | CodecError::Memory) => Err(AllocError),
     }
@@ -66,14 +71,33 @@ fn say_message(word: &[u8], message: &Message, text: &mut Vec<u8>) -> Result<(),
     message_line(message, text)
 }
 
-// Says the item that is put: a piece that is one whole message by what it says.
-fn say_sent(alloc: Global, rule: &Rule, what: &What, text: &mut Vec<u8>) -> Result<(), AllocError> {
-    if let What::Piece(_, octets) = what {
-        if let Some(message) = whole_message(alloc, octets.as_slice(), rule)? {
-            return say_message(b"sends ", &message, text);
-        }
+// Says what a piece has: its messages, as far as they are whole, and how many octets stand behind them.
+fn say_octets(
+    alloc: Global,
+    rule: &Rule,
+    octets: &[u8],
+    text: &mut Vec<u8>,
+) -> Result<(), AllocError> {
+    let mut left = octets;
+    for _ in 0..MOST_IN_A_PIECE {
+        let Some((message, rest)) = message_in_front(alloc, left, rule)? else {
+            break;
+        };
+        say_message(b"sends ", &message, text)?;
+        left = rest;
     }
-    say_item(b"sends ", what, text)
+    if left.is_empty() {
+        return Ok(());
+    }
+    say_count(b"sends ", left.len(), text)
+}
+
+// Says the item that is put.
+fn say_sent(alloc: Global, rule: &Rule, what: &What, text: &mut Vec<u8>) -> Result<(), AllocError> {
+    match what {
+        What::Piece(_, octets) => say_octets(alloc, rule, octets.as_slice(), text),
+        What::Dial(_) | What::Shut(_) | What::Mark(..) => say_item(b"sends ", what, text),
+    }
 }
 
 // Says the item that is put next towards a peer, where there is one.
