@@ -1,9 +1,9 @@
 //! The words behind the program's name, and the engines that they ask for.
 //!
-//! [`run_with`] reads the words and hands them to an engine of `text_engines`, `play_engine`, `trace_engine`, `run_engine`
-//! or `record_engine`, a function over a reader and a writer that says exactly what it writes for what it reads; or it
-//! writes a help, or what is wrong with the words. Its one contract: a status is answered where no read and no write
-//! failed, and only there. [`status_of`] is the status that the program ends with.
+//! [`run_with`] reads the words and hands them to an engine of `text_engines`, `play_engine`, `trace_engine`,
+//! `run_engine` or `record_engine`, a function over a reader and a writer that says exactly what it writes for what it
+//! reads; or it writes a help, or what is wrong with the words. Its one contract: a status is answered where no read
+//! and no write failed, and only there. [`status_of`] is the status that the program ends with.
 #![tactic(auto)]
 
 ghost use Rattle.std.specs.Prelude.{◌≡◌, true, false, ◌⊎◌, IfOk, IsErr, OnOk, OnErr};

@@ -50,8 +50,8 @@ impl WholeLines for Events {
     ghost router = { λ e. router_of e.event };
 }
 
-/// The routers of a network at the word of their chores: each event is what the call of its router answers, and a command only
-/// where one of the chores is that command. No value of it is made.
+/// The routers of a network at the word of their chores: each event is what the call of its router answers, and a
+/// command only where one of the chores is that command. No value of it is made.
 struct CalledRouters;
 
 impl Routers for CalledRouters {
@@ -74,12 +74,12 @@ impl Routers for CalledRouters {
     ghost step = { called_steps };
 }
 
-/// Every record is one of a run of the network: the gathered events are that run, and its last state has the routers, the
-/// items that were put and taken, and the offers of the record (`runs`). Each event is what the call of its router answers, and a
-/// command only where one of the router's chores is that command. So all promises of runs hold of it: UPDATEs and
-/// octets passed in order, none was acted on after a close, a close lost the recording of its router, how a snapshot comes
-/// out by the collector is how it comes out in that run, and what is settled is a stable path assignment that stays
-/// (`promises`).
+/// Every record is one of a run of the network: the gathered events are that run, and its last state has the routers,
+/// the items that were put and taken, and the offers of the record (`runs`). Each event is what the call of its router
+/// answers, and a command only where one of the router's chores is that command. So all promises of runs hold of it:
+/// UPDATEs and octets passed in order, none was acted on after a close, a close lost the recording of its router, how a
+/// snapshot comes out by the collector is how it comes out in that run, and what is settled is a stable path assignment
+/// that stays (`promises`).
 ///
 /// Premises: the record is one ([`crate::run_net`]), and in each direction the items that were taken are the first of those that
 /// were put, one after another; the network is one, routers choose by rank. It does not say that two threads ever ran at

@@ -10,8 +10,9 @@ use router_runs::each_network_has_a_setting;
 use schedule_text::laws::lines_are_read_as_they_say;
 use world_core::laws::called_runs_are_played;
 
-/// What is printed of a record, within the limit of an input, is played to where the threads ended: the world of `play` does just the
-/// events of the record, in their order, and its routers are those of the record, with the paths that they keep.
+/// What is printed of a record, within the limit of an input, is played to where the threads ended: the world of `play`
+/// does just the events of the record, in their order, and its routers are those of the record, with the paths that
+/// they keep.
 ///
 /// It says nothing of want of memory, nor that two runs are alike.
 pub fn records_play_back()

@@ -24,8 +24,8 @@ pub fn stamps_rise()
     ensures { StampsRise }
 {}
 
-/// Each event that follows from chores is what the call of its router answers, and a command only where one of the chores is
-/// that command.
+/// Each event that follows from chores is what the call of its router answers, and a command only where one of the
+/// chores is that command.
 ///
 /// Premise: the network is one.
 pub fn what_follows_is_called()

@@ -83,8 +83,8 @@ pub fn collectors_judge_their_runs()
     collected_are_kept();
 }
 
-/// The events of a run in which each event is what its router's call chooses, and no outbox is full as one comes, are played
-/// to the end of that run.
+/// The events of a run in which each event is what its router's call chooses, and no outbox is full as one comes, are
+/// played to the end of that run.
 ///
 /// Premises: the network is one, routers choose by rank, the hold time fits an OPEN; the run has no more events than there
 /// are stamps.
@@ -95,11 +95,11 @@ pub fn chosen_runs_are_played()
     linked_routers_are_peers();
 }
 
-/// The events of a run in which each event is what its router's call answers are played to the end of that run, whatever
-/// waits in the outboxes.
+/// The events of a run in which each event is what its router's call answers are played to the end of that run,
+/// whatever waits in the outboxes.
 ///
-/// Premises: the network is one, routers choose by rank, the hold time fits an OPEN; the run has no more events than there
-/// are stamps.
+/// Premises: the network is one, routers choose by rank, the hold time fits an OPEN; the run has no more events than
+/// there are stamps.
 pub fn called_runs_are_played()
     ensures { CalledRunsArePlayed }
 {
@@ -107,8 +107,8 @@ pub fn called_runs_are_played()
     linked_routers_are_peers();
 }
 
-/// Where the call of a router answers a step, a put takes as much as it may, and an UPDATE goes to the least peer that waits and
-/// has room.
+/// Where the call of a router answers a step, a put takes as much as it may, and an UPDATE goes to the least peer that
+/// waits and has room.
 pub fn answers_are_called()
     ensures { AnswersAreCalled }
 {
