@@ -1,6 +1,6 @@
 -- How the workers ended, and why there is no record.
-use Rattle.std.proofs.Common.{◌≡◌, ℕ, suc, ◌<◌, arith, List, [], ◌∷◌, length, map, refl, sym, ap, ◌∙◌, subst, Option, None, Some}
-use Rattle.std.specs.Prelude.{Result, Ok, Err, IfErr, IfSome, IsErrAnd, slice_index_or}
+use Rattle.std.proofs.Common.{◌≡◌, ℕ, suc, ◌<◌, arith, List, [], ◌∷◌, length, map, refl, ◌∙◌, Option, None, Some}
+use Rattle.std.specs.Prelude.{IfSome, slice_index_or}
 use Rattle.std.specs.List.{AllByRecursion}
 use Rattle.ranked_policy.specs.Plans.{Plan, numbers}
 use Rattle.worker_loop.specs.declared.chore.Chore.{Chore}
@@ -14,17 +14,17 @@ use Rattle.net_workers.specs.Lanes.{wires_of}
 use Rattle.net_workers.specs.Ran.{IsFresh, Ceased, HaveEnded, FaultOf, fault_of, or_else, first_fault}
 use Rattle.net_workers.proofs.Records.{all_by}
 
-never_differs : {G : Type 0} → (ends : List (Ended G)) → first_fault ends ≡ Some fault.BoardDiffers → ⊥
 never_differs_by : (u : ℕ) (f : Option WorkerFault) (rest : Option RunFault) → (rest ≡ Some fault.BoardDiffers → ⊥) → or_else (fault_of u f) rest ≡ Some fault.BoardDiffers → ⊥
 never_differs_by u None rest other h = other h
 never_differs_by u (Some worker.Memory) rest other h = cc
 never_differs_by u (Some worker.Refused) rest other h = cc
 
+never_differs : {G : Type 0} → (ends : List (Ended G)) → first_fault ends ≡ Some fault.BoardDiffers → ⊥
 never_differs [] h = cc
 never_differs (e ∷ es) h = never_differs_by e.worker.router.number e.fault (first_fault es) (never_differs es) h
 
 module _ {G : Type 0} (given : G → List Chore) (plan : Plan) (turns : ℕ) where
-  Later : List (Ended G) → List (Ended G) → Type 0
+  abbrev Later : List (Ended G) → List (Ended G) → Type 0
   Later before after = (i : ℕ) (d : Ended G) → i < length before → IsLaterWorker wires_of (slice_index_or before i d).worker (slice_index_or after i d).worker
 
   numbers_stay : (before after : List (Ended G)) → length after ≡ length before → Later before after
@@ -62,7 +62,3 @@ module _ {G : Type 0} (given : G → List Chore) (plan : Plan) (turns : ℕ) whe
   fault_is ends fault.BadLimits h is = tt
   fault_is ends (fault.WorkerRefused u) h is = (ends, h, is)
   fault_is ends fault.BoardDiffers h is = absurd (never_differs ends is)
-
-  pub wants_memory : {T : Type 0} → (r : Result T RunFault) → IsErrAnd r (λ why. why ≡ fault.Memory) → IfErr r (FaultOf given plan turns)
-  wants_memory (Ok x) is = tt
-  wants_memory (Err why) is = subst (FaultOf given plan turns) (sym is) tt

@@ -21,7 +21,9 @@ impl<'a, L: Lines, D: Desk, G: Gate> Worker<'a, L, D, G> {
             return Ok(());
         };
         let room = self.journal.events.reserve(1);
-        let stamp = self.desk.offer(rt, board, self.router.stamp(), offer, room)?;
+        let stamp = self
+            .desk
+            .offer(rt, board, self.router.stamp(), offer, room)?;
         self.router.offer_made(stamp);
         let event = Event::Offer(self.router.number());
         note(&mut self.journal.events, stamp, event);

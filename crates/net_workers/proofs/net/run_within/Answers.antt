@@ -8,6 +8,7 @@ use Rattle.net_workers.specs.Ran.{Passed, first_fault, OffersOf, IsRecord}
 use Rattle.net_workers.specs.Gathered.{all_events, IsSorted}
 use Rattle.net_workers.specs.Ways.{passed_in}
 use Rattle.net_workers.proofs.Records.{gates_are, record_is}
+use Rattle.net_workers.proofs.Faults.{have_ended, fault_is}
 use Rattle.net_workers.proofs.Rooms.{rooms_are}
 use Rattle.net_workers.proofs.Ways.{many_ends, dealt_still, passed_then, in_turn}
 use Rattle.net_workers.proofs.net.run_within.Given.{Over}
@@ -58,3 +59,22 @@ pub returns-clause-promises : goal.returns-clause-promises
 returns-clause-promises g c =
     c.records_are_runs.ensures.promises c.args.network.now c.args.turns (passed_in c.in_ok-ways.ways.items) c.in_ok-workers-2.workers.items c.in_ok-collector.collector c.in_ok-gathered.gathered.items
     (recorded g c) (in_turn c.args.network.now c.in_ok-ways.ways.items c.in_ok-ways.ensures.ways.each)
+
+pub returns-in-Some-clause-fault : goal.returns-in-Some-clause-fault
+returns-in-Some-clause-fault g c =
+    let after = c.run_all.new.workers.items in
+    let plan = c.args.network.now in
+    fault_is g.G.Gate.given plan c.args.turns after c.in-Some.fault
+    (have_ended g.G.Gate.given plan c.args.turns c.in_ok-workers.workers.items after c.run_all.ensures.many c.run_all.ensures.same c.run_all.ensures.ended
+    c.in_ok-workers.ensures.numbers c.in_ok-workers.ensures.fresh)
+    (ap first_fault (sym c.as_slice.ensures.value) ∙ sym c.first_fault.ensures.first ∙ c.in-Some.is)
+
+pub returns-then-not-are_known-clause-fault : goal.returns-then-not-are_known-clause-fault
+returns-then-not-are_known-clause-fault g c =
+    let after = c.run_all.new.workers.items in
+    let plan = c.args.network.now in (
+      after,
+      have_ended g.G.Gate.given plan c.args.turns c.in_ok-workers.workers.items after c.run_all.ensures.many c.run_all.ensures.same c.run_all.ensures.ended
+          c.in_ok-workers.ensures.numbers c.in_ok-workers.ensures.fresh,
+      ap first_fault (sym c.as_slice.ensures.value) ∙ sym c.first_fault.ensures.first ∙ c.in-None.is,
+    )
