@@ -7,7 +7,7 @@ use Rattle.ranked_policy.specs.declared.network.Settings.{Settings}
 use Rattle.router_model.specs.Sides.{Side, front}
 use Rattle.router_side.specs.SideOf.{side, naming}
 use Rattle.router_core.specs.Views.{RouterView, sides_of}
-use Rattle.router_core.specs.Shown.{awaits, front_of}
+use Rattle.router_core.specs.Shown.{front_of}
 use Rattle.router_core.proofs.Showing.{stands}
 use Rattle.router_core.proofs.router.Router.front.Goals as goal
 
