@@ -1,5 +1,6 @@
+use Rattle.std.proofs.Common.{◌≡◌, ◌-◌, length, ap, arith}
 use Rattle.std.proofs.lemmas.Result.{err_from_is_err_and}
-use Rattle.trace_engine.proofs.CallLemmas.{order_halts}
+use Rattle.trace_engine.proofs.CallLemmas.{order_done, order_halts}
 use Rattle.trace_engine.proofs.orders.trace_order.Goals as goal
 
 pub returns-in_err-rest-clause-traces : goal.returns-in_err-rest-clause-traces
@@ -7,3 +8,10 @@ returns-in_err-rest-clause-traces c =
     let p = err_from_is_err_and c.from_residual-in_err-rest.result c.from_residual-in_err-rest.ensures.1 in
     rw (p.1, p.2)
     (order_halts c.args.world.now c.trace_work.new.world c.args.scheduled.now c.args.out.now.items c.put_head.new.out.items c.trace_work.new.out.items c.in_err-rest.field-0.0 c.in_ok-put_head.ensures c.in_err-rest.ensures.traces)
+
+pub returns-clause-traces : goal.returns-clause-traces
+returns-clause-traces c =
+    let counted : c.saturating_sub-count.result ≡ length c.trace_work.new.world.run - length c.args.world.now.run =
+    omega (arith, c.saturating_sub-count.ensures, ap length c.run.ensures, ap length c.run-before.ensures) in
+    order_done c.args.world.now c.trace_work.new.world c.args.scheduled.now c.args.out.now.items c.put_head.new.out.items c.trace_work.new.out.items c.put_tail.new.out.items c.in_ok-rest.rest c.saturating_sub-count.result
+    c.in_ok-put_head.ensures c.in_ok-rest.ensures.traces c.in_ok-put_tail.ensures counted
