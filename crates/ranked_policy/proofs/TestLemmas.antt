@@ -1,6 +1,6 @@
 -- The tests of permitted paths and of their order, and the best of some choices.
 use Rattle.std.proofs.Common.{◌≡◌, ◌≢◌, ℕ, zero, suc, ◌<◌, ◌≤◌, ◌==◌, ◌&&◌, ◌||◌, not, Bool, true, false, cond, List, [], ◌∷◌, ◌++◌, length, get_or, Option, Some, None, refl, sym, ap, subst, ◌∙◌, arith, inl, inr}
-use Rattle.std.specs.Prelude.{nat_lt, nat_le}
+use Rattle.std.specs.Prelude.{nat_lt, nat_le, MatchOption}
 use Rattle.std.specs.Bool.{Decides}
 use Rattle.std.specs.List.{Any, Contains, list_any}
 use mathlib.Core.Logic.{◌⊎◌}
@@ -206,6 +206,20 @@ rule_found (rule ∷ rules) q = at (test.covers rule.prefix q) (covers_test rule
 
 none_or_rule : {A : Type 0} (rules : List Rule) (q : PrefixView) (rule : Rule) → IsRuleFor rules q rule → NoRuleFor rules q → A
 none_or_rule rules q rule is none = absurd (All-contains (λ r. Covers r.prefix q → ⊥) rules rule none is.listed is.covers)
+
+-- of the rules of a table, the longest that covers a prefix is the one that is found, and where none covers it none is found
+pub rule_is : OneRule → (t : Table) → IsTable t → (q : PrefixView) {A : Type 0} (what : A → Rule) (r : Option A) → MatchOption r (NoRuleFor t.rules q) (λ x. IsRuleFor t.rules q (what x))
+    → MatchOption r (test.rule_for t.rules q ≡ None) (λ x. test.rule_for t.rules q ≡ Some (what x))
+rule_is one t table q what None none = at (test.rule_for t.rules q) (rule_found t.rules q)
+  where
+    at : (found : Option Rule) → IsFound t.rules q found → found ≡ None
+    at None same = refl
+    at (Some other) found = none_or_rule t.rules q other found none
+rule_is one t table q what (Some x) is = at (test.rule_for t.rules q) (rule_found t.rules q)
+  where
+    at : (found : Option Rule) → IsFound t.rules q found → found ≡ Some (what x)
+    at None none = none_or_rule t.rules q (what x) is none
+    at (Some other) found = ap Some (one t table q other (what x) found is)
 
 -- ---- a router's policy
 

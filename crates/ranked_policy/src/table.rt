@@ -1,12 +1,13 @@
 //! The policies of a router.
 
-ghost use Rattle.std.specs.Prelude.{◌≡◌, ◌↔◌, ℕ, List, IsTrue};
+ghost use Rattle.std.specs.Prelude.{◌≡◌, ◌↔◌, ℕ, List, None, Some, IsTrue, MatchOption};
 ghost use Rattle.std.specs.List.{All, Any, Contains};
 ghost use Rattle.ranked_policy.specs.Plans.{IsNamed};
 ghost use Rattle.ranked_policy.specs.Policies.{IsTable, IsPermitted, IsPreferred, IsOriginOf};
 ghost use Rattle.ranked_policy.specs.Choosing.{chosen_permits, chosen_prefers};
+ghost use Rattle.ranked_policy.specs.Tests.{rule_for};
 
-use crate::network::Origin;
+use crate::network::{Origin, Rule};
 use crate::path::Asn;
 use crate::places::origin_of;
 use crate::policy::{Chosen, Only, Ranked, Shortest};
@@ -77,6 +78,14 @@ impl<'a> PolicyTable<'a> {
                 origin,
             }),
         }
+    }
+
+    /// The rule whose prefix is the longest that covers this one. None where no rule of the router covers it.
+    pub fn rule(&self, prefix: &Prefix) -> Option<&'a Rule>
+        ensures { MatchOption result (rule_for self.now.rules prefix.now ≡ None) (λ rule. rule_for self.now.rules prefix.now ≡ Some rule.now) }
+    {
+        a_prefix_is_its_bits();
+        self.rules.longest(prefix)
     }
 }
 

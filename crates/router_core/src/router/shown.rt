@@ -8,7 +8,7 @@ ghost use Rattle.rib_tables.specs.Tables.{word_of};
 ghost use Rattle.rib_tables.specs.Least.{HoldsOfAll, IsLeastWithout};
 ghost use Rattle.rib_tables.specs.Owners.{IsSettled};
 ghost use Rattle.router_model.specs.Settings.{linked, peers};
-ghost use Rattle.router_core.specs.Views.{sides_of, heard_now, told_now};
+ghost use Rattle.router_core.specs.Views.{plain_of, sides_of, heard_now, told_now};
 ghost use Rattle.router_core.specs.Shown.{of_peer, awaits, front_of, IsToldNext};
 
 use super::Router;
@@ -94,6 +94,13 @@ impl Router<'_> {
         ensures plain { linked self.now.net self.now.number peer ≡ true → IsNamed self.now.net.origins prefix.now → word_of self.now.tables.sent peer prefix.now ≡ told_now (sides_of self.now peer) prefix.now }
     {
         self.tables.word_sent(peer, prefix)
+    }
+
+    /// Whether the router originates a prefix now.
+    pub fn originates(&self, prefix: &Prefix) -> bool
+        ensures { result ≡ (plain_of self.now).router.originated prefix.now }
+    {
+        self.tables.is_originated(prefix)
     }
 
     /// The prefix whose kept path [`Router::decide`] sets next: the least, by address and then by length, whose kept
