@@ -4,7 +4,9 @@ ghost use Rattle.std.specs.Prelude.{◌≡◌};
 ghost use Rattle.std.specs.List.{list_all};
 ghost use Rattle.net_text.specs.Words.{is_digit};
 
-use crate::helps::{CHECK_HELP, CUT_HELP, DECODE_HELP, PLAY_HELP, RUN_HELP, TOP_HELP, TRACE_HELP};
+use crate::helps::{
+    CHECK_HELP, CUT_HELP, DECODE_HELP, PLAY_HELP, RUN_HELP, TOP_HELP, TRACE_HELP, WHY_HELP,
+};
 use bgp_codec::{NOBODY, Rule};
 use bgp_values::{Width, greatest_asn};
 use clap::error::ErrorKind;
@@ -26,6 +28,8 @@ pub enum Asked {
     Trace,
     /// Show the cut of the snapshot of this number.
     Cut(u32),
+    /// Show what the router of this number knows.
+    Why(u32),
     /// Run a network in threads.
     Run(RunOptions),
     /// A text to write, and the status to end with.
@@ -122,6 +126,20 @@ fn asked_cut(alloc: Global, found: &ArgMatches) -> Result<Asked, AllocError> {
     }
 }
 
+fn asked_why(alloc: Global, found: &ArgMatches) -> Result<Asked, AllocError> {
+    if let Some(text) = sign_of(alloc, found, "router", "<U>")? {
+        return Ok(Asked::Text(text, USAGE));
+    }
+    match found.get_one::<u32>("router") {
+        Some(number) => Ok(Asked::Why(number)),
+        // The words were refused without it.
+        None => {
+            let text = format!(in alloc; "error: the number of a router is missing\n")?;
+            Ok(Asked::Text(text, USAGE))
+        }
+    }
+}
+
 fn asked_run(alloc: Global, found: &ArgMatches) -> Result<Asked, AllocError> {
     if let Some(text) = sign_of(alloc, found, "turns", "--turns <N>")? {
         return Ok(Asked::Text(text, USAGE));
@@ -168,6 +186,18 @@ fn cut_command<'a>(alloc: Global) -> Result<Command<'a>, AllocError> {
         .arg(number)
 }
 
+fn why_command<'a>(alloc: Global) -> Result<Command<'a>, AllocError> {
+    let router = Arg::new(alloc, "router")
+        .value_name("U")
+        .required(true)
+        .value_parser(clap::value_parser!(u32).range(1..))
+        .help("The number of the router, 1 to 4294967295");
+    Command::new(alloc, "why")
+        .about("Plays a schedule, and prints what one of its routers knows")
+        .after_help(WHY_HELP)
+        .arg(router)
+}
+
 fn run_command<'a>(alloc: Global) -> Result<Command<'a>, AllocError> {
     let turns = Arg::new(alloc, "turns")
         .long("turns")
@@ -210,6 +240,7 @@ fn command<'a>(alloc: Global) -> Result<Command<'a>, AllocError> {
         .subcommand(play)?
         .subcommand(trace)?
         .subcommand(cut_command(alloc)?)?
+        .subcommand(why_command(alloc)?)?
         .subcommand(run_command(alloc)?)
 }
 
@@ -226,6 +257,9 @@ fn asked_by(alloc: Global, matches: &ArgMatches) -> Result<Asked, AllocError> {
     }
     if let Some(found) = matches.subcommand_matches("cut") {
         return asked_cut(alloc, found);
+    }
+    if let Some(found) = matches.subcommand_matches("why") {
+        return asked_why(alloc, found);
     }
     if let Some(found) = matches.subcommand_matches("run") {
         return asked_run(alloc, found);
