@@ -1,6 +1,6 @@
 -- What is printed of a router: its sessions, and for each prefix what it keeps, what its peers said of it and what it makes of that,
 -- and whom it told.
-use Rattle.std.specs.Prelude.{◌≡◌, ℕ, ◌+◌, ◌==◌, ◌&&◌, ◌||◌, Bool, false, List, [], ◌∷◌, ◌++◌, filter, Option, None, Some, is_some, slice_get, codes, decimal, if◌then◌else◌, ◌⊎◌}
+use Rattle.std.specs.Prelude.{◌≡◌, ℕ, ◌+◌, ◌==◌, ◌&&◌, ◌||◌, Bool, true, false, List, [], ◌∷◌, ◌++◌, filter, Option, None, Some, is_some, slice_get, codes, decimal, if◌then◌else◌, ◌⊎◌}
 use Rattle.std.specs.List.{flat_map, list_any}
 use Rattle.prefix_lanes.specs.Bits.{PrefixView}
 use Rattle.bgp_framing.specs.Held.{is_waiting}
@@ -10,16 +10,16 @@ use Rattle.outbox.specs.declared.item.Item.{Item}
 use Rattle.outbox.specs.Items.{octets_waiting}
 use Rattle.ranked_policy.specs.declared.network.Origin.{Origin}
 use Rattle.ranked_policy.specs.declared.network.Rule.{Rule}
-use Rattle.ranked_policy.specs.Plans.{Plan}
+use Rattle.ranked_policy.specs.Plans.{IsRouter}
 use Rattle.ranked_policy.specs.Policies.{Table, IsTable, IsTableOf}
 use Rattle.ranked_policy.specs.Tests.{permits, rule_for}
 use Rattle.rib_tables.specs.Words.{path_in}
-use Rattle.router_model.specs.Settings.{Setting, is_router, peers}
+use Rattle.router_model.specs.Settings.{Setting, is_router, linked, peers}
 use Rattle.router_model.specs.Sides.{Side, is_up}
 use Rattle.router_model.specs.State.{Router, same_path}
-use Rattle.router_core.specs.Views.{heard_now, told_now}
+use Rattle.router_core.specs.Views.{RouterView, heard_now, told_now}
 use Rattle.world_core.specs.World.{World}
-use Rattle.world_core.specs.Views.{WorldView, plain_world}
+use Rattle.world_core.specs.Views.{WorldView, plain_world, pipes_of}
 use Rattle.net_text.specs.declared.code.Code.TheVariants as kinds
 use Rattle.net_text.specs.Printing.{line, prefix_text, numbers_text, code_text}
 use Rattle.text_engines.specs.declared.status.TheConstants.{DONE}
@@ -55,8 +55,9 @@ is_coming items s = is_some (slice_get items 0) || is_waiting s.held
 abbrev pub peer_text : ℕ → List Item → Side → List ℕ
 peer_text v items s = peer_line v s.session.state s.link.epoch (octets_waiting s.outbox) (is_coming items s)
 
-abbrev pub peers_text : Plan → ℕ → Router → (ℕ → List Item) → List ℕ
-peers_text net u x pipes = flat_map (λ v. peer_text v (pipes v) (x.sides v)) (peers net u)
+-- of these peers, with what is in the pipe from each
+abbrev pub peers_text : (ℕ → Side) → (ℕ → List Item) → List ℕ → List ℕ
+peers_text sides pipes vs = flat_map (λ v. peer_text v (pipes v) (sides v)) vs
 
 -- ---- what a router makes of a path that a peer said
 
@@ -93,8 +94,8 @@ abbrev pub said_text : Table → PrefixView → (kept : List ℕ) → ℕ → (s
 said_text table q kept v [] = []
 said_text table q kept v (w ∷ said) = word_line table q kept v (w ∷ said)
 
-abbrev pub words_text : Table → Plan → ℕ → Router → PrefixView → List ℕ
-words_text table net u x q = flat_map (λ v. said_text table q (x.kept q) v (path_in (heard_now (x.sides v) q))) (peers net u)
+abbrev pub words_text : Table → PrefixView → (kept : List ℕ) → (ℕ → Side) → List ℕ → List ℕ
+words_text table q kept sides vs = flat_map (λ v. said_text table q kept v (path_in (heard_now (sides v) q))) vs
 
 -- ---- whom it told
 
@@ -112,8 +113,8 @@ abbrev pub told_text : List ℕ → List ℕ
 told_text [] = []
 told_text (v ∷ vs) = told_line (v ∷ vs)
 
-abbrev pub told_peers : Plan → ℕ → Router → PrefixView → List ℕ
-told_peers net u x q = filter (λ v. is_told (x.kept q) (x.sides v) q) (peers net u)
+abbrev pub told_of : (kept : List ℕ) → (ℕ → Side) → PrefixView → List ℕ → List ℕ
+told_of kept sides q vs = filter (λ v. is_told kept (sides v) q) vs
 
 -- ---- prefixes
 
@@ -123,27 +124,44 @@ originated_text originated = if originated then codes ", originated" else []
 unfoldable pub kept_line : PrefixView → List ℕ → Bool → List ℕ
 kept_line q kept originated = line (codes "prefix" ++ (prefix_text q ++ (codes " keeps " ++ (numbers_text kept ++ originated_text originated))))
 
-abbrev pub prefix_lines : Table → Plan → ℕ → Router → PrefixView → List ℕ
-prefix_lines table net u x q = kept_line q (x.kept q) (x.originated q) ++ (words_text table net u x q ++ told_text (told_peers net u x q))
+abbrev pub prefix_lines : Table → Router → List ℕ → PrefixView → List ℕ
+prefix_lines table x vs q = kept_line q (x.kept q) (x.originated q) ++ (words_text table q (x.kept q) x.sides vs ++ told_text (told_of (x.kept q) x.sides q vs))
 
-abbrev pub prefixes_lines : Table → Plan → ℕ → Router → List Origin → List ℕ
-prefixes_lines table net u x origins = flat_map (λ o. prefix_lines table net u x o.prefix) origins
+abbrev pub prefixes_lines : Table → Router → List ℕ → List Origin → List ℕ
+prefixes_lines table x vs origins = flat_map (λ o. prefix_lines table x vs o.prefix) origins
 
 -- ---- a router
 
 unfoldable pub router_line : ℕ → List ℕ
 router_line u = line (codes "router " ++ decimal u)
 
--- of the router of this table, with what is in the pipes towards it
-abbrev pub why_text : Table → Plan → ℕ → Router → (ℕ → List Item) → List ℕ
-why_text table net u x pipes = router_line u ++ (peers_text net u x pipes ++ prefixes_lines table net u x net.origins)
+-- of a router with this policy, these peers and these origins of prefixes, with what is in the pipe from each peer
+abbrev pub router_text : ℕ → Table → Router → (ℕ → List Item) → List ℕ → List Origin → List ℕ
+router_text u table x pipes vs origins = router_line u ++ (peers_text x.sides pipes vs ++ prefixes_lines table x vs origins)
+
+abbrev pub why_text : Setting → World → ℕ → Table → List ℕ
+why_text g w u table = router_text u table (w.routers u).router (λ v. w.pipes v u) (peers g.net u) g.net.origins
 
 -- the text of the router of this number, or that the network has none
 abbrev pub Explains : ℕ → Setting → World → Output → Type 0
 Explains u g w out =
     ((is_router g u ≡ false) × (out ≡ refused 0 (code_text kinds.UnknownRouter)))
-    ⊎ ((table : Table) × IsTable table × IsTableOf g.net u table × (out ≡ output (why_text table g.net u (w.routers u).router (λ v. w.pipes v u)) DONE))
+    ⊎ ((table : Table) × IsTable table × IsTableOf g.net u table × (out ≡ output (why_text g w u table) DONE))
 
 -- in every setting of the network of the world of the code
 abbrev pub ExplainsWorld : ℕ → WorldView → Output → Type 0
 ExplainsWorld u x out = (g : Setting) → g.net ≡ x.net → Explains u g (plain_world x) out
+
+-- ---- what the code looks at
+
+-- these are the peers of a router
+abbrev pub ArePeers : RouterView → List ℕ → Type 0
+ArePeers x vs = vs ≡ peers x.net x.number
+
+-- a peer of a router, one of the network's routers
+abbrev pub IsPeer : RouterView → ℕ → Type 0
+IsPeer x v = (linked x.net x.number v ≡ true) × IsRouter x.net.routers v
+
+-- what is in the pipes towards a router
+abbrev pub pipes_to : WorldView → ℕ → ℕ → List Item
+pipes_to x u v = pipes_of x.inboxes v u

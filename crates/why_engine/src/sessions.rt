@@ -1,12 +1,12 @@
 //! The sessions of a router.
 
-ghost use Rattle.std.specs.Prelude.{◌≡◌, ◌++◌, true, false, is_some, slice_get, OnOk};
+ghost use Rattle.std.specs.Prelude.{◌≡◌, ◌++◌, true, is_some, slice_get, OnOk, IfOk};
+ghost use Rattle.bgp_framing.specs.Held.{is_waiting};
+ghost use Rattle.outbox.specs.Items.{octets_waiting};
 ghost use Rattle.ranked_policy.specs.Plans.{IsRouter};
-ghost use Rattle.router_model.specs.Settings.{linked};
-ghost use Rattle.router_core.specs.Shown.{awaits};
-ghost use Rattle.router_core.specs.Views.{plain_of, sides_of};
-ghost use Rattle.world_core.specs.Views.{pipes_of};
-ghost use Rattle.why_engine.specs.Explaining.{peer_text, peers_text};
+ghost use Rattle.router_model.specs.Settings.{linked, peers};
+ghost use Rattle.router_core.specs.Views.{sides_of};
+ghost use Rattle.why_engine.specs.Explaining.{ArePeers, IsPeer, is_coming, peer_line, peers_text, pipes_to};
 
 use crate::lines::put_peer_line;
 use ranked_policy::{Asn, Network};
@@ -14,21 +14,49 @@ use router_core::{Router, is_peer};
 use std::alloc::{AllocError, Global};
 use world_core::World;
 
-// Whether an item of a peer is in the pipe towards a router.
-fn is_in_pipe(world: &World<'_>, number: Asn, peer: Asn) -> bool
-    requires router { IsRouter world.now.net.routers number }
-    requires peer { IsRouter world.now.net.routers peer }
-    requires linked { linked world.now.net number peer ≡ true }
-    ensures { result ≡ is_some (slice_get (pipes_of world.now.inboxes peer number) 0) }
+/// The peers of a router, by rising number.
+pub(crate) fn peers_of(
+    alloc: Global,
+    network: &Network,
+    number: Asn,
+) -> Result<Vec<Asn>, AllocError>
+    ensures { IfOk result (λ all. all.items ≡ peers network.now number) }
 {
-    world.next_to_take(number, peer).is_some()
+    let mut all = Vec::new(alloc);
+    for other in network.routers() {
+        if is_peer(network, number, other.asn) {
+            all.push(other.asn)?;
+        }
+    }
+    Ok(all)
+}
+
+// Whether an item of a peer is in the pipe towards a router.
+fn is_in_pipe(world: &World<'_>, router: &Router<'_>, peer: Asn) -> bool
+    requires same { world.now.net ≡ router.now.net }
+    requires there { IsRouter router.now.net.routers router.now.number }
+    requires peer { IsPeer router.now peer }
+    ensures { result ≡ is_some (slice_get (pipes_to world.now router.now.number peer) 0) }
+{
+    world.next_to_take(router.number(), peer).is_some()
 }
 
 // Whether a message of a peer waits to be handled.
 fn is_unhandled(alloc: Global, router: &Router<'_>, peer: Asn) -> bool
-    ensures { result ≡ awaits router.now peer }
+    requires { IsPeer router.now peer }
+    ensures { result ≡ is_waiting (sides_of router.now peer).held }
 {
     router.front(alloc, peer).is_some()
+}
+
+// Whether something of a peer is on its way to a router.
+fn is_coming(alloc: Global, world: &World<'_>, router: &Router<'_>, peer: Asn) -> bool
+    requires same { world.now.net ≡ router.now.net }
+    requires there { IsRouter router.now.net.routers router.now.number }
+    requires peer { IsPeer router.now peer }
+    ensures { result ≡ is_coming (pipes_to world.now router.now.number peer) (sides_of router.now peer) }
+{
+    is_in_pipe(world, router, peer) || is_unhandled(alloc, router, peer)
 }
 
 // Appends a peer.
@@ -37,7 +65,10 @@ fn put_peer(
     peer: Asn,
     coming: bool,
     out: &mut Vec<u8>,
-) -> Result<(), AllocError> {
+) -> Result<(), AllocError>
+    requires { IsPeer router.now peer }
+    ensures { OnOk result (out.new.items ≡ out.old.items ++ peer_line peer (sides_of router.now peer).session.state (sides_of router.now peer).link.epoch (octets_waiting (sides_of router.now peer).outbox) coming) }
+{
     let Some(state) = router.state(peer) else {
         return Ok(());
     };
@@ -46,21 +77,22 @@ fn put_peer(
     put_peer_line(peer, state, epoch, waiting, coming, out)
 }
 
-/// Appends the peers of a router, by rising number.
+/// Appends the peers of a router.
 pub(crate) fn put_peers(
     alloc: Global,
-    network: &Network,
     world: &World<'_>,
     router: &Router<'_>,
+    peers: &[Asn],
     out: &mut Vec<u8>,
-) -> Result<(), AllocError> {
-    let number = router.number();
-    for other in network.routers() {
-        if is_peer(network, number, other.asn) {
-            let coming = is_in_pipe(world, number, other.asn)
-                || is_unhandled(alloc, router, other.asn);
-            put_peer(router, other.asn, coming, out)?;
-        }
+) -> Result<(), AllocError>
+    requires same { world.now.net ≡ router.now.net }
+    requires there { IsRouter router.now.net.routers router.now.number }
+    requires peers { ArePeers router.now peers.now }
+    ensures { OnOk result (out.new.items ≡ out.old.items ++ peers_text (sides_of router.now) (pipes_to world.now router.now.number) peers.now) }
+{
+    for peer in peers {
+        let coming = is_coming(alloc, world, router, *peer);
+        put_peer(router, *peer, coming, out)?;
     }
     Ok(())
 }
