@@ -226,10 +226,10 @@ Router 2 keeps the path that router 1 told it, and tells it so, so 'why 2' print
 'peer V STATE' is the session with V, and the number of the link that it stands on; 'outbox N': N
 octets wait to be put towards V; 'on its way': something of V was not taken or not handled yet.
 'keeps PATH' is the path that the router keeps for the prefix, or 'none'. 'from V PATH: WHAT' is what
-V said last, and what the router makes of it: 'loop', the router stands in it; 'not permitted', no
-'rank' line has it; or the path along it, its place in the 'rank' line, and whether it is kept. 'told V
-W': these were told what it keeps. 'refused 0 N3': the network has no such router. 'refused LINE CODE'
-is as for 'play'.
+V said last, and what the router makes of it: 'loop', the router stands in it; 'not permitted', its
+policy has not the path along it; or that path, its place in the 'rank' line, and whether it is kept.
+'told V W': these were told what it keeps. 'refused 0 N3': the network has no such router. 'refused
+LINE CODE' is as for 'play'.
 
 Status 0: done. 1: a refused input. 2: other words than these. 3: memory was refused ('memory').
 4: a read or a write failed.";
