@@ -1,14 +1,24 @@
 -- Peers among a network's routers, named prefixes, and what is in a pipe.
-use Rattle.std.proofs.Common.{◌≡◌, ℕ, zero, suc, ◌<◌, ◌∷◌, Bool, true, false, cond, List, [], length, get_or, filter, is_some, Option, None, Some, MatchOption, slice_get, refl, sym, ap, subst, ◌∙◌, arith, inl, inr, Contains}
+use Rattle.std.proofs.Common.{◌≡◌, ℕ, zero, suc, ◌+◌, ◌<◌, ◌∷◌, ◌++◌, drop, flat_map, Bool, true, false, cond, List, [], length, get_or, filter, is_some, Option, None, Some, MatchOption, ◌&&◌, ◌↔◌, IsTrue, Decides, append_assoc, refl, sym, ap, subst, ◌∙◌, arith, inl, inr, Contains}
+use Rattle.std.proofs.lemmas.List.{drop_more}
 use Rattle.ranked_policy.specs.declared.network.Origin.{Origin}
-use Rattle.ranked_policy.specs.Plans.{IsRouter, IsNamed, numbers}
+use Rattle.ranked_policy.specs.Plans.{Plan, IsRouter, IsNamed, numbers}
+use Rattle.ranked_policy.specs.Policies.{Table, IsTable, IsTableOf}
 use Rattle.outbox.specs.declared.item.Item.{Item}
-use Rattle.router_model.specs.Settings.{linked, is_router, peers}
-use Rattle.router_core.specs.Views.{RouterView}
-use Rattle.world_core.specs.World.{WorldAnswer, Nothing, Stops, where_linked}
-use Rattle.world_core.specs.Views.{WorldView, setting_of, comes_next, NothingComes}
-use Rattle.world_core.proofs.Stepping.{known}
-use Rattle.why_engine.specs.Explaining.{ArePeers, IsPeer}
+use Rattle.router_model.specs.Settings.{Setting, linked, peers}
+use Rattle.router_model.specs.Calls.{Stamped}
+use Rattle.bgp_framing.specs.Held.{is_waiting}
+use Rattle.router_model.specs.Sides.{Side}
+use Rattle.router_core.specs.Views.{RouterView, plain_of, sides_of}
+use Rattle.router_core.specs.Shown.{of_peer, awaits}
+use Rattle.world_core.specs.World.{Nothing, Stops, where_linked}
+use Rattle.world_core.specs.Views.{WorldView, setting_of, IsRouterOf, comes_next, NothingComes}
+use Rattle.world_core.proofs.Stepping.{known, unknown}
+use Rattle.net_text.specs.declared.code.Code.TheVariants as kinds
+use Rattle.net_text.specs.Printing.{code_text}
+use Rattle.text_engines.specs.declared.status.TheConstants.{DONE}
+use Rattle.text_engines.specs.Decoding.{Output, output, refused}
+use Rattle.why_engine.specs.Explaining.{ArePeers, IsPeer, ExplainsWorld, pipes_to, router_text}
 
 there_more : {X : Type 0} (x : X) (xs : List X) (y : X) → Contains xs y → Contains (x ∷ xs) y
 there_more x xs y c = (suc c.0, omega (arith, c.1), c.2)
@@ -53,3 +63,44 @@ pub pipe_says : {A : Type 0} (what : A → Item) (x : WorldView) (r : RouterView
 pipe_says what x r v None same there peer none =
     sym (ap is_some (nothing_there x r.number v (rw same there) (rw same peer.1) (rw same peer.0) none))
 pipe_says what x r v (Some i) same there peer is = sym (ap is_some is)
+
+-- what a test of what waits says of a peer
+pub handled_says : {A : Type 0} (F : A → Type 0) (x : RouterView) (v : ℕ) (found : Option A) → IsPeer x v → MatchOption found (awaits x v ≡ false) (λ a. (awaits x v ≡ true) × F a)
+    → is_some found ≡ is_waiting (sides_of x v).held
+handled_says F x v None peer none = sym none ∙ ap (λ (b : Bool). b && is_waiting (sides_of x v).held) peer.0
+handled_says F x v (Some a) peer is = sym is.0 ∙ ap (λ (b : Bool). b && is_waiting (sides_of x v).held) peer.0
+
+-- what is said of a peer
+pub of_its_side : {A : Type 0} (x : RouterView) (v : ℕ) (says : Side → A) (r : Option A) → IsPeer x v → r ≡ of_peer x v says → r ≡ Some (says (sides_of x v))
+of_its_side x v says r peer is = is ∙ ap (λ (b : Bool). cond b (Some (says (sides_of x v))) None) peer.0
+
+-- a test and what it tests, by way of what both are the same as
+pub same_truth : {P Q : Type 0} (a b : Bool) → IsTrue a ↔ P → P ↔ Q → Decides b Q → a ≡ b
+same_truth true true one other test = refl
+same_truth true false one other test = sym (test.1 (other.0 (one.0 refl)))
+same_truth false true one other test = one.1 (other.1 (test.0 refl))
+same_truth false false one other test = refl
+
+-- the text of one more
+pub text_on : {X : Type 0} (f : X → List ℕ) (xs : List X) (i : ℕ) (x : X) (old new all : List ℕ) → i < length xs → x ≡ get_or xs i x → new ≡ old ++ f x → old ++ flat_map f (drop i xs) ≡ all
+    → new ++ flat_map f (drop (i + 1) xs) ≡ all
+text_on {X} f xs i x old new all lt is put h =
+    ap (λ (t : List ℕ). t ++ flat_map f (drop (i + 1) xs)) put ∙ append_assoc old (f x) (flat_map f (drop (i + 1) xs))
+    ∙ ap (λ (t : List ℕ). old ++ t) (sym (ap (flat_map f) (drop_more xs i x lt ∙ ap (λ (y : X). y ∷ drop (i + 1) xs) (sym is)))) ∙ h
+
+-- the text of a router is that of the world
+pub explained : (x : WorldView) (net : Plan) (u : ℕ) (table : Table) (r : RouterView) (out : Output) → x.net ≡ net → IsTableOf net u table → IsTable table → IsRouterOf x u r
+    → out ≡ output (router_text r.number table (plain_of r).router (pipes_to x r.number) (peers r.net r.number) r.net.origins) DONE → ExplainsWorld u x out
+explained x net u table r out same owned holds there printed = λ (g : Setting) (e : g.net ≡ x.net).
+    inr (
+      table,
+      holds,
+      subst (λ (n : Plan). IsTableOf n u table) (sym (e ∙ same)) owned,
+      printed ∙ ap (λ (v : ℕ). output (router_text v table (plain_of r).router (pipes_to x v) (peers r.net v) r.net.origins) DONE) there.number
+          ∙ ap (λ (n : Plan). output (router_text u table (plain_of r).router (pipes_to x u) (peers n u) n.origins) DONE) (there.network ∙ sym e)
+          ∙ ap (λ (s : Stamped). output (router_text u table s.router (pipes_to x u) (peers g.net u) g.net.origins) DONE) there.state,
+    )
+
+-- there is no such router
+pub nobody : (x : WorldView) (net : Plan) (u : ℕ) (code : List ℕ) (out : Output) → x.net ≡ net → (IsRouter net.routers u → ⊥) → code ≡ code_text kinds.UnknownRouter → out ≡ refused 0 code → ExplainsWorld u x out
+nobody x net u code out same none is printed = λ (g : Setting) (e : g.net ≡ x.net). inl (unknown g net u (e ∙ same) none, printed ∙ ap (refused 0) is)

@@ -42,11 +42,13 @@ outbox_text n = if n == 0 then [] else codes " outbox " ++ decimal n
 abbrev pub coming_text : Bool → List ℕ
 coming_text coming = if coming then codes " on its way" else []
 
--- a peer, the state of the session with it, the incarnation of the link, what waits towards it, and whether something of it is on
--- its way
+-- a peer, the state of the session with it, and the incarnation of the link
+unfoldable pub session_text : ℕ → State → ℕ → List ℕ
+session_text v state epoch = codes "peer " ++ (decimal v ++ (codes " " ++ (state_text state ++ (codes " incarnation " ++ decimal epoch))))
+
+-- and what waits towards it, and whether something of it is on its way
 unfoldable pub peer_line : ℕ → State → ℕ → ℕ → Bool → List ℕ
-peer_line v state epoch waiting coming =
-    line (codes "peer " ++ (decimal v ++ (codes " " ++ (state_text state ++ (codes " incarnation " ++ (decimal epoch ++ (outbox_text waiting ++ coming_text coming)))))))
+peer_line v state epoch waiting coming = line (session_text v state epoch ++ (outbox_text waiting ++ coming_text coming))
 
 -- an item of the peer was not taken yet, or a message of it was not handled
 abbrev pub is_coming : List Item → Side → Bool
@@ -80,10 +82,16 @@ choice_text table q kept said =
     decimal table.router ++ (codes "-" ++ (numbers_text said ++ (place_text (rule_for table.rules q) (table.router ∷ said) ++ kept_text kept (table.router ∷ said))))
 
 -- a path that the router stands in is no choice (RFC 4271 section 9.1.2), nor is one that its policy does not permit
+unfoldable pub stands_in : Table → (said : List ℕ) → Bool
+stands_in table said = list_any (λ v. v == table.router) said
+
+unfoldable pub may_use : Table → PrefixView → (said : List ℕ) → Bool
+may_use table q said = permits table q (table.router ∷ said)
+
 abbrev pub verdict_text : Table → PrefixView → (kept said : List ℕ) → List ℕ
 verdict_text table q kept said =
-    if list_any (λ v. v == table.router) said then codes "loop"
-    else if permits table q (table.router ∷ said) then choice_text table q kept said
+    if stands_in table said then codes "loop"
+    else if may_use table q said then choice_text table q kept said
     else codes "not permitted"
 
 unfoldable pub word_line : Table → PrefixView → (kept : List ℕ) → ℕ → (said : List ℕ) → List ℕ

@@ -1,7 +1,7 @@
 //! The lines of a router, of its peers and of its prefixes. Each call appends a whole line, with its end.
 
 ghost use Rattle.std.specs.Prelude.{◌≡◌, ◌++◌, OnOk};
-ghost use Rattle.why_engine.specs.Explaining.{state_text, outbox_text, coming_text, peer_line, originated_text, kept_line, numbers_behind, told_line, router_line};
+ghost use Rattle.why_engine.specs.Explaining.{state_text, outbox_text, coming_text, session_text, peer_line, originated_text, kept_line, numbers_behind, told_line, router_line};
 
 use net_text::{Tail, put_path};
 use prefix_lanes::Prefix;
@@ -43,6 +43,19 @@ fn write_coming(out: &mut Tail, coming: bool) -> Result<(), AllocError>
     Ok(())
 }
 
+#[tactic(auto, unfolding(crate::specs::Explaining::session_text))]
+fn write_session(out: &mut Tail, peer: Asn, state: State, epoch: u32) -> Result<(), AllocError>
+    ensures text { OnOk result (out.new.text ≡ out.old.text ++ session_text peer state epoch) }
+    ensures front { out.new.front ≡ out.old.front }
+{
+    out.put_text(b"peer ")?;
+    out.put_decimal(peer)?;
+    out.put_text(b" ")?;
+    out.put_text(state_text(state))?;
+    out.put_text(b" incarnation ")?;
+    out.put_decimal(epoch)
+}
+
 #[tactic(auto, unfolding(crate::specs::Explaining::peer_line))]
 fn write_peer(
     out: &mut Tail,
@@ -55,12 +68,7 @@ fn write_peer(
     ensures text { OnOk result (out.new.text ≡ out.old.text ++ peer_line peer state epoch waiting coming) }
     ensures front { out.new.front ≡ out.old.front }
 {
-    out.put_text(b"peer ")?;
-    out.put_decimal(peer)?;
-    out.put_text(b" ")?;
-    out.put_text(state_text(state))?;
-    out.put_text(b" incarnation ")?;
-    out.put_decimal(epoch)?;
+    write_session(out, peer, state, epoch)?;
     write_outbox(out, waiting)?;
     write_coming(out, coming)?;
     out.put_text(b"\n")

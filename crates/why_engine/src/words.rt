@@ -1,10 +1,9 @@
 //! What a router makes of the path that a peer said for a prefix.
 
-ghost use Rattle.std.specs.Prelude.{◌≡◌, ◌∷◌, ◌++◌, ◌==◌, OnOk, MatchOption, None, Some};
+ghost use Rattle.std.specs.Prelude.{◌≡◌, ◌∷◌, ◌++◌, ◌==◌, OnOk};
 ghost use Rattle.std.specs.List.{list_any};
-ghost use Rattle.ranked_policy.specs.Tests.{permits};
 ghost use Rattle.router_model.specs.State.{same_path};
-ghost use Rattle.why_engine.specs.Explaining.{place_in, place_text, kept_text, choice_text, verdict_text, word_line, said_text};
+ghost use Rattle.why_engine.specs.Explaining.{place_in, place_text, kept_text, choice_text, stands_in, may_use, verdict_text, word_line, said_text};
 ghost use Rattle.ranked_policy.specs.Tests.{rule_for};
 
 use net_text::{Tail, put_path};
@@ -88,8 +87,8 @@ fn write_choice(
     write_kept(out, kept, table.router(), said)
 }
 
-// Whether a router stands in a path.
-fn stands_in(router: Asn, said: &[Asn]) -> bool
+// Whether a number stands in a path.
+fn has_number(router: Asn, said: &[Asn]) -> bool
     ensures { result ≡ list_any (λ v. v == router) said.now }
 {
     for number in said {
@@ -100,9 +99,16 @@ fn stands_in(router: Asn, said: &[Asn]) -> bool
     false
 }
 
+// Whether the router stands in what was said.
+fn stands_in(table: &PolicyTable<'_>, said: &[Asn]) -> bool
+    ensures { result ≡ stands_in table.now said.now }
+{
+    has_number(table.router(), said)
+}
+
 // Whether the router may use the path along what was said.
 fn is_permitted(table: &PolicyTable<'_>, prefix: &Prefix, said: &[Asn]) -> bool
-    ensures { result ≡ permits table.now prefix.now (table.now.router ∷ said.now) }
+    ensures { result ≡ may_use table.now prefix.now said.now }
 {
     policies_are_tests();
     table
@@ -120,7 +126,7 @@ fn write_verdict(
     ensures text { OnOk result (out.new.text ≡ out.old.text ++ verdict_text table.now prefix.now kept.now said.now) }
     ensures front { out.new.front ≡ out.old.front }
 {
-    if stands_in(table.router(), said) {
+    if stands_in(table, said) {
         return out.put_text(b"loop");
     }
     if is_permitted(table, prefix, said) {
