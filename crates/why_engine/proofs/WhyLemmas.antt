@@ -1,5 +1,5 @@
 -- Peers among a network's routers, named prefixes, and what is in a pipe.
-use Rattle.std.proofs.Common.{◌≡◌, ℕ, zero, suc, ◌+◌, ◌<◌, ◌∷◌, ◌++◌, drop, flat_map, Bool, true, false, cond, List, [], length, get_or, filter, is_some, Option, None, Some, MatchOption, ◌&&◌, ◌↔◌, IsTrue, Decides, append_assoc, refl, sym, ap, subst, ◌∙◌, arith, inl, inr, Contains}
+use Rattle.std.proofs.Common.{◌≡◌, ℕ, zero, suc, ◌+◌, ◌<◌, ◌∷◌, ◌++◌, drop, flat_map, Bool, true, false, cond, List, [], length, get_or, filter, is_some, Option, None, Some, MatchOption, ◌↔◌, IsTrue, Decides, append_assoc, refl, sym, ap, subst, ◌∙◌, arith, inl, inr, Contains}
 use Rattle.std.proofs.lemmas.List.{drop_more}
 use Rattle.ranked_policy.specs.declared.network.Origin.{Origin}
 use Rattle.ranked_policy.specs.Plans.{Plan, IsRouter, IsNamed, numbers}
@@ -7,10 +7,7 @@ use Rattle.ranked_policy.specs.Policies.{Table, IsTable, IsTableOf}
 use Rattle.outbox.specs.declared.item.Item.{Item}
 use Rattle.router_model.specs.Settings.{Setting, linked, peers}
 use Rattle.router_model.specs.Calls.{Stamped}
-use Rattle.bgp_framing.specs.Held.{is_waiting}
-use Rattle.router_model.specs.Sides.{Side}
-use Rattle.router_core.specs.Views.{RouterView, plain_of, sides_of}
-use Rattle.router_core.specs.Shown.{of_peer, awaits}
+use Rattle.router_core.specs.Views.{RouterView, plain_of}
 use Rattle.world_core.specs.World.{Nothing, Stops, where_linked}
 use Rattle.world_core.specs.Views.{WorldView, setting_of, IsRouterOf, comes_next, NothingComes}
 use Rattle.world_core.proofs.Stepping.{known, unknown}
@@ -26,18 +23,18 @@ there_more x xs y c = (suc c.0, omega (arith, c.1), c.2)
 -- what passes a test stands in the list, and passes
 filtered : (p : ℕ → Bool) (xs : List ℕ) (y : ℕ) → Contains (filter p xs) y → (p y ≡ true) × Contains xs y
 filtered p [] y c = absurd (let l = c.1 in omega (arith, l))
-filtered p (x ∷ xs) y c = at (p x) refl c
+filtered p (x ∷ xs) y c = at (p x) refl (filtered p xs y) c
   where
     more : (p y ≡ true) × Contains xs y → (p y ≡ true) × Contains (x ∷ xs) y
     more h = (h.0, there_more x xs y h.1)
 
-    front : p x ≡ true → Contains (x ∷ filter p xs) y → (p y ≡ true) × Contains (x ∷ xs) y
-    front t (zero, l, e) = (ap p (sym e) ∙ t, (0, omega arith, e))
-    front t (suc k, l, e) = more (filtered p xs y (k, omega (arith, l), e))
+    front : p x ≡ true → (Contains (filter p xs) y → (p y ≡ true) × Contains xs y) → Contains (x ∷ filter p xs) y → (p y ≡ true) × Contains (x ∷ xs) y
+    front t rest (zero, l, e) = (ap p (sym e) ∙ t, (0, omega arith, e))
+    front t rest (suc k, l, e) = more (rest (k, omega (arith, l), e))
 
-    at : (b : Bool) → p x ≡ b → Contains (cond (p x) (x ∷ filter p xs) (filter p xs)) y → (p y ≡ true) × Contains (x ∷ xs) y
-    at true t h = front t (subst (λ (b : Bool). Contains (cond b (x ∷ filter p xs) (filter p xs)) y) t h)
-    at false t h = more (filtered p xs y (subst (λ (b : Bool). Contains (cond b (x ∷ filter p xs) (filter p xs)) y) t h))
+    at : (b : Bool) → p x ≡ b → (Contains (filter p xs) y → (p y ≡ true) × Contains xs y) → Contains (cond (p x) (x ∷ filter p xs) (filter p xs)) y → (p y ≡ true) × Contains (x ∷ xs) y
+    at true t rest h = front t rest (subst (λ (b : Bool). Contains (cond b (x ∷ filter p xs) (filter p xs)) y) t h)
+    at false t rest h = more (rest (subst (λ (b : Bool). Contains (cond b (x ∷ filter p xs) (filter p xs)) y) t h))
 
 -- a number of the list of a router's peers is a peer
 pub peer_at : (x : RouterView) (vs : List ℕ) (i v : ℕ) → ArePeers x vs → i < length vs → v ≡ get_or vs i v → IsPeer x v
@@ -63,16 +60,6 @@ pub pipe_says : {A : Type 0} (what : A → Item) (x : WorldView) (r : RouterView
 pipe_says what x r v None same there peer none =
     sym (ap is_some (nothing_there x r.number v (rw same there) (rw same peer.1) (rw same peer.0) none))
 pipe_says what x r v (Some i) same there peer is = sym (ap is_some is)
-
--- what a test of what waits says of a peer
-pub handled_says : {A : Type 0} (F : A → Type 0) (x : RouterView) (v : ℕ) (found : Option A) → IsPeer x v → MatchOption found (awaits x v ≡ false) (λ a. (awaits x v ≡ true) × F a)
-    → is_some found ≡ is_waiting (sides_of x v).held
-handled_says F x v None peer none = sym none ∙ ap (λ (b : Bool). b && is_waiting (sides_of x v).held) peer.0
-handled_says F x v (Some a) peer is = sym is.0 ∙ ap (λ (b : Bool). b && is_waiting (sides_of x v).held) peer.0
-
--- what is said of a peer
-pub of_its_side : {A : Type 0} (x : RouterView) (v : ℕ) (says : Side → A) (r : Option A) → IsPeer x v → r ≡ of_peer x v says → r ≡ Some (says (sides_of x v))
-of_its_side x v says r peer is = is ∙ ap (λ (b : Bool). cond b (Some (says (sides_of x v))) None) peer.0
 
 -- a test and what it tests, by way of what both are the same as
 pub same_truth : {P Q : Type 0} (a b : Bool) → IsTrue a ↔ P → P ↔ Q → Decides b Q → a ≡ b

@@ -22,6 +22,13 @@ fn state_text(state: State) -> &'static [u8]
     }
 }
 
+fn write_state(out: &mut Tail, state: State) -> Result<(), AllocError>
+    ensures text { OnOk result (out.new.text ≡ out.old.text ++ state_text state) }
+    ensures front { out.new.front ≡ out.old.front }
+{
+    out.put_text(state_text(state))
+}
+
 fn write_outbox(out: &mut Tail, waiting: usize) -> Result<(), AllocError>
     ensures text { OnOk result (out.new.text ≡ out.old.text ++ outbox_text waiting) }
     ensures front { out.new.front ≡ out.old.front }
@@ -51,7 +58,7 @@ fn write_session(out: &mut Tail, peer: Asn, state: State, epoch: u32) -> Result<
     out.put_text(b"peer ")?;
     out.put_decimal(peer)?;
     out.put_text(b" ")?;
-    out.put_text(state_text(state))?;
+    write_state(out, state)?;
     out.put_text(b" incarnation ")?;
     out.put_decimal(epoch)
 }

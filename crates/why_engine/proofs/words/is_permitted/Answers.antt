@@ -1,8 +1,10 @@
 use Rattle.std.proofs.Common.{◌∷◌}
+use Rattle.why_engine.specs.Explaining.{may_use}
 use Rattle.why_engine.proofs.WhyLemmas.{same_truth}
 use Rattle.why_engine.proofs.words.is_permitted.Goals as goal
 
 pub returns : goal.returns
+unfolding may_use
 returns c =
     let t = c.args.table.now in
     let q = c.args.prefix.now in
