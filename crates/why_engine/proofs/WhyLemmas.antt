@@ -1,8 +1,7 @@
 -- Peers among a network's routers, named prefixes, and what is in a pipe.
 use Rattle.std.proofs.Common.{◌≡◌, ℕ, zero, suc, ◌+◌, ◌<◌, ◌∷◌, ◌++◌, drop, flat_map, Bool, true, false, cond, List, [], length, get_or, filter, is_some, Option, None, Some, MatchOption, ◌↔◌, IsTrue, Decides, append_assoc, refl, sym, ap, subst, ◌∙◌, arith, inl, inr, Contains}
-use Rattle.std.proofs.lemmas.List.{drop_more}
-use Rattle.ranked_policy.specs.declared.network.Origin.{Origin}
-use Rattle.ranked_policy.specs.Plans.{Plan, IsRouter, IsNamed, numbers}
+use Rattle.std.proofs.lemmas.List.{drop_more, get_or_default}
+use Rattle.ranked_policy.specs.Plans.{Plan, IsRouter, numbers}
 use Rattle.ranked_policy.specs.Policies.{Table, IsTable, IsTableOf}
 use Rattle.outbox.specs.declared.item.Item.{Item}
 use Rattle.router_model.specs.Settings.{Setting, linked, peers}
@@ -37,13 +36,10 @@ filtered p (x ∷ xs) y c = at (p x) refl (filtered p xs y) c
     at false t rest h = more (rest (subst (λ (b : Bool). Contains (cond b (x ∷ filter p xs) (filter p xs)) y) t h))
 
 -- a number of the list of a router's peers is a peer
-pub peer_at : (x : RouterView) (vs : List ℕ) (i v : ℕ) → ArePeers x vs → i < length vs → v ≡ get_or vs i v → IsPeer x v
-peer_at x vs i v are lt is =
-    filtered (linked x.net x.number) (numbers x.net.routers) v (subst (λ (ws : List ℕ). Contains ws v) are (i, lt, sym is))
-
--- the prefix of an origin of the network is named
-pub named_at : (all origins : List Origin) (i : ℕ) (o : Origin) → origins ≡ all → i < length origins → o ≡ get_or origins i o → IsNamed all o.prefix
-named_at all origins i o same lt is = subst (λ (os : List Origin). IsNamed os o.prefix) same (i, o, lt, sym is, refl)
+pub peer_at : (x : RouterView) (vs : List ℕ) (i : ℕ) → ArePeers x vs → i < length vs → IsPeer x (get_or vs i 0)
+peer_at x vs i are lt =
+    let v = get_or vs i 0 in
+    filtered (linked x.net x.number) (numbers x.net.routers) v (subst (λ (ws : List ℕ). Contains ws v) are (i, lt, get_or_default vs i v 0 lt))
 
 -- where nothing comes, nothing is in the pipe of the two
 nothing_there : (x : WorldView) (u v : ℕ) → IsRouter x.net.routers u → IsRouter x.net.routers v → linked x.net u v ≡ true → NothingComes x u v → comes_next x u v ≡ None

@@ -27,7 +27,7 @@ use Rattle.text_engines.specs.Decoding.{Output, output, refused}
 
 -- ---- sessions
 
-abbrev pub state_text : State → List ℕ
+unfoldable pub state_text : State → List ℕ
 state_text Idle = codes "Idle"
 state_text Connect = codes "Connect"
 state_text Active = codes "Active"
@@ -42,9 +42,15 @@ outbox_text n = if n == 0 then [] else codes " outbox " ++ decimal n
 abbrev pub coming_text : Bool → List ℕ
 coming_text coming = if coming then codes " on its way" else []
 
+unfoldable pub number_text : ℕ → List ℕ
+number_text v = codes "peer " ++ (decimal v ++ codes " ")
+
+unfoldable pub incarnation_text : ℕ → List ℕ
+incarnation_text epoch = codes " incarnation " ++ decimal epoch
+
 -- a peer, the state of the session with it, and the incarnation of the link
 unfoldable pub session_text : ℕ → State → ℕ → List ℕ
-session_text v state epoch = codes "peer " ++ (decimal v ++ (codes " " ++ (state_text state ++ (codes " incarnation " ++ decimal epoch))))
+session_text v state epoch = number_text v ++ (state_text state ++ incarnation_text epoch)
 
 -- and what waits towards it, and whether something of it is on its way
 unfoldable pub peer_line : ℕ → State → ℕ → ℕ → Bool → List ℕ

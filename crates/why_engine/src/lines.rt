@@ -1,7 +1,7 @@
 //! The lines of a router, of its peers and of its prefixes. Each call appends a whole line, with its end.
 
 ghost use Rattle.std.specs.Prelude.{◌≡◌, ◌++◌, OnOk};
-ghost use Rattle.why_engine.specs.Explaining.{state_text, outbox_text, coming_text, session_text, peer_line, originated_text, kept_line, numbers_behind, told_line, router_line};
+ghost use Rattle.why_engine.specs.Explaining.{state_text, outbox_text, coming_text, number_text, incarnation_text, session_text, peer_line, originated_text, kept_line, numbers_behind, told_line, router_line};
 
 use net_text::{Tail, put_path};
 use prefix_lanes::Prefix;
@@ -9,6 +9,7 @@ use ranked_policy::Asn;
 use session_fsm::State;
 use std::alloc::AllocError;
 
+#[tactic(auto, unfolding(crate::specs::Explaining::state_text))]
 fn state_text(state: State) -> &'static [u8]
     ensures { result.now ≡ state_text state }
 {
@@ -50,17 +51,33 @@ fn write_coming(out: &mut Tail, coming: bool) -> Result<(), AllocError>
     Ok(())
 }
 
+#[tactic(auto, unfolding(crate::specs::Explaining::number_text))]
+fn write_number(out: &mut Tail, peer: Asn) -> Result<(), AllocError>
+    ensures text { OnOk result (out.new.text ≡ out.old.text ++ number_text peer) }
+    ensures front { out.new.front ≡ out.old.front }
+{
+    out.put_text(b"peer ")?;
+    out.put_decimal(peer)?;
+    out.put_text(b" ")
+}
+
+#[tactic(auto, unfolding(crate::specs::Explaining::incarnation_text))]
+fn write_incarnation(out: &mut Tail, epoch: u32) -> Result<(), AllocError>
+    ensures text { OnOk result (out.new.text ≡ out.old.text ++ incarnation_text epoch) }
+    ensures front { out.new.front ≡ out.old.front }
+{
+    out.put_text(b" incarnation ")?;
+    out.put_decimal(epoch)
+}
+
 #[tactic(auto, unfolding(crate::specs::Explaining::session_text))]
 fn write_session(out: &mut Tail, peer: Asn, state: State, epoch: u32) -> Result<(), AllocError>
     ensures text { OnOk result (out.new.text ≡ out.old.text ++ session_text peer state epoch) }
     ensures front { out.new.front ≡ out.old.front }
 {
-    out.put_text(b"peer ")?;
-    out.put_decimal(peer)?;
-    out.put_text(b" ")?;
+    write_number(out, peer)?;
     write_state(out, state)?;
-    out.put_text(b" incarnation ")?;
-    out.put_decimal(epoch)
+    write_incarnation(out, epoch)
 }
 
 #[tactic(auto, unfolding(crate::specs::Explaining::peer_line))]
