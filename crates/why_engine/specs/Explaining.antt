@@ -45,12 +45,12 @@ coming_text coming = if coming then codes " on its way" else []
 unfoldable pub number_text : ℕ → List ℕ
 number_text v = codes "peer " ++ (decimal v ++ codes " ")
 
-unfoldable pub incarnation_text : ℕ → List ℕ
-incarnation_text epoch = codes " incarnation " ++ decimal epoch
+unfoldable pub behind_word : List ℕ → ℕ → List ℕ
+behind_word word n = word ++ decimal n
 
 -- a peer, the state of the session with it, and the incarnation of the link
 unfoldable pub session_text : ℕ → State → ℕ → List ℕ
-session_text v state epoch = number_text v ++ (state_text state ++ incarnation_text epoch)
+session_text v state epoch = number_text v ++ (state_text state ++ behind_word (codes " incarnation ") epoch)
 
 -- and what waits towards it, and whether something of it is on its way
 unfoldable pub peer_line : ℕ → State → ℕ → ℕ → Bool → List ℕ

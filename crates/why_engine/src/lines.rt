@@ -1,7 +1,7 @@
 //! The lines of a router, of its peers and of its prefixes. Each call appends a whole line, with its end.
 
 ghost use Rattle.std.specs.Prelude.{◌≡◌, ◌++◌, OnOk};
-ghost use Rattle.why_engine.specs.Explaining.{state_text, outbox_text, coming_text, number_text, incarnation_text, session_text, peer_line, originated_text, kept_line, numbers_behind, told_line, router_line};
+ghost use Rattle.why_engine.specs.Explaining.{state_text, outbox_text, coming_text, number_text, behind_word, session_text, peer_line, originated_text, kept_line, numbers_behind, told_line, router_line};
 
 use net_text::{Tail, put_path};
 use prefix_lanes::Prefix;
@@ -61,13 +61,13 @@ fn write_number(out: &mut Tail, peer: Asn) -> Result<(), AllocError>
     out.put_text(b" ")
 }
 
-#[tactic(auto, unfolding(crate::specs::Explaining::incarnation_text))]
-fn write_incarnation(out: &mut Tail, epoch: u32) -> Result<(), AllocError>
-    ensures text { OnOk result (out.new.text ≡ out.old.text ++ incarnation_text epoch) }
+#[tactic(auto, unfolding(crate::specs::Explaining::behind_word))]
+fn write_behind(out: &mut Tail, word: &[u8], number: u32) -> Result<(), AllocError>
+    ensures text { OnOk result (out.new.text ≡ out.old.text ++ behind_word word.now number) }
     ensures front { out.new.front ≡ out.old.front }
 {
-    out.put_text(b" incarnation ")?;
-    out.put_decimal(epoch)
+    out.put_text(word)?;
+    out.put_decimal(number)
 }
 
 #[tactic(auto, unfolding(crate::specs::Explaining::session_text))]
@@ -77,7 +77,7 @@ fn write_session(out: &mut Tail, peer: Asn, state: State, epoch: u32) -> Result<
 {
     write_number(out, peer)?;
     write_state(out, state)?;
-    write_incarnation(out, epoch)
+    write_behind(out, b" incarnation ", epoch)
 }
 
 #[tactic(auto, unfolding(crate::specs::Explaining::peer_line))]
