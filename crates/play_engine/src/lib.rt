@@ -5,8 +5,8 @@
 //! The contract of `bgpnet play` is that of [`play_stream`], that of `bgpnet cut` that of [`cut_stream`], that of
 //! `bgpnet why` that of [`why_stream`]: what is written is the text of what was read. The definitions stand in
 //! `specs/`: `Playing` (the text of a schedule), `Reporting` (that of routes and snapshots) and `Cutting` (that of a
-//! cut); what is said of a router is `why_engine`'s. The lines themselves are `net_text`'s and `schedule_text`'s. No thread is started here: `run_engine` runs a network in threads, and
-//! takes [`put_parts`] from here.
+//! cut); what is said of a router is `why_engine`'s. The lines themselves are `net_text`'s and `schedule_text`'s. No
+//! thread is started here: `run_engine` runs a network in threads, and takes [`put_parts`] from here.
 #![tactic(auto)]
 
 mod cut;

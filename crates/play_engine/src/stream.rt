@@ -1,5 +1,5 @@
-//! What `bgpnet play`, `bgpnet cut` and `bgpnet why` share: they read a network and a schedule, and write what is shown of the
-//! world that the schedule leads to.
+//! What `bgpnet play`, `bgpnet cut` and `bgpnet why` share: they read a network and a schedule, and write what is shown
+//! of the world that the schedule leads to.
 
 ghost use Rattle.std.specs.Prelude.{◌≡◌, ◌^◌, ◌<◌, ◌+◌, ◌⊎◌, length, codes, IfOk, OnOk, OnErr, true, false};
 ghost use Rattle.net_text.specs.Lexing.{lines_of};
