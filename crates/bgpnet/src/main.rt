@@ -6,8 +6,8 @@
 //!
 //! Its one contract is that of the engine that the words ask for: `text_engines::decode_stream` for
 //! `bgpnet decode`, `text_engines::check_stream` for `bgpnet check`, `play_engine::play_stream` for
-//! `bgpnet play`, `play_engine::cut_stream` for `bgpnet cut`, `run_engine::run_stream` for `bgpnet run`. The
-//! definitions stand in their `specs/`.
+//! `bgpnet play`, `play_engine::cut_stream` for `bgpnet cut`, `play_engine::why_stream` for `bgpnet why`,
+//! `run_engine::run_stream` for `bgpnet run`. The definitions stand in their `specs/`.
 #![tactic(auto)]
 
 use command_line::{run_with, status_of};

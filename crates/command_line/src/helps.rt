@@ -201,6 +201,39 @@ not decided at the end, or it was abandoned. 'refused LINE CODE' is as for 'play
 Status 0: done. 1: a refused input. 2: other words than these. 3: memory was refused ('memory').
 4: a read or a write failed.";
 
+/// What the help of `why` says below its options: an example, and the statuses.
+pub const WHY_HELP: &str = "\
+The input is a network, a line 'schedule', and the orders of the schedule, as 'play --help' says:
+
+    router 1 10.0.0.1
+    router 2 10.0.0.2
+    link 1 2
+    origin 1 10.1.0.0/16
+    schedule
+    start 1 2
+    start 2 1
+    originate 1 10.1.0.0/16
+    rounds 40
+
+Router 2 keeps the path that router 1 told it, and tells it so, so 'why 2' prints
+
+    router 2
+    peer 1 Established incarnation 1
+    prefix 10.1.0.0/16 keeps 2-1
+      from 1 1: 2-1, kept
+      told 1
+
+'peer V STATE' is the session with V, and the number of the link that it stands on; 'outbox N': N
+octets wait to be put towards V; 'on its way': something of V was not taken or not handled yet.
+'keeps PATH' is the path that the router keeps for the prefix, or 'none'. 'from V PATH: WHAT' is what
+V said last, and what the router makes of it: 'loop', the router stands in it; 'not permitted', its
+policy has not the path along it; or that path, its place in the 'rank' line, and whether it is kept.
+'told V W': these were told what it keeps. 'refused 0 N3': the network has no such router. 'refused
+LINE CODE' is as for 'play'.
+
+Status 0: done. 1: a refused input. 2: other words than these. 3: memory was refused ('memory').
+4: a read or a write failed.";
+
 /// What the help of `run` says below its options: an example, and the statuses.
 pub const RUN_HELP: &str = "\
 The input is a network:

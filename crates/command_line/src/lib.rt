@@ -14,8 +14,9 @@ mod words;
 
 pub use helps::{
     CHECK_HELP, CUT_HELP, DECODE_HELP, PLAY_HELP, RECORD_HELP, RUN_HELP, TOP_HELP, TRACE_HELP,
+    WHY_HELP,
 };
-use play_engine::{cut_stream, play_stream};
+use play_engine::{cut_stream, play_stream, why_stream};
 use record_engine::record_stream;
 use run_engine::run_stream;
 use std::alloc::{AllocError, Global};
@@ -51,6 +52,7 @@ where
         Ok(Asked::Play) => play_stream(alloc, reader, writer),
         Ok(Asked::Trace) => trace_stream(alloc, reader, writer),
         Ok(Asked::Cut(number)) => cut_stream(alloc, number, reader, writer),
+        Ok(Asked::Why(number)) => why_stream(alloc, number, reader, writer),
         Ok(Asked::Run(options)) => run_stream(rt, alloc, &options, reader, writer),
         Ok(Asked::Record(options)) => record_stream(rt, alloc, &options, reader, writer),
         Ok(Asked::Text(text, status)) => {

@@ -6,6 +6,7 @@ ghost use Rattle.net_text.specs.Words.{is_digit};
 
 use crate::helps::{
     CHECK_HELP, CUT_HELP, DECODE_HELP, PLAY_HELP, RECORD_HELP, RUN_HELP, TOP_HELP, TRACE_HELP,
+    WHY_HELP,
 };
 use bgp_codec::{NOBODY, Rule};
 use bgp_values::{Width, greatest_asn};
@@ -28,6 +29,8 @@ pub enum Asked {
     Trace,
     /// Show the cut of the snapshot of this number.
     Cut(u32),
+    /// Show what the router of this number knows.
+    Why(u32),
     /// Run a network in threads.
     Run(RunOptions),
     /// Run a network in threads, and write what they did as a schedule.
@@ -126,6 +129,20 @@ fn asked_cut(alloc: Global, found: &ArgMatches) -> Result<Asked, AllocError> {
     }
 }
 
+fn asked_why(alloc: Global, found: &ArgMatches) -> Result<Asked, AllocError> {
+    if let Some(text) = sign_of(alloc, found, "router", "<U>")? {
+        return Ok(Asked::Text(text, USAGE));
+    }
+    match found.get_one::<u32>("router") {
+        Some(number) => Ok(Asked::Why(number)),
+        // The words were refused without it.
+        None => {
+            let text = format!(in alloc; "error: the number of a router is missing\n")?;
+            Ok(Asked::Text(text, USAGE))
+        }
+    }
+}
+
 // The options of a run in threads, or what is said of the words.
 fn run_options(
     alloc: Global,
@@ -190,6 +207,18 @@ fn cut_command<'a>(alloc: Global) -> Result<Command<'a>, AllocError> {
         .arg(number)
 }
 
+fn why_command<'a>(alloc: Global) -> Result<Command<'a>, AllocError> {
+    let router = Arg::new(alloc, "router")
+        .value_name("U")
+        .required(true)
+        .value_parser(clap::value_parser!(u32).range(1..))
+        .help("The number of the router, 1 to 4294967295");
+    Command::new(alloc, "why")
+        .about("Plays a schedule, and prints what one of its routers knows")
+        .after_help(WHY_HELP)
+        .arg(router)
+}
+
 // A word that runs a network in threads.
 fn threads_command<'a>(
     alloc: Global,
@@ -251,6 +280,7 @@ fn command<'a>(alloc: Global) -> Result<Command<'a>, AllocError> {
         .subcommand(play)?
         .subcommand(trace)?
         .subcommand(cut_command(alloc)?)?
+        .subcommand(why_command(alloc)?)?
         .subcommand(run_command(alloc)?)?
         .subcommand(record_command(alloc)?)
 }
@@ -268,6 +298,9 @@ fn asked_by(alloc: Global, matches: &ArgMatches) -> Result<Asked, AllocError> {
     }
     if let Some(found) = matches.subcommand_matches("cut") {
         return asked_cut(alloc, found);
+    }
+    if let Some(found) = matches.subcommand_matches("why") {
+        return asked_why(alloc, found);
     }
     if let Some(found) = matches.subcommand_matches("run") {
         return asked_run(alloc, found);

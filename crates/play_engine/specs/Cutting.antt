@@ -1,4 +1,4 @@
--- What is printed of the cut of a snapshot.
+-- What is printed of the cut of a snapshot, and which of the texts of a world is printed.
 use Rattle.std.specs.Prelude.{◌≡◌, ℕ, true, List, [], ◌++◌, Some, length, codes, ◌⊎◌}
 use Rattle.std.specs.List.{flat_map}
 use Rattle.bgp_codec.specs.declared.message.Message.{Message}
@@ -20,6 +20,7 @@ use Rattle.schedule_text.specs.Reports.{cut_line, cut_none_line}
 use Rattle.text_engines.specs.declared.status.TheConstants.{DONE}
 use Rattle.text_engines.specs.Decoding.{Output, output}
 use Rattle.text_engines.specs.Inputs.{Prints}
+use Rattle.why_engine.specs.Explaining.{Explains}
 use Rattle.play_engine.specs.declared.stream.Shown.{Shown}
 use Rattle.play_engine.specs.declared.stream.Shown.TheVariants as shown
 use Rattle.play_engine.specs.Reporting.{deciding, parts_text, recorded}
@@ -71,11 +72,19 @@ IsCutReport s g w out =
 abbrev pub Cuts : ℕ → List ℕ → Output → Type 0
 Cuts s input out = Prints (ScheduleGives (IsCutReport s)) (codes "schedule") input out
 
--- ---- one of the two
+-- ---- what a router knows
+
+-- what the program prints of an input: the text of that router in the world that its schedule leads to, or what is refused, or that
+-- memory ran out
+abbrev pub Whys : ℕ → List ℕ → Output → Type 0
+Whys u input out = Prints (ScheduleGives (Explains u)) (codes "schedule") input out
+
+-- ---- one of the three
 
 abbrev pub IsShown : Shown → Setting → World → Output → Type 0
 IsShown shown.Report = IsReport
 IsShown (shown.Cut s) = IsCutReport s
+IsShown (shown.Why u) = Explains u
 
 abbrev pub PrintsShown : Shown → List ℕ → Output → Type 0
 PrintsShown show input out = Prints (ScheduleGives (IsShown show)) (codes "schedule") input out

@@ -1,12 +1,12 @@
-//! The engines of `bgpnet play` and `bgpnet cut`: they read a network and a schedule, have a world of routers
-//! obey the orders, and write what is shown of it: how the snapshots came out and the routes that the schedule
-//! leads to, or the cut of a snapshot.
+//! The engines of `bgpnet play`, `bgpnet cut` and `bgpnet why`: they read a network and a schedule, have a world of
+//! routers obey the orders, and write what is shown of it: how the snapshots came out and the routes that the schedule
+//! leads to, or the cut of a snapshot, or what a router knows.
 //!
-//! The contract of `bgpnet play` is that of [`play_stream`], that of `bgpnet cut` that of [`cut_stream`]: what is
-//! written is the text of what was read. The definitions stand in `specs/`: `Playing` (the text of a schedule),
-//! `Reporting` (that of routes and snapshots) and `Cutting` (that of a cut). The lines themselves are
-//! `net_text`'s and `schedule_text`'s. No thread is started here: `run_engine` runs a network in threads, and
-//! takes [`put_parts`] from here.
+//! The contract of `bgpnet play` is that of [`play_stream`], that of `bgpnet cut` that of [`cut_stream`], that of
+//! `bgpnet why` that of [`why_stream`]: what is written is the text of what was read. The definitions stand in
+//! `specs/`: `Playing` (the text of a schedule), `Reporting` (that of routes and snapshots) and `Cutting` (that of a
+//! cut); what is said of a router is `why_engine`'s. The lines themselves are `net_text`'s and `schedule_text`'s. No
+//! thread is started here: `run_engine` runs a network in threads, and takes [`put_parts`] from here.
 #![tactic(auto)]
 
 mod cut;
@@ -15,8 +15,10 @@ mod play;
 mod schedules;
 mod snapshots;
 mod stream;
+mod why;
 
 pub use cut::cut_stream;
 pub use play::play_stream;
 pub use schedules::Stop;
 pub use snapshots::put_parts;
+pub use why::why_stream;

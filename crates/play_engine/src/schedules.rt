@@ -17,6 +17,7 @@ use schedule_text::{ScheduledOrder, now_line, route_line, stop_line};
 use std::alloc::{AllocError, Global};
 use std::mem::forget;
 use text_engines::status::{DONE, REFUSED};
+use why_engine::why_output;
 use world_core::{StepFault, World};
 
 /// An order that was refused.
@@ -100,6 +101,11 @@ fn shown_output(
             printed
         }
         Shown::Cut(number) => cut_output(alloc, network, world, number),
+        Shown::Why(number) => {
+            let printed = why_output(alloc, network, &world, number);
+            leave(world);
+            printed
+        }
     }
 }
 

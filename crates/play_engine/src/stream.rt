@@ -1,5 +1,5 @@
-//! What `bgpnet play` and `bgpnet cut` share: they read a network and a schedule, and write what is shown of the
-//! world that the schedule leads to.
+//! What `bgpnet play`, `bgpnet cut` and `bgpnet why` share: they read a network and a schedule, and write what is shown
+//! of the world that the schedule leads to.
 
 ghost use Rattle.std.specs.Prelude.{◌≡◌, ◌^◌, ◌<◌, ◌+◌, ◌⊎◌, length, codes, IfOk, OnOk, OnErr, true, false};
 ghost use Rattle.net_text.specs.Lexing.{lines_of};
@@ -11,7 +11,7 @@ ghost use Rattle.play_engine.specs.Cutting.{IsShown, PrintsShown};
 
 use crate::schedules::orders_output;
 use net_text::{Code, Split, read_network, split_at_section};
-use ranked_policy::Network;
+use ranked_policy::{Asn, Network};
 use schedule_text::read_schedule;
 use std::alloc::{AllocError, Global};
 use text_engines::{
@@ -26,6 +26,8 @@ pub(crate) enum Shown {
     Report,
     /// The cut of the snapshot of this number: what `cut` shows.
     Cut(u32),
+    /// What the router of this number knows: what `why` shows.
+    Why(Asn),
 }
 
 // What is printed for a schedule, so many lines standing before it.
@@ -68,7 +70,8 @@ fn input_output(alloc: Global, shown: Shown, input: Vec<u8>) -> Result<(Vec<u8>,
 }
 
 /// Reads a network and a schedule, and writes what is shown of the world that the schedule leads to:
-/// [`play_stream`](crate::play_stream) and [`cut_stream`](crate::cut_stream), whose clauses these are.
+/// [`play_stream`](crate::play_stream), [`cut_stream`](crate::cut_stream) and [`why_stream`](crate::why_stream), whose
+/// clauses these are.
 pub(crate) fn schedule_stream<S: Source, T: Sink>(
     alloc: Global,
     shown: Shown,

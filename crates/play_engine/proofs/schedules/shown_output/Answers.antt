@@ -5,3 +5,6 @@ returns-in-Report c = rw c.in-Report.is c.report_output-printed.ensures
 
 pub returns-in-Cut : goal.returns-in-Cut
 returns-in-Cut c = rw c.in-Cut.is c.cut_output.ensures
+
+pub returns-in-Why : goal.returns-in-Why
+returns-in-Why c = rw c.in-Why.is c.why_output-printed.ensures

@@ -1,0 +1,37 @@
+//! `bgpnet why`: what a router of the world that a schedule leads to knows.
+
+ghost use Rattle.std.specs.Prelude.{◌≡◌, ◌⊎◌, IfOk, OnOk, OnErr, true, false};
+ghost use Rattle.text_engines.specs.Engine.{PrintedBy, PrintedFrontBy};
+ghost use Rattle.play_engine.specs.Cutting.{Whys};
+
+use crate::stream::{Shown, schedule_stream};
+use ranked_policy::Asn;
+use std::alloc::Global;
+use text_engines::{IoStopped, Sink, Source};
+
+/// Reads a network and a schedule, and writes what the router of this number knows in the world that the schedule
+/// leads to, or the first line that is refused; answers the status.
+///
+/// That is the state of each of its sessions, and for each prefix the path that it keeps, what each peer said last,
+/// what it makes of that, and whom it told. Where the network has no such router a refusal of line 0 is written.
+///
+/// Where memory is refused it writes `memory` alone and answers 3. It stops only where a read or a
+/// write failed, and then what was written is a beginning of the text.
+pub fn why_stream<S: Source, T: Sink>(
+    alloc: Global,
+    number: Asn,
+    source: &mut S,
+    sink: &mut T,
+) -> Result<u8, IoStopped>
+    // What is written is what is printed for what was read, and nothing else.
+    ensures done { IfOk result (λ status. PrintedBy (Whys number) (S.remaining source.old) (T.contents sink.old) (T.contents sink.new) status) }
+    // It answers a status only where no read and no write failed, and stops only where one did.
+    ensures unfailed { OnOk result ((S.failed source.new ≡ S.failed source.old) × (T.failed sink.new ≡ T.failed sink.old)) }
+    ensures failed { OnErr result ((S.failed source.new ≡ true) ⊎ (T.failed sink.new ≡ true)) }
+    // Where a read failed nothing is written.
+    ensures silent { S.failed source.old ≡ false → S.failed source.new ≡ true → T.contents sink.new ≡ T.contents sink.old }
+    // A failed read or write leaves a beginning of the text.
+    ensures stopped { OnErr result (PrintedFrontBy (Whys number) (S.remaining source.old) (T.contents sink.old) (T.contents sink.new)) }
+{
+    schedule_stream(alloc, Shown::Why(number), source, sink)
+}

@@ -1,0 +1,10 @@
+-- what was put, before what is left, is what all are printed as
+use Rattle.std.proofs.Common.{◌≡◌, ◌++◌, drop}
+use Rattle.router_core.specs.Views.{plain_of, sides_of}
+use Rattle.why_engine.specs.Explaining.{words_text}
+use Rattle.why_engine.proofs.prefixes.put_words.Given as goal
+
+abbrev pub invariant-loop-peer : goal.invariant-loop-peer
+invariant-loop-peer l =
+    l.out.items ++ words_text l.table l.prefix ((plain_of l.router).router.kept l.prefix) (sides_of l.router) (drop l.peer-index l.peers)
+    ≡ l.fn.out.items ++ words_text l.table l.prefix ((plain_of l.router).router.kept l.prefix) (sides_of l.router) l.peers

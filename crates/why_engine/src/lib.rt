@@ -1,0 +1,16 @@
+//! What a router knows, and why it keeps what it keeps: the lines of `bgpnet why`.
+//!
+//! Its one contract is that of [`why_output`]: what is printed of a router of a world is the text of its sessions, of
+//! the words that its peers said last with what it makes of each, of the paths that it keeps, and of whom it told. The
+//! definitions stand in `specs/Explaining.antt`.
+//!
+//! Left out: the reading of inputs and the playing of schedules, which are `play_engine`'s.
+#![tactic(auto)]
+
+mod lines;
+mod prefixes;
+mod sessions;
+mod why;
+mod words;
+
+pub use why::why_output;

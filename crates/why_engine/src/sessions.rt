@@ -1,0 +1,98 @@
+//! The sessions of a router.
+
+ghost use Rattle.std.specs.Prelude.{◌≡◌, ◌++◌, true, is_some, slice_get, OnOk, IfOk};
+ghost use Rattle.bgp_framing.specs.Held.{is_waiting};
+ghost use Rattle.outbox.specs.Items.{octets_waiting};
+ghost use Rattle.ranked_policy.specs.Plans.{IsRouter};
+ghost use Rattle.router_model.specs.Settings.{linked, peers};
+ghost use Rattle.router_core.specs.Views.{sides_of};
+ghost use Rattle.why_engine.specs.Explaining.{ArePeers, IsPeer, is_coming, peer_line, peers_text, pipes_to};
+
+use crate::lines::put_peer_line;
+use ranked_policy::{Asn, Network};
+use router_core::{Router, is_peer};
+use std::alloc::{AllocError, Global};
+use world_core::World;
+
+/// The peers of a router, by rising number.
+pub(crate) fn peers_of(
+    alloc: Global,
+    network: &Network,
+    number: Asn,
+) -> Result<Vec<Asn>, AllocError>
+    ensures { IfOk result (λ all. all.items ≡ peers network.now number) }
+{
+    let mut all = Vec::new(alloc);
+    for other in network.routers() {
+        if is_peer(network, number, other.asn) {
+            all.push(other.asn)?;
+        }
+    }
+    Ok(all)
+}
+
+// Whether an item of a peer is in the pipe towards a router.
+fn is_in_pipe(world: &World<'_>, router: &Router<'_>, peer: Asn) -> bool
+    requires same { world.now.net ≡ router.now.net }
+    requires there { IsRouter router.now.net.routers router.now.number }
+    requires peer { IsPeer router.now peer }
+    ensures { result ≡ is_some (slice_get (pipes_to world.now router.now.number peer) 0) }
+{
+    world.next_to_take(router.number(), peer).is_some()
+}
+
+// Whether a message of a peer waits to be handled.
+fn is_unhandled(alloc: Global, router: &Router<'_>, peer: Asn) -> bool
+    requires { IsPeer router.now peer }
+    ensures { result ≡ is_waiting (sides_of router.now peer).held }
+{
+    router.front(alloc, peer).is_some()
+}
+
+// Whether something of a peer is on its way to a router.
+fn is_coming(alloc: Global, world: &World<'_>, router: &Router<'_>, peer: Asn) -> bool
+    requires same { world.now.net ≡ router.now.net }
+    requires there { IsRouter router.now.net.routers router.now.number }
+    requires peer { IsPeer router.now peer }
+    ensures { result ≡ is_coming (pipes_to world.now router.now.number peer) (sides_of router.now peer) }
+{
+    is_in_pipe(world, router, peer) || is_unhandled(alloc, router, peer)
+}
+
+// Appends a peer.
+fn put_peer(
+    router: &Router<'_>,
+    peer: Asn,
+    coming: bool,
+    out: &mut Vec<u8>,
+) -> Result<(), AllocError>
+    requires { IsPeer router.now peer }
+    ensures { OnOk result (out.new.items ≡ out.old.items ++ peer_line peer (sides_of router.now peer).session.state (sides_of router.now peer).link.epoch (octets_waiting (sides_of router.now peer).outbox) coming) }
+{
+    let Some(state) = router.state(peer) else {
+        return Ok(());
+    };
+    let epoch = router.epoch(peer).unwrap_or(0);
+    let waiting = router.octets_waiting(peer).unwrap_or(0);
+    put_peer_line(peer, state, epoch, waiting, coming, out)
+}
+
+/// Appends the peers of a router.
+pub(crate) fn put_peers(
+    alloc: Global,
+    world: &World<'_>,
+    router: &Router<'_>,
+    peers: &[Asn],
+    out: &mut Vec<u8>,
+) -> Result<(), AllocError>
+    requires same { world.now.net ≡ router.now.net }
+    requires there { IsRouter router.now.net.routers router.now.number }
+    requires peers { ArePeers router.now peers.now }
+    ensures { OnOk result (out.new.items ≡ out.old.items ++ peers_text (sides_of router.now) (pipes_to world.now router.now.number) peers.now) }
+{
+    for peer in peers {
+        let coming = is_coming(alloc, world, router, *peer);
+        put_peer(router, *peer, coming, out)?;
+    }
+    Ok(())
+}
