@@ -27,3 +27,4 @@ pub mod Snapshots
 pub mod MarkTaking
 pub mod Moving
 pub mod Ticking
+pub mod OpeningLemmas
