@@ -65,6 +65,13 @@ impl Lines for Ends {
         self.lanes[at].out.put(rt, item)
     }
 
+    fn is_full(&mut self, peer: Asn) -> bool {
+        let Some(at) = self.find(peer) else {
+            return true;
+        };
+        self.lanes[at].out.is_full()
+    }
+
     fn take<R: Wait>(&mut self, rt: &R, peer: Asn) -> Option<Item> {
         let at = self.find(peer)?;
         self.lanes[at].into.take(rt)

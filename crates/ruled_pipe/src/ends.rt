@@ -1,6 +1,6 @@
 //! The two ends of a pipe.
 
-ghost use Rattle.std.specs.Prelude.{◌≡◌, ◌≤◌, ◌<◌, [], length, IfOk, IfErr, OnOk, OnErr, MatchOption};
+ghost use Rattle.std.specs.Prelude.{◌≡◌, ◌≤◌, ◌<◌, [], length, IsTrue, IfOk, IfErr, OnOk, OnErr, MatchOption};
 ghost use Rattle.ruled_pipe.specs.Ends.{end_at, with_item};
 ghost use Rattle.ruled_pipe.specs.Refusals.{refusal_of};
 
@@ -72,6 +72,15 @@ impl<T: Drop> PutEnd<T> {
         ensures err { OnErr result (self.new ≡ self.old) }
     {
         self.line.push_as::<Put, R>(rt, &mut self.seat, item)
+    }
+
+    /// Whether the pipe is full. It is only where this end had put at least as many items as the pipe holds. Nothing
+    /// changes.
+    pub fn is_full(&mut self) -> bool
+        ensures full { IsTrue result → self.old.room ≤ length self.old.items }
+        ensures same { self.new ≡ self.old }
+    {
+        self.line.is_full_as::<Put>(&mut self.seat)
     }
 }
 

@@ -1,6 +1,6 @@
 //! What a worker meets: its gate, its lines, and the desk at which it makes offers.
 
-ghost use Rattle.std.specs.Prelude.{◌≡◌, ◌<◌, ◌≤◌, ◌++◌, ◌∷◌, [], List, ℕ, length, OnOk, OnErr, IfErr, IsErr, IfOk, MatchOption};
+ghost use Rattle.std.specs.Prelude.{◌≡◌, ◌<◌, ◌≤◌, ◌++◌, ◌∷◌, [], List, ℕ, length, OnOk, OnErr, IfErr, IsErr, IsTrue, IfOk, MatchOption};
 ghost use Rattle.outbox.specs.declared.item.Item.{Item};
 ghost use Rattle.run_model.specs.Stamps.{Collected};
 ghost use Rattle.snap_collector.specs.Collecting.{made_by};
@@ -56,6 +56,15 @@ pub trait Lines {
         ensures ok { OnOk result (put_to self.new ≡ grown (put_to self.old) peer item) }
         ensures err { OnErr result (put_to self.new ≡ put_to self.old) }
         ensures full { OnErr result (room self.old peer ≤ length (put_to self.old peer)) }
+        ensures taken { taken_from self.new ≡ taken_from self.old }
+        ensures room { room self.new ≡ room self.old }
+        ensures wiring { wiring self.new ≡ wiring self.old };
+
+    /// Whether the line to a peer is full, or there is none. It is only where as many items were put as it holds at
+    /// most. Nothing changes.
+    fn is_full(&mut self, peer: Asn) -> bool
+        ensures full { IsTrue result → room self.old peer ≤ length (put_to self.old peer) }
+        ensures put { put_to self.new ≡ put_to self.old }
         ensures taken { taken_from self.new ≡ taken_from self.old }
         ensures room { room self.new ≡ room self.old }
         ensures wiring { wiring self.new ≡ wiring self.old };

@@ -44,9 +44,12 @@ impl<'a, L: Lines, D: Desk, G: Gate> Worker<'a, L, D, G> {
         let item = match self.router.next_item(peer) {
             Ok(Some(item)) => item,
             Ok(None) => return Ok(()),
+            Err(RouterError::Memory) if self.lines.is_full(peer) => return Ok(()),
             Err(error) => return passed_over(error),
         };
-        self.journal.events.reserve(1)?;
+        if self.journal.events.reserve(1).is_err() {
+            return self.wants_room(peer);
+        }
         match self.lines.put(rt, peer, item) {
             Ok(()) => {
                 self.router.item_put(peer);
