@@ -1,5 +1,5 @@
 -- A record is played to where the threads ended.
-use Rattle.std.proofs.Common.{◌≡◌, ℕ, suc, ◌+◌, ◌-◌, ◌^◌, ◌≤◌, arith, List, [], ◌∷◌, ◌++◌, length, map, refl, ap, sym, subst, ◌∙◌, inl, inr, Ok}
+use Rattle.std.proofs.Common.{◌≡◌, ℕ, suc, ◌-◌, ◌^◌, ◌≤◌, arith, List, [], ◌∷◌, ◌++◌, length, map, refl, ap, sym, subst, ◌∙◌, inl, inr, Ok}
 use Rattle.std.specs.Prelude.{codes}
 use Rattle.std.specs.List.{All, AllByRecursion, Contains}
 use Rattle.std.proofs.lemmas.List.{append-nil, length-append, length-map}
@@ -98,7 +98,7 @@ module _ (hold : HoldTimesFit) (feeds : LinesEndByLineFeeds) (one : OneNetwork) 
     RanIn g = IsRunOfThreads g (passed_in threads.ways) threads.workers threads.gathered
 
     ran : (g : Setting) → g.net ≡ t.net → IsSetting g → RanIn g
-    ran g e set = (t.prints.promises g e set).run
+    ran g e set = (t.prints.threads.promises g e set).run
 
     -- they may stand in lines
     may : (g : Setting) → g.net ≡ t.net → IsSetting g → AllByRecursion (MaySay t.net) events

@@ -9,8 +9,6 @@ use Rattle.world_core.specs.declared.schedule.Event.{Event}
 use Rattle.schedule_text.specs.Events.{event_line}
 use Rattle.worker_loop.specs.declared.journal.Entry.{Entry}
 use Rattle.net_workers.specs.declared.record.RunFault.TheVariants as fault
-use Rattle.net_workers.specs.Runs.{RunKeepsPromises}
-use Rattle.net_workers.specs.Ways.{passed_in}
 use Rattle.text_engines.specs.declared.status.TheConstants.{DONE}
 use Rattle.text_engines.specs.declared.transfer.TheConstants.{INPUT_LIMIT}
 use Rattle.text_engines.specs.Decoding.{Output, output, refused, memory_output}
@@ -42,7 +40,6 @@ record_output lines events = output (record_text lines events) DONE
 -- of the network that keeps the promises of runs
 pub record PrintsRecord (options : RunOptions) (lines : List Text) (net : Plan) (out : Output) : Type 0 where
   pub threads : RunRecord options net
-  pub promises : RunKeepsPromises net (passed_in threads.ways) threads.workers threads.collector threads.gathered
   pub printed : out ≡ record_output lines (events_of threads.gathered)
 
 -- for the network that these lines spell

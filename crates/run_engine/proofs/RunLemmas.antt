@@ -1,5 +1,5 @@
 -- What a network in threads prints, by what its collector says of the run.
-use Rattle.std.proofs.Common.{◌≡◌, ◌≢◌, ℕ, zero, suc, arith, ◌<◌, ◌≤◌, Bool, true, false, ◌&&◌, List, [], ◌∷◌, ◌++◌, map, length, drop, get_or, ◌+◌, codes, Option, Some, None, refl, sym, ap, subst, ◌∙◌, ◌⊎◌, ◌↔◌, inl, inr}
+use Rattle.std.proofs.Common.{◌≡◌, ◌≢◌, ℕ, zero, suc, arith, ◌<◌, ◌≤◌, Bool, true, false, ◌&&◌, List, [], ◌∷◌, ◌++◌, map, length, drop, get_or, ◌+◌, Option, Some, None, refl, sym, ap, subst, ◌∙◌, ◌⊎◌, ◌↔◌, inl, inr}
 use Rattle.std.specs.Prelude.{◌==◌, ◌||◌, slice_index_or}
 use Rattle.std.specs.List.{flat_map, list_all, list_any, Any}
 use Rattle.std.proofs.lemmas.Bool.{and_parts, eq-eqb, cases_lt}
@@ -13,12 +13,12 @@ use Rattle.run_model.specs.Offers.{HasOutcome, Outcome, Waiting, Abandoned, Movi
 use Rattle.bgp_codec.specs.declared.message.Message.{Message}
 use Rattle.snap_marker.specs.Recordings.{RouterPart, MadeOffer}
 use Rattle.snap_collector.specs.Collecting.{member_of}
-use Rattle.snap_collector.specs.Collector.{CollectorView, made_for, kept_of, with_offers}
+use Rattle.snap_collector.specs.Collector.{CollectorView, made_for, kept_of}
 use Rattle.snap_collector.specs.Flights.{is_whole}
 use Rattle.snap_collector.specs.Verdicts.{Member, verdict}
 use Rattle.router_model.specs.Settings.{Setting, IsSetting, is_router, names}
 use Rattle.router_runs.specs.Model.{network_of}
-use Rattle.router_runs.specs.Runs.{RunOrder, RunState, IsRunTo}
+use Rattle.router_runs.specs.Runs.{RunState}
 use Rattle.router_runs.specs.Snapshots.{ComesOut, HaveMade}
 use Rattle.world_core.specs.Verdicts.{judged, members_of, MembersAreTheRouters}
 use Rattle.worker_loop.specs.declared.chore.Chore.{Chore}
@@ -29,14 +29,13 @@ use Rattle.net_workers.specs.Ran.{AreLimits}
 use Rattle.net_workers.specs.Ways.{passed_in}
 use Rattle.net_workers.specs.Runs.{KeepsPromises}
 use Rattle.run_engine.specs.declared.chores.RunOptions.{RunOptions}
-use Rattle.run_engine.specs.declared.gates.RunGate.{RunGate}
 use Rattle.run_engine.specs.declared.settled.Demand.{Demand}
 use Rattle.run_engine.specs.declared.settled.Demand.TheVariants.{AsRecorded, EveryOrigin}
 use Rattle.text_engines.specs.declared.status.TheConstants.{DONE}
 use Rattle.text_engines.specs.Decoding.{Output, output}
 use Rattle.text_engines.specs.Checking.{at_prefix}
 use Rattle.play_engine.specs.Reporting.{recorded, part_text, parts_text, router_text}
-use Rattle.run_engine.specs.Running.{HasSetting, ThreadsRecord, parts_routes, EveryOriginOriginates, Meets, IsPassedOver, SettlesOn, SettlesOnNone, PrintsRoutes, PrintsUnsettled, PrintsStableRoutes, SnapshotsGive, is_settled, decided_by, says, all_originate, meets, is_wanted, IsFirstWanted, CollectorGives, IsRefusedInside, ThreadsGive, IsFaultOfRun, RunGives, faulty}
+use Rattle.run_engine.specs.Running.{HasSetting, ThreadsRecord, Meets, IsPassedOver, SettlesOn, SettlesOnNone, PrintsRoutes, PrintsUnsettled, PrintsStableRoutes, SnapshotsGive, is_settled, decided_by, says, all_originate, meets, is_wanted, IsFirstWanted, CollectorGives, IsRefusedInside, ThreadsGive, IsFaultOfRun, RunGives, faulty}
 use Rattle.run_engine.specs.Gates.{HasRoom, Told, given_by, told_of, told_each, spacing_of}
 use Rattle.play_engine.proofs.SettledLemmas.{AreOffersOf, parts_in, the_part, printed_is, have_made}
 

@@ -1,5 +1,5 @@
 -- What is printed for a network that runs in threads.
-use Rattle.std.specs.Prelude.{◌≡◌, ◌≢◌, ℕ, ◌<◌, ◌≤◌, ◌⊎◌, Bool, true, false, ◌&&◌, List, [], ◌∷◌, ◌++◌, length, map, codes, Option, None, Some}
+use Rattle.std.specs.Prelude.{◌≡◌, ◌≢◌, ℕ, ◌<◌, ◌≤◌, ◌⊎◌, Bool, true, false, ◌&&◌, List, ◌++◌, length, map, codes, Option, None, Some}
 use Rattle.std.specs.List.{flat_map, list_all}
 use Rattle.prefix_lanes.specs.Bits.{PrefixView}
 use Rattle.ranked_policy.specs.Plans.{Plan, IsOrigin}

@@ -20,8 +20,8 @@ returns-in-Ok g c =
           recorded = c.in-Ok.ensures.recorded;
           pipes = c.in-Ok.ensures.ways;
           gates = c.in-Ok.ensures.told;
+          promises = c.in-Ok.ensures.promises;
         };
-        promises = c.in-Ok.ensures.promises;
         printed = rw c.as_slice.ensures.value at is;
       }),
     ))

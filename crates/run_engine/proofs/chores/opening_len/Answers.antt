@@ -1,4 +1,4 @@
-use Rattle.std.proofs.Common.{arith, length, ◌+◌, ◌≡◌}
+use Rattle.std.proofs.Common.{arith}
 use Rattle.std.proofs.lemmas.List.Sums.{count_by-le-length}
 use Rattle.run_engine.proofs.GateLemmas.{opening_len, is_peer, is_of}
 use Rattle.run_engine.proofs.chores.opening_len.Goals as goal

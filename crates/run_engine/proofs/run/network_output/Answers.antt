@@ -20,8 +20,9 @@ returns-in-Ok g c =
       recorded = c.in-Ok.ensures.recorded;
       pipes = c.in-Ok.ensures.ways;
       gates = c.in-Ok.ensures.told;
+      promises = c.in-Ok.ensures.promises;
     })
-    c.in-Ok.ensures.promises options.snapshots (output printed.0.items printed.1) gives))
+    options.snapshots (output printed.0.items printed.1) gives))
     c.settled_output.ensures
 
 pub returns-in-Err : goal.returns-in-Err

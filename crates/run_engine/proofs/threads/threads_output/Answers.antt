@@ -1,5 +1,5 @@
-use Rattle.std.proofs.Common.{inr, inl, sym, ap, subst}
-use Rattle.text_engines.specs.Decoding.{Output, output}
+use Rattle.std.proofs.Common.{inr}
+use Rattle.text_engines.specs.Decoding.{output}
 use Rattle.run_engine.specs.declared.settled.Demand.TheVariants.{AsRecorded}
 use Rattle.text_engines.proofs.CheckLemmas.{if_ok, both_ok}
 use Rattle.run_engine.proofs.RunLemmas.{snapshots_give, fault_gives}

@@ -1,4 +1,3 @@
-use Rattle.run_engine.specs.Gates.{told_of}
 use Rattle.run_engine.proofs.GateLemmas.{are_chores}
 use Rattle.run_engine.proofs.gates.RunGate.new.Goals as goal
 

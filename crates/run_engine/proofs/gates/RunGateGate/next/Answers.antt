@@ -1,6 +1,6 @@
 use Rattle.std.proofs.Common.{◌∙◌, ap, List}
 use Rattle.worker_loop.specs.declared.chore.Chore.{Chore}
-use Rattle.run_engine.specs.Gates.{Told, told_of, chore_at}
+use Rattle.run_engine.specs.Gates.{told_of, chore_at}
 use Rattle.run_engine.proofs.GateLemmas.{next_is}
 use Rattle.run_engine.proofs.gates.RunGateGate.next.Goals as goal
 
