@@ -1,5 +1,5 @@
 -- What ends a worker.
-use Rattle.std.proofs.Common.{◌≡◌, ℕ, ◌+◌, ◌<◌, ◌≤◌, arith, Bool, true, false, ◌&&◌, List, [], ◌∷◌, ◌++◌, length, get_or, length-append, refl, ap, sym, ◌∙◌, subst, Option, None, Some}
+use Rattle.std.proofs.Common.{IfOk, ◌≡◌, ℕ, ◌+◌, ◌<◌, ◌≤◌, arith, Bool, true, false, ◌&&◌, List, [], ◌∷◌, ◌++◌, length, get_or, length-append, refl, ap, sym, ◌∙◌, subst, Option, None, Some}
 use Rattle.std.specs.Prelude.{Result, Ok, Err, IsOk, IsErrAnd, OnOk, OnErr, IfErr, nat_lt}
 use Rattle.std.proofs.lemmas.Bool.{eq-eqb}
 use Rattle.std.specs.List.{Contains}
@@ -33,6 +33,14 @@ has_room (Err why) h = absurd (let k = h in cc)
 pub if_err : {T E : Type 0} → (r : Result T E) (P Q : E → Type 0) → ((e : E) → P e → Q e) → IsErrAnd r P → IfErr r Q
 if_err (Ok x) P Q f h = tt
 if_err (Err e) P Q f h = f e h
+
+pub err_so : {T E : Type 0} → (r : Result T E) (P Q : E → Type 0) → ((e : E) → P e → Q e) → IfErr r P → IfErr r Q
+err_so (Ok x) P Q f h = tt
+err_so (Err e) P Q f h = f e h
+
+pub ok_so : {T E : Type 0} → (r : Result T E) (P : Type 0) (Q : T → Type 0) → ((x : T) → P → Q x) → OnOk r P → IfOk r Q
+ok_so (Ok x) P Q f h = f x h
+ok_so (Err e) P Q f h = tt
 
 pub on_err : {T E : Type 0} → (r : Result T E) (P : Type 0) → P → OnErr r P
 on_err (Ok x) P h = tt

@@ -8,9 +8,9 @@ use Rattle.snap_marker.specs.Recordings.{RouterOffer, MadeOffer}
 use Rattle.router_model.specs.declared.refusal.RouterError.{RouterError}
 use Rattle.router_model.specs.declared.refusal.RouterError.TheVariants as error
 use Rattle.router_model.specs.declared.refusal.Stepped.TheVariants as stepped
-use Rattle.router_model.specs.Settings.{Setting, IsSetting}
+use Rattle.router_model.specs.Settings.{Setting, IsSetting, linked}
 use Rattle.router_model.specs.Step.{Own, RouterEvent, Step, next_offer}
-use Rattle.router_model.specs.Calls.{Stamped, Call, Put, Take, Answer, Steps, Idle, Refuses, answer, stamp_of, Gives, judged, bars, overflows_at, event_of, offer_made, IsEventOf}
+use Rattle.router_model.specs.Calls.{Stamped, Call, Put, Take, Answer, Steps, Idle, Refuses, answer, stamp_of, Gives, judged, unless, bars, overflows_at, event_of, offer_made, IsEventOf}
 use Rattle.run_model.specs.declared.stamps.TheConstants.{GREATEST_STAMP}
 use Rattle.router_model.specs.Laws.{AnswersAreSteps}
 use Rattle.router_core.specs.declared.router.call.Call as core
@@ -137,6 +137,30 @@ full_by g u v s a b item (Refuses why) is h full router rests events = absurd (l
 pub put_full : (g : Setting) (u v s : ℕ) (a b : Seen) (item : Item) → Shows s (Ok (Some item)) (answer g u a.router (Put v)) → a.room v ≤ length (a.put v)
     → b.router ≡ a.router → Rests a b → b.events ≡ a.events → (acts : List Act) × Puts g u v a acts b
 put_full g u v s a b item h full router rests events = full_by g u v s a b item (answer g u a.router (Put v)) refl h full router rests events
+
+never_memory : (link : Bool) (event : Option RouterEvent) (ends over : Bool) → judged (unless link error.NoSuchPeer) event ends over ≡ Refuses error.Memory → ⊥
+never_memory false event ends over e = absurd cc
+never_memory true None ends over e = absurd cc
+never_memory true (Some v) true over e = absurd cc
+never_memory true (Some v) false true e = absurd cc
+never_memory true (Some v) false false e = absurd cc
+
+wanting_by : (g : Setting) (u v s : ℕ) (a b : Seen) (r : Answer) → answer g u a.router (Put v) ≡ r → Shows s (Err error.Memory) r → a.room v ≤ length (a.put v)
+    → b.router ≡ a.router → Rests a b → b.events ≡ a.events → (acts : List Act) × Puts g u v a acts b
+wanting_by g u v s a b (Steps (puts w i)) is h full router rests events =
+    ([], record { only = inr (refl, full); goes_on = ap goes_on is; does = does_none g u a b router rests events })
+wanting_by g u v s a b (Steps (alone e)) is h full router rests events = absurd h
+wanting_by g u v s a b (Steps (takes w i)) is h full router rests events = absurd h
+wanting_by g u v s a b (Steps (offers o)) is h full router rests events = absurd h
+wanting_by g u v s a b Idle is h full router rests events = absurd (let k = h in cc)
+wanting_by g u v s a b (Refuses other) is h full router rests events =
+    let same : other ≡ error.Memory = (let k = h in cc) in
+    absurd (never_memory (linked g.net u v) _ _ _ (is ∙ ap Refuses same))
+
+-- memory was wanting for the copy of the item, and the line is full
+pub put_wanting : (g : Setting) (u v s : ℕ) (a b : Seen) → Shows s (Err error.Memory) (answer g u a.router (Put v)) → a.room v ≤ length (a.put v)
+    → b.router ≡ a.router → Rests a b → b.events ≡ a.events → (acts : List Act) × Puts g u v a acts b
+put_wanting g u v s a b h full router rests events = wanting_by g u v s a b (answer g u a.router (Put v)) refl h full router rests events
 
 put_by : (g : Setting) (u v : ℕ) (a b : Seen) (item : Item) (r : Answer) → AnswersAreSteps → IsSetting g → answer g u a.router (Put v) ≡ r
     → Gives g u (Ok stepped.Did) r a.router (Put v) b.router → Shows (a.router.stamp + 1) (Ok (Some item)) r

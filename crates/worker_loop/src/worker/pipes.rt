@@ -1,6 +1,6 @@
 //! What the router of a worker puts and takes.
 
-ghost use Rattle.std.specs.Prelude.{◌≡◌};
+ghost use Rattle.std.specs.Prelude.{◌≡◌, ◌≤◌, length, OnOk, IfErr};
 ghost use Rattle.worker_loop.specs.Ending.{lost};
 
 use super::{Worker, WorkerFault, note, passed_over};
@@ -27,6 +27,21 @@ fn lost(error: RouterError) -> WorkerFault
     }
 }
 
+// What a put is for which memory is wanting: nothing to do where the line is full, and else the worker's end.
+fn full_or_ended<L: Lines>(lines: &mut L, peer: Asn) -> Result<(), WorkerFault>
+    ensures full { OnOk result (L.room lines.old peer ≤ length (L.put_to lines.old peer)) }
+    ensures memory { IfErr result (λ why. why ≡ WorkerFault.Memory) }
+    ensures put { L.put_to lines.new ≡ L.put_to lines.old }
+    ensures taken { L.taken_from lines.new ≡ L.taken_from lines.old }
+    ensures room { L.room lines.new ≡ L.room lines.old }
+    ensures wiring { L.wiring lines.new ≡ L.wiring lines.old }
+{
+    if lines.is_full(peer) {
+        return Ok(());
+    }
+    Err(WorkerFault::Memory)
+}
+
 impl<'a, L: Lines, D: Desk, G: Gate> Worker<'a, L, D, G> {
     ghost use Rattle.std.specs.Prelude.{◌≡◌, IfOk, IfErr};
     ghost use Rattle.router_model.specs.Calls.{Put};
@@ -44,11 +59,11 @@ impl<'a, L: Lines, D: Desk, G: Gate> Worker<'a, L, D, G> {
         let item = match self.router.next_item(peer) {
             Ok(Some(item)) => item,
             Ok(None) => return Ok(()),
-            Err(RouterError::Memory) if self.lines.is_full(peer) => return Ok(()),
+            Err(RouterError::Memory) => return full_or_ended(&mut self.lines, peer),
             Err(error) => return passed_over(error),
         };
         if self.journal.events.reserve(1).is_err() {
-            return self.wants_room(peer);
+            return full_or_ended(&mut self.lines, peer);
         }
         match self.lines.put(rt, peer, item) {
             Ok(()) => {

@@ -1,8 +1,9 @@
-use Rattle.std.proofs.Common.{◌∙◌, ap, refl, ◌++◌, ◌∷◌, [], ℕ, ◌+◌}
+use Rattle.std.proofs.Common.{◌∙◌, ap, sym, refl, ◌++◌, ◌∷◌, [], ℕ, ◌+◌, Some}
+use Rattle.router_model.specs.declared.refusal.RouterError.TheVariants as error
 use Rattle.world_core.specs.declared.schedule.Event.TheVariants.{Put}
 use Rattle.worker_loop.specs.Whole.{entry}
-use Rattle.worker_loop.proofs.Ending.{put_ends, put_wants, if_err}
-use Rattle.worker_loop.proofs.Trying.{put_none, put_barred, put_full, put_did, if_passed}
+use Rattle.worker_loop.proofs.Ending.{put_ends, put_wants, err_so, ok_so}
+use Rattle.worker_loop.proofs.Trying.{put_none, put_barred, put_full, put_wanting, put_did, if_passed}
 use Rattle.worker_loop.proofs.worker.Worker.try_put.Goals.{in-Ok, in-Err-put}
 use Rattle.worker_loop.proofs.worker.Worker.try_put.Goals as goal
 
@@ -36,7 +37,29 @@ returns-clause-done g c =
 pub returns-in-Err-clause-ended : goal.returns-in-Err-clause-ended
 returns-in-Err-clause-ended g c = rw c.passed_over.ensures (put_ends c.args.self.now.router c.args.peer c.in-Err.error c.in-Err.ensures)
 
-pub returns-in_err-reserve-clause-ended : goal.returns-in_err-reserve-clause-ended
-returns-in_err-reserve-clause-ended g c =
+-- memory was wanting: nothing is put where the line is full
+pub returns-in-Err-Memory-clause-done : goal.returns-in-Err-Memory-clause-done
+returns-in-Err-Memory-clause-done g c =
+    let shows = rw c.in-Err-Memory.field-0-is at c.in-Err-Memory.ensures in
+    ok_so c.full_or_ended.result _ _
+    (λ done full k net set. put_wanting k c.args.self.now.router.number c.args.peer (c.args.self.now.router.stamp + 1) _ _ (shows k net) full
+    refl (record { put = c.full_or_ended.ensures.put; taken = c.full_or_ended.ensures.taken; room = c.full_or_ended.ensures.room; made = refl }) refl)
+    c.full_or_ended.ensures.full
+
+pub returns-in-Err-Memory-clause-ended : goal.returns-in-Err-Memory-clause-ended
+returns-in-Err-Memory-clause-ended g c =
+    let shows = rw c.in-Err-Memory.field-0-is at c.in-Err-Memory.ensures in
+    err_so c.full_or_ended.result _ _ (λ why is k net set. put_ends c.args.self.now.router c.args.peer error.Memory shows k net set ∙ ap Some (sym is)) c.full_or_ended.ensures.memory
+
+pub returns-then-is_err-clause-done : goal.returns-then-is_err-clause-done
+returns-then-is_err-clause-done g c =
     let shows = rw c.in-Ok-Some.field-0-is at c.in-Ok-Some.ensures in
-    if_err c.from_residual.result _ _ (λ ends is. put_wants c.args.self.now.router c.args.peer c.in-Ok-Some.item ends shows is) c.from_residual.ensures.1
+    ok_so c.full_or_ended-then-is_err.result _ _
+    (λ done full k net set. put_full k c.args.self.now.router.number c.args.peer _ _ _ c.in-Ok-Some.item (shows k net) full
+    refl (record { put = c.full_or_ended-then-is_err.ensures.put; taken = c.full_or_ended-then-is_err.ensures.taken; room = c.full_or_ended-then-is_err.ensures.room; made = refl }) c.reserve.ensures.items)
+    c.full_or_ended-then-is_err.ensures.full
+
+pub returns-then-is_err-clause-ended : goal.returns-then-is_err-clause-ended
+returns-then-is_err-clause-ended g c =
+    let shows = rw c.in-Ok-Some.field-0-is at c.in-Ok-Some.ensures in
+    err_so c.full_or_ended-then-is_err.result _ _ (λ why is. put_wants c.args.self.now.router c.args.peer c.in-Ok-Some.item why shows is) c.full_or_ended-then-is_err.ensures.memory
