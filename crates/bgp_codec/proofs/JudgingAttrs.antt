@@ -213,13 +213,13 @@ attr_adds width a b attr value e =
 -- ---- what is remembered
 
 -- a mark more
-marked : (width : Width) (came : Came) (a b : Attrs) (code : ℕ) (value : List ℕ) → code < 256 → Remembers came a → Adds width code value a b
-    → (k : ℕ) → k < 256 → get_or (set came.codes code true) k false ≡ has_code b k
-marked width came a b code value small r adds k h =
+pub marked : (width : Width) (codes : List Bool) (a b : Attrs) (code : ℕ) (value : List ℕ) → code < 256 → length codes ≡ 256 → ((k : ℕ) → k < 256 → get_or codes k false ≡ has_code a k) → Adds width code value a b
+    → (k : ℕ) → k < 256 → get_or (set codes code true) k false ≡ has_code b k
+marked width codes a b code value small all marks adds k h =
     elim (cases_eq k code) [
       | inl same ↦
-          ap (λ (j : ℕ). get_or (set came.codes code true) j false) same ∙ get_or-set_same came.codes code true false (omega (arith, r.marks)) ∙ sym adds.same ∙ ap (has_code b) (sym same)
-      | inr other ↦ get_or-set_other came.codes code k true false other ∙ r.codes k h ∙ sym (adds.others k other)
+          ap (λ (j : ℕ). get_or (set codes code true) j false) same ∙ get_or-set_same codes code true false (omega (arith, all)) ∙ sym adds.same ∙ ap (has_code b) (sym same)
+      | inr other ↦ get_or-set_other codes code k true false other ∙ marks k h ∙ sym (adds.others k other)
     ]
 
 -- a path came
@@ -231,7 +231,7 @@ path_remembered width came a b first attr value small two is r e =
     let p = adds.path two in
     record {
       marks = length-set came.codes (slice_index attr 1) true ∙ r.marks;
-      codes = marked width came a b (slice_index attr 1) value small r adds;
+      codes = marked width came.codes a b (slice_index attr 1) value small r.marks r.codes adds;
       first = is p.0 p.1 ∙ ap (λ (o : Option (List Segment)). first_number (path_numbers o)) (sym p.2);
     }
 
@@ -242,7 +242,7 @@ other_remembered width came a b attr value small no_path r e =
     let adds = attr_adds width a b attr value e in
     record {
       marks = length-set came.codes (slice_index attr 1) true ∙ r.marks;
-      codes = marked width came a b (slice_index attr 1) value small r adds;
+      codes = marked width came.codes a b (slice_index attr 1) value small r.marks r.codes adds;
       first = r.first ∙ ap (λ (o : Option (List Segment)). first_number (path_numbers o)) (sym (adds.kept no_path));
     }
 
@@ -253,7 +253,7 @@ pass_on true c e = refl
 pass_on false c e = e
 
 -- no code is there
-none_there : (k : ℕ) → has_code no_attrs k ≡ false
+pub none_there : (k : ℕ) → has_code no_attrs k ≡ false
 none_there k =
     pass_on (k == 1) _ (pass_on (k == 2) _ (pass_on (k == 3) _ (pass_on (k == 4) _ (pass_on (k == 5) _ (pass_on (k == 6) _ (pass_on (k == 7) false refl))))))
 

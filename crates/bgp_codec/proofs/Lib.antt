@@ -23,4 +23,5 @@ pub mod ReadingLemmas
 pub mod ReadWritable
 pub mod JudgingLemmas
 pub mod JudgingAttrs
+pub mod GatherLemmas
 pub mod DecodingLemmas

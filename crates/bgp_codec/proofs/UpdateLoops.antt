@@ -1,11 +1,10 @@
 -- Loops over the parts of an UPDATE: one item more, and the lengths of what is written.
-use Rattle.std.proofs.Common.{◌≡◌, ℕ, ◌+◌, ◌-◌, ◌*◌, ◌<◌, ◌≤◌, Bool, true, false, cond, List, [], ◌∷◌, ◌++◌, length, take, drop, filter, get_or, insert, Option, Some, None, is_some, refl, sym, ap, subst, ◌∙◌, append_assoc, arith}
-use Rattle.std.specs.Prelude.{◌↔◌, nat_lt}
+use Rattle.std.proofs.Common.{◌≡◌, ℕ, ◌+◌, ◌-◌, ◌*◌, ◌<◌, ◌≤◌, Bool, true, false, cond, List, [], ◌∷◌, ◌++◌, length, take, drop, filter, get_or, Option, Some, None, is_some, refl, sym, ap, subst, ◌∙◌, append_assoc, arith}
+use Rattle.std.specs.Prelude.{◌↔◌}
 use Rattle.std.specs.Option.{option_map}
 use Rattle.std.specs.List.{flat_map, AllByRecursion}
 use Rattle.std.specs.Int.{w32, to_be_bytes}
-use Rattle.std.proofs.lemmas.Bool.{le-ltb, lt-ltb}
-use Rattle.std.proofs.lemmas.List.{length-append, take_all, drop_all}
+use Rattle.std.proofs.lemmas.List.{length-append, take_all}
 use Rattle.std.proofs.lemmas.List.Concat.{flat_map-append}
 use Rattle.bgp_values.specs.declared.width.Width.{Width}
 use Rattle.bgp_values.specs.declared.width.Width.TheVariants.{Two, Four}
@@ -15,8 +14,7 @@ use Rattle.bgp_codec.specs.declared.attributes.Aggregator.{Aggregator}
 use Rattle.bgp_codec.specs.declared.attributes.Raw.{Raw}
 use Rattle.bgp_codec.specs.declared.path.Segment.{Segment}
 use Rattle.bgp_codec.specs.Updates.{segment_octets, path_octets, IsRising, raw_octets, attrs_octets, stands, given, aggregator_raw}
-use Rattle.bgp_codec.specs.UpdateReading.{put_raw}
-use Rattle.bgp_codec.proofs.OpenLoops.{drop_one, take_one}
+use Rattle.bgp_codec.proofs.OpenLoops.{take_one}
 use Rattle.bgp_codec.proofs.PathLemmas.{length_numbers}
 
 -- ---- what holds of each item
@@ -61,32 +59,6 @@ rising_on all (x ∷ y ∷ rest) r s one two er es lt inv =
     let lower : x.code < y.code = omega (arith, ap (λ (q : Raw). q.code) er, ap (λ (q : Raw). q.code) first, lt) in
     let pair = rising_pair x y rest lower in
     subst (λ (rs : List Raw). IsRising all ↔ IsRising rs) (sym whole) (λ a. pair.0 (inv.0 a), λ b. inv.1 (pair.1 b))
-
--- those before a place are of no greater code
-pub place_on : (raws : List Raw) (i code : ℕ) (s : Raw) → i < length raws → s ≡ get_or raws i s → s.code ≤ code
-    → ((r : Raw) → r.code ≡ code → put_raw r raws ≡ take i raws ++ put_raw r (drop i raws)) → (r : Raw) → r.code ≡ code → put_raw r raws ≡ take (i + 1) raws ++ put_raw r (drop (i + 1) raws)
-place_on raws i code s lt is le inv r e =
-    let past : nat_lt r.code s.code ≡ false = le-ltb r.code s.code (omega (arith, e)) in
-    inv r e ∙ ap (λ (rs : List Raw). take i raws ++ put_raw r rs) (drop_one raws i s lt is)
-    ∙ ap (λ (b : Bool). take i raws ++ cond b (r ∷ s ∷ drop (i + 1) raws) (s ∷ put_raw r (drop (i + 1) raws))) past
-    ∙ sym (append_assoc (take i raws) (s ∷ []) (put_raw r (drop (i + 1) raws))) ∙ ap (λ (rs : List Raw). rs ++ put_raw r (drop (i + 1) raws)) (sym (take_one raws i s lt is))
-
--- and the first of a greater code stands at it
-pub place_found : (raws : List Raw) (i code : ℕ) (s : Raw) → i < length raws → s ≡ get_or raws i s → code < s.code
-    → ((r : Raw) → r.code ≡ code → put_raw r raws ≡ take i raws ++ put_raw r (drop i raws)) → (r : Raw) → r.code ≡ code → put_raw r raws ≡ insert raws i r
-place_found raws i code s lt is above inv r e =
-    let here : nat_lt r.code s.code ≡ true = lt-ltb r.code s.code (omega (arith, e)) in
-    inv r e ∙ ap (λ (rs : List Raw). take i raws ++ put_raw r rs) (drop_one raws i s lt is)
-    ∙ ap (λ (b : Bool). take i raws ++ cond b (r ∷ s ∷ drop (i + 1) raws) (s ∷ put_raw r (drop (i + 1) raws))) here
-    ∙ ap (λ (rs : List Raw). take i raws ++ r ∷ rs) (sym (drop_one raws i s lt is))
-
--- where there is none it stands behind all
-pub place_end : (raws : List Raw) (i code : ℕ) → length raws ≤ i → i ≤ length raws
-    → ((r : Raw) → r.code ≡ code → put_raw r raws ≡ take i raws ++ put_raw r (drop i raws)) → (r : Raw) → r.code ≡ code → put_raw r raws ≡ insert raws (length raws) r
-place_end raws i code le ge inv r e =
-    let same : i ≡ length raws = omega arith in
-    inv r e ∙ ap (λ (k : ℕ). take k raws ++ put_raw r (drop k raws)) same ∙ ap (λ (rs : List Raw). take (length raws) raws ++ put_raw r rs) (drop_all (length raws) raws (omega arith))
-    ∙ ap (λ (rs : List Raw). take (length raws) raws ++ r ∷ rs) (sym (drop_all (length raws) raws (omega arith)))
 
 -- ---- all attributes
 

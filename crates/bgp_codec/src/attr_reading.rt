@@ -1,11 +1,11 @@
 //! The reader of attributes (RFC 4271 sections 4.3 and 6.3): one after the other, each with all its
 //! checks.
 
-ghost use Rattle.std.specs.Prelude.{◌≡◌, true, IfErr, insert, slice_index, ◌==◌, ◌≤◌, length};
-ghost use Rattle.std.specs.List.{list_any};
+ghost use Rattle.std.specs.Prelude.{◌≡◌, List, true, false, IfErr, OnOk, slice_index, ◌≤◌, length};
 ghost use Rattle.bgp_codec.specs.Reading.{Gives, IsNoWant};
 ghost use Rattle.bgp_codec.specs.AttrTable.{is_known};
-ghost use Rattle.bgp_codec.specs.UpdateReading.{is_extended, head_size, value_size, attr_at, has_code, put_raw, with_value, with_attr, other_reading, attrs_reading};
+ghost use Rattle.bgp_codec.specs.UpdateReading.{is_extended, head_size, value_size, attr_at, has_code, with_other, with_value, with_attr, other_reading, attrs_reading};
+ghost use Rattle.bgp_codec.specs.Gathering.{in_order, Marks};
 ghost use Rattle.bgp_codec.specs.declared.attributes.Raw.{Raw};
 
 use crate::attributes::{
@@ -56,61 +56,17 @@ pub(crate) fn read_attr(alloc: Global, octets: &[u8]) -> Result<(&[u8], &[u8], &
     Ok((attr, value, rest))
 }
 
-// Whether one of them has this code.
-fn any_has_code(raws: &[Raw], code: u8) -> bool
-    ensures { result ≡ list_any (λ r. r.code == code) raws.now }
-{
-    for raw in raws {
-        if raw.code == code {
-            return true;
-        }
-    }
-    false
-}
-
-// Whether an attribute of this code is there.
-fn has_code(attrs: &Attrs, code: u8) -> bool
-    ensures { result ≡ has_code attrs.now code }
-{
-    match code {
-        ORIGIN => attrs.origin.is_some(),
-        AS_PATH => attrs.path.is_some(),
-        NEXT_HOP => attrs.next_hop.is_some(),
-        MULTI_EXIT_DISC => attrs.med.is_some(),
-        LOCAL_PREF => attrs.local_pref.is_some(),
-        ATOMIC_AGGREGATE => attrs.atomic,
-        AGGREGATOR => attrs.aggregator.is_some(),
-        _ => any_has_code(attrs.other.as_slice(), code),
-    }
-}
-
-// The place of the first of a greater code.
-fn place_of(raws: &[Raw], code: u8) -> usize
-    ensures within { result ≤ length raws.now }
-    ensures place { (r : Raw) → r.code ≡ code → put_raw r raws.now ≡ insert raws.now result r }
-{
-    for (place, raw) in raws.iter().enumerate() {
-        if code < raw.code {
-            return place;
-        }
-    }
-    raws.len()
-}
-
-// Takes an attribute that the table does not know.
+// Takes an attribute that the table does not know, behind those that came before it.
 fn add_other(alloc: Global, attrs: &mut Attrs, attr: &[u8], value: &[u8]) -> Result<(), CodecError>
-    ensures { Gives (λ _. attrs.new) result (other_reading attrs.old attr.now value.now) }
+    ensures { Gives (λ _. in_order attrs.new) result (other_reading (in_order attrs.old) attr.now value.now) }
 {
     let (flags, code) = (octet_at(attr, 0), octet_at(attr, 1));
     if flags < OPTIONAL {
         return Err(attr_fault(alloc, UNRECOGNIZED_WELL_KNOWN_ATTRIBUTE, attr));
     }
     let value = Octets::from_slice(alloc, value)?;
-    let place = place_of(attrs.other.as_slice(), code);
     let flags = high_flags(flags);
-    attrs
-        .other
-        .insert(alloc, place, Raw { flags, code, value })?;
+    attrs.other.push(alloc, Raw { flags, code, value })?;
     Ok(())
 }
 
@@ -123,7 +79,8 @@ fn add_value(
     value: &[u8],
 ) -> Result<(), CodecError>
     requires { is_known (slice_index attr.now 1) ≡ true }
-    ensures { Gives (λ _. attrs.new) result (with_value width attrs.old attr.now value.now) }
+    ensures value { (rs : List Raw) → Gives (λ _. with_other attrs.new rs) result (with_value width (with_other attrs.old rs) attr.now value.now) }
+    ensures other { attrs.new.other ≡ attrs.old.other }
 {
     match octet_at(attr, 1) {
         ORIGIN => {
@@ -156,21 +113,19 @@ fn add_value(
     Ok(())
 }
 
-// Takes one attribute more: no repeat of a code, an unknown one is optional, then its flags, its
-// length and its value by the table.
-fn add_attr(
+// Takes an attribute whose code did not come before: an unknown one is optional, then its flags,
+// its length and its value by the table.
+fn add_new(
     alloc: Global,
     width: Width,
     attrs: &mut Attrs,
     attr: &[u8],
     value: &[u8],
 ) -> Result<(), CodecError>
-    ensures { Gives (λ _. attrs.new) result (with_attr width attrs.old attr.now value.now) }
+    requires { has_code (in_order attrs.old) (slice_index attr.now 1) ≡ false }
+    ensures { Gives (λ _. in_order attrs.new) result (with_attr width (in_order attrs.old) attr.now value.now) }
 {
     let (flags, code) = (octet_at(attr, 0), octet_at(attr, 1));
-    if has_code(attrs, code) {
-        return Err(update_fault(alloc, MALFORMED_ATTRIBUTE_LIST));
-    }
     if !is_known(code) {
         return add_other(alloc, attrs, attr, value);
     }
@@ -181,6 +136,28 @@ fn add_attr(
         return Err(attr_fault(alloc, ATTRIBUTE_LENGTH_ERROR, attr));
     }
     add_value(alloc, width, attrs, attr, value)
+}
+
+// Takes one attribute more: no repeat of a code, of which each that came has a mark.
+fn add_attr(
+    alloc: Global,
+    width: Width,
+    attrs: &mut Attrs,
+    came: &mut [bool; 256],
+    attr: &[u8],
+    value: &[u8],
+) -> Result<(), CodecError>
+    requires { Marks came.old (in_order attrs.old) }
+    ensures gives { Gives (λ _. in_order attrs.new) result (with_attr width (in_order attrs.old) attr.now value.now) }
+    ensures marks { OnOk result (Marks came.new (in_order attrs.new)) }
+{
+    let code = octet_at(attr, 1);
+    if came[code as usize] {
+        return Err(update_fault(alloc, MALFORMED_ATTRIBUTE_LIST));
+    }
+    add_new(alloc, width, attrs, attr, value)?;
+    came[code as usize] = true;
+    Ok(())
 }
 
 // How many attributes octets consist of that the table does not know, if they are good: what a list
@@ -201,17 +178,20 @@ fn count_others(octets: &[u8]) -> usize
     count
 }
 
-// The attributes that octets consist of.
+// The attributes that octets consist of. Those that the table does not know are gathered as they
+// come, and put in order at the end.
 pub(crate) fn read_attrs(alloc: Global, width: Width, octets: &[u8]) -> Result<Attrs, CodecError>
     ensures { Gives (λ attrs. attrs) result (attrs_reading width octets.now) }
 {
     let mut attrs = Attrs::none(alloc);
     attrs.other = Items::with_room(alloc, count_others(octets))?;
+    let mut came = [false; 256];
     let mut left = octets;
     'attrs: while !left.is_empty() {
         let (attr, value, rest) = read_attr(alloc, left)?;
-        add_attr(alloc, width, &mut attrs, attr, value)?;
+        add_attr(alloc, width, &mut attrs, &mut came, attr, value)?;
         left = rest;
     }
+    attrs.other.order();
     Ok(attrs)
 }

@@ -1,8 +1,10 @@
 //! A list that a contract sees as a list, wherever its items lie in memory.
 
-ghost use Rattle.std.specs.Prelude.{◌≡◌, ◌≤◌, ◌++◌, ◌∷◌, [], length, insert, IsTrue, IfOk, OnOk, OnErr};
+ghost use Rattle.std.specs.Prelude.{◌≡◌, ◌++◌, ◌∷◌, [], IsTrue, IfOk, OnOk, OnErr};
+ghost use Rattle.std.specs.List.Sorted.{IsPermutation, IsNonDecreasingBy};
 ghost use Rattle.bgp_codec.specs.Lists.{items_in, IsBlock};
 
+use crate::attributes::Raw;
 use std::alloc::{AllocError, Global};
 use std::marker::Model;
 use std::{mem, slice};
@@ -108,23 +110,6 @@ impl<T> Items<T> {
 }
 
 impl<T: Drop> Items<T> {
-    // Puts an item at a place; those from there on move up. A refused call leaves the list as it was.
-    pub(crate) fn insert(&mut self, alloc: Global, place: usize, item: T) -> Result<(), AllocError>
-        requires { place ≤ length self.old }
-        ensures ok { OnOk result (self.new ≡ insert self.old place item) }
-        ensures err { OnErr result (self.new ≡ self.old) }
-    {
-        if self.is_unused() {
-            self.room = Room::One([item]);
-            return Ok(());
-        }
-        self.room.spill(alloc)?;
-        match &mut self.room {
-            Room::Block(items) => Ok(items.insert(place, item)?),
-            Room::One(_) => unreachable!(),
-        }
-    }
-
     // Puts an item behind the others. A refused call leaves the list as it was.
     pub(crate) fn push(&mut self, alloc: Global, item: T) -> Result<(), AllocError>
         ensures ok { OnOk result (self.new ≡ self.old ++ item ∷ []) }
@@ -138,6 +123,19 @@ impl<T: Drop> Items<T> {
         match &mut self.room {
             Room::Block(items) => Ok(items.push(item)?),
             Room::One(_) => unreachable!(),
+        }
+    }
+}
+
+impl Items<Raw> {
+    // Puts attributes in order of code.
+    pub(crate) fn order(&mut self)
+        ensures permutation { IsPermutation self.old self.new }
+        ensures order { IsNonDecreasingBy (λ r. r.code) self.new }
+    {
+        match &mut self.room {
+            Room::One(raws) => raws.sort_unstable_by_key(|raw| raw.code),
+            Room::Block(raws) => raws.sort_unstable_by_key(|raw| raw.code),
         }
     }
 }
