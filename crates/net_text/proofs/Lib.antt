@@ -5,6 +5,7 @@ pub mod DeclaringLemmas
 pub mod SettingLemmas
 pub mod WordLemmas
 pub mod PathLemmas
+pub mod DigestLemmas
 pub mod DraftLemmas
 pub mod StepLemmas
 pub mod TextLemmas

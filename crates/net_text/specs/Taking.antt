@@ -1,9 +1,15 @@
 -- What is left of a word, and which words can be taken into memory as a path.
-use Rattle.std.specs.Prelude.{◌≡◌, ◌≤◌, Bool, true, false, List, [], length}
+use Rattle.std.specs.Prelude.{◌≡◌, ◌≤◌, ℕ, ◌+◌, ◌*◌, ◌^◌, ◌%◌, ◌&&◌, not, Bool, true, false, List, [], ◌∷◌, length, Result, Ok, Err, if◌then◌else◌}
 use Rattle.std.specs.List.{list_all}
+use Rattle.bgp_values.specs.declared.width.Width.{Width}
+use Rattle.ranked_policy.specs.Tests.{is_simple}
+use Rattle.ranked_policy.specs.declared.network.Router.{Router}
+use Rattle.net_text.specs.declared.code.Code.{Code}
+use Rattle.net_text.specs.declared.code.Code.TheVariants.{OutOfLimit, UnknownRouter, NotSimple}
+use Rattle.net_text.specs.declared.paths.TheConstants.{DIGEST_FACTOR}
 use Rattle.ranked_policy.specs.declared.limits.TheConstants.{LONGEST_PATH}
 use Rattle.net_text.specs.Lexing.{Text, parts}
-use Rattle.net_text.specs.Words.{path_of}
+use Rattle.net_text.specs.Words.{◌>>=◌, is_router, is_from, path_of}
 use Rattle.bgp_values.specs.declared.width.Width.TheVariants.{Four}
 use Rattle.bgp_values.specs.Ranges.{is_asn}
 
@@ -16,3 +22,24 @@ parts_left false word = []
 pub record IsTakeable (word : Text) : Type 0 where
   pub numbers : list_all (is_asn Four) (path_of word) ≡ true
   pub short : length (path_of word) ≤ LONGEST_PATH
+
+-- ---- what is known of a path by its numbers
+
+-- a number is outside its limit anywhere, then none of a router anywhere
+abbrev pub routers_word : Width → List Router → List ℕ → Result (Unit {0}) Code
+routers_word width routers path =
+    if not (list_all (is_asn width) path) then Err OutOfLimit
+    else if not (list_all (is_router routers) path) then Err UnknownRouter
+    else Ok tt
+
+-- then the path is one of router u, and names none twice
+abbrev pub rule_numbers_word : Width → List Router → ℕ → List ℕ → Result (Unit {0}) Code
+rule_numbers_word width routers u path = routers_word width routers path >>= λ _. if is_from u path && is_simple path then Ok tt else Err NotSimple
+
+-- a number that the numbers of a path give, behind those that gave one
+abbrev pub digest_behind : ℕ → List ℕ → ℕ
+digest_behind d [] = d
+digest_behind d (v ∷ vs) = digest_behind ((d * DIGEST_FACTOR % 2 ^ 64 + v) % 2 ^ 64) vs
+
+abbrev pub digest : List ℕ → ℕ
+digest path = digest_behind 0 path

@@ -1,14 +1,14 @@
 //! Words that are paths. They are judged as they stand in the text, and taken into memory only once
 //! their whole line is good.
 
-ghost use Rattle.std.specs.Prelude.{◌≡◌, ◌<◌, ◌≤◌, ◌==◌, ◌∷◌, [], true, false, not, nat_le, length, map, IfOk, if◌then◌else◌};
+ghost use Rattle.std.specs.Prelude.{◌≡◌, ◌<◌, ◌≤◌, ◌==◌, ◌∷◌, [], true, false, not, nat_le, length, map, take, IfOk, IfSome, if◌then◌else◌};
 ghost use Rattle.std.specs.List.{list_all, list_any, All};
 ghost use Rattle.net_text.specs.Lexing.{parts, same, words_of};
 ghost use Rattle.net_text.specs.Words.{is_number, is_router, value_of, path_of, path_word, is_from, rule_path_word, rule_path_words, is_none, assigned_word, assigned_path};
 ghost use Rattle.ranked_policy.specs.Tests.{is_simple};
 ghost use Rattle.bgp_values.specs.Ranges.{is_asn};
 ghost use Rattle.net_text.specs.Lines.{are_distinct, are_short};
-ghost use Rattle.net_text.specs.Taking.{parts_left, IsTakeable};
+ghost use Rattle.net_text.specs.Taking.{parts_left, IsTakeable, routers_word, rule_numbers_word, digest};
 
 use crate::code::Code;
 use crate::lexing::{cut, next_word, same};
@@ -18,6 +18,9 @@ use bgp_values::{Width, is_asn};
 use ranked_policy::{Asn, LONGEST_PATH, MOST_PATHS, Path, Router};
 use std::alloc::{AllocError, Global};
 use std::collections::BTreeSet;
+
+// What a digest is multiplied by: odd, with bits everywhere.
+const DIGEST_FACTOR: u64 = 0x9e37_79b9_7f4a_7c15;
 
 // The first part of a path, what is behind it, and whether that is a part or more.
 pub(crate) fn next_part(word: &[u8]) -> (&[u8], &[u8], bool)
@@ -78,8 +81,8 @@ fn are_routers(routers: &[Router], word: &[u8]) -> bool
     true
 }
 
-// Judges a path of routers.
-fn judge_path(width: Width, routers: &[Router], word: &[u8]) -> Result<(), Code>
+// Judges a path of routers, however long, by reading its numbers for each question.
+fn judge_long_path(width: Width, routers: &[Router], word: &[u8]) -> Result<(), Code>
     ensures { result ≡ path_word width routers.now word.now }
 {
     if !are_numbers(word) {
@@ -92,6 +95,85 @@ fn judge_path(width: Width, routers: &[Router], word: &[u8]) -> Result<(), Code>
         return Err(Code::UnknownRouter);
     }
     Ok(())
+}
+
+// Reads the numbers of a path once, and answers how many they are: none where a part is no number or
+// they are more than a path may have.
+fn read_numbers(word: &[u8], numbers: &mut [u64; LONGEST_PATH]) -> Option<usize>
+    ensures some { IfSome result (λ count. (count ≤ 16) × (list_all is_number (parts 45 word.now) ≡ true) × (take count numbers.new ≡ path_of word.now)) }
+{
+    let mut count = 0usize;
+    let (mut left, mut more) = (word, true);
+    'parts: while more {
+        let (part, rest, on) = next_part(left);
+        if count == LONGEST_PATH || !is_number(part) {
+            return None;
+        }
+        numbers[count] = value_of(part);
+        count += 1;
+        left = rest;
+        more = on;
+    }
+    Some(count)
+}
+
+// Whether each of the numbers is one that an AS can have.
+fn all_asns(width: Width, numbers: &[u64]) -> bool
+    ensures { result ≡ list_all (is_asn width) numbers.now }
+{
+    numbers.iter().all(|number| is_asn(width, *number))
+}
+
+// Whether each of the numbers is a router's.
+fn all_routers(routers: &[Router], numbers: &[u64]) -> bool
+    ensures { result ≡ list_all (is_router routers.now) numbers.now }
+{
+    numbers.iter().all(|number| is_router(routers, *number))
+}
+
+// Judges the numbers of a path of routers.
+fn judge_numbers(width: Width, routers: &[Router], numbers: &[u64]) -> Result<(), Code>
+    ensures { result ≡ routers_word width routers.now numbers.now }
+{
+    if !all_asns(width, numbers) {
+        return Err(Code::OutOfLimit);
+    }
+    if !all_routers(routers, numbers) {
+        return Err(Code::UnknownRouter);
+    }
+    Ok(())
+}
+
+// Judges a path of routers: its numbers are read once where they are few.
+fn judge_path(width: Width, routers: &[Router], word: &[u8]) -> Result<(), Code>
+    ensures { result ≡ path_word width routers.now word.now }
+{
+    let mut numbers = [0; LONGEST_PATH];
+    match read_numbers(word, &mut numbers) {
+        Some(count) => judge_numbers(width, routers, &numbers[..count]),
+        None => judge_long_path(width, routers, word),
+    }
+}
+
+// Whether this number is there.
+fn has_number(numbers: &[u64], number: u64) -> bool
+    ensures { result ≡ list_any (λ v. v == number) numbers.now }
+{
+    numbers.iter().any(|other| *other == number)
+}
+
+// Whether no number is there twice.
+fn are_single(numbers: &[u64]) -> bool
+    ensures { result ≡ is_simple numbers.now }
+{
+    let mut left = numbers;
+    'numbers: while let [number, rest @ ..] = left {
+        if has_number(rest, *number) {
+            return false;
+        }
+        left = rest;
+    }
+    true
 }
 
 // Whether one of the numbers is this one.
@@ -134,15 +216,53 @@ fn is_from(asn: Asn, word: &[u8]) -> bool
     value_of(part) == u64::from(asn)
 }
 
-// Judges a path of a rule of this router.
-fn judge_rule_path(width: Width, routers: &[Router], asn: Asn, word: &[u8]) -> Result<(), Code>
+// Judges a path of a rule of this router, however long.
+fn judge_long_rule_path(width: Width, routers: &[Router], asn: Asn, word: &[u8]) -> Result<(), Code>
     ensures { result ≡ rule_path_word width routers.now asn word.now }
 {
-    judge_path(width, routers, word)?;
+    judge_long_path(width, routers, word)?;
     if is_from(asn, word) && is_simple(word) {
         Ok(())
     } else {
         Err(Code::NotSimple)
+    }
+}
+
+// Whether the first of the numbers is the router's.
+fn begins_with(asn: Asn, numbers: &[u64]) -> bool
+    ensures { result ≡ is_from asn numbers.now }
+{
+    match numbers {
+        [first, ..] => *first == u64::from(asn),
+        [] => false,
+    }
+}
+
+// Judges the numbers of a path of a rule of this router.
+fn judge_rule_numbers(
+    width: Width,
+    routers: &[Router],
+    asn: Asn,
+    numbers: &[u64],
+) -> Result<(), Code>
+    ensures { result ≡ rule_numbers_word width routers.now asn numbers.now }
+{
+    judge_numbers(width, routers, numbers)?;
+    if begins_with(asn, numbers) && are_single(numbers) {
+        Ok(())
+    } else {
+        Err(Code::NotSimple)
+    }
+}
+
+// Judges a path of a rule of this router: its numbers are read once where they are few.
+fn judge_rule_path(width: Width, routers: &[Router], asn: Asn, word: &[u8]) -> Result<(), Code>
+    ensures { result ≡ rule_path_word width routers.now asn word.now }
+{
+    let mut numbers = [0; LONGEST_PATH];
+    match read_numbers(word, &mut numbers) {
+        Some(count) => judge_rule_numbers(width, routers, asn, &numbers[..count]),
+        None => judge_long_rule_path(width, routers, asn, word),
     }
 }
 
@@ -196,10 +316,47 @@ fn has_path(words: &[u8], path: &[u8]) -> bool
     false
 }
 
-// Whether no path is there twice, each compared with those behind it.
+// The digest of a path's numbers: paths with different digests are different.
+fn digest_of(word: &[u8]) -> u64
+    ensures { result ≡ digest (path_of word.now) }
+{
+    let mut digest = 0u64;
+    let (mut left, mut more) = (word, true);
+    'parts: while more {
+        let (part, rest, on) = next_part(left);
+        digest = digest
+            .wrapping_mul(DIGEST_FACTOR)
+            .wrapping_add(value_of(part));
+        left = rest;
+        more = on;
+    }
+    digest
+}
+
+// Whether no digest of these paths is there twice.
+fn have_single_digests(words: &[u8]) -> bool
+    requires { length (words_of words.now) ≤ 32 }
+    ensures { result ≡ is_simple (map (λ w. digest (path_of w)) (words_of words.now)) }
+{
+    let mut digests = [0; MOST_PATHS];
+    let mut count = 0usize;
+    let mut left = words;
+    'words: while let Some((word, rest)) = next_word(left) {
+        digests[count] = digest_of(word);
+        count += 1;
+        left = rest;
+    }
+    are_single(&digests[..count])
+}
+
+// Whether no path is there twice, each compared with those behind it where digests do not tell.
 fn are_apart(words: &[u8]) -> bool
+    requires { length (words_of words.now) ≤ 32 }
     ensures { result ≡ are_distinct (map path_of (words_of words.now)) }
 {
+    if have_single_digests(words) {
+        return true;
+    }
     let mut left = words;
     'words: while let Some((word, rest)) = next_word(left) {
         if has_path(rest, word) {
