@@ -1,5 +1,5 @@
 -- The first of a router's choices, one link more at a time.
-use Rattle.std.proofs.Common.{◌≡◌, ◌≢◌, ℕ, Option, Some, None, List, [], ◌∷◌, ◌++◌, sym, ap, subst, ◌∙◌, arith, inl, inr, ◌⊎◌}
+use Rattle.std.proofs.Common.{◌≡◌, ◌≢◌, ◌≤◌, ℕ, length, get_or, Option, Some, None, List, [], ◌∷◌, ◌++◌, sym, ap, subst, ◌∙◌, arith, inl, inr, ◌⊎◌}
 use Rattle.std.specs.Prelude.{MatchOption, ◌↔◌}
 use Rattle.std.specs.List.{All}
 use Rattle.prefix_lanes.specs.Bits.{PrefixView}
@@ -136,6 +136,11 @@ module _ (prefix : PrefixView) (paths : ℕ → List ℕ) (table : Table) where
               let theirs = y.before a x.choice (λ e. apart (sym e)) in
               absurd (order.irreflexive a x.choice.permitted (order.transitive a b a x.choice.permitted y.choice.permitted x.choice.permitted mine theirs))
         ]
+
+-- the first of the choices begins with the router
+pub begins : (links : List Link) (prefix : PrefixView) (paths : ℕ → List ℕ) (table : Table) (best : List ℕ) → IsFirstOrNone links prefix paths table best → 1 ≤ length best → get_or best 0 0 ≡ table.router
+begins links prefix paths table best (inl first) some = ap (λ (q : List ℕ). get_or q 0 0) first.choice.goes_on
+begins links prefix paths table best (inr none) some = absurd (omega (arith, ap length none.0, some))
 
 -- what was found over one more link is the first now; where nothing was, the first is what it was
 pub found_first : (next links : List Link) (prefix : PrefixView) (paths : ℕ → List ℕ) (table : Table) (found : Option (List ℕ)) (old new choice : List ℕ) → next ≡ links → found ≡ Some choice

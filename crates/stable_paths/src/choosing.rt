@@ -1,6 +1,6 @@
 //! The best of a router's choices.
 
-ghost use Rattle.std.specs.Prelude.{◌≡◌, ◌↔◌, ◌⊎◌, IsTrue, ℕ, List, [], ◌∷◌, ◌++◌, IfOk, IfErr, MatchOption};
+ghost use Rattle.std.specs.Prelude.{◌≡◌, ◌≤◌, ◌↔◌, ◌⊎◌, length, slice_index, IsTrue, ℕ, List, [], ◌∷◌, ◌++◌, IfOk, IfErr, MatchOption};
 ghost use Rattle.prefix_lanes.specs.Bits.{PrefixView};
 ghost use Rattle.ranked_policy.specs.declared.network.Link.{Link};
 ghost use Rattle.ranked_policy.specs.Plans.{Joins};
@@ -16,11 +16,25 @@ use ranked_policy::laws::each_policy_is_an_order;
 use ranked_policy::{Asn, Chosen, Path, Policy, PolicyTable};
 use std::alloc::Global;
 
-// Whether a path is permitted and there is none yet, or it is preferred to the one there is.
-fn is_taken(policy: &Chosen, choice: &Path, best: &Path) -> bool
-    ensures { IsTrue result ↔ (chosen_permits policy.now choice.now × ((best.now ≡ []) ⊎ chosen_prefers policy.now choice.now best.now)) }
+// Whether the first of two ways on from a router is preferred, where the other is a path of the
+// router, or the empty one.
+fn is_better(policy: &Chosen, router: Asn, rest: &[Asn], best: &[Asn]) -> bool
+    requires { 1 ≤ length best.now → slice_index best.now 0 ≡ router }
+    ensures { IsTrue result ↔ ((best.now ≡ []) ⊎ chosen_prefers policy.now (router ∷ rest.now) best.now) }
 {
-    policy.permits(choice) && (best.is_empty() || policy.prefers(choice, best))
+    match best {
+        [] => true,
+        [_, on @ ..] => policy.prefers_onward(router, rest, on),
+    }
+}
+
+// Whether the path that goes on from a router so is permitted and there is none yet, or it is
+// preferred to the one there is. No path is made.
+fn is_taken(policy: &Chosen, router: Asn, rest: &[Asn], best: &[Asn]) -> bool
+    requires { 1 ≤ length best.now → slice_index best.now 0 ≡ router }
+    ensures { IsTrue result ↔ (chosen_permits policy.now (router ∷ rest.now) × ((best.now ≡ []) ⊎ chosen_prefers policy.now (router ∷ rest.now) best.now)) }
+{
+    policy.permits_onward(router, rest) && is_better(policy, router, rest, best)
 }
 
 // The choice over one more link, to a peer at its other end, where it is one and better than the best
@@ -34,6 +48,7 @@ fn better(
     assignment: &Assignment,
     best: &Path,
 ) -> Result<Option<Path>, StableError>
+    requires { 1 ≤ length best.now → slice_index best.now 0 ≡ table.now.router }
     ensures best { (links : List Link) (link : Link) (prefix : PrefixView) → Joins link table.now.router peer → Speaks policy.now table.now prefix → IsFirstOrNone links prefix (path_of assignment.now) table.now best.now → IfOk result (λ found. MatchOption found (IsFirstOrNone (links ++ link ∷ []) prefix (path_of assignment.now) table.now best.now) (IsFirstOrNone (links ++ link ∷ []) prefix (path_of assignment.now) table.now)) }
     ensures memory { IfErr result (λ e. e ≡ StableError.Memory) }
 {
@@ -43,11 +58,10 @@ fn better(
     if path.is_empty() {
         return Ok(None);
     }
-    let choice = Path::from_router(alloc, router, path)?;
-    if is_taken(policy, &choice, best) {
-        return Ok(Some(choice));
+    if !is_taken(policy, router, path, best.as_slice()) {
+        return Ok(None);
     }
-    Ok(None)
+    Ok(Some(Path::from_router(alloc, router, path)?))
 }
 
 /// The best of the choices of the router of a table.
