@@ -1,6 +1,6 @@
 -- Offers by their number, and those of them that are kept.
-use Rattle.std.proofs.Common.{ℕ, suc, ◌≡◌, ◌<◌, ◌+◌, ◌==◌, arith, Bool, true, false, cond, List, [], ◌∷◌, ◌++◌, map, take, drop, length, filter, refl, ap, sym, ◌∙◌, subst}
-use Rattle.std.specs.Prelude.{Option, None, Some, Result, Ok, Err, OnErr, Vec, nat_lt, get_or}
+use Rattle.std.proofs.Common.{ℕ, ◌≡◌, ◌==◌, arith, Bool, true, false, cond, List, [], ◌∷◌, ◌++◌, map, filter, refl, ap, sym, ◌∙◌, subst}
+use Rattle.std.specs.Prelude.{Option, None, Some, Result, Ok, Err, OnErr, nat_lt}
 use Rattle.std.specs.Ordering.{nat_cmp, is_eq}
 use Rattle.std.specs.declared.cmp.Ordering.TheVariants.{Less, Equal, Greater}
 use Rattle.std.specs.BTreeMap.{is_at}
@@ -10,16 +10,16 @@ use Rattle.std.specs.Map.{lookup, set_value}
 use Rattle.std.proofs.lemmas.Bool.{eqb-true, false≢true, true≢false}
 use Rattle.std.proofs.lemmas.Bool.Decides.{nat_tests}
 use Rattle.std.proofs.lemmas.List.{append-nil}
-use Rattle.std.proofs.Math.Seq.{take-suc, drop-cons}
 use Rattle.snap_marker.specs.declared.part.Offer.{Offer}
-use Rattle.snap_marker.specs.Recordings.{MadeOffer}
 use Rattle.run_model.specs.Offers.{number_of}
 use Rattle.snap_collector.specs.Collecting.{made_in, made_by}
-use Rattle.snap_collector.specs.Verdicts.{Member, decides}
+use Rattle.snap_collector.specs.declared.book.Book.{Book}
+use Rattle.snap_collector.specs.Booking.{entry_of, IsBook, AreBooks}
+use Rattle.snap_collector.specs.Verdicts.{Member}
 use Rattle.snap_marker.specs.Parts as parts
 use Rattle.snap_marker.specs.Parts.{offer_of}
 use Rattle.snap_marker.specs.declared.part.Offer.TheVariants as offer
-use Rattle.snap_collector.specs.Collector.{with_offers, offers_at, entry_of, is_for, kept_behind}
+use Rattle.snap_collector.specs.Collector.{with_offers, offers_at, is_for}
 
 -- ---- a number's entry
 
@@ -34,99 +34,83 @@ below_apart n q e = grind (arith, nat_tests, e)
 pub is_same : (n q : ℕ) → is_at (nat_cmp n) q ≡ (n == q)
 is_same n q = by_test (nat_lt n q) (n == q) (below_apart n q)
 
-abbrev pub items_of : {X Z : Type 0} → Option (Vec X Z) → List X
+abbrev pub items_of : Option Book → List Offer
 items_of None = []
-items_of (Some v) = v.items
+items_of (Some b) = b.offers.items
 
 one_for : (t : Bool) (o : Offer) (s : ℕ) → (number_of (offer_of o) == s) ≡ t → filter (is_for s) (made_by o ∷ []) ≡ cond t (made_by o ∷ []) []
 one_for true o s e = rw e refl
 one_for false o s e = rw e refl
 
-module _ {Z : Type 0} where
-  at_cond : (b c : Bool) → b ≡ c → (v : Vec Offer Z) (o : Option (Vec Offer Z)) → cond c v.items (items_of o) ≡ items_of (cond b (Some v) o)
+module _ where
+  at_cond : (b c : Bool) → b ≡ c → (v : Book) (o : Option Book) → cond c v.offers.items (items_of o) ≡ items_of (cond b (Some v) o)
   at_cond true true e v o = refl
   at_cond true false e v o = absurd (true≢false e)
   at_cond false true e v o = absurd (false≢true e)
   at_cond false false e v o = refl
 
   -- what is read at a number
-  pub at_number : (es : List (ℕ × Vec Offer Z)) (s : ℕ) → offers_at (map entry_of es) s ≡ items_of (lookup (is_at (nat_cmp s)) es)
+  pub at_number : (es : List (ℕ × Book)) (s : ℕ) → offers_at (map entry_of es) s ≡ items_of (lookup (is_at (nat_cmp s)) es)
   at_number [] s = refl
   at_number (e ∷ es) s =
-      ap (λ (l : List Offer). cond (s == e.0) e.1.items l) (at_number es s)
+      ap (λ (l : List Offer). cond (s == e.0) e.1.offers.items l) (at_number es s)
       ∙ at_cond (is_at (nat_cmp s) e.0) (s == e.0) (is_same s e.0) e.1 (lookup (is_at (nat_cmp s)) es)
 
-  joined_by : (t : Bool) (o : Offer) (w : Vec Offer Z) (g : Option (Vec Offer Z)) → (t ≡ true → w.items ≡ items_of g ++ o ∷ []) → made_in (items_of (cond t (Some w) g)) ≡ made_in (items_of g) ++ cond t (made_by o ∷ []) []
+  joined_by : (t : Bool) (o : Offer) (w : Book) (g : Option Book) → (t ≡ true → w.offers.items ≡ items_of g ++ o ∷ []) → made_in (items_of (cond t (Some w) g)) ≡ made_in (items_of g) ++ cond t (made_by o ∷ []) []
   joined_by true o w g h = ap made_in (h refl) ∙ map-append made_by (items_of g) (o ∷ [])
   joined_by false o w g h = sym (append-nil (made_in (items_of g)))
 
-  abbrev Gets : List (ℕ × Vec Offer Z) → ℕ → Option (Vec Offer Z)
+  abbrev pub Gets : List (ℕ × Book) → ℕ → Option Book
   Gets es s = lookup (is_at (nat_cmp s)) es
 
   -- the entry of a number has one offer more
-  pub joined_at : (es fs : List (ℕ × Vec Offer Z)) (n : ℕ) (w : Vec Offer Z) (o : Offer) → ((q : ℕ) → Gets fs q ≡ cond (is_at (nat_cmp n) q) (Some w) (Gets es q))
-      → w.items ≡ items_of (Gets es n) ++ o ∷ [] → n ≡ number_of (offer_of o)
+  pub joined_at : (es fs : List (ℕ × Book)) (n : ℕ) (w : Book) (o : Offer) → ((q : ℕ) → Gets fs q ≡ cond (is_at (nat_cmp n) q) (Some w) (Gets es q))
+      → w.offers.items ≡ items_of (Gets es n) ++ o ∷ [] → n ≡ number_of (offer_of o)
       → (λ s. made_in (offers_at (map entry_of fs) s)) ≡ with_offers (λ s. made_in (offers_at (map entry_of es) s)) (made_by o ∷ [])
   joined_at es fs n w o updates items is = fun_ext at
     where
-      same : (s : ℕ) (t : Bool) → (n == s) ≡ t → t ≡ true → w.items ≡ items_of (Gets es s) ++ o ∷ []
-      same s t e h = subst (λ k. w.items ≡ items_of (Gets es k) ++ o ∷ []) (eqb-true n s (e ∙ h)) items
+      same : (s : ℕ) (t : Bool) → (n == s) ≡ t → t ≡ true → w.offers.items ≡ items_of (Gets es s) ++ o ∷ []
+      same s t e h = subst (λ k. w.offers.items ≡ items_of (Gets es k) ++ o ∷ []) (eqb-true n s (e ∙ h)) items
 
       at : (s : ℕ) → made_in (offers_at (map entry_of fs) s) ≡ made_in (offers_at (map entry_of es) s) ++ filter (is_for s) (made_by o ∷ [])
       at s = rw (at_number fs s, at_number es s, updates s, is_same n s, one_for (n == s) o s (ap (λ k. k == s) (sym is)))
           (joined_by (n == s) o w (Gets es s) (same s (n == s) refl))
 
-  pub joined_from : (was es fs : List (ℕ × Vec Offer Z)) (n : ℕ) (w : Vec Offer Z) (o : Offer) → was ≡ es → ((q : ℕ) → Gets fs q ≡ cond (is_at (nat_cmp n) q) (Some w) (Gets was q))
-      → w.items ≡ items_of (Gets es n) ++ o ∷ [] → n ≡ number_of (offer_of o)
+  pub joined_from : (was es fs : List (ℕ × Book)) (n : ℕ) (w : Book) (o : Offer) → was ≡ es → ((q : ℕ) → Gets fs q ≡ cond (is_at (nat_cmp n) q) (Some w) (Gets was q))
+      → w.offers.items ≡ items_of (Gets es n) ++ o ∷ [] → n ≡ number_of (offer_of o)
       → (λ s. made_in (offers_at (map entry_of fs) s)) ≡ with_offers (λ s. made_in (offers_at (map entry_of es) s)) (made_by o ∷ [])
   joined_from was es fs n w o same updates items is =
-      joined_at es fs n w o (λ q. updates q ∙ ap (λ (l : List (ℕ × Vec Offer Z)). cond (is_at (nat_cmp n) q) (Some w) (Gets l q)) same) items is
+      joined_at es fs n w o (λ q. updates q ∙ ap (λ (l : List (ℕ × Book)). cond (is_at (nat_cmp n) q) (Some w) (Gets l q)) same) items is
 
   -- a list that is written where the same elements were
-  same_cond : (b : Bool) (e : ℕ × Vec Offer Z) (es fs : List (ℕ × Vec Offer Z)) (o : Option (Vec Offer Z)) (v w : Vec Offer Z) → w.items ≡ v.items → cond b (Some e.1) o ≡ Some v
+  same_cond : (b : Bool) (e : ℕ × Book) (es fs : List (ℕ × Book)) (o : Option Book) (v w : Book) → w.offers.items ≡ v.offers.items → cond b (Some e.1) o ≡ Some v
       → (o ≡ Some v → map entry_of fs ≡ map entry_of es) → map entry_of (cond b ((e.0, w) ∷ es) (e ∷ fs)) ≡ entry_of e ∷ map entry_of es
   same_cond true e es fs o v w i h next =
       let same : e.1 ≡ v = cc in
-      ap (λ (l : List Offer). (e.0, l) ∷ map entry_of es) (i ∙ ap (λ (x : Vec Offer Z). x.items) (sym same))
+      ap (λ (l : List Offer). (e.0, l) ∷ map entry_of es) (i ∙ ap (λ (x : Book). x.offers.items) (sym same))
   same_cond false e es fs o v w i h next = ap (λ (l : List (ℕ × List Offer)). entry_of e ∷ l) (next h)
 
-  pub same_entries : (n : ℕ) (es : List (ℕ × Vec Offer Z)) (v w : Vec Offer Z) → w.items ≡ v.items → Gets es n ≡ Some v → map entry_of (set_value (is_at (nat_cmp n)) es w) ≡ map entry_of es
+  pub same_entries : (n : ℕ) (es : List (ℕ × Book)) (v w : Book) → w.offers.items ≡ v.offers.items → Gets es n ≡ Some v → map entry_of (set_value (is_at (nat_cmp n)) es w) ≡ map entry_of es
   same_entries n [] v w i h = refl
   same_entries n (e ∷ es) v w i h =
       same_cond (is_at (nat_cmp n) e.0) e es (set_value (is_at (nat_cmp n)) es w) (Gets es n) v w i h (same_entries n es v w i)
 
--- ---- one that is kept or not
+-- ---- each entry is a book
 
 module _ (members : List Member) where
-  stops : (b : Bool) (front rest : List MadeOffer) → b ≡ true → cond b front rest ≡ front
-  stops true front rest h = refl
-  stops false front rest h = absurd (false≢true h)
+  of_cond : (b : Bool) (w : Book) (o : Option Book) (v : Book) → cond b (Some w) o ≡ Some v → IsBook members w → (o ≡ Some v → IsBook members v) → IsBook members v
+  of_cond true w o v e h next = let same : w ≡ v = cc in subst (λ (x : Book). IsBook members x) same h
+  of_cond false w o v e h next = next e
 
-  goes_on : (b : Bool) (front rest : List MadeOffer) → b ≡ false → cond b front rest ≡ rest
-  goes_on true front rest h = absurd (true≢false h)
-  goes_on false front rest h = refl
+  pub books_more : (es fs : List (ℕ × Book)) (n : ℕ) (w : Book) → ((q : ℕ) → Gets fs q ≡ cond (is_at (nat_cmp n) q) (Some w) (Gets es q))
+      → AreBooks members es → IsBook members w → AreBooks members fs
+  books_more es fs n w updates are is s v e = of_cond (is_at (nat_cmp n) s) w (Gets es s) v (sym (updates s) ∙ e) is (are s v)
 
-  pub kept_stops : (front rest : List MadeOffer) → decides members front ≡ true → kept_behind members front rest ≡ front
-  kept_stops front [] h = refl
-  kept_stops front (m ∷ ms) h = stops (decides members front) front (kept_behind members (front ++ m ∷ []) ms) h
+  apart : (o : Option Book) (v : Book) → o ≡ None → o ≡ Some v → ⊥
+  apart o v none some = cc
 
-  one_more : (front : List MadeOffer) (m : MadeOffer) (ms : List MadeOffer) → decides members front ≡ false → kept_behind members (front ++ m ∷ []) ms ≡ kept_behind members front (m ∷ ms)
-  one_more front m ms h = sym (goes_on (decides members front) front (kept_behind members (front ++ m ∷ []) ms) h)
-
-  next : (k : ℕ) → k + 1 ≡ suc k
-  next k = omega (arith)
-
-  pub kept_goes_on : (xs : List Offer) (k : ℕ) (d : Offer) → k < length xs → decides members (made_in (take k xs)) ≡ false
-      → kept_behind members (made_in (take (k + 1) xs)) (made_in (drop (k + 1) xs)) ≡ kept_behind members (made_in (take k xs)) (made_in (drop k xs))
-  kept_goes_on xs k d l h =
-      let up : take (k + 1) xs ≡ take k xs ++ get_or xs k d ∷ [] = ap (λ n. take n xs) (next k) ∙ take-suc xs k d l in
-      let front : made_in (take (k + 1) xs) ≡ made_in (take k xs) ++ made_by (get_or xs k d) ∷ [] = ap made_in up ∙ map-append made_by (take k xs) (get_or xs k d ∷ []) in
-      let behind : drop k xs ≡ get_or xs k d ∷ drop (k + 1) xs = drop-cons xs k d l ∙ ap (λ n. get_or xs k d ∷ drop n xs) (sym (next k)) in
-      rw (front, behind) (one_more (made_in (take k xs)) (made_by (get_or xs k d)) (made_in (drop (k + 1) xs)) h)
-
-pub first_of : (xs : List Offer) (k : ℕ) → k < length xs → Offer
-first_of [] k l = absurd (omega (arith, l))
-first_of (x ∷ xs) k l = x
+  pub no_books : (es : List (ℕ × Book)) → es ≡ [] → AreBooks members es
+  no_books es none s v e = absurd (apart (Gets es s) v (ap (λ (l : List (ℕ × Book)). Gets l s) none) e)
 
 -- ---- an offer, and a refusal
 

@@ -1,6 +1,6 @@
 -- The numbers that are decided, rising.
 use Rattle.std.proofs.Common.{ℕ, ◌≡◌, ◌≢◌, ◌<◌, ◌≤◌, ◌+◌, ◌-◌, ◌==◌, arith, inl, inr, Bool, true, false, cond, List, [], ◌∷◌, ◌++◌, length, get_or, filter, map, refl, ap, sym, ◌∙◌, subst}
-use Rattle.std.specs.Prelude.{◌↔◌, Vec, Result, Ok, Err, is_ok, if◌then◌else◌}
+use Rattle.std.specs.Prelude.{◌↔◌, Result, Ok, Err, is_ok, if◌then◌else◌}
 use Rattle.std.specs.Ordering.{nat_cmp}
 use Rattle.std.specs.List.{AllPairs, Contains, insert}
 use Rattle.std.specs.List.Sorted.{IsBinarySearchResult}
@@ -18,7 +18,9 @@ use Rattle.snap_marker.specs.declared.part.Offer.{Offer}
 use Rattle.snap_marker.specs.Recordings.{MadeOffer}
 use Rattle.snap_collector.specs.declared.members.Member.{Member as MemberOf}
 use Rattle.snap_collector.specs.Collecting.{member_of, made_by}
-use Rattle.snap_collector.specs.Collector.{AreDecided, AreMembers, entry_of, is_for, made_at, with_offers}
+use Rattle.snap_collector.specs.Collector.{AreDecided, AreMembers, is_for, made_at, with_offers}
+use Rattle.snap_collector.specs.declared.book.Book.{Book}
+use Rattle.snap_collector.specs.Booking.{entry_of}
 use Rattle.snap_collector.specs.Verdicts.{Member, decides}
 use Rattle.snap_collector.proofs.Books.{number_same}
 use Rattle.snap_collector.proofs.Deciding.{decides_more}
@@ -150,10 +152,10 @@ opened net n members are = record {
   exact = λ s. (λ h. absurd (omega (arith, h.1)), λ e. absurd (true≢false (sym e ∙ none_decided net n members are)));
 }
 
-pub nothing_decided : {Z : Type 0} (net : Plan) → IsNetwork net → (members : List MemberOf) (entries : List (ℕ × Vec Offer Z)) (numbers : List ℕ) → AreMembers net members → entries ≡ [] → numbers ≡ []
+pub nothing_decided : (net : Plan) → IsNetwork net → (members : List MemberOf) (entries : List (ℕ × Book)) (numbers : List ℕ) → AreMembers net members → entries ≡ [] → numbers ≡ []
     → AreDecided (record { members = members; offers = map entry_of entries; decided = numbers }) numbers
-nothing_decided {Z} net n members entries numbers are none nothing =
-    subst (λ (l : List (ℕ × Vec Offer Z)). AreDecided (record { members = members; offers = map entry_of l; decided = numbers }) numbers) (sym none)
+nothing_decided net n members entries numbers are none nothing =
+    subst (λ (l : List (ℕ × Book)). AreDecided (record { members = members; offers = map entry_of l; decided = numbers }) numbers) (sym none)
     (subst (λ (l : List ℕ). AreDecided (record { members = members; offers = []; decided = l }) l) (sym nothing) (opened net n members are))
 
 -- ---- an offer more

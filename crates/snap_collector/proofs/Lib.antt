@@ -2,6 +2,7 @@ pub mod Holding
 pub mod Faults
 pub mod Deciding
 pub mod Books
+pub mod Booked
 pub mod Routers
 pub mod Decided
 pub mod FirstParts

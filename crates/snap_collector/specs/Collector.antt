@@ -1,5 +1,5 @@
 -- What a collector keeps: every offer that was made, by the number of its snapshot.
-use Rattle.std.specs.Prelude.{ℕ, ◌≡◌, ◌<◌, ◌==◌, ◌↔◌, Bool, true, cond, List, [], ◌∷◌, ◌++◌, map, filter, Vec, Option, None, Some, take, length}
+use Rattle.std.specs.Prelude.{ℕ, ◌≡◌, ◌<◌, ◌==◌, ◌↔◌, Bool, true, cond, List, [], ◌∷◌, ◌++◌, map, filter, Option, None, Some, take, length}
 use Rattle.std.specs.List.{All, AllPairs, Contains}
 use Rattle.ranked_policy.specs.Plans.{Plan, Linked, numbers}
 use Rattle.run_model.specs.Offers.{number_of}
@@ -36,10 +36,6 @@ made_for c s = made_at c.offers s
 -- offers join those of their numbers
 abbrev pub with_offers : (ℕ → List MadeOffer) → List MadeOffer → ℕ → List MadeOffer
 with_offers made ms s = made s ++ filter (is_for s) ms
-
--- the offers for a number without the room in their list
-abbrev pub entry_of : {X Z : Type 0} → ℕ × Vec X Z → ℕ × List X
-entry_of e = (e.0, e.1.items)
 
 -- ---- the routers with their peers
 

@@ -4,3 +4,4 @@ pub mod Collecting
 pub mod Collector
 pub mod Taking
 pub mod Flights
+pub mod Booking

@@ -3,17 +3,19 @@
 ghost use Rattle.std.specs.Prelude.{◌≡◌, ℕ, ◌<◌, ◌≤◌, ◌↔◌, length, [], ◌∷◌, map, take, vec_len, vec_capacity, IfOk, IfErr, OnOk, OnErr, option_copied};
 ghost use Rattle.std.specs.List.{AllPairs, Contains};
 ghost use mathlib.Core.Logic.{◌⊎◌};
-ghost use Rattle.snap_collector.specs.Collecting.{made_by, made_in, member_of, outcome_of};
-ghost use Rattle.snap_collector.specs.Collector.{made_at, made_for, offers_at, entry_of, with_offers, first_part, AreDecided, AreKept, AreMembers, IsPartOf, kept_of};
+ghost use Rattle.snap_collector.specs.Booking.{AreBooks, entry_of};
+ghost use Rattle.snap_collector.specs.Collecting.{made_by, member_of, outcome_of};
+ghost use Rattle.snap_collector.specs.Collector.{made_at, made_for, offers_at, with_offers, first_part, AreDecided, AreKept, AreMembers, IsPartOf, kept_of};
 ghost use Rattle.snap_collector.specs.Flights.{flight_of, in_flight_of};
 ghost use Rattle.snap_collector.specs.Taking.{Takes, refusal_of};
 ghost use Rattle.snap_collector.specs.Verdicts.{verdict, decides};
 
 use crate::answer::{CollectError, Taken};
+use crate::book::Book;
 use crate::flights::{InFlight, flights_to};
 use crate::members::{Member, is_member};
 use crate::outcome::Outcome;
-use crate::verdicts::{decides, first_part, has_offered, verdict};
+use crate::verdicts::{first_part, has_offered, verdict};
 use ranked_policy::{Asn, Network};
 use snap_marker::{Offer, Part};
 use std::alloc::{AllocError, Global};
@@ -24,21 +26,23 @@ use std::marker::Model;
 #[derive(Drop)]
 pub struct Collector {
     members: Vec<Member>,
-    // By the number of the snapshot, in the order in which they came.
-    offers: BTreeMap<u32, Vec<Offer>>,
+    // By the number of the snapshot.
+    offers: BTreeMap<u32, Book>,
     // The numbers whose offers decide, rising.
     decided: Vec<u32>,
 }
 
 impl Model for Collector {
     ghost use Rattle.std.specs.Prelude.{map};
-    ghost use Rattle.snap_collector.specs.Collector.{CollectorView, AreDecided, entry_of};
+    ghost use Rattle.snap_collector.specs.Collector.{CollectorView, AreDecided};
+    ghost use Rattle.snap_collector.specs.Booking.{AreBooks, entry_of};
+    ghost use Rattle.snap_collector.specs.Collecting.{member_of};
 
     ghost Value = { CollectorView };
 
     ghost view = { λ c. record { members = c.members.items; offers = map entry_of c.offers.entries; decided = c.decided.items } };
 
-    ghost invariant = { λ c. AreDecided (record { members = c.members.items; offers = map entry_of c.offers.entries; decided = c.decided.items }) c.decided.items };
+    ghost invariant = { λ c. AreDecided (record { members = c.members.items; offers = map entry_of c.offers.entries; decided = c.decided.items }) c.decided.items × AreBooks (map member_of c.members.items) c.offers.entries };
 }
 
 // The routers of a network with their peers, rising.
@@ -55,46 +59,48 @@ fn members_of(alloc: Global, network: &Network) -> Result<Vec<Member>, AllocErro
     Ok(members)
 }
 
-// How many of these offers for one number are kept: those up to the first that decides.
-fn kept_len(members: &[Member], offers: &[Offer]) -> usize
-    ensures bound { result ≤ length offers.now }
-    ensures kept { made_in (take result offers.now) ≡ kept_of (map member_of members.now) (made_in offers.now) }
-{
-    let mut kept = 0;
-    while kept < offers.len() && !decides(members, &offers[..kept]) {
-        kept += 1;
-    }
-    kept
-}
-
 // The offers for a number, in the order in which they came.
-fn offers_for(offers: &BTreeMap<u32, Vec<Offer>>, number: u32) -> &[Offer]
+fn offers_for(offers: &BTreeMap<u32, Book>, number: u32) -> &[Offer]
     ensures { result.now ≡ offers_at (map entry_of offers.now.entries) number }
 {
     match offers.get(&number) {
-        Some(offers) => offers.as_slice(),
+        Some(book) => book.offers.as_slice(),
         None => &[],
+    }
+}
+
+// Whether the offers for a number decide its snapshot.
+fn has_decided(members: &[Member], offers: &BTreeMap<u32, Book>, number: u32) -> bool
+    requires { AreBooks (map member_of members.now) offers.now.entries }
+    ensures { result ≡ decides (map member_of members.now) (made_at (map entry_of offers.now.entries) number) }
+{
+    match offers.get(&number) {
+        Some(book) => book.awaited == 0,
+        None => members.is_empty(),
     }
 }
 
 // Puts an offer behind those of its number.
 fn keep(
     alloc: Global,
-    offers: &mut BTreeMap<u32, Vec<Offer>>,
+    members: &[Member],
+    offers: &mut BTreeMap<u32, Book>,
     offer: Offer,
 ) -> Result<(), AllocError>
+    requires { AreBooks (map member_of members.now) offers.old.entries }
     ensures ok { OnOk result (made_at (map entry_of offers.new.entries) ≡ with_offers (made_at (map entry_of offers.old.entries)) (made_by offer ∷ [])) }
     ensures err { OnErr result (map entry_of offers.new.entries ≡ map entry_of offers.old.entries) }
+    ensures books { AreBooks (map member_of members.now) offers.new.entries }
 {
     let number = offer.number();
     match offers.get_mut(&number) {
-        Some(others) => {
-            others.push(offer)?;
+        Some(book) => {
+            book.push(members, offer)?;
         }
         None => {
-            let mut first = Vec::new(alloc);
-            first.push(offer)?;
-            offers.insert(number, first)?;
+            let mut book = Book::new(alloc, members);
+            book.push(members, offer)?;
+            offers.insert(number, book)?;
         }
     }
     Ok(())
@@ -135,8 +141,9 @@ impl Collector {
     {
         let number = offer.number();
         self.decided.reserve(1)?;
-        keep(*self.members.allocator(), &mut self.offers, offer)?;
-        if decides(self.members.as_slice(), offers_for(&self.offers, number)) {
+        let alloc = *self.members.allocator();
+        keep(alloc, self.members.as_slice(), &mut self.offers, offer)?;
+        if has_decided(self.members.as_slice(), &self.offers, number) {
             note(&mut self.decided, number);
         }
         Ok(())
@@ -196,15 +203,17 @@ impl Collector {
     pub fn is_decided(&self, number: u32) -> bool
         ensures { result ≡ decides (map member_of self.now.members) (made_for self.now number) }
     {
-        decides(self.members.as_slice(), offers_for(&self.offers, number))
+        has_decided(self.members.as_slice(), &self.offers, number)
     }
 
     // The offers for a number that are kept: those up to the first that decides.
     fn kept(&self, number: u32) -> &[Offer]
         ensures { AreKept self.now number result.now }
     {
-        let offers = offers_for(&self.offers, number);
-        &offers[..kept_len(self.members.as_slice(), offers)]
+        match self.offers.get(&number) {
+            Some(book) => &book.offers[..book.kept],
+            None => &[],
+        }
     }
 
     /// How the snapshot of a number comes out, by the offers for it that are kept: those up to the

@@ -18,6 +18,7 @@
 #![tactic(auto)]
 
 mod answer;
+mod book;
 mod collector;
 mod flights;
 pub mod laws;

@@ -60,7 +60,7 @@ pub(crate) fn first_part(offers: &[Offer], router: Asn) -> Option<&Part>
 }
 
 /// Whether the router has offered a part.
-fn has_part(offers: &[Offer], router: Asn) -> bool
+pub(crate) fn has_part(offers: &[Offer], router: Asn) -> bool
     ensures { result ≡ has_part (made_in offers.now) router (λ part. true) }
 {
     for offer in offers {

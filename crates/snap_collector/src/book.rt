@@ -1,0 +1,89 @@
+//! The offers for one number, and how many of them are kept.
+//!
+//! A count of the routers that are awaited says with each offer whether it decides, and the length that is
+//! kept then stays: no offer is looked at again to know it.
+
+ghost use Rattle.std.specs.Prelude.{◌≡◌, ◌++◌, [], ◌∷◌, ◌≤◌, false, length, map, OnOk, OnErr};
+ghost use Rattle.snap_collector.specs.Booking.{IsBook, awaited_of, missing, times};
+ghost use Rattle.snap_collector.specs.Collecting.{made_by, made_in, member_of};
+ghost use Rattle.snap_collector.specs.Verdicts.{any_lost};
+
+use crate::members::Member;
+use crate::verdicts::has_part;
+use ranked_policy::Asn;
+use snap_marker::Offer;
+use std::alloc::{AllocError, Global};
+
+/// The offers for one number.
+#[derive(Drop)]
+pub(crate) struct Book {
+    // In the order in which they came.
+    pub(crate) offers: Vec<Offer>,
+    // How many of them are kept: those up to the first that decides.
+    pub(crate) kept: usize,
+    // How many routers have offered no part: 0 where the offers decide.
+    pub(crate) awaited: usize,
+}
+
+// How often a router is among the members.
+fn times(members: &[Member], router: Asn) -> usize
+    ensures { result ≡ times (map member_of members.now) router }
+{
+    let mut count = 0;
+    for member in members {
+        if member.router == router {
+            count += 1;
+        }
+    }
+    count
+}
+
+// How many routers are awaited behind an offer more, so many being awaited before it.
+fn awaited_with(members: &[Member], offers: &[Offer], awaited: usize, offer: &Offer) -> usize
+    requires unlost { any_lost (made_in offers.now) ≡ false }
+    requires awaited { awaited ≡ missing (map member_of members.now) (made_in offers.now) }
+    ensures { result ≡ awaited_of (map member_of members.now) (made_in offers.now ++ made_by offer.now ∷ []) }
+{
+    match offer {
+        Offer::Part(part) => {
+            if has_part(offers, part.router) {
+                awaited
+            } else {
+                awaited - times(members, part.router)
+            }
+        }
+        Offer::Lost(_lost) => 0,
+    }
+}
+
+impl Book {
+    /// Before any offer.
+    pub(crate) fn new(alloc: Global, members: &[Member]) -> Book
+        ensures items { result.offers.items ≡ [] }
+        ensures book { IsBook (map member_of members.now) result }
+    {
+        Book {
+            offers: Vec::new(alloc),
+            kept: 0,
+            awaited: members.len(),
+        }
+    }
+
+    /// Puts an offer behind the others. Where a growth is refused they stay as they were.
+    pub(crate) fn push(&mut self, members: &[Member], offer: Offer) -> Result<(), AllocError>
+        requires { IsBook (map member_of members.now) self.old }
+        ensures ok { OnOk result (self.new.offers.items ≡ self.old.offers.items ++ offer ∷ []) }
+        ensures err { OnErr result (self.new.offers.items ≡ self.old.offers.items) }
+        ensures book { IsBook (map member_of members.now) self.new }
+    {
+        if self.awaited == 0 {
+            self.offers.push(offer)?;
+            return Ok(());
+        }
+        let awaited = awaited_with(members, self.offers.as_slice(), self.awaited, &offer);
+        self.offers.push(offer)?;
+        self.kept = self.offers.len();
+        self.awaited = awaited;
+        Ok(())
+    }
+}
