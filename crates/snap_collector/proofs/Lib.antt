@@ -7,3 +7,4 @@ pub mod Routers
 pub mod Decided
 pub mod FirstParts
 pub mod NoFlights
+pub mod Sole

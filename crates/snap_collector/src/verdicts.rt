@@ -1,9 +1,10 @@
 //! What the offers for one snapshot show.
 
-ghost use Rattle.std.specs.Prelude.{◌≡◌, map, true, false, not, ◌==◌, Option, Some, None, MatchOption, option_copied};
+ghost use Rattle.std.specs.Prelude.{◌≡◌, map, Bool, true, false, not, ◌==◌, Option, Some, None, MatchOption, option_copied};
 ghost use Rattle.std.specs.List.{find};
 ghost use Rattle.std.specs.Option.{option_map};
-ghost use Rattle.snap_marker.specs.Parts.{part_of, cause_of};
+ghost use Rattle.snap_marker.specs.Parts.{part_of, cause_of, is_empty};
+ghost use Rattle.snap_marker.specs.Recordings.{RouterPart};
 ghost use Rattle.run_model.specs.Offers.{Abandoned};
 ghost use Rattle.run_model.specs.Offers as model;
 ghost use Rattle.snap_collector.specs.Verdicts.{any_lost, abandoned_or, all_parts, decides, has_part, pending, in_flight, mismatch, fault_at, first_fault, moving_or_settled, verdict};
@@ -187,10 +188,74 @@ fn first_mismatch(offers: &[Offer], router: Asn, peers: &[Asn]) -> Option<Asn>
         .find(|peer| mismatch(offers, router, *peer))
 }
 
-/// The first fault of a router's part.
+/// The part of a router, where it is the only one: what holds of some part of the router holds of it.
+fn sole_part(offers: &[Offer], router: Asn) -> Option<&Part>
+    ensures { MatchOption result (Unit {0}) (λ part. (holds : RouterPart → Bool) → has_part (made_in offers.now) router holds ≡ holds (part_of part.now)) }
+{
+    let mut place = 0;
+    while place < offers.len() {
+        if let Offer::Part(part) = &offers[place] {
+            if router == part.router {
+                if has_part(&offers[place + 1..], router) {
+                    return None;
+                }
+                return Some(part);
+            }
+        }
+        place += 1;
+    }
+    None
+}
+
+/// The least peer whose channel in the part has an UPDATE.
+fn flight_in(part: &Part, peers: &[Asn]) -> Option<Asn>
+    ensures { result ≡ find (λ v. not (is_empty ((part_of part.now).channel v))) peers.now }
+{
+    peers.iter().copied().find(|peer| part.is_in_flight(*peer))
+}
+
+/// Whether a part of the peer names another incarnation of its link to the router than this part of the router.
+fn differs(offers: &[Offer], router: Asn, part: &Part, peer: Asn) -> bool
+    ensures { result ≡ has_part (made_in offers.now) peer (λ other. not ((part_of part.now).incarnation peer == other.incarnation router)) }
+{
+    names_another(offers, peer, router, part.epoch(peer))
+}
+
+/// The least peer whose part names another incarnation of the link than this part of the router.
+fn mismatch_in(offers: &[Offer], router: Asn, part: &Part, peers: &[Asn]) -> Option<Asn>
+    ensures { result ≡ find (λ v. has_part (made_in offers.now) v (λ other. not ((part_of part.now).incarnation v == other.incarnation router))) peers.now }
+{
+    peers
+        .iter()
+        .copied()
+        .find(|peer| differs(offers, router, part, *peer))
+}
+
+/// The first fault of the only part of a router: the others are gone through for its mismatches alone.
+fn sole_fault(offers: &[Offer], member: &Member, part: &Part) -> Option<Why>
+    requires { (holds : RouterPart → Bool) → has_part (made_in offers.now) member.now.router holds ≡ holds (part_of part.now) }
+    ensures { option_map why_of result ≡ fault_at (made_in offers.now) (member_of member.now) }
+{
+    if part.pending {
+        return Some(Why::Pending);
+    }
+    let peers = member.peers.as_slice();
+    match flight_in(part, peers) {
+        Some(peer) => Some(Why::InFlight(peer)),
+        None => match mismatch_in(offers, member.router, part, peers) {
+            Some(peer) => Some(Why::Mismatch(peer)),
+            None => None,
+        },
+    }
+}
+
+/// The first fault of a router's parts.
 fn fault_at(offers: &[Offer], member: &Member) -> Option<Why>
     ensures { option_map why_of result ≡ fault_at (made_in offers.now) (member_of member.now) }
 {
+    if let Some(part) = sole_part(offers, member.router) {
+        return sole_fault(offers, member, part);
+    }
     if pending(offers, member.router) {
         return Some(Why::Pending);
     }
