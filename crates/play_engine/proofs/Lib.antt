@@ -1,4 +1,5 @@
 pub mod PlayLemmas
 pub mod PartLemmas
+pub mod PathLemmas
 pub mod SettledLemmas
 pub mod CutLemmas

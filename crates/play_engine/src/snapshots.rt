@@ -1,6 +1,9 @@
 //! How snapshots came out, and their routes.
 
-ghost use Rattle.std.specs.Prelude.{◌≡◌, ◌++◌, OnOk, map};
+ghost use Rattle.std.specs.Prelude.{◌≡◌, ◌++◌, false, OnOk, drop, map};
+ghost use Rattle.std.specs.List.{AllPairs};
+ghost use Rattle.prefix_lanes.specs.Bits.{PrefixView, is_prefix};
+ghost use Rattle.ranked_policy.specs.Plans.{IsBefore};
 ghost use Rattle.snap_marker.specs.Parts.{kept_in};
 ghost use Rattle.snap_collector.specs.Collecting.{member_of};
 ghost use Rattle.snap_collector.specs.Collector.{made_for, kept_of};
@@ -25,6 +28,24 @@ fn path_in<'k>(kept: &'k [KeptPath], prefix: &Prefix) -> &'k [Asn]
     &[]
 }
 
+// The path kept for a prefix, looked for first behind those that were passed: a part keeps its paths in the order of the
+// origins, so it mostly stands there. None of those passed is for the prefix.
+fn next_path<'k>(kept: &'k [KeptPath], passed: &mut usize, prefix: &Prefix) -> &'k [Asn]
+    requires { kept_in (drop passed.old kept.now) prefix.now ≡ kept_in kept.now prefix.now }
+    ensures path { result.now ≡ kept_in kept.now prefix.now }
+    // For another prefix nothing is passed.
+    ensures others { (q : PrefixView) → is_prefix prefix.now q ≡ false → kept_in (drop passed.new kept.now) q ≡ kept_in (drop passed.old kept.now) q }
+{
+    if *passed < kept.len() {
+        let next = &kept[*passed];
+        if next.prefix.equals(prefix) {
+            *passed += 1;
+            return next.path.as_slice();
+        }
+    }
+    path_in(kept, prefix)
+}
+
 // Appends the path that a part has for the prefix of each origin.
 fn put_part(
     number: Asn,
@@ -32,10 +53,13 @@ fn put_part(
     origins: &[Origin],
     out: &mut Vec<u8>,
 ) -> Result<(), AllocError>
+    requires { AllPairs (λ origin later. IsBefore origin.prefix later.prefix) origins.now }
     ensures { OnOk result (out.new.items ≡ out.old.items ++ router_text (kept_in part.now.kept.items) number origins.now) }
 {
+    let kept = part.kept.as_slice();
+    let mut passed = 0;
     for origin in origins {
-        let path = path_in(part.kept.as_slice(), &origin.prefix);
+        let path = next_path(kept, &mut passed, &origin.prefix);
         route_line(number, &origin.prefix, path, out)?;
     }
     Ok(())
@@ -49,6 +73,7 @@ fn put_recorded(
     origins: &[Origin],
     out: &mut Vec<u8>,
 ) -> Result<(), AllocError>
+    requires { AllPairs (λ origin later. IsBefore origin.prefix later.prefix) origins.now }
     ensures { OnOk result (out.new.items ≡ out.old.items ++ part_text origins.now router (recorded (kept_of (map member_of collector.now.members) (made_for collector.now number)) router)) }
 {
     match collector.part(number, router) {

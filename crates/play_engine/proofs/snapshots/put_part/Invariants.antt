@@ -1,10 +1,16 @@
--- what was put, before what is left, is what all are printed as
-use Rattle.std.proofs.Common.{◌≡◌, ◌++◌, drop}
+-- what was put, before what is left, is what all are printed as; and for what is left no path is passed
+use Rattle.std.proofs.Common.{◌≡◌, ◌≤◌, ◌<◌, ◌++◌, ℕ, drop, get_or, length}
+use Rattle.ranked_policy.specs.declared.network.Origin.{Origin}
 use Rattle.snap_marker.specs.Parts.{kept_in}
 use Rattle.play_engine.specs.Reporting.{router_text}
 use Rattle.play_engine.proofs.snapshots.put_part.Given as goal
 
 abbrev pub invariant-loop-origin : goal.invariant-loop-origin
-invariant-loop-origin l =
-    l.out.items ++ router_text (kept_in l.part.kept.items) l.number (drop l.origin-index l.origins)
-    ≡ l.fn.out.items ++ router_text (kept_in l.part.kept.items) l.number l.origins
+invariant-loop-origin l = record {
+  put :
+      l.out.items ++ router_text (kept_in l.part.kept.items) l.number (drop l.origin-index l.origins)
+      ≡ l.fn.out.items ++ router_text (kept_in l.part.kept.items) l.number l.origins;
+  left :
+      (j : ℕ) (d : Origin) → l.origin-index ≤ j → j < length l.origins
+      → kept_in (drop l.passed l.kept) (get_or l.origins j d).prefix ≡ kept_in l.kept (get_or l.origins j d).prefix;
+}
