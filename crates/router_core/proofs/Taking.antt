@@ -71,10 +71,13 @@ fed_by false s octets = refl
 pub fed_is : (s : Side) (e : ℕ) (octets : List ℕ) → fed s e octets ≡ record s { held = cond (uses s.link e) (s.held ++ octets) s.held }
 fed_is s e octets = fed_by (uses s.link e) s (s.held ++ octets)
 
+pub stands_at : (r : RouterView) (v i : ℕ) (p : Peer) → IsAt r.peers v i → p ≡ get_or r.peers i p → sides_of r v ≡ side p.end
+stands_at r v i p at here = side_here (side_opening (config_of r.net) r.net.settings.width) r.peers v i p at ∙ ap (λ (w : Peer). side w.end) (sym here)
+
 module _ (g : Setting) (r : RouterView) (v i : ℕ) (p : Peer) (of : IsOf g r) (at : IsAt r.peers v i) (here : p ≡ get_or r.peers i p) (l : listed v r.peers ≡ true)
     (stamp : ℕ) where
   stands : sides_of r v ≡ side p.end
-  stands = side_here (side_opening (config_of r.net) r.net.settings.width) r.peers v i p at ∙ ap (λ (w : Peer). side w.end) (sym here)
+  stands = stands_at r v i p at here
 
   abbrev pub next : ℕ
   next = max r.stamp stamp + 1

@@ -31,7 +31,8 @@ use Rattle.bgp_codec.specs.declared.rule.Rule.{Rule}
 use Rattle.outbox.specs.declared.item.Item.{Item}
 use Rattle.outbox.specs.declared.item.What.TheVariants as item
 use Rattle.run_model.specs.Network.{alone, puts, takes, offers}
-use Rattle.router_model.specs.Sides.{Side, AtHand, Draft, carried, at_hand, front, without_front, handled, is_up, told}
+use Rattle.link_epoch.specs.declared.link_end.Sign.{Sign}
+use Rattle.router_model.specs.Sides.{Side, AtHand, NoMessage, Draft, carried, signed, at_hand, front, without_front, handled, is_up, told}
 use Rattle.router_model.specs.State.{open_of, new_router, heard, last_told, telling, untold, is_waiting_peer}
 use Rattle.router_model.specs.Step.{moved, taken, next_offer, with_side}
 use Rattle.router_model.specs.Calls.{Stamped, Call, Put, Answer, Steps, Idle, Refuses, answer, Gives, has_room}
@@ -187,6 +188,12 @@ Ends false false r x z y = MatchResult r (λ s. (s ≡ stepped.Did) × (y ≡ z)
 abbrev pub Carries : Result Stepped RouterError → RouterView → ℕ → AtHand → Draft → Bool → ℕ → RouterView → Type 0
 Carries r x v h a overflows stamp y =
     Ends (nat_lt GREATEST_STAMP stamp) overflows r (plain_of x) (record { router = moved (plain_of x).router v h a; stamp = stamp }) (plain_of y)
+
+-- a Dial or a Shut of a peer is taken at this stamp, or is refused
+abbrev pub TakesSign : Result Stepped RouterError → RouterView → ℕ → Sign → ℕ → RouterView → Type 0
+TakesSign r x v s stamp y =
+    let a = signed x.own_open (sides_of x v) s in
+    Carries r x v NoMessage a a.overflows stamp y
 
 -- a marker of a peer is taken at this stamp, or memory was wanting
 abbrev pub TakesMark : Result Stepped RouterError → RouterView → ℕ → ℕ → ℕ → ℕ → RouterView → Type 0

@@ -2,7 +2,7 @@
 
 ghost use Rattle.std.specs.Prelude.{◌≡◌};
 ghost use Rattle.router_model.specs.Calls.{Take};
-ghost use Rattle.router_core.specs.Views.{IsSame, Answers};
+ghost use Rattle.router_core.specs.Views.{IsSame, Answers, IsFound, TakesSign};
 ghost use Rattle.router_core.specs.Calling.{NeedsRoom};
 
 use super::Router;
@@ -43,7 +43,6 @@ impl Router<'_> {
         ensures full { NeedsRoom result room }
         ensures same { IsSame self.old self.new }
     {
-        what_comes_keeps_fresh();
         let Some(at) = self.find(peer) else {
             return Err(RouterError::NoSuchPeer);
         };
@@ -55,15 +54,8 @@ impl Router<'_> {
             return Err(RouterError::StampEnd);
         }
         match &item.what {
-            What::Dial(number) => {
-                let made = self.peers[at].end.sign(&self.own_open, Sign::Dial(*number));
-                let overflows = made.overflows;
-                self.carry_out(peer, at, &made, overflows, stamp, room)
-            }
-            What::Shut(number) => {
-                let made = self.peers[at].end.sign(&self.own_open, Sign::Shut(*number));
-                self.carry_out(peer, at, &made, false, stamp, room)
-            }
+            What::Dial(number) => self.take_sign(peer, at, Sign::Dial(*number), stamp, room),
+            What::Shut(number) => self.take_sign(peer, at, Sign::Shut(*number), stamp, room),
             What::Piece(epoch, octets) => {
                 room?;
                 self.peers[at].end.take_piece(*epoch, octets.as_slice());
@@ -72,5 +64,27 @@ impl Router<'_> {
             }
             What::Mark(epoch, number) => self.take_mark(peer, at, *epoch, *number, stamp, room),
         }
+    }
+
+    // Takes a Dial or a Shut at this stamp, or refuses it and changes nothing. Its draft is large, and a
+    // function pays for what it may hold as it begins: so `take`, which mostly takes pieces, holds none.
+    #[inline(never)]
+    fn take_sign(
+        &mut self,
+        peer: Asn,
+        at: usize,
+        sign: Sign,
+        stamp: u64,
+        room: Result<(), AllocError>,
+    ) -> Result<Stepped, RouterError>
+        requires { IsFound self.old.peers peer at }
+        ensures takes { TakesSign result self.old peer sign stamp self.new }
+        ensures full { NeedsRoom result room }
+        ensures same { IsSame self.old self.new }
+    {
+        what_comes_keeps_fresh();
+        let made = self.peers[at].end.sign(&self.own_open, sign);
+        let overflows = made.overflows;
+        self.carry_out(peer, at, &made, overflows, stamp, room)
     }
 }

@@ -1,4 +1,4 @@
-use Rattle.std.proofs.Common.{◌≡◌, ◌∙◌, ◌+◌, ◌≤◌, ap, sym, refl, subst, true, false, arith}
+use Rattle.std.proofs.Common.{◌≡◌, ◌∙◌, ◌+◌, ◌≤◌, Bool, ap, sym, refl, subst, true, false, arith}
 use Rattle.std.specs.Prelude.{nat_lt, max, Ok, Err}
 use Rattle.std.proofs.lemmas.Bool.Decides.{nat_tests}
 use Rattle.std.proofs.lemmas.Result.{err_from_is_err_and}
@@ -6,18 +6,16 @@ use Rattle.bgp_framing.specs.Held.{is_waiting}
 use Rattle.outbox.specs.declared.item.What.TheVariants as item
 use Rattle.router_model.specs.declared.refusal.RouterError.TheVariants as error
 use Rattle.router_model.specs.declared.refusal.Stepped.TheVariants as stepped
-use Rattle.router_model.specs.Sides.{Side, Draft, NoMessage, fed, signed}
+use Rattle.router_model.specs.Sides.{Side, NoMessage, fed, signed}
 use Rattle.router_model.specs.Calls.{Take}
 use Rattle.run_model.specs.declared.stamps.TheConstants.{GREATEST_STAMP}
-use Rattle.router_side.specs.Drafts.{draft}
 use Rattle.link_epoch.specs.declared.link_end.Sign.TheVariants as sign
-use Rattle.router_side.specs.Freshness.{KeepsFresh}
 use Rattle.router_side.specs.SideOf.{side}
 use Rattle.router_core.specs.declared.peers.Peer.{Peer}
-use Rattle.router_core.specs.Views.{RouterView, IsFound, Answers, Carries, TakesMark, sides_of, plain_of}
+use Rattle.router_core.specs.Views.{RouterView, IsFound, Answers, Carries, TakesSign, TakesMark, sides_of, plain_of}
 use Rattle.router_core.proofs.PeerLemmas.{here_same}
-use Rattle.router_core.proofs.Carrying.{Changes, with_peer, of_sound, stays, tracks_alike, records_same, keeps_here}
-use Rattle.router_core.proofs.Taking.{takes_held, takes_late, takes_dial, takes_shut, takes_piece, refuses_piece, takes_mark, fed_is, shut_fits}
+use Rattle.router_core.proofs.Carrying.{Changes, with_peer, of_sound, stays, tracks_alike, records_same}
+use Rattle.router_core.proofs.Taking.{takes_held, takes_late, takes_dial, takes_shut, takes_piece, refuses_piece, takes_mark, fed_is, shut_fits, stands_at}
 use Rattle.router_core.proofs.router.Router.take.Goals as goal
 
 pub returns-then-is_waiting-clause-answers : goal.returns-then-is_waiting-clause-answers
@@ -52,36 +50,37 @@ invariant_of-self c =
 pub returns-in-Dial-clause-answers : goal.returns-in-Dial-clause-answers
 returns-in-Dial-clause-answers c =
     let r : RouterView = record { net = c.self.inside.network.now; number = c.self.inside.number; own_open = c.self.inside.own_open; peers = c.self.inside.peers.items; tables = c.self.inside.tables; marks = c.self.inside.marks; stamp = c.self.inside.stamp } in
-    let found = subst (λ (x : RouterView). IsFound x.peers c.args.peer c.in-Some.at) (sym c.self.view_is) c.in-Some.ensures.place in
+    let v = c.args.peer in
+    let found = subst (λ (x : RouterView). IsFound x.peers v c.in-Some.at) (sym c.self.view_is) c.in-Some.ensures.place in
     let next : c.saturating_add-stamp.result ≡ max r.stamp c.args.item.now.stamp + 1 = omega (arith, c.if-stamp-gt-GREATEST_STAMP.false, c.max.ensures, c.saturating_add-stamp.ensures) in
-    let p = c.index-in-Dial.result.now in
-    let a = draft r.own_open NoMessage c.sign-made.result in
-    let same : p ≡ c.index.result.now = c.index-in-Dial.ensures ∙ here_same r.peers c.args.peer c.in-Some.at p c.index.result.now found.2 ∙ sym c.index.ensures in
-    let free = ap (λ (w : Peer). is_waiting (side w.end).held) same ∙ sym c.is_waiting.ensures ∙ c.if-is_waiting.false in
-    let carries = subst (λ (x : RouterView). Carries c.carry_out.result x c.args.peer NoMessage (draft x.own_open NoMessage c.sign-made.result) c.sign-made.result.overflows c.saturating_add-stamp.result c.carry_out.new.self) (sym c.self.view_is)
-    c.carry_out.ensures.carries in
-    let ends = subst (λ n. Carries c.carry_out.result r c.args.peer NoMessage a c.sign-made.result.overflows n c.carry_out.new.self) next carries in
+    let p = c.index.result.now in
+    let x = sign.Dial c.in-Dial.number in
+    let a = signed r.own_open (sides_of r v) x in
+    let made = ap (λ (s : Side). signed r.own_open s x) (stands_at r v c.in-Some.at p found.2 c.index.ensures) in
+    let free = sym c.is_waiting.ensures ∙ c.if-is_waiting.false in
+    let takes = subst (λ (w : RouterView). TakesSign c.take_sign.result w v x c.saturating_add-stamp.result c.take_sign.new.self) (sym c.self.view_is) c.take_sign.ensures.takes in
+    let ends = subst (λ n. Carries c.take_sign.result r v NoMessage a a.overflows n c.take_sign.new.self) next takes in
     rw c.in-Dial.is
-    (subst (λ (x : RouterView). Answers c.carry_out.result x (Take c.args.peer c.args.item.now.stamp (item.Dial c.in-Dial.number)) c.carry_out.new.self) c.self.view_is (λ g e ranks.
-    takes_dial g r c.args.peer c.in-Some.at p (of_sound g r c.self.invariant e) found.2 c.index-in-Dial.ensures found.1 c.args.item.now.stamp (plain_of c.carry_out.new.self) a c.carry_out.result c.in-Dial.number free
-    c.sign-made.ensures ends))
+    (subst (λ (w : RouterView). Answers c.take_sign.result w (Take v c.args.item.now.stamp (item.Dial c.in-Dial.number)) c.take_sign.new.self) c.self.view_is (λ g e ranks.
+    takes_dial g r v c.in-Some.at p (of_sound g r c.self.invariant e) found.2 c.index.ensures found.1 c.args.item.now.stamp (plain_of c.take_sign.new.self) a c.take_sign.result c.in-Dial.number free made ends))
 
 pub returns-in-Shut-clause-answers : goal.returns-in-Shut-clause-answers
 returns-in-Shut-clause-answers c =
     let r : RouterView = record { net = c.self.inside.network.now; number = c.self.inside.number; own_open = c.self.inside.own_open; peers = c.self.inside.peers.items; tables = c.self.inside.tables; marks = c.self.inside.marks; stamp = c.self.inside.stamp } in
-    let found = subst (λ (x : RouterView). IsFound x.peers c.args.peer c.in-Some.at) (sym c.self.view_is) c.in-Some.ensures.place in
+    let v = c.args.peer in
+    let found = subst (λ (x : RouterView). IsFound x.peers v c.in-Some.at) (sym c.self.view_is) c.in-Some.ensures.place in
     let next : c.saturating_add-stamp.result ≡ max r.stamp c.args.item.now.stamp + 1 = omega (arith, c.if-stamp-gt-GREATEST_STAMP.false, c.max.ensures, c.saturating_add-stamp.ensures) in
-    let p = c.index-in-Shut.result.now in
-    let a = draft r.own_open NoMessage c.sign-made-in-Shut.result in
-    let same : p ≡ c.index.result.now = c.index-in-Shut.ensures ∙ here_same r.peers c.args.peer c.in-Some.at p c.index.result.now found.2 ∙ sym c.index.ensures in
-    let free = ap (λ (w : Peer). is_waiting (side w.end).held) same ∙ sym c.is_waiting.ensures ∙ c.if-is_waiting.false in
-    let carries = subst (λ (x : RouterView). Carries c.carry_out-in-Shut.result x c.args.peer NoMessage (draft x.own_open NoMessage c.sign-made-in-Shut.result) false c.saturating_add-stamp.result c.carry_out-in-Shut.new.self) (sym c.self.view_is)
-    c.carry_out-in-Shut.ensures.carries in
-    let ends = subst (λ n. Carries c.carry_out-in-Shut.result r c.args.peer NoMessage a false n c.carry_out-in-Shut.new.self) next carries in
+    let p = c.index.result.now in
+    let x = sign.Shut c.in-Shut.number in
+    let a = signed r.own_open (sides_of r v) x in
+    let made = ap (λ (s : Side). signed r.own_open s x) (stands_at r v c.in-Some.at p found.2 c.index.ensures) in
+    let free = sym c.is_waiting.ensures ∙ c.if-is_waiting.false in
+    let takes = subst (λ (w : RouterView). TakesSign c.take_sign-in-Shut.result w v x c.saturating_add-stamp.result c.take_sign-in-Shut.new.self) (sym c.self.view_is) c.take_sign-in-Shut.ensures.takes in
+    let ends = subst (λ n. Carries c.take_sign-in-Shut.result r v NoMessage a a.overflows n c.take_sign-in-Shut.new.self) next takes in
+    let none = subst (λ (o : Bool). Carries c.take_sign-in-Shut.result r v NoMessage a o (max r.stamp c.args.item.now.stamp + 1) c.take_sign-in-Shut.new.self) (shut_fits r.own_open (sides_of r v) c.in-Shut.number) ends in
     rw c.in-Shut.is
-    (subst (λ (x : RouterView). Answers c.carry_out-in-Shut.result x (Take c.args.peer c.args.item.now.stamp (item.Shut c.in-Shut.number)) c.carry_out-in-Shut.new.self) c.self.view_is (λ g e ranks.
-    takes_shut g r c.args.peer c.in-Some.at p (of_sound g r c.self.invariant e) found.2 c.index-in-Shut.ensures found.1 c.args.item.now.stamp (plain_of c.carry_out-in-Shut.new.self) a c.carry_out-in-Shut.result c.in-Shut.number free
-    c.sign-made-in-Shut.ensures ends))
+    (subst (λ (w : RouterView). Answers c.take_sign-in-Shut.result w (Take v c.args.item.now.stamp (item.Shut c.in-Shut.number)) c.take_sign-in-Shut.new.self) c.self.view_is (λ g e ranks.
+    takes_shut g r v c.in-Some.at p (of_sound g r c.self.invariant e) found.2 c.index.ensures found.1 c.args.item.now.stamp (plain_of c.take_sign-in-Shut.new.self) a c.take_sign-in-Shut.result c.in-Shut.number free made none))
 
 pub returns-in_err-room-in-Piece-clause-answers : goal.returns-in_err-room-in-Piece-clause-answers
 returns-in_err-room-in-Piece-clause-answers c =
@@ -110,24 +109,6 @@ returns-in_ok-room-in-Piece-clause-answers c =
     rw (c.in-Piece.is, next)
     (subst (λ (x : RouterView). Answers (Ok stepped.Did) x (Take c.args.peer c.args.item.now.stamp (item.Piece c.in-Piece.epoch c.in-Piece.octets)) (with_peer r c.in-Some.at q r.tables r.marks (max r.stamp c.args.item.now.stamp + 1))) c.self.view_is (λ g e ranks.
     takes_piece g r c.args.peer c.in-Some.at p (of_sound g r c.self.invariant e) found.2 c.index_mut.ensures.value found.1 c.args.item.now.stamp c.in-Piece.epoch c.in-Piece.octets q ch is free late))
-
-pub carry_out-requires-clause-fresh : goal.carry_out-requires-clause-fresh
-carry_out-requires-clause-fresh c = λ o.
-    let r : RouterView = record { net = c.self.inside.network.now; number = c.self.inside.number; own_open = c.self.inside.own_open; peers = c.self.inside.peers.items; tables = c.self.inside.tables; marks = c.self.inside.marks; stamp = c.self.inside.stamp } in
-    let found = subst (λ (x : RouterView). IsFound x.peers c.args.peer c.in-Some.at) (sym c.self.view_is) c.in-Some.ensures.place in
-    let p = c.index-in-Dial.result.now in
-    subst (λ (x : RouterView). KeepsFresh (sides_of x c.args.peer) NoMessage (draft x.own_open NoMessage c.sign-made.result)) c.self.view_is
-    (keeps_here r c.args.peer c.in-Some.at p found.2 c.index-in-Dial.ensures c.self.invariant (draft r.own_open NoMessage c.sign-made.result) (signed r.own_open (side p.end) (sign.Dial c.in-Dial.number)) c.sign-made.ensures
-    (λ f. c.what_comes_keeps_fresh.ensures.signs r.own_open (side p.end) (sign.Dial c.in-Dial.number) f (ap (λ (a : Draft). a.overflows) (sym c.sign-made.ensures) ∙ o)))
-
-pub carry_out-requires-in-Shut-clause-fresh : goal.carry_out-requires-in-Shut-clause-fresh
-carry_out-requires-in-Shut-clause-fresh c = λ o.
-    let r : RouterView = record { net = c.self.inside.network.now; number = c.self.inside.number; own_open = c.self.inside.own_open; peers = c.self.inside.peers.items; tables = c.self.inside.tables; marks = c.self.inside.marks; stamp = c.self.inside.stamp } in
-    let found = subst (λ (x : RouterView). IsFound x.peers c.args.peer c.in-Some.at) (sym c.self.view_is) c.in-Some.ensures.place in
-    let p = c.index-in-Shut.result.now in
-    subst (λ (x : RouterView). KeepsFresh (sides_of x c.args.peer) NoMessage (draft x.own_open NoMessage c.sign-made-in-Shut.result)) c.self.view_is
-    (keeps_here r c.args.peer c.in-Some.at p found.2 c.index-in-Shut.ensures c.self.invariant (draft r.own_open NoMessage c.sign-made-in-Shut.result) (signed r.own_open (side p.end) (sign.Shut c.in-Shut.number)) c.sign-made-in-Shut.ensures
-    (λ f. c.what_comes_keeps_fresh.ensures.signs r.own_open (side p.end) (sign.Shut c.in-Shut.number) f (shut_fits r.own_open (side p.end) c.in-Shut.number)))
 
 pub returns-in-Mark-clause-answers : goal.returns-in-Mark-clause-answers
 returns-in-Mark-clause-answers c =
