@@ -43,9 +43,8 @@ pub nothing_seen : (b : Bool) (v : ℕ) (x y : Snapshots) → y ≡ x → y ≡ 
 nothing_seen true v x y e = e
 nothing_seen false v x y e = e
 
-pub fresh_alike : (s z : Side) → z.session ≡ s.session → z.link ≡ s.link → z.acted ≡ s.acted → z.sent ≡ s.sent → IsFresh s → IsFresh z
-fresh_alike s z x l a b f =
-    let state = ap (λ (y : SessionView). y.state) x in
+pub fresh_alike : (s z : Side) → z.session.state ≡ s.session.state → z.link ≡ s.link → z.acted ≡ s.acted → z.sent ≡ s.sent → IsFresh s → IsFresh z
+fresh_alike s z state l a b f =
     let epoch = ap (λ (y : LinkView). y.epoch) l in
     record {
       later = λ n h. let k = f.later n (subst (λ e. e < n) epoch h) in (ap (λ (us : ℕ → List Update). us n) a ∙ k.0, ap (λ (us : ℕ → List Update). us n) b ∙ k.1);
@@ -208,14 +207,16 @@ module _ (r : RouterView) (v i : ℕ) (p q : Peer) (c : Changes r v i p q) where
   -- octets that are held or wait to be put are nothing to the tables
   pub tracks_alike : IsSound r → (side q.end).session ≡ (side p.end).session → (side q.end).link ≡ (side p.end).link → (side q.end).acted ≡ (side p.end).acted → (side q.end).sent ≡ (side p.end).sent
       → (side q.end).width ≡ (side p.end).width → Tracks r v q r.tables
-  tracks_alike s x l a b w = record {
-    leaves = leaves_same r.tables v;
-    follows = follows_alike r.net.origins r.tables v (side p.end) (side q.end) x l a b (is_followed s);
-    fresh = fresh_alike (side p.end) (side q.end) x l a b (is_fresh s);
-    width = w ∙ has_width s;
-    sent = s.tabled.sent;
-    short = s.tabled.short;
-  }
+  tracks_alike s x l a b w =
+      let state = ap (λ (y : SessionView). y.state) x in
+      record {
+        leaves = leaves_same r.tables v;
+        follows = follows_alike r.net.origins r.tables v (side p.end) (side q.end) state l a b (is_followed s);
+        fresh = fresh_alike (side p.end) (side q.end) state l a b (is_fresh s);
+        width = w ∙ has_width s;
+        sent = s.tabled.sent;
+        short = s.tabled.short;
+      }
 
   -- a draft without an UPDATE is carried out, and the tables follow its session
   pub tracks_moved : IsSound r → (a : Draft) (t : RibView) → KeepsFresh (sides_of r v) NoMessage a → side q.end ≡ carried NoMessage (side p.end) a

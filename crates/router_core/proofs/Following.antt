@@ -150,7 +150,7 @@ module _ (origins : List Origin) where
   }
 
   -- octets and the outbox are nothing to them
-  pub follows_alike : (t : RibView) (v : ℕ) (s z : Side) → z.session ≡ s.session → z.link ≡ s.link → z.acted ≡ s.acted → z.sent ≡ s.sent → Follows origins t v s → Follows origins t v z
+  pub follows_alike : (t : RibView) (v : ℕ) (s z : Side) → z.session.state ≡ s.session.state → z.link ≡ s.link → z.acted ≡ s.acted → z.sent ≡ s.sent → Follows origins t v s → Follows origins t v z
   follows_alike t v s z x l a b f =
       let up : is_up z ≡ is_up s = rw x refl in
       record {

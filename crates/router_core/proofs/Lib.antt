@@ -27,4 +27,5 @@ pub mod Snapshots
 pub mod MarkTaking
 pub mod Moving
 pub mod Ticking
+pub mod Resting
 pub mod OpeningLemmas

@@ -29,17 +29,17 @@ use Rattle.router_core.proofs.Choosing.{Chooses}
 use Rattle.router_core.proofs.Pending.{pending_is}
 use Rattle.router_core.proofs.Recording.{kept_as, own_as, peers_as, epochs_as, waits_as, channels_as, rises, down_is, become_numbers, become_listed, become_sides, marked_sides}
 
--- ---- peers whose sides change in what waits to be put alone
+-- ---- peers whose sides change in what waits to be put and in their timers alone
 
 pub record Alike (f : Side → Side) : Type 0 where
-  pub session : (s : Side) → (f s).session ≡ s.session
+  pub state : (s : Side) → (f s).session.state ≡ s.session.state
   pub link : (s : Side) → (f s).link ≡ s.link
   pub acted : (s : Side) → (f s).acted ≡ s.acted
   pub sent : (s : Side) → (f s).sent ≡ s.sent
   pub width : (s : Side) → (f s).width ≡ s.width
 
 pub same_alike : Alike (λ s. s)
-same_alike = record { session = λ s. refl; link = λ s. refl; acted = λ s. refl; sent = λ s. refl; width = λ s. refl }
+same_alike = record { state = λ s. refl; link = λ s. refl; acted = λ s. refl; sent = λ s. refl; width = λ s. refl }
 
 by_up : {X : Type 0} (get : Side → X) (s : ℕ) → ((x : Side) → get (marked s x) ≡ get x) → (x : Side) (b : Bool) → is_up x ≡ b → get (cond b (marked s x) x) ≡ get x
 by_up get s h x true e = h x
@@ -47,7 +47,7 @@ by_up get s h x false e = refl
 
 pub marked_alike : (s : ℕ) → Alike (marked_if_up s)
 marked_alike s = record {
-  session = λ x. by_up (λ y. y.session) s (λ y. refl) x (is_up x) refl;
+  state = λ x. by_up (λ y. y.session.state) s (λ y. refl) x (is_up x) refl;
   link = λ x. by_up (λ y. y.link) s (λ y. refl) x (is_up x) refl;
   acted = λ x. by_up (λ y. y.acted) s (λ y. refl) x (is_up x) refl;
   sent = λ x. by_up (λ y. y.sent) s (λ y. refl) x (is_up x) refl;
@@ -87,9 +87,9 @@ module _ (r : RouterView) (qs : List Peer) (m : MarkView) (stamp : ℕ) (f : Sid
         tabled = record {
           net = t.net;
           router = t.router;
-          peers = λ v l. follows_alike r.net.origins r.tables v (sides_of r v) (side_at none qs v) (same_at (λ y. y.session) al.session v) (same_at (λ y. y.link) al.link v) (same_at (λ y. y.acted) al.acted v)
+          peers = λ v l. follows_alike r.net.origins r.tables v (sides_of r v) (side_at none qs v) (same_at (λ y. y.session.state) al.state v) (same_at (λ y. y.link) al.link v) (same_at (λ y. y.acted) al.acted v)
               (same_at (λ y. y.sent) al.sent v) (t.peers v l);
-          fresh = λ v. fresh_alike (sides_of r v) (side_at none qs v) (same_at (λ y. y.session) al.session v) (same_at (λ y. y.link) al.link v) (same_at (λ y. y.acted) al.acted v)
+          fresh = λ v. fresh_alike (sides_of r v) (side_at none qs v) (same_at (λ y. y.session.state) al.state v) (same_at (λ y. y.link) al.link v) (same_at (λ y. y.acted) al.acted v)
               (same_at (λ y. y.sent) al.sent v) (t.fresh v);
           width = λ v. same_at (λ y. y.width) al.width v ∙ t.width v;
           short = t.short;

@@ -1,7 +1,8 @@
 -- What comes to all peers of a router at once.
-use Rattle.std.specs.Prelude.{ℕ, ◌≡◌, ◌||◌, Bool, false, List, [], ◌∷◌, Option, None, get_or, set}
+use Rattle.std.specs.Prelude.{ℕ, ◌≡◌, ◌||◌, Bool, false, List, [], ◌∷◌, Option, None, is_some, get_or, set}
 use Rattle.bgp_codec.specs.declared.message.Message.{Message}
 use Rattle.session_fsm.specs.declared.event.FsmEvent.TheVariants.{ManualStop}
+use Rattle.session_fsm.specs.Timers.{ticked, runs_out}
 use Rattle.snap_marker.specs.Recordings.{closed}
 use Rattle.snap_marker.specs.Parts.{snapshots_of}
 use Rattle.router_model.specs.Sides.{Side, Draft, NoMessage, carried, met, second}
@@ -24,6 +25,15 @@ draft_by whole.Stop own_open s = met own_open s ManualStop
 abbrev pub overflow_in : (Side → Draft) → List Peer → Bool
 overflow_in D [] = false
 overflow_in D (p ∷ ps) = (D (side p.end)).overflows || overflow_in D ps
+
+-- a timer of some session runs out in the next second
+abbrev pub runs_out_in : List Peer → Bool
+runs_out_in [] = false
+runs_out_in (p ∷ ps) = is_some (runs_out (side p.end).session) || runs_out_in ps
+
+-- the timers of a session have one second less left
+abbrev pub counted_down : Side → Side
+counted_down s = record s { session = ticked s.session }
 
 -- this is the draft of a side, which has room for it
 abbrev pub IsReady : Message → (Side → Draft) → Peer → Sketch → Type 0

@@ -12,7 +12,7 @@ ghost use Rattle.router_core.specs.declared.peers.Peer as peer;
 ghost use Rattle.router_core.specs.Views.{IsSame, Answers};
 ghost use Rattle.router_core.specs.Calling.{NeedsRoom};
 ghost use Rattle.router_core.specs.Recorded.{Become};
-ghost use Rattle.router_core.specs.Whole.{draft_by, overflow_in, IsReady, AreReady, MovesSide, MovesAll};
+ghost use Rattle.router_core.specs.Whole.{draft_by, overflow_in, IsReady, AreReady, MovesSide, MovesAll, runs_out_in, counted_down};
 
 use super::carry::{carry, close};
 use super::{Router, next_stamp, next_stamp_in};
@@ -89,6 +89,34 @@ fn prepare(
     prepare_each(alloc, whole, peers.as_mut_slice(), own_open)
 }
 
+// Whether a timer of some session runs out in the next second.
+fn runs_out(peers: &[Peer]) -> bool
+    ensures { result ≡ runs_out_in peers.now }
+{
+    for peer in peers {
+        if peer.end.runs_out() {
+            return true;
+        }
+    }
+    false
+}
+
+// The timers of each of these sessions have one second less left.
+fn count_down_each(peers: &mut [Peer])
+    ensures { Become counted_down peers.old peers.new }
+{
+    for peer in peers.iter_mut() {
+        peer.end.count_down();
+    }
+}
+
+// The timers of each session have.
+fn count_down_all(peers: &mut Vec<Peer>)
+    ensures { Become counted_down peers.old.items peers.new.items }
+{
+    count_down_each(peers.as_mut_slice());
+}
+
 impl Router<'_> {
     // The draft of the side at a place is carried out, for which there is room. The stamp stays.
     fn move_side(&mut self, whole: Whole, at: usize, made: &Sketch)
@@ -129,6 +157,34 @@ impl Router<'_> {
 
     // The same; where the caller has no room for the event, no step is done.
     pub(super) fn tick_in(&mut self, room: Result<(), AllocError>) -> Result<Stepped, RouterError>
+        ensures answers { Answers result self.old Tick self.new }
+        ensures full { NeedsRoom result room }
+        ensures same { IsSame self.old self.new }
+    {
+        if runs_out(self.peers.as_slice()) {
+            self.tick_by_drafts(room)
+        } else {
+            self.count_down(room)
+        }
+    }
+
+    // A second in which no timer runs out says, dials and leaves nothing. So it needs no draft and no room,
+    // and moves the timers alone.
+    fn count_down(&mut self, room: Result<(), AllocError>) -> Result<Stepped, RouterError>
+        requires { runs_out_in self.old.peers ≡ false }
+        ensures answers { Answers result self.old Tick self.new }
+        ensures full { NeedsRoom result room }
+        ensures same { IsSame self.old self.new }
+    {
+        let stamp = next_stamp_in(self.stamp, room)?;
+        count_down_all(&mut self.peers);
+        self.stamp = stamp;
+        Ok(Stepped::Did)
+    }
+
+    // Any second: all sides are drafted, given room, and moved.
+    #[inline(never)]
+    fn tick_by_drafts(&mut self, room: Result<(), AllocError>) -> Result<Stepped, RouterError>
         ensures answers { Answers result self.old Tick self.new }
         ensures full { NeedsRoom result room }
         ensures same { IsSame self.old self.new }

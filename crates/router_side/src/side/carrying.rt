@@ -7,6 +7,7 @@ ghost use Rattle.bgp_codec.specs.Header.{header_fault};
 ghost use Rattle.bgp_codec.specs.Spelling.{written};
 ghost use Rattle.bgp_framing.specs.Held.{is_waiting};
 ghost use Rattle.run_model.specs.Octets.{passing};
+ghost use Rattle.session_fsm.specs.Timers.{ticked};
 ghost use Rattle.router_model.specs.Sides.{carried, acted_with, rest_behind, without_front, NoMessage};
 ghost use Rattle.router_side.specs.Sayings.{told_of, all_entries, all_sizes, size_where, IsSayable, IsSayableWhere};
 ghost use Rattle.router_side.specs.Drafts.{draft, hand};
@@ -86,6 +87,13 @@ impl SideEnd {
         ensures { side self.new ≡ carried NoMessage (side self.old) (draft own_open.now NoMessage made.now) }
     {
         self.carry(alloc, own_open, &None, made);
+    }
+
+    /// The timers of the session have one second less left. It takes no memory, and cannot be refused.
+    pub fn count_down(&mut self)
+        ensures { side self.new ≡ record (side self.old) { session = ticked (side self.old).session } }
+    {
+        let _ = self.session.tick();
     }
 
     /// Carries out a draft of the message or fault in front, for which there is room: a message is taken

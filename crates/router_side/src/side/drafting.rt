@@ -1,7 +1,8 @@
 //! What each event will make of a side, drafted by value: nothing is changed.
 
-ghost use Rattle.std.specs.Prelude.{◌≡◌};
+ghost use Rattle.std.specs.Prelude.{◌≡◌, is_some};
 ghost use Rattle.session_fsm.specs.Table.{IsGoodEvent};
+ghost use Rattle.session_fsm.specs.Timers.{runs_out};
 ghost use Rattle.router_model.specs.Sides.{met, reset, second, signed, comes, draft_of, NoMessage};
 ghost use Rattle.router_side.specs.Drafts.{draft, hand};
 ghost use Rattle.router_side.specs.SideOf.{side};
@@ -45,6 +46,15 @@ impl SideEnd {
             made.comes(own_open, &Given::Nothing, event);
         }
         made
+    }
+
+    /// Whether a timer of its session runs out in the next second. A second in which none does has a draft
+    /// in which the timers move alone: [`SideEnd::count_down`] is all of it.
+    pub fn runs_out(&self) -> bool
+        ensures { result ≡ is_some (runs_out (side self.now).session) }
+    {
+        let mut session = self.session;
+        session.tick().is_some()
     }
 
     /// What a sign of the peer will make of it.

@@ -11,7 +11,7 @@ use Rattle.router_core.proofs.Snapshots.{with_peers, same_plain}
 use Rattle.router_core.specs.Whole.{overflow_in}
 use Rattle.router_core.proofs.Carrying.{ends_did, ends_memory}
 use Rattle.router_core.proofs.Ticking.{at_stamp, ticks, ticked, ends_late, ends_over, prepared_sound, overflow_alike, all_done}
-use Rattle.router_core.proofs.router.Router.tick_in.Goals as goal
+use Rattle.router_core.proofs.router.Router.tick_by_drafts.Goals as goal
 
 pub returns-in_err-stamp-clause-answers : goal.returns-in_err-stamp-clause-answers
 returns-in_err-stamp-clause-answers c =
