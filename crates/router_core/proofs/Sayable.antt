@@ -62,7 +62,7 @@ one_prefix q = (let whole = length-append (prefix_octets q) [] in omega (arith, 
 
 -- ---- a withdrawal
 
-pub withdrawal_sayable : WrittenHasAHeader → (w : Width) (q : PrefixView) → IsCanonical q → IsSayable w (UpdateMsg (withdrawal q))
+withdrawal_sayable : WrittenHasAHeader → (w : Width) (q : PrefixView) → IsCanonical q → IsSayable w (UpdateMsg (withdrawal q))
 withdrawal_sayable header w q canonical =
     let u : Update = withdrawal q in
     let all = header w (UpdateMsg u) in
@@ -74,7 +74,7 @@ withdrawal_sayable header w q canonical =
 
 -- ---- an announcement
 
-pub announcement_sayable : WrittenHasAHeader → (w : Width) (id : ℕ) (q : PrefixView) (path : List ℕ) → id < 2 ^ 32 → IsUnicast id → IsCanonical q → IsTellable w path → 1 ≤ length path
+announcement_sayable : WrittenHasAHeader → (w : Width) (id : ℕ) (q : PrefixView) (path : List ℕ) → id < 2 ^ 32 → IsUnicast id → IsCanonical q → IsTellable w path → 1 ≤ length path
     → IsSayable w (UpdateMsg (announcement id q path))
 announcement_sayable header w id q path fit unicast canonical tells some =
     let u : Update = announcement id q path in
@@ -98,6 +98,8 @@ announcement_sayable header w id q path fit unicast canonical tells some =
     let fits : UpdateFits w u = record { withdrawn = tt; attrs = attrs; nlri = (canonical, tt); mandatory = λ there. refl; withdrawn_size = omega arith; attrs_size = omega (arith, short) } in
     (fits, omega (arith, all, body, one, short))
 
-pub telling_some : (id : ℕ) (q : PrefixView) (path : List ℕ) → 1 ≤ length path → telling id q path ≡ announcement id q path
-telling_some id q [] some = absurd (omega (arith, some))
-telling_some id q (v ∷ path) some = refl
+-- ---- what tells a path
+
+pub telling_sayable : WrittenHasAHeader → (w : Width) (id : ℕ) (q : PrefixView) (path : List ℕ) → id < 2 ^ 32 → IsUnicast id → IsCanonical q → IsTellable w path → IsSayable w (UpdateMsg (telling id q path))
+telling_sayable header w id q [] fit unicast canonical tells = withdrawal_sayable header w q canonical
+telling_sayable header w id q (v ∷ path) fit unicast canonical tells = announcement_sayable header w id q (v ∷ path) fit unicast canonical tells (omega arith)

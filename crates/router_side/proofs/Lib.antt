@@ -1,4 +1,5 @@
 pub mod Said
+pub mod Spelt
 pub mod Sizes
 pub mod FrontLemmas
 pub mod Fresh

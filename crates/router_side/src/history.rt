@@ -11,6 +11,7 @@ ghost use Rattle.router_model.specs.Sides.{with_update};
 ghost use Rattle.router_side.specs.Sayings.{acted_where, nobody, update_in, IsSayable};
 ghost use Rattle.router_side.specs.Histories.{history, octets_kept, told_with, updates_read};
 
+use crate::route::Route;
 use bgp_codec::laws::written_is_read;
 use bgp_codec::{Message, Rule, Update, decode, put_message};
 use bgp_values::Width;
@@ -156,5 +157,20 @@ impl History {
             }
             Message::OpenMsg(_) | Message::NoticeMsg(_) | Message::AliveMsg => {}
         }
+    }
+
+    // Puts the UPDATE of a path that is told behind the others, for which there is room.
+    pub(crate) fn keep_route(&mut self, width: Width, epoch: u32, route: &Route)
+        requires sayable { IsSayable width (UpdateMsg route.now) }
+        requires room { length (written width (UpdateMsg route.now)) ≤ self.old.room }
+        requires place { 1 ≤ self.old.places }
+        ensures told { history (told_with width self.new) ≡ with_update (history (told_with width self.old)) epoch route.now }
+        ensures octets { self.new.octets ≡ self.old.octets ++ written width (UpdateMsg route.now) }
+    {
+        written_is_read();
+        let before = self.octets.len();
+        route.put(width, &mut self.octets);
+        let len = self.octets.len() - before;
+        self.places.push_reserved(Place { epoch, len });
     }
 }

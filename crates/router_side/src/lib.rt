@@ -20,6 +20,7 @@ mod enqueue;
 mod history;
 pub mod laws;
 mod reading;
+mod route;
 mod say;
 mod side;
 
@@ -27,5 +28,6 @@ pub use at_hand::Given;
 pub use draft::Sketch;
 pub use history::{History, Told};
 pub use reading::{opened, read_front};
+pub use route::{MOST_NUMBERS, Route};
 pub use say::{Say, Says};
 pub use side::SideEnd;

@@ -9,7 +9,6 @@ use super::{Router, next_stamp_in};
 use crate::choices::the_best_is_the_route;
 use crate::peers::Peer;
 use crate::telling::telling;
-use bgp_codec::Message;
 use prefix_lanes::Prefix;
 use ranked_policy::Asn;
 use router_model::{OUTBOX_LIMIT, RouterError, Stepped};
@@ -132,7 +131,7 @@ impl Router<'_> {
     {
         let stamp = next_stamp_in(self.stamp, room)?;
         let alloc = *self.peers.allocator();
-        let Ok(update) = telling(
+        let Ok(route) = telling(
             alloc,
             self.network,
             self.number,
@@ -141,15 +140,14 @@ impl Router<'_> {
         ) else {
             return Err(RouterError::Memory);
         };
-        let message = Message::UpdateMsg(update);
         let Peer { number, end } = &mut self.peers[at];
-        let Ok(()) = end.reserve_telling(&message) else {
+        let Ok(()) = end.reserve_route(&route) else {
             return Err(RouterError::Memory);
         };
         let Ok(()) = self.tables.tell(*number, prefix) else {
             return Err(RouterError::Memory);
         };
-        end.tell(&message);
+        end.tell_route(&route);
         self.stamp = stamp;
         Ok(Stepped::Did)
     }

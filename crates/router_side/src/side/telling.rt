@@ -1,12 +1,14 @@
 //! UPDATEs and markers that a router says of itself, beside the drafts of its events.
 
 ghost use Rattle.std.specs.Prelude.{◌≡◌, true, OnOk};
+ghost use Rattle.bgp_codec.specs.declared.message.Message.TheVariants.{UpdateMsg};
 ghost use Rattle.router_model.specs.Sides.{is_up, marked};
 ghost use Rattle.router_side.specs.Sayings.{IsSayable};
 ghost use Rattle.router_side.specs.SideOf.{side, told_by, HasRoomToTell, HasRoomToMark};
 
 use super::SideEnd;
 use crate::history::nobody;
+use crate::route::Route;
 use bgp_codec::laws::written_has_a_header;
 use bgp_codec::{Message, written_len};
 use outbox::Control;
@@ -49,6 +51,35 @@ impl SideEnd {
                     .push_message(epoch, message, &nobody(self.width));
             }
         }
+        self.session.update_sent();
+    }
+
+    /// Makes room for a path to be told. It is refused only where memory was, and the side stays as it was.
+    pub fn reserve_route(&mut self, route: &Route) -> Result<(), AllocError>
+        ensures side { side self.new ≡ side self.old }
+        ensures room { OnOk result (HasRoomToTell (UpdateMsg route.now) self.new) }
+    {
+        let len = route.len(self.width);
+        self.outbox.reserve(len, 1)?;
+        self.sent.reserve(len)?;
+        Ok(())
+    }
+
+    /// A path is told, for which there is room, as `tell` tells its UPDATE; its octets are put without a
+    /// message in between. It takes no memory.
+    #[tactic(auto, using(crate::proofs::Said::told_is))]
+    pub fn tell_route(&mut self, route: &Route)
+        requires up { is_up (side self.old) ≡ true }
+        requires sayable { IsSayable self.old.width (UpdateMsg route.now) }
+        requires room { HasRoomToTell (UpdateMsg route.now) self.old }
+        ensures { side self.new ≡ told_by (side self.old) (UpdateMsg route.now) }
+    {
+        written_has_a_header();
+        let epoch = self.link.epoch();
+        let before = self.sent.octets().len();
+        self.sent.keep_route(self.width, epoch, route);
+        let (_, octets) = self.sent.octets().split_at(before);
+        self.outbox.push_octets(epoch, octets);
         self.session.update_sent();
     }
 
