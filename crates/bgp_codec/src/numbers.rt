@@ -37,8 +37,8 @@ pub(crate) fn address_at(octets: &[u8], at: usize) -> u32
     ])
 }
 
-// How many octets an AS number has.
-pub(crate) fn asn_size(width: Width) -> usize
+/// How many octets an AS number has.
+pub fn asn_size(width: Width) -> usize
     ensures { result ≡ asn_size width }
 {
     match width {

@@ -240,8 +240,8 @@ pub(crate) fn put_asn(out: &mut Vec<u8>, width: Width, asn: Asn)
     }
 }
 
-// Appends numbers of so many octets each, for which there is room.
-fn put_numbers(out: &mut Vec<u8>, width: Width, numbers: &[Asn])
+/// Appends AS numbers, for which there is room.
+pub fn put_numbers(out: &mut Vec<u8>, width: Width, numbers: &[Asn])
     requires fit { AllByRecursion (AsnFits width) numbers.now }
     requires room { vec_len out.old + length (flat_map (asn_octets width) numbers.now) ≤ vec_capacity out.old }
     ensures items { out.new.items ≡ out.old.items ++ flat_map (asn_octets width) numbers.now }

@@ -17,8 +17,8 @@ use std::alloc::Global;
 // How many octets most prefixes have: one for the length, and three for 17 to 24 bits.
 const USUAL_LEN: usize = 4;
 
-// The least number of octets that hold so many bits.
-fn octet_count(bits: u8) -> usize
+/// The least number of octets that hold so many bits.
+pub fn octet_count(bits: u8) -> usize
     ensures { result ≡ octet_count bits }
 {
     (bits as usize + 7) / 8

@@ -6,17 +6,17 @@
 //! and measured first.
 
 ghost use Rattle.std.specs.Prelude.{◌≡◌, ◌+◌, ◌≤◌, ◌*◌, ◌++◌, length, IfOk, IsOk, vec_len, vec_capacity};
-ghost use Rattle.std.specs.List.{flat_map, AllByRecursion};
+ghost use Rattle.std.specs.List.{AllByRecursion};
 ghost use Rattle.bgp_values.specs.declared.width.Width as widths;
 ghost use Rattle.bgp_codec.specs.declared.message.Message.TheVariants.{UpdateMsg};
-ghost use Rattle.bgp_codec.specs.AsNumbers.{asn_size, asn_octets, AsnFits};
+ghost use Rattle.bgp_codec.specs.AsNumbers.{asn_size, AsnFits};
 ghost use Rattle.bgp_codec.specs.Updates.{octet_count};
 ghost use Rattle.bgp_codec.specs.Spelling.{written};
 ghost use Rattle.router_model.specs.State.{withdrawal, announcement, telling};
 ghost use Rattle.router_side.specs.Sayings.{IsSayable};
 ghost use Rattle.router_side.specs.declared.route.TheConstants.{MOST_NUMBERS};
 
-use bgp_codec::{Asn, Numbers};
+use bgp_codec::{Asn, Numbers, asn_size, octet_count, put_numbers};
 use bgp_values::{
     AS_PATH, AS_SEQUENCE, HEADER_LEN, IGP, NEXT_HOP, ORIGIN, TRANSITIVE, UPDATE, Width,
 };
@@ -51,53 +51,6 @@ impl Model for Route {
     ghost view = { λ r. telling r.id r.prefix r.path };
 
     ghost invariant = { λ r. length r.path ≤ MOST_NUMBERS };
-}
-
-// How many octets an AS number has.
-fn asn_size(width: Width) -> usize
-    ensures { result ≡ asn_size width }
-{
-    match width {
-        Width::Two => 2,
-        Width::Four => 4,
-    }
-}
-
-// The least number of octets that hold so many bits.
-fn octet_count(bits: u8) -> usize
-    ensures { result ≡ octet_count bits }
-{
-    (bits as usize + 7) / 8
-}
-
-// Appends an AS number, for which there is room.
-fn put_asn(out: &mut Vec<u8>, width: Width, asn: Asn)
-    requires fit { AsnFits width asn }
-    requires room { vec_len out.old + asn_size width ≤ vec_capacity out.old }
-    ensures items { out.new.items ≡ out.old.items ++ asn_octets width asn }
-    ensures len { vec_len out.new ≡ vec_len out.old + asn_size width }
-    ensures capacity { vec_capacity out.old ≤ vec_capacity out.new }
-{
-    match width {
-        Width::Two => {
-            let [high, low] = (asn as u16).to_be_bytes();
-            out.push_reserved(high);
-            out.push_reserved(low);
-        }
-        Width::Four => out.extend_from_slice(&asn.to_be_bytes()).unwrap(),
-    }
-}
-
-// Appends AS numbers, for which there is room.
-fn put_numbers(out: &mut Vec<u8>, width: Width, numbers: &[Asn])
-    requires fit { AllByRecursion (AsnFits width) numbers.now }
-    requires room { vec_len out.old + length (flat_map (asn_octets width) numbers.now) ≤ vec_capacity out.old }
-    ensures items { out.new.items ≡ out.old.items ++ flat_map (asn_octets width) numbers.now }
-    ensures capacity { vec_capacity out.old ≤ vec_capacity out.new }
-{
-    for number in numbers {
-        put_asn(out, width, *number);
-    }
 }
 
 // Appends the UPDATE that withdraws a prefix, for which there is room.
