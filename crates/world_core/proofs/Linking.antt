@@ -6,7 +6,7 @@ use Rattle.std.proofs.lemmas.Bool.{eqb-true, eqb-false, eq-eqb}
 use Rattle.std.proofs.lemmas.Bool.Decides.{nat_tests}
 use Rattle.std.proofs.lemmas.List.Folds.{Any-from_list_any, list_any-from_Any}
 use Rattle.ranked_policy.specs.declared.network.Link.{Link}
-use Rattle.ranked_policy.specs.Plans.{Plan, IsNetwork, IsRouter, Joins, Linked, numbers}
+use Rattle.ranked_policy.specs.Plans.{Plan, IsNetwork, Joins, Linked, numbers}
 use Rattle.router_model.specs.Settings.{Setting, joins, linked, peers, is_router}
 use Rattle.router_model.specs.Laws.{LinkedRoutersArePeers}
 use Rattle.world_core.specs.declared.inbox.Pipe.{Pipe}
@@ -152,16 +152,3 @@ pub linked_is : (net : Plan) (u v : ℕ) (b : Bool) → (IsTrue b ↔ Linked net
 linked_is net u v b h =
     same_bool b (linked net u v)
     (λ t. (decides_linked net u v).1 (h.0 t)) (λ t. h.1 ((decides_linked net u v).0 t))
-
--- ---- who is no router has no peers
-
-none_passes_at : (p : ℕ → Bool) (x : ℕ) (xs : List ℕ) (b : Bool) → p x ≡ b → ((v : ℕ) → p v ≡ true → ⊥) → filter p xs ≡ [] → cond b (x ∷ filter p xs) (filter p xs) ≡ []
-none_passes_at p x xs true e h rest = absurd (h x e)
-none_passes_at p x xs false e h rest = rest
-
-none_passes : (p : ℕ → Bool) (xs : List ℕ) → ((v : ℕ) → p v ≡ true → ⊥) → filter p xs ≡ []
-none_passes p [] h = refl
-none_passes p (x ∷ xs) h = none_passes_at p x xs (p x) refl h (none_passes p xs h)
-
-pub no_peers : LinkedRoutersArePeers → (net : Plan) → IsNetwork net → (u : ℕ) → (IsRouter net.routers u → ⊥) → peers net u ≡ []
-no_peers law net n u none = none_passes (linked net u) (numbers net.routers) (λ v e. none (law net n u v e).one)

@@ -77,7 +77,7 @@ map_at f [] i d = refl
 map_at f (x ∷ xs) zero d = refl
 map_at f (x ∷ xs) (suc i) d = map_at f xs i d
 
-default_is : (ns : List ℕ) (i a b : ℕ) → i < length ns → get_or ns i a ≡ get_or ns i b
+pub default_is : (ns : List ℕ) (i a b : ℕ) → i < length ns → get_or ns i a ≡ get_or ns i b
 default_is [] i a b l = absurd (omega arith)
 default_is (n ∷ ns) zero a b l = refl
 default_is (n ∷ ns) (suc i) a b l = default_is ns i a b (omega arith)
@@ -103,3 +103,22 @@ at_place {A} number xs routers u i same rising l holds =
     (λ j d k. (let less : get_or (numbers routers) j (number d) < get_or (numbers routers) i (number d) = rising j i (number d) k below in
     subst (λ (n : ℕ). n < u) (sym (map_at number xs j d ∙ ap (λ (ns : List ℕ). get_or ns j (number d)) same))
     (subst (λ (n : ℕ). get_or (numbers routers) j (number d) < n) (at (number d)) less)))
+
+-- ---- by the numbers alone
+
+pub moved : {A B : Type 0} (f : A → ℕ) (g : B → ℕ) (xs : List A) (ys : List B) (u i : ℕ) → map g ys ≡ map f xs → IsAt f xs u i → IsAt g ys u i
+moved f g [] ys u i e h = absurd h
+moved f g (x ∷ xs) [] u i e h = absurd cc
+moved f g (x ∷ xs) (y ∷ ys) u zero e h = (let same : g y ≡ f x = cc in same ∙ h)
+moved f g (x ∷ xs) (y ∷ ys) u (suc i) e h =
+    let same : g y ≡ f x = cc in
+    let rest : map g ys ≡ map f xs = cc in
+    (λ q. h.0 (sym same ∙ q), moved f g xs ys u i rest h.1)
+
+pub map_same : (ns : List ℕ) → map (λ n. n) ns ≡ ns
+map_same [] = refl
+map_same (n ∷ ns) = ap (λ (ms : List ℕ). n ∷ ms) (map_same ns)
+
+-- the number at a place of a rising list
+pub rising_at : (ns : List ℕ) (u i : ℕ) → AllPairs (λ a b. a < b) ns → i < length ns → ((d : ℕ) → get_or ns i d ≡ u) → IsAt (λ n. n) ns u i
+rising_at ns u i rising l is = first_at (λ n. n) ns u i l is (λ j d k. subst (λ (n : ℕ). get_or ns j d < n) (is d) (rising j i d k l))

@@ -2,17 +2,20 @@
 
 ghost use Rattle.std.specs.Prelude.{◌≡◌, ◌∷◌, [], slice_get, Some, OnOk};
 ghost use Rattle.ranked_policy.specs.Plans.{numbers};
-ghost use Rattle.world_core.specs.declared.schedule.Event.TheVariants.{Put};
+ghost use Rattle.world_core.specs.declared.schedule.Event.TheVariants.{Put, Take, Handle, Decide, Advertise, Offer};
 ghost use Rattle.world_core.specs.Orders.{with_peer, turn, round, second, repeated, events_of};
+ghost use Rattle.world_core.specs.Steps.{StandsAt, LinkAt};
 ghost use Rattle.world_core.specs.Resting.{AreResting, AreRestingBeside};
-ghost use Rattle.world_core.specs.Views.{Obeys, KeepsPromises};
+ghost use Rattle.world_core.specs.Views.{Obeys, Answers, KeepsPromises};
 
-use crate::laws::played_worlds_keep_their_promises;
+use crate::laws::{played_worlds_keep_their_promises, steps_are_replayed};
 use crate::marks::{is_marked, mark, no_marks, wake};
 use crate::schedule::{Event, Order, StepFault};
 use crate::world::World;
 use ranked_policy::Asn;
-use router_model::laws::answers_are_steps;
+use router_core::Call;
+use router_model::Stepped;
+use router_model::laws::{answers_are_steps, linked_routers_are_peers};
 
 impl<'a> World<'a> {
     /// Obeys an order: does its events one after the other, and passes over each that finds nothing to do.
@@ -95,8 +98,9 @@ impl<'a> World<'a> {
             return Ok(());
         }
         let _ = self.network().built();
+        let _ = &self.state;
         let before = self.run().len();
-        self.turn(number, marks)?;
+        self.turn(place, number, marks)?;
         if self.run().len() == before {
             mark(marks, place, true);
         }
@@ -114,57 +118,188 @@ impl<'a> World<'a> {
         Ok(())
     }
 
-    // What a router tries with each peer, rising, and then alone.
-    fn turn(&mut self, number: Asn, marks: &mut Vec<bool>) -> Result<(), StepFault>
-        requires { AreRestingBeside self.old number marks.old.items }
+    // What the router that stands there tries with each peer, rising, and then alone.
+    fn turn(&mut self, at: usize, number: Asn, marks: &mut Vec<bool>) -> Result<(), StepFault>
+        requires resting { AreRestingBeside self.old number marks.old.items }
+        requires stands { StandsAt self.old number at }
         ensures obeys { Obeys result self.old (turn self.old.net number) self.new }
         ensures same { self.new.net ≡ self.old.net }
         ensures resting { OnOk result (AreRestingBeside self.new number marks.new.items) }
     {
         answers_are_steps();
-        for place in 0..self.state.pipes_to(number).len() {
-            let peer = self.state.pipes_to(number)[place].peer;
-            self.exchange(number, peer, marks)?;
+        linked_routers_are_peers();
+        for place in 0..self.state.pipes_at(at, number).len() {
+            let peer = self.state.pipes_at(at, number)[place].peer;
+            self.exchange(at, place, number, peer, marks)?;
         }
-        self.each(&[
-            Event::Decide(number),
-            Event::Advertise(number),
-            Event::Offer(number),
-        ])
+        self.alone(at, number)
     }
 
-    // What a router tries with one peer: nothing where nothing is to be done between them. A peer towards
-    // which something is put rests no longer.
-    fn exchange(&mut self, number: Asn, peer: Asn, marks: &mut Vec<bool>) -> Result<(), StepFault>
-        requires { AreRestingBeside self.old number marks.old.items }
+    // What a router tries with one peer, where it and the pipe from the peer stand there: nothing where nothing is to be
+    // done between them. A peer towards which something is put rests no longer.
+    fn exchange(
+        &mut self,
+        at: usize,
+        pipe: usize,
+        number: Asn,
+        peer: Asn,
+        marks: &mut Vec<bool>,
+    ) -> Result<(), StepFault>
+        requires resting { AreRestingBeside self.old number marks.old.items }
+        requires link { LinkAt self.old number peer at pipe }
         ensures obeys { Obeys result self.old (with_peer number peer) self.new }
         ensures same { self.new.net ≡ self.old.net }
+        ensures link { LinkAt self.new number peer at pipe }
         ensures resting { OnOk result (AreRestingBeside self.new number marks.new.items) }
     {
         answers_are_steps();
-        if self.state.is_quiet(number, peer) {
+        if self.state.is_quiet_at(at, pipe, number, peer) {
             return Ok(());
         }
-        self.put(number, peer, marks)?;
-        self.each(&[Event::Take(number, peer), Event::Handle(number, peer)])
+        self.put(at, pipe, number, peer, marks)?;
+        self.take_and_handle(at, pipe, number, peer)
     }
 
     // A router puts what is next towards a peer, which rests no longer where something is.
-    fn put(&mut self, number: Asn, peer: Asn, marks: &mut Vec<bool>) -> Result<(), StepFault>
-        requires { AreRestingBeside self.old number marks.old.items }
+    fn put(
+        &mut self,
+        at: usize,
+        pipe: usize,
+        number: Asn,
+        peer: Asn,
+        marks: &mut Vec<bool>,
+    ) -> Result<(), StepFault>
+        requires resting { AreRestingBeside self.old number marks.old.items }
+        requires link { LinkAt self.old number peer at pipe }
         ensures obeys { Obeys result self.old (Put number peer ∷ []) self.new }
         ensures same { self.new.net ≡ self.old.net }
+        ensures link { LinkAt self.new number peer at pipe }
         ensures resting { OnOk result (AreRestingBeside self.new number marks.new.items) }
     {
         answers_are_steps();
         let network = self.network();
         let _ = network.built();
         let before = self.run().len();
-        self.each(&[Event::Put(number, peer)])?;
+        self.put_from(at, pipe, number, peer)?;
         if self.run().len() != before {
             wake(network, peer, marks);
         }
         Ok(())
+    }
+
+    // A router puts what is next towards a peer, where it and the pipe from the peer stand there.
+    fn put_from(
+        &mut self,
+        at: usize,
+        pipe: usize,
+        number: Asn,
+        peer: Asn,
+    ) -> Result<Stepped, StepFault>
+        requires { LinkAt self.old number peer at pipe }
+        ensures answers { Answers result self.old (Put number peer) self.new }
+        ensures same { self.new.net ≡ self.old.net }
+        ensures link { LinkAt self.new number peer at pipe }
+    {
+        steps_are_replayed();
+        self.state.put_from(at, number, peer)
+    }
+
+    // So a router takes what comes next.
+    fn take_at(
+        &mut self,
+        at: usize,
+        pipe: usize,
+        number: Asn,
+        peer: Asn,
+    ) -> Result<Stepped, StepFault>
+        requires { LinkAt self.old number peer at pipe }
+        ensures answers { Answers result self.old (Take number peer) self.new }
+        ensures same { self.new.net ≡ self.old.net }
+        ensures link { LinkAt self.new number peer at pipe }
+    {
+        steps_are_replayed();
+        self.state.take_at(at, pipe, number, peer)
+    }
+
+    // So it handles the message.
+    fn handle_at(
+        &mut self,
+        at: usize,
+        pipe: usize,
+        number: Asn,
+        peer: Asn,
+    ) -> Result<Stepped, StepFault>
+        requires { LinkAt self.old number peer at pipe }
+        ensures answers { Answers result self.old (Handle number peer) self.new }
+        ensures same { self.new.net ≡ self.old.net }
+        ensures link { LinkAt self.new number peer at pipe }
+    {
+        steps_are_replayed();
+        self.state.handle_at(at, pipe, number, peer)
+    }
+
+    // So it does both, one after the other.
+    fn take_and_handle(
+        &mut self,
+        at: usize,
+        pipe: usize,
+        number: Asn,
+        peer: Asn,
+    ) -> Result<(), StepFault>
+        requires { LinkAt self.old number peer at pipe }
+        ensures obeys { Obeys result self.old (Take number peer ∷ Handle number peer ∷ []) self.new }
+        ensures same { self.new.net ≡ self.old.net }
+        ensures link { LinkAt self.new number peer at pipe }
+    {
+        self.take_at(at, pipe, number, peer)?;
+        self.handle_at(at, pipe, number, peer)?;
+        Ok(())
+    }
+
+    // The router that stands there chooses, tells and offers, each once.
+    fn alone(&mut self, at: usize, number: Asn) -> Result<(), StepFault>
+        requires { StandsAt self.old number at }
+        ensures obeys { Obeys result self.old (Decide number ∷ Advertise number ∷ Offer number ∷ []) self.new }
+        ensures same { self.new.net ≡ self.old.net }
+    {
+        self.decide_at(at, number)?;
+        self.advertise_at(at, number)?;
+        self.offer_at(at, number)?;
+        Ok(())
+    }
+
+    // It chooses.
+    fn decide_at(&mut self, at: usize, number: Asn) -> Result<Stepped, StepFault>
+        requires { StandsAt self.old number at }
+        ensures answers { Answers result self.old (Decide number) self.new }
+        ensures same { self.new.net ≡ self.old.net }
+        ensures stands { StandsAt self.new number at }
+    {
+        steps_are_replayed();
+        let event = Event::Decide(number);
+        self.state.ask_at(at, &event, number, &Call::Decide)
+    }
+
+    // It tells.
+    fn advertise_at(&mut self, at: usize, number: Asn) -> Result<Stepped, StepFault>
+        requires { StandsAt self.old number at }
+        ensures answers { Answers result self.old (Advertise number) self.new }
+        ensures same { self.new.net ≡ self.old.net }
+        ensures stands { StandsAt self.new number at }
+    {
+        steps_are_replayed();
+        let event = Event::Advertise(number);
+        self.state.ask_at(at, &event, number, &Call::Advertise)
+    }
+
+    // It offers.
+    fn offer_at(&mut self, at: usize, number: Asn) -> Result<Stepped, StepFault>
+        requires { StandsAt self.old number at }
+        ensures answers { Answers result self.old (Offer number) self.new }
+        ensures same { self.new.net ≡ self.old.net }
+    {
+        steps_are_replayed();
+        self.state.offer_at(at, number)
     }
 
     // Does events one after the other.

@@ -5,7 +5,7 @@ ghost use Rattle.world_core.specs.declared.schedule.Event.TheVariants.{Put, Take
 ghost use Rattle.router_model.specs.Settings.{peers};
 ghost use Rattle.router_core.specs.Calling.{call_of};
 ghost use Rattle.world_core.specs.Views.{IsWhole, Answers, IsNoRouter, IsRouterOf, comes_next, NothingComes};
-ghost use Rattle.world_core.specs.Steps.{view_of, IsSameNet, Asks, IsPlaceOf, FindsLink, FindsLinkTo, IsQuiet};
+ghost use Rattle.world_core.specs.Steps.{view_of, IsSameNet, Asks, StandsAt, LinkAt, IsPlaceOf, FindsLink, FindsLinkTo, IsQuiet};
 
 use crate::entering::{enter, enter_offer, enter_put, enter_take};
 use crate::inbox::{Inbox, Pipe, place_of};
@@ -50,8 +50,25 @@ impl<'a> State<'a> {
         ensures whole { IsWhole (view_of self.new) }
         ensures same { IsSameNet (view_of self.old) (view_of self.new) }
     {
-        answers_are_steps();
         let at = self.place(number)?;
+        self.ask_at(at, event, number, call)
+    }
+
+    /// So is the router that stands there.
+    pub fn ask_at(
+        &mut self,
+        at: usize,
+        event: &Event,
+        number: Asn,
+        call: &Call,
+    ) -> Result<Stepped, StepFault>
+        requires whole { IsWhole (view_of self.old) }
+        requires stands { StandsAt (view_of self.old) number at }
+        ensures asks { Asks result (view_of self.old) number event.now (call_of call.now) (view_of self.new) }
+        ensures whole { IsWhole (view_of self.new) }
+        ensures same { IsSameNet (view_of self.old) (view_of self.new) }
+    {
+        answers_are_steps();
         enter(&mut self.routers[at], &mut self.run, event, call)
     }
 
@@ -84,8 +101,26 @@ impl<'a> State<'a> {
         ensures whole { IsWhole (view_of self.new) }
         ensures same { IsSameNet (view_of self.old) (view_of self.new) }
     {
-        self.link(number, peer)?;
-        self.ask(&Event::Handle(number, peer), number, &Call::Handle(peer))
+        let (at, pipe) = self.link(number, peer)?;
+        self.handle_at(at, pipe, number, peer)
+    }
+
+    /// A router handles the message of a peer, where the router and the pipe from the peer stand there.
+    pub fn handle_at(
+        &mut self,
+        at: usize,
+        pipe: usize,
+        number: Asn,
+        peer: Asn,
+    ) -> Result<Stepped, StepFault>
+        requires whole { IsWhole (view_of self.old) }
+        requires link { LinkAt (view_of self.old) number peer at pipe }
+        ensures answers { Answers result (view_of self.old) (Handle number peer) (view_of self.new) }
+        ensures whole { IsWhole (view_of self.new) }
+        ensures same { IsSameNet (view_of self.old) (view_of self.new) }
+    {
+        let event = Event::Handle(number, peer);
+        self.ask_at(at, &event, number, &Call::Handle(peer))
     }
 
     // A router puts its next item into the pipe to a peer.
@@ -95,9 +130,20 @@ impl<'a> State<'a> {
         ensures whole { IsWhole (view_of self.new) }
         ensures same { IsSameNet (view_of self.old) (view_of self.new) }
     {
+        let from = self.place(number)?;
+        self.put_from(from, number, peer)
+    }
+
+    /// So does the router that stands there.
+    pub fn put_from(&mut self, from: usize, number: Asn, peer: Asn) -> Result<Stepped, StepFault>
+        requires whole { IsWhole (view_of self.old) }
+        requires stands { StandsAt (view_of self.old) number from }
+        ensures answers { Answers result (view_of self.old) (Put number peer) (view_of self.new) }
+        ensures whole { IsWhole (view_of self.new) }
+        ensures same { IsSameNet (view_of self.old) (view_of self.new) }
+    {
         answers_are_steps();
         let (to, pipe) = self.link_to(number, peer)?;
-        let from = self.place(number)?;
         let items = &mut self.inboxes[to].pipes[pipe].items;
         let event = Event::Put(number, peer);
         enter_put(&mut self.routers[from], &mut self.run, items, &event, peer)
@@ -110,8 +156,25 @@ impl<'a> State<'a> {
         ensures whole { IsWhole (view_of self.new) }
         ensures same { IsSameNet (view_of self.old) (view_of self.new) }
     {
-        answers_are_steps();
         let (at, pipe) = self.link(number, peer)?;
+        self.take_at(at, pipe, number, peer)
+    }
+
+    /// So does a router, where it and the pipe from the peer stand there.
+    pub fn take_at(
+        &mut self,
+        at: usize,
+        pipe: usize,
+        number: Asn,
+        peer: Asn,
+    ) -> Result<Stepped, StepFault>
+        requires whole { IsWhole (view_of self.old) }
+        requires link { LinkAt (view_of self.old) number peer at pipe }
+        ensures answers { Answers result (view_of self.old) (Take number peer) (view_of self.new) }
+        ensures whole { IsWhole (view_of self.new) }
+        ensures same { IsSameNet (view_of self.old) (view_of self.new) }
+    {
+        answers_are_steps();
         let items = &mut self.inboxes[at].pipes[pipe].items;
         let event = Event::Take(number, peer);
         enter_take(&mut self.routers[at], &mut self.run, items, &event, peer)
@@ -125,6 +188,17 @@ impl<'a> State<'a> {
         ensures same { IsSameNet (view_of self.old) (view_of self.new) }
     {
         let at = self.place(number)?;
+        self.offer_at(at, number)
+    }
+
+    /// So does the router that stands there.
+    pub fn offer_at(&mut self, at: usize, number: Asn) -> Result<Stepped, StepFault>
+        requires whole { IsWhole (view_of self.old) }
+        requires stands { StandsAt (view_of self.old) number at }
+        ensures answers { Answers result (view_of self.old) (Offer number) (view_of self.new) }
+        ensures whole { IsWhole (view_of self.new) }
+        ensures same { IsSameNet (view_of self.old) (view_of self.new) }
+    {
         let event = Event::Offer(number);
         enter_offer(
             &mut self.routers[at],
@@ -135,27 +209,22 @@ impl<'a> State<'a> {
         )
     }
 
-    /// The pipes that lead to a router, by rising peer.
-    pub fn pipes_to(&self, number: Asn) -> &[Pipe]
-        requires { IsWhole (view_of self.now) }
+    /// The pipes that lead to the router that stands there, by rising peer.
+    pub fn pipes_at(&self, at: usize, number: Asn) -> &[Pipe]
+        requires whole { IsWhole (view_of self.now) }
+        requires stands { StandsAt (view_of self.now) number at }
         ensures { map (λ p. p.peer) result.now ≡ peers (view_of self.now).net number }
     {
-        linked_routers_are_peers();
-        match self.place(number) {
-            Ok(at) => self.inboxes[at].pipes.as_slice(),
-            Err(_) => &[],
-        }
+        self.inboxes[at].pipes.as_slice()
     }
 
-    /// Whether nothing is to be put, taken or handled between a router and a peer. False where no link
-    /// joins them.
-    pub fn is_quiet(&self, number: Asn, peer: Asn) -> bool
-        requires { IsWhole (view_of self.now) }
+    /// Whether nothing is to be put, taken or handled between a router and a peer, where the router and the pipe from
+    /// the peer stand there.
+    pub fn is_quiet_at(&self, at: usize, pipe: usize, number: Asn, peer: Asn) -> bool
+        requires whole { IsWhole (view_of self.now) }
+        requires link { LinkAt (view_of self.now) number peer at pipe }
         ensures { result ≡ true → IsQuiet (view_of self.now) number peer }
     {
-        let Ok((at, pipe)) = self.link(number, peer) else {
-            return false;
-        };
         match self.inboxes[at].pipes[pipe].items.front() {
             None => self.routers[at].is_quiet(peer),
             Some(_) => false,

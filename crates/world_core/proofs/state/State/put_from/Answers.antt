@@ -7,7 +7,7 @@ use Rattle.world_core.specs.Steps.{view_of}
 use Rattle.world_core.proofs.Places.{is_below}
 use Rattle.world_core.proofs.Stepping.{stands}
 use Rattle.world_core.proofs.Moving.{PipeAt, put_steps, whole_pipe}
-use Rattle.world_core.proofs.state.State.put.Goals as goal
+use Rattle.world_core.proofs.state.State.put_from.Goals as goal
 
 pub index_mut-requires : goal.index_mut-requires
 index_mut-requires c =
@@ -22,7 +22,7 @@ index_mut-requires-2 c =
 
 pub index_mut-requires-3 : goal.index_mut-requires-3
 index_mut-requires-3 c =
-    let inside = is_below (λ r. r.number) c.args.self.now.routers.items c.args.number c.in_ok-from.from c.in_ok-from.ensures.router in
+    let inside = is_below (λ r. r.number) c.args.self.now.routers.items c.args.number c.args.from c.requires.stands.router in
     search rules
 
 pub returns-clause-answers : goal.returns-clause-answers
@@ -33,8 +33,8 @@ returns-clause-answers c =
     let q : Pipe = record { peer = p.peer; items = c.enter_put.new.pipe } in
     let new : Inbox = record { router = old.router; pipes = with_item old.pipes c.in_ok-to.pipe q } in
     let pipe : PipeAt x c.args.peer c.args.number c.in_ok-to.to c.in_ok-to.pipe old new p q = record { link = c.in_ok-to.ensures; was = c.index_mut.ensures.value; held = c.index_mut-2.ensures.value; router = refl; pipes = refl; peer = refl } in
-    put_steps c.answers_are_steps.ensures x c.args.number c.args.peer c.in_ok-from.from c.in_ok-to.to c.in_ok-to.pipe c.index_mut-3.result.now c.enter_put.new.router old new p q c.enter_put.new.run.items c.enter_put.result
-    c.requires.whole c.in_ok-from.ensures pipe c.index_mut-3.ensures.value c.enter_put.ensures.enters c.enter_put.ensures.same
+    put_steps c.answers_are_steps.ensures x c.args.number c.args.peer c.args.from c.in_ok-to.to c.in_ok-to.pipe c.index_mut-3.result.now c.enter_put.new.router old new p q c.enter_put.new.run.items c.enter_put.result
+    c.requires.whole c.requires.stands pipe c.index_mut-3.ensures.value c.enter_put.ensures.enters c.enter_put.ensures.same
 
 pub returns-clause-whole : goal.returns-clause-whole
 returns-clause-whole c =
@@ -44,5 +44,5 @@ returns-clause-whole c =
     let q : Pipe = record { peer = p.peer; items = c.enter_put.new.pipe } in
     let new : Inbox = record { router = old.router; pipes = with_item old.pipes c.in_ok-to.pipe q } in
     let pipe : PipeAt x c.args.peer c.args.number c.in_ok-to.to c.in_ok-to.pipe old new p q = record { link = c.in_ok-to.ensures; was = c.index_mut.ensures.value; held = c.index_mut-2.ensures.value; router = refl; pipes = refl; peer = refl } in
-    let s = stands x c.args.number c.in_ok-from.from c.index_mut-3.result.now c.requires.whole c.in_ok-from.ensures c.index_mut-3.ensures.value in
-    whole_pipe x c.args.peer c.args.number c.args.number c.in_ok-from.from c.in_ok-to.to c.in_ok-to.pipe c.enter_put.new.router old new p q c.enter_put.new.run.items c.requires.whole c.in_ok-from.ensures pipe (c.enter_put.ensures.same.number ∙ s.0) (c.enter_put.ensures.same.net ∙ s.1)
+    let s = stands x c.args.number c.args.from c.index_mut-3.result.now c.requires.whole c.requires.stands c.index_mut-3.ensures.value in
+    whole_pipe x c.args.peer c.args.number c.args.number c.args.from c.in_ok-to.to c.in_ok-to.pipe c.enter_put.new.router old new p q c.enter_put.new.run.items c.requires.whole c.requires.stands pipe (c.enter_put.ensures.same.number ∙ s.0) (c.enter_put.ensures.same.net ∙ s.1)

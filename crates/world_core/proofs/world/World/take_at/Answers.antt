@@ -1,0 +1,23 @@
+use Rattle.std.proofs.Common.{subst, sym}
+use Rattle.world_core.specs.declared.schedule.Event.TheVariants as schedule
+use Rattle.world_core.specs.Views.{WorldView, Answers}
+use Rattle.world_core.specs.Steps.{view_of, LinkAt}
+use Rattle.world_core.proofs.Staying.{link_stays}
+use Rattle.world_core.proofs.Worlds.{comes_out}
+use Rattle.world_core.proofs.world.World.take_at.Goals as goal
+
+pub invariant_of-self : goal.invariant_of-self
+invariant_of-self c = (
+  c.take_at.ensures.whole,
+  comes_out c.steps_are_replayed.ensures (view_of c.self.inside.state) (view_of c.take_at.new.self) (schedule.Take c.args.number c.args.peer) c.take_at.result c.self.invariant.1 c.take_at.ensures.same c.take_at.ensures.answers,
+)
+
+pub returns-clause-answers : goal.returns-clause-answers
+returns-clause-answers c = subst (λ (x : WorldView). Answers c.take_at.result x (schedule.Take c.args.number c.args.peer) (view_of c.take_at.new.self)) c.self.view_is c.take_at.ensures.answers
+
+pub returns-clause-link : goal.returns-clause-link
+returns-clause-link c =
+    let x = view_of c.self.inside.state in
+    let y = view_of c.take_at.new.self in
+    link_stays x y c.args.number c.args.peer c.args.at c.args.pipe c.self.invariant.0 c.take_at.ensures.whole c.take_at.ensures.same
+    (subst (λ (z : WorldView). LinkAt z c.args.number c.args.peer c.args.at c.args.pipe) (sym c.self.view_is) c.requires)
