@@ -3,8 +3,9 @@
 ghost use Rattle.std.specs.Prelude.{◌≡◌, ◌≢◌, ◌≤◌, ◌<◌, ◌↔◌, ℕ, IsTrue, length, MatchResult};
 ghost use Rattle.std.specs.List.{All, AllPairs, Any, Contains, count_by};
 ghost use Rattle.ranked_policy.specs.Paths.{IsSimple, BeginsWith};
-ghost use Rattle.ranked_policy.specs.Plans.{IsRouter, IsOrigin, IsNamed, Linked, Joins, touches, IsSettings};
+ghost use Rattle.ranked_policy.specs.Plans.{numbers, IsRouter, IsOrigin, IsNamed, Linked, Joins, touches, IsSettings};
 ghost use Rattle.bgp_values.specs.Ranges.{IsAsn, IsUnicast};
+ghost use Rattle.ranked_policy.specs.Ways.{AreWays};
 ghost use Rattle.ranked_policy.specs.Adding.{IsJudged, RouterMeets, LinkMeets, OriginMeets, RuleMeets};
 
 use crate::limits::{
@@ -13,8 +14,10 @@ use crate::limits::{
 };
 use crate::network::{Link, Origin, Router, Rule, Settings};
 use crate::path::{Asn, Path};
+use crate::places::find_router;
 use crate::policy::{begins_with, is_listed, is_simple};
 use crate::refusal::NetError;
+use crate::ways::Ways;
 use bgp_values::{Width, is_asn, is_hold_time, is_unicast};
 use prefix_lanes::Prefix;
 
@@ -69,28 +72,20 @@ pub(crate) fn judge_router(
     Ok(())
 }
 
-// Whether a router has the number.
-pub(crate) fn is_router(routers: &[Router], asn: Asn) -> bool
+// Whether a router has the number. Routers rise by number, so it is searched for.
+fn is_router(routers: &[Router], asn: Asn) -> bool
+    requires { AllPairs (λ u v. u < v) (numbers routers.now) }
     ensures { IsTrue result ↔ IsRouter routers.now asn }
 {
-    for router in routers {
-        if router.asn == asn {
-            return true;
-        }
-    }
-    false
+    find_router(routers, asn).is_some()
 }
 
-// Whether a link joins the two.
-pub(crate) fn is_linked(links: &[Link], a: Asn, b: Asn) -> bool
-    ensures { IsTrue result ↔ Linked links.now a b }
+// Whether a link joins the two. It is looked for among the ways that the links give.
+fn is_linked(_links: &[Link], ways: &Ways, a: Asn, b: Asn) -> bool
+    requires { AreWays _links.now ways.now }
+    ensures { IsTrue result ↔ Linked _links.now a b }
 {
-    for link in links {
-        if link.one == a && link.other == b || link.one == b && link.other == a {
-            return true;
-        }
-    }
-    false
+    ways.has(a, b)
 }
 
 // How many links the router has.
@@ -103,10 +98,18 @@ fn links_of(links: &[Link], asn: Asn) -> usize
         .count()
 }
 
-pub(crate) fn judge_link(routers: &[Router], links: &[Link], a: Asn, b: Asn) -> Result<(), NetError>
+pub(crate) fn judge_link(
+    routers: &[Router],
+    links: &[Link],
+    ways: &Ways,
+    a: Asn,
+    b: Asn,
+) -> Result<(), NetError>
+    requires rising { AllPairs (λ u v. u < v) (numbers routers.now) }
+    requires ways { AreWays links.now ways.now }
     ensures { IsJudged (LinkMeets routers.now links.now a b) result }
 {
-    if a == b || is_linked(links, a, b) {
+    if a == b || is_linked(links, ways, a, b) {
         return Err(NetError::Repeated);
     }
     if !is_router(routers, a) || !is_router(routers, b) {
@@ -136,6 +139,7 @@ pub(crate) fn judge_origin(
     asn: Asn,
     prefix: &Prefix,
 ) -> Result<(), NetError>
+    requires { AllPairs (λ u v. u < v) (numbers routers.now) }
     ensures { IsJudged (OriginMeets routers.now origins.now asn prefix.now) result }
 {
     if is_named(origins, prefix) {
@@ -226,6 +230,7 @@ fn has_room(routers: &[Router], asn: Asn) -> bool
 
 // Whether each number is that of a router.
 fn are_routers(routers: &[Router], asns: &[Asn]) -> bool
+    requires { AllPairs (λ u v. u < v) (numbers routers.now) }
     ensures { IsTrue result ↔ All (IsRouter routers.now) asns.now }
 {
     for asn in asns {
@@ -238,6 +243,7 @@ fn are_routers(routers: &[Router], asns: &[Asn]) -> bool
 
 // Whether the paths name routers alone.
 fn are_known(routers: &[Router], paths: &[Path]) -> bool
+    requires { AllPairs (λ u v. u < v) (numbers routers.now) }
     ensures { IsTrue result ↔ All (All (IsRouter routers.now)) paths.now }
 {
     for path in paths {
@@ -254,6 +260,7 @@ pub(crate) fn judge_rule(
     prefix: &Prefix,
     paths: &[Path],
 ) -> Result<(), NetError>
+    requires { AllPairs (λ u v. u < v) (numbers routers.now) }
     ensures { IsJudged (RuleMeets routers.now asn prefix.now paths.now) result }
 {
     if !are_simple(asn, paths) {

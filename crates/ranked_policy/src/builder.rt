@@ -91,7 +91,14 @@ impl NetBuilder {
         ensures err { OnErr result (self.new ≡ self.old) }
         ensures refused { IfErr result (IsRefused (LinkMeets self.old.routers self.old.links a b)) }
     {
-        if let Err(error) = judge_link(self.routers.as_slice(), self.links.as_slice(), a, b) {
+        let judged = judge_link(
+            self.routers.as_slice(),
+            self.links.as_slice(),
+            &self.ways,
+            a,
+            b,
+        );
+        if let Err(error) = judged {
             return Err(error);
         }
         if let Err(_) = self.links.reserve(1) {

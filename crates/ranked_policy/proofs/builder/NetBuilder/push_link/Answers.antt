@@ -4,6 +4,9 @@ use Rattle.ranked_policy.proofs.PlanLemmas.{plan_link}
 use Rattle.ranked_policy.proofs.WayLemmas.{joined_ways}
 use Rattle.ranked_policy.proofs.builder.NetBuilder.push_link.Goals as goal
 
+pub judge_link-judged-requires-clause-ways : goal.judge_link-judged-requires-clause-ways
+judge_link-judged-requires-clause-ways c = rw c.as_slice-2.ensures.value c.self.invariant.1
+
 pub returns-in-Err-reserve-clause-refused : goal.returns-in-Err-reserve-clause-refused
 returns-in-Err-reserve-clause-refused c =
     rw (← c.self.view_is) (refused_memory _ (rw (c.as_slice.ensures.value, c.as_slice-2.ensures.value) at c.in_default.ensures))
