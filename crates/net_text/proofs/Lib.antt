@@ -6,6 +6,7 @@ pub mod SettingLemmas
 pub mod WordLemmas
 pub mod PathLemmas
 pub mod DigestLemmas
+pub mod RouterLemmas
 pub mod DraftLemmas
 pub mod StepLemmas
 pub mod TextLemmas

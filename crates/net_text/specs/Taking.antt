@@ -1,5 +1,5 @@
 -- What is left of a word, and which words can be taken into memory as a path.
-use Rattle.std.specs.Prelude.{◌≡◌, ◌≤◌, ℕ, ◌+◌, ◌*◌, ◌^◌, ◌%◌, ◌&&◌, not, Bool, true, false, List, [], ◌∷◌, length, Result, Ok, Err, if◌then◌else◌}
+use Rattle.std.specs.Prelude.{◌≡◌, ◌≤◌, ℕ, ◌+◌, ◌*◌, ◌^◌, ◌%◌, ◌&&◌, not, nat_le, Bool, true, false, List, [], ◌∷◌, length, map, take, Result, Ok, Err, if◌then◌else◌}
 use Rattle.std.specs.List.{list_all}
 use Rattle.bgp_values.specs.declared.width.Width.{Width}
 use Rattle.ranked_policy.specs.Tests.{is_simple}
@@ -7,8 +7,11 @@ use Rattle.ranked_policy.specs.declared.network.Router.{Router}
 use Rattle.net_text.specs.declared.code.Code.{Code}
 use Rattle.net_text.specs.declared.code.Code.TheVariants.{OutOfLimit, UnknownRouter, NotSimple}
 use Rattle.net_text.specs.declared.paths.TheConstants.{DIGEST_FACTOR}
-use Rattle.ranked_policy.specs.declared.limits.TheConstants.{LONGEST_PATH}
+use Rattle.net_text.specs.declared.paths.PathBrief.{PathBrief}
+use Rattle.net_text.specs.declared.paths.PathsBrief.{PathsBrief}
+use Rattle.ranked_policy.specs.declared.limits.TheConstants.{LONGEST_PATH, MOST_PATHS}
 use Rattle.net_text.specs.Lexing.{Text, parts}
+use Rattle.net_text.specs.Lines.{are_short}
 use Rattle.net_text.specs.Words.{◌>>=◌, is_router, is_from, path_of}
 use Rattle.bgp_values.specs.declared.width.Width.TheVariants.{Four}
 use Rattle.bgp_values.specs.Ranges.{is_asn}
@@ -37,9 +40,23 @@ abbrev pub rule_numbers_word : Width → List Router → ℕ → List ℕ → Re
 rule_numbers_word width routers u path = routers_word width routers path >>= λ _. if is_from u path && is_simple path then Ok tt else Err NotSimple
 
 -- a number that the numbers of a path give, behind those that gave one
+abbrev pub digest_next : ℕ → ℕ → ℕ
+digest_next d v = (d * DIGEST_FACTOR % 2 ^ 64 + v) % 2 ^ 64
+
 abbrev pub digest_behind : ℕ → List ℕ → ℕ
 digest_behind d [] = d
-digest_behind d (v ∷ vs) = digest_behind ((d * DIGEST_FACTOR % 2 ^ 64 + v) % 2 ^ 64) vs
+digest_behind d (v ∷ vs) = digest_behind (digest_next d v) vs
 
 abbrev pub digest : List ℕ → ℕ
 digest path = digest_behind 0 path
+
+-- ---- what a first reading tells of a rule's paths
+
+pub record IsBrief (brief : PathBrief) (word : Text) : Type 0 where
+  pub digest : brief.digest ≡ digest (path_of word)
+  pub short : brief.is_short ≡ nat_le (length (path_of word)) LONGEST_PATH
+
+pub record AreBrief (brief : PathsBrief) (words : List Text) : Type 0 where
+  pub count : brief.count ≡ length words
+  pub short : brief.are_short ≡ are_short (map path_of words)
+  pub digests : length words ≤ MOST_PATHS → take brief.count brief.digests ≡ map (λ w. digest (path_of w)) words

@@ -55,7 +55,7 @@ fn read_path(
     };
     let router = router_word(network.settings().width, network.routers(), router)?;
     let prefix = origin_word(network.origins(), prefix)?;
-    judge_assigned(network.settings().width, network.routers(), path)?;
+    judge_assigned(network.settings().width, network.built(), path)?;
     if entries.give(router, &prefix) {
         return Err(Code::Repeated);
     }

@@ -6,12 +6,13 @@ ghost use Rattle.ranked_policy.specs.Plans.{touches};
 ghost use Rattle.net_text.specs.Lexing.{words_of};
 ghost use Rattle.prefix_lanes.specs.Bits.{is_prefix};
 ghost use Rattle.net_text.specs.Lines.{setting_line, router_line, link_line, origin_line, rule_line, named_line, words_line, line_reading, joins, is_taken, is_ruled, is_full, rule_fault};
+ghost use Rattle.net_text.specs.Taking.{AreBrief};
 ghost use Rattle.net_text.specs.Steps.{Steps};
 
 use crate::code::Code;
 use crate::draft::Draft;
 use crate::lexing::{is_ascii, is_skipped, next_word, one_word, same, two_words};
-use crate::paths::{are_distinct, are_short, count_words, judge_rule_paths, take_paths};
+use crate::paths::{PathsBrief, are_distinct, judge_rule_paths, take_paths};
 use crate::settings::{Setting, judge_setting, naming, setting_of, was_named, width_named};
 use crate::words::{asn_word, id_word, is_named, prefix_word, router_word};
 use prefix_lanes::Prefix;
@@ -142,13 +143,15 @@ fn judge_rule(
     asn: Asn,
     prefix: &Prefix,
     words: &[u8],
+    brief: &PathsBrief,
 ) -> Result<(), Code>
+    requires { AreBrief brief.now (words_of words.now) }
     ensures { result ≡ rule_fault routers.now asn prefix.now (words_of words.now) }
 {
-    if is_ruled(routers, asn, prefix) || !are_distinct(alloc, words) {
+    if is_ruled(routers, asn, prefix) || !are_distinct(alloc, words, brief) {
         return Err(Code::Repeated);
     }
-    if count_words(words) > MOST_PATHS || is_full(routers, asn) || !are_short(words) {
+    if brief.count > MOST_PATHS || is_full(routers, asn) || !brief.are_short {
         return Err(Code::OutOfLimit);
     }
     Ok(())
@@ -165,9 +168,9 @@ fn read_rule(alloc: Global, draft: &mut Draft, words: &[u8]) -> Result<(), Code>
     };
     let asn = router_word(width_named(draft.named), draft.net.routers(), asn)?;
     let prefix = prefix_word(prefix)?;
-    judge_rule_paths(width_named(draft.named), draft.net.routers(), asn, words)?;
-    judge_rule(alloc, draft.net.routers(), asn, &prefix, words)?;
-    match take_paths(alloc, words) {
+    let brief = judge_rule_paths(width_named(draft.named), &draft.net, asn, words)?;
+    judge_rule(alloc, draft.net.routers(), asn, &prefix, words, &brief)?;
+    match take_paths(alloc, words, brief.count) {
         Ok(paths) => draft.add_rule(asn, prefix, paths),
         Err(_) => Err(Code::Memory),
     }

@@ -1,23 +1,44 @@
 //! Words that are paths. They are judged as they stand in the text, and taken into memory only once
 //! their whole line is good.
 
-ghost use Rattle.std.specs.Prelude.{◌≡◌, ◌<◌, ◌≤◌, ◌==◌, ◌∷◌, [], true, false, not, nat_le, length, map, take, IfOk, IfSome, if◌then◌else◌};
+ghost use Rattle.std.specs.Prelude.{◌≡◌, ◌<◌, ◌≤◌, ◌==◌, ◌∷◌, [], true, false, not, nat_le, length, map, take, Ok, Err, IfOk, IfErr, IfSome, if◌then◌else◌};
 ghost use Rattle.std.specs.List.{list_all, list_any, All};
 ghost use Rattle.net_text.specs.Lexing.{parts, same, words_of};
 ghost use Rattle.net_text.specs.Words.{is_number, is_router, value_of, path_of, path_word, is_from, rule_path_word, rule_path_words, is_none, assigned_word, assigned_path};
 ghost use Rattle.ranked_policy.specs.Tests.{is_simple};
 ghost use Rattle.bgp_values.specs.Ranges.{is_asn};
-ghost use Rattle.net_text.specs.Lines.{are_distinct, are_short};
-ghost use Rattle.net_text.specs.Taking.{parts_left, IsTakeable, routers_word, rule_numbers_word, digest};
+ghost use Rattle.net_text.specs.Lines.{are_distinct};
+ghost use Rattle.net_text.specs.Taking.{parts_left, IsTakeable, IsBrief, AreBrief, routers_word, rule_numbers_word, digest, digest_next};
 
 use crate::code::Code;
 use crate::lexing::{cut, next_word, same};
 use crate::repeats::come_twice;
-use crate::words::{is_number, is_router, value_of};
+use crate::words::{is_number, value_of};
 use bgp_values::{Width, is_asn};
-use ranked_policy::{Asn, LONGEST_PATH, MOST_PATHS, Path, Router};
+use ranked_policy::{Asn, LONGEST_PATH, MOST_PATHS, NetBuilder, Path};
 use std::alloc::{AllocError, Global};
 use std::collections::BTreeSet;
+
+/// What a first reading tells of a path.
+#[derive(Clone, Copy)]
+pub(crate) struct PathBrief {
+    /// Its digest: paths with different digests are different.
+    digest: u64,
+    /// Whether it has no more routers than it may.
+    is_short: bool,
+}
+
+/// What a first reading tells of the paths of a rule, so that they need not be read for each
+/// question.
+#[derive(Clone, Copy)]
+pub(crate) struct PathsBrief {
+    /// How many there are.
+    pub(crate) count: usize,
+    /// Whether each has no more routers than it may.
+    pub(crate) are_short: bool,
+    /// The digests of the first of them, as many as a rule may have.
+    digests: [u64; MOST_PATHS],
+}
 
 // What a digest is multiplied by: odd, with bits everywhere.
 const DIGEST_FACTOR: u64 = 0x9e37_79b9_7f4a_7c15;
@@ -65,14 +86,25 @@ fn are_asns(width: Width, word: &[u8]) -> bool
     true
 }
 
+// Whether the number is a router's. A network finds its routers by their order.
+fn names_router(net: &NetBuilder, number: u64) -> bool
+    ensures { result ≡ is_router net.now.routers number }
+{
+    let _plan = net.settings();
+    if number > u64::from(u32::MAX) {
+        return false;
+    }
+    net.has_router(number as Asn)
+}
+
 // Whether each number is a router's.
-fn are_routers(routers: &[Router], word: &[u8]) -> bool
-    ensures { result ≡ list_all (is_router routers.now) (path_of word.now) }
+fn are_routers(net: &NetBuilder, word: &[u8]) -> bool
+    ensures { result ≡ list_all (is_router net.now.routers) (path_of word.now) }
 {
     let (mut left, mut more) = (word, true);
     'parts: while more {
         let (part, rest, on) = next_part(left);
-        if !is_router(routers, value_of(part)) {
+        if !names_router(net, value_of(part)) {
             return false;
         }
         left = rest;
@@ -82,8 +114,8 @@ fn are_routers(routers: &[Router], word: &[u8]) -> bool
 }
 
 // Judges a path of routers, however long, by reading its numbers for each question.
-fn judge_long_path(width: Width, routers: &[Router], word: &[u8]) -> Result<(), Code>
-    ensures { result ≡ path_word width routers.now word.now }
+fn judge_long_path(width: Width, net: &NetBuilder, word: &[u8]) -> Result<(), Code>
+    ensures { result ≡ path_word width net.now.routers word.now }
 {
     if !are_numbers(word) {
         return Err(Code::Unreadable);
@@ -91,7 +123,7 @@ fn judge_long_path(width: Width, routers: &[Router], word: &[u8]) -> Result<(), 
     if !are_asns(width, word) {
         return Err(Code::OutOfLimit);
     }
-    if !are_routers(routers, word) {
+    if !are_routers(net, word) {
         return Err(Code::UnknownRouter);
     }
     Ok(())
@@ -125,33 +157,33 @@ fn all_asns(width: Width, numbers: &[u64]) -> bool
 }
 
 // Whether each of the numbers is a router's.
-fn all_routers(routers: &[Router], numbers: &[u64]) -> bool
-    ensures { result ≡ list_all (is_router routers.now) numbers.now }
+fn all_routers(net: &NetBuilder, numbers: &[u64]) -> bool
+    ensures { result ≡ list_all (is_router net.now.routers) numbers.now }
 {
-    numbers.iter().all(|number| is_router(routers, *number))
+    numbers.iter().all(|number| names_router(net, *number))
 }
 
 // Judges the numbers of a path of routers.
-fn judge_numbers(width: Width, routers: &[Router], numbers: &[u64]) -> Result<(), Code>
-    ensures { result ≡ routers_word width routers.now numbers.now }
+fn judge_numbers(width: Width, net: &NetBuilder, numbers: &[u64]) -> Result<(), Code>
+    ensures { result ≡ routers_word width net.now.routers numbers.now }
 {
     if !all_asns(width, numbers) {
         return Err(Code::OutOfLimit);
     }
-    if !all_routers(routers, numbers) {
+    if !all_routers(net, numbers) {
         return Err(Code::UnknownRouter);
     }
     Ok(())
 }
 
 // Judges a path of routers: its numbers are read once where they are few.
-fn judge_path(width: Width, routers: &[Router], word: &[u8]) -> Result<(), Code>
-    ensures { result ≡ path_word width routers.now word.now }
+fn judge_path(width: Width, net: &NetBuilder, word: &[u8]) -> Result<(), Code>
+    ensures { result ≡ path_word width net.now.routers word.now }
 {
     let mut numbers = [0; LONGEST_PATH];
     match read_numbers(word, &mut numbers) {
-        Some(count) => judge_numbers(width, routers, &numbers[..count]),
-        None => judge_long_path(width, routers, word),
+        Some(count) => judge_numbers(width, net, &numbers[..count]),
+        None => judge_long_path(width, net, word),
     }
 }
 
@@ -217,10 +249,10 @@ fn is_from(asn: Asn, word: &[u8]) -> bool
 }
 
 // Judges a path of a rule of this router, however long.
-fn judge_long_rule_path(width: Width, routers: &[Router], asn: Asn, word: &[u8]) -> Result<(), Code>
-    ensures { result ≡ rule_path_word width routers.now asn word.now }
+fn judge_long_rule_path(width: Width, net: &NetBuilder, asn: Asn, word: &[u8]) -> Result<(), Code>
+    ensures { result ≡ rule_path_word width net.now.routers asn word.now }
 {
-    judge_long_path(width, routers, word)?;
+    judge_long_path(width, net, word)?;
     if is_from(asn, word) && is_simple(word) {
         Ok(())
     } else {
@@ -239,15 +271,10 @@ fn begins_with(asn: Asn, numbers: &[u64]) -> bool
 }
 
 // Judges the numbers of a path of a rule of this router.
-fn judge_rule_numbers(
-    width: Width,
-    routers: &[Router],
-    asn: Asn,
-    numbers: &[u64],
-) -> Result<(), Code>
-    ensures { result ≡ rule_numbers_word width routers.now asn numbers.now }
+fn judge_rule_numbers(width: Width, net: &NetBuilder, asn: Asn, numbers: &[u64]) -> Result<(), Code>
+    ensures { result ≡ rule_numbers_word width net.now.routers asn numbers.now }
 {
-    judge_numbers(width, routers, numbers)?;
+    judge_numbers(width, net, numbers)?;
     if begins_with(asn, numbers) && are_single(numbers) {
         Ok(())
     } else {
@@ -255,32 +282,93 @@ fn judge_rule_numbers(
     }
 }
 
-// Judges a path of a rule of this router: its numbers are read once where they are few.
-fn judge_rule_path(width: Width, routers: &[Router], asn: Asn, word: &[u8]) -> Result<(), Code>
-    ensures { result ≡ rule_path_word width routers.now asn word.now }
+// The digest of a path that goes on by a number behind those with this digest.
+fn digest_on(digest: u64, number: u64) -> u64
+    ensures { result ≡ digest_next digest number }
+{
+    digest.wrapping_mul(DIGEST_FACTOR).wrapping_add(number)
+}
+
+// The digest of a path's numbers.
+fn digest_of_numbers(numbers: &[u64]) -> u64
+    ensures { result ≡ digest numbers.now }
+{
+    let mut digest = 0u64;
+    let mut left = numbers;
+    'numbers: while let [number, rest @ ..] = left {
+        digest = digest_on(digest, *number);
+        left = rest;
+    }
+    digest
+}
+
+// The digest of a path, by reading its numbers.
+fn digest_of(word: &[u8]) -> u64
+    ensures { result ≡ digest (path_of word.now) }
+{
+    let mut digest = 0u64;
+    let (mut left, mut more) = (word, true);
+    'parts: while more {
+        let (part, rest, on) = next_part(left);
+        digest = digest_on(digest, value_of(part));
+        left = rest;
+        more = on;
+    }
+    digest
+}
+
+// Judges a path of a rule of this router, and tells of it: its numbers are read once where they are
+// few.
+fn judge_rule_path(width: Width, net: &NetBuilder, asn: Asn, word: &[u8]) -> Result<PathBrief, Code>
+    ensures ok { IfOk result (λ brief. (Ok tt ≡ rule_path_word width net.now.routers asn word.now) × IsBrief brief word.now) }
+    ensures err { IfErr result (λ code. Err code ≡ rule_path_word width net.now.routers asn word.now) }
 {
     let mut numbers = [0; LONGEST_PATH];
     match read_numbers(word, &mut numbers) {
-        Some(count) => judge_rule_numbers(width, routers, asn, &numbers[..count]),
-        None => judge_long_rule_path(width, routers, asn, word),
+        Some(count) => {
+            let numbers = &numbers[..count];
+            judge_rule_numbers(width, net, asn, numbers)?;
+            Ok(PathBrief {
+                digest: digest_of_numbers(numbers),
+                is_short: true,
+            })
+        }
+        None => {
+            judge_long_rule_path(width, net, asn, word)?;
+            Ok(PathBrief {
+                digest: digest_of(word),
+                is_short: is_short(word),
+            })
+        }
     }
 }
 
-// Judges the paths of a rule of this router, which are the words of a line.
+// Judges the paths of a rule of this router, which are the words of a line, and tells of them.
 pub(crate) fn judge_rule_paths(
     width: Width,
-    routers: &[Router],
+    net: &NetBuilder,
     asn: Asn,
     words: &[u8],
-) -> Result<(), Code>
-    ensures { result ≡ rule_path_words width routers.now asn (words_of words.now) }
+) -> Result<PathsBrief, Code>
+    ensures ok { IfOk result (λ brief. (Ok tt ≡ rule_path_words width net.now.routers asn (words_of words.now)) × AreBrief brief (words_of words.now)) }
+    ensures err { IfErr result (λ code. Err code ≡ rule_path_words width net.now.routers asn (words_of words.now)) }
 {
+    let (mut count, mut are_short, mut digests) = (0usize, true, [0u64; MOST_PATHS]);
     let mut left = words;
     'words: while let Some((word, rest)) = next_word(left) {
-        judge_rule_path(width, routers, asn, word)?;
+        let brief = judge_rule_path(width, net, asn, word)?;
+        if count < MOST_PATHS {
+            digests[count] = brief.digest;
+        }
+        are_short = are_short & brief.is_short;
+        count += 1;
         left = rest;
     }
-    Ok(())
+    Ok(PathsBrief {
+        count,
+        are_short,
+        digests,
+    })
 }
 
 // Whether two paths are one.
@@ -316,45 +404,13 @@ fn has_path(words: &[u8], path: &[u8]) -> bool
     false
 }
 
-// The digest of a path's numbers: paths with different digests are different.
-fn digest_of(word: &[u8]) -> u64
-    ensures { result ≡ digest (path_of word.now) }
-{
-    let mut digest = 0u64;
-    let (mut left, mut more) = (word, true);
-    'parts: while more {
-        let (part, rest, on) = next_part(left);
-        digest = digest
-            .wrapping_mul(DIGEST_FACTOR)
-            .wrapping_add(value_of(part));
-        left = rest;
-        more = on;
-    }
-    digest
-}
-
-// Whether no digest of these paths is there twice.
-fn have_single_digests(words: &[u8]) -> bool
-    requires { length (words_of words.now) ≤ 32 }
-    ensures { result ≡ is_simple (map (λ w. digest (path_of w)) (words_of words.now)) }
-{
-    let mut digests = [0; MOST_PATHS];
-    let mut count = 0usize;
-    let mut left = words;
-    'words: while let Some((word, rest)) = next_word(left) {
-        digests[count] = digest_of(word);
-        count += 1;
-        left = rest;
-    }
-    are_single(&digests[..count])
-}
-
 // Whether no path is there twice, each compared with those behind it where digests do not tell.
-fn are_apart(words: &[u8]) -> bool
-    requires { length (words_of words.now) ≤ 32 }
+fn are_apart(words: &[u8], brief: &PathsBrief) -> bool
+    requires few { length (words_of words.now) ≤ 32 }
+    requires brief { AreBrief brief.now (words_of words.now) }
     ensures { result ≡ are_distinct (map path_of (words_of words.now)) }
 {
-    if have_single_digests(words) {
+    if are_single(&brief.digests[..brief.count]) {
         return true;
     }
     let mut left = words;
@@ -400,11 +456,12 @@ fn has_repeat(alloc: Global, words: &[u8]) -> Result<bool, AllocError>
 
 // Whether no path is there twice. More of them than a rule may have are looked up, since compared in
 // pairs they could take hours: all of them in memory, or some at a time where there is none.
-pub(crate) fn are_distinct(alloc: Global, words: &[u8]) -> bool
+pub(crate) fn are_distinct(alloc: Global, words: &[u8], brief: &PathsBrief) -> bool
+    requires { AreBrief brief.now (words_of words.now) }
     ensures { result ≡ are_distinct (map path_of (words_of words.now)) }
 {
-    if count_words(words) <= MOST_PATHS {
-        return are_apart(words);
+    if brief.count <= MOST_PATHS {
+        return are_apart(words, brief);
     }
     match has_repeat(alloc, words) {
         Ok(repeats) => !repeats,
@@ -430,33 +487,6 @@ fn is_short(word: &[u8]) -> bool
     true
 }
 
-// Whether each path has no more routers than it may.
-pub(crate) fn are_short(words: &[u8]) -> bool
-    ensures { result ≡ are_short (map path_of (words_of words.now)) }
-{
-    let mut left = words;
-    'words: while let Some((word, rest)) = next_word(left) {
-        if !is_short(word) {
-            return false;
-        }
-        left = rest;
-    }
-    true
-}
-
-// How many words there are.
-pub(crate) fn count_words(words: &[u8]) -> usize
-    ensures { result ≡ length (words_of words.now) }
-{
-    let mut left = words;
-    let mut count = 0usize;
-    'words: while let Some((_, rest)) = next_word(left) {
-        count += 1;
-        left = rest;
-    }
-    count
-}
-
 // The path in memory.
 fn take_path(alloc: Global, word: &[u8]) -> Result<Path, AllocError>
     requires { IsTakeable word.now }
@@ -475,12 +505,12 @@ fn take_path(alloc: Global, word: &[u8]) -> Result<Path, AllocError>
     Path::from_slice(alloc, &numbers[..count])
 }
 
-// The paths in memory.
-pub(crate) fn take_paths(alloc: Global, words: &[u8]) -> Result<Vec<Path>, AllocError>
+// The paths in memory, so many of them.
+pub(crate) fn take_paths(alloc: Global, words: &[u8], count: usize) -> Result<Vec<Path>, AllocError>
     requires { All IsTakeable (words_of words.now) }
     ensures { IfOk result (λ paths. paths.items ≡ map path_of (words_of words.now)) }
 {
-    let mut paths = Vec::with_capacity(alloc, count_words(words))?;
+    let mut paths = Vec::with_capacity(alloc, count)?;
     let mut left = words;
     'words: while let Some((word, rest)) = next_word(left) {
         paths.push(take_path(alloc, word)?)?;
@@ -496,13 +526,13 @@ fn is_none(word: &[u8]) -> bool
 }
 
 // Judges the path of an assignment, or the word for the empty one.
-pub(crate) fn judge_assigned(width: Width, routers: &[Router], word: &[u8]) -> Result<(), Code>
-    ensures { result ≡ assigned_word width routers.now word.now }
+pub(crate) fn judge_assigned(width: Width, net: &NetBuilder, word: &[u8]) -> Result<(), Code>
+    ensures { result ≡ assigned_word width net.now.routers word.now }
 {
     if is_none(word) {
         return Ok(());
     }
-    judge_path(width, routers, word)
+    judge_path(width, net, word)
 }
 
 // Whether the path of an assignment has no more routers than it may.

@@ -6,7 +6,7 @@ use Rattle.net_text.specs.Taking.{parts_left}
 use Rattle.net_text.proofs.paths.are_routers.Given as goal
 
 abbrev pub invariant-parts : goal.invariant-parts
-invariant-parts l = list_all (is_router l.routers) (path_of l.word) ≡ list_all (is_router l.routers) (map value_of (parts_left l.more l.left))
+invariant-parts l = list_all (is_router l.net.routers) (path_of l.word) ≡ list_all (is_router l.net.routers) (map value_of (parts_left l.more l.left))
 
 abbrev pub decreases-parts : goal.decreases-parts
 decreases-parts l = cond l.more (1 + length l.left) 0
