@@ -1,4 +1,5 @@
 pub mod ListLemmas
+pub mod RisingLemmas
 pub mod ChoiceLemmas
 pub mod TableLemmas
 mod RankLemmas

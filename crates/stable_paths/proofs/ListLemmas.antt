@@ -1,10 +1,10 @@
 -- Lists with an item that something holds of, and the paths of an assignment.
-use Rattle.std.proofs.Common.{◌≡◌, ◌≢◌, ℕ, zero, suc, ◌+◌, ◌<◌, ◌≤◌, Bool, true, false, cond, List, [], ◌∷◌, ◌++◌, length, take, set, get_or, refl, sym, ap, subst, ◌∙◌, eq-eqb, ne_eqb, arith, inl, inr, ◌⊎◌}
+use Rattle.std.proofs.Common.{◌≡◌, ◌≢◌, ℕ, zero, suc, ◌+◌, ◌<◌, Bool, true, false, cond, List, [], ◌∷◌, ◌++◌, length, take, set, get_or, refl, sym, ap, subst, ◌∙◌, eq-eqb, ne_eqb, arith, inl, inr, ◌⊎◌}
 use Rattle.std.specs.Prelude.{◌==◌, IsTrue}
 use Rattle.std.specs.List.{All, Any}
 use Rattle.std.specs.Str.{bytes_eq}
 use Rattle.std.proofs.lemmas.Bool.{cases_Bool, cases_order, both_ways, eqb-true}
-use Rattle.std.proofs.lemmas.List.{length-append, get_or_append_left, take_all}
+use Rattle.std.proofs.lemmas.List.{length-append, get_or_append_left}
 use Rattle.std.proofs.Math.Seq.{get_or-append_seam}
 use Rattle.std.proofs.lemmas.Slice.Eq.{bytes_eq-Decides}
 use Rattle.stable_paths.specs.declared.assignment.Assigned.{Assigned}
@@ -62,13 +62,6 @@ path_none (a ∷ rest) u all =
     let other : (a.router == u) ≡ false = ne_eqb a.router u (all 0 a (omega arith)) in
     ap (λ (b : Bool). cond b a.path (path_of rest u)) other ∙ path_none rest u (rest_of a rest (λ x. x.router ≢ u) all)
 
--- what holds of the first so many holds of all where there are no more
-pub all_taken : (xs : List Assigned) (i : ℕ) (P : Assigned → Type 0) → length xs ≤ i → All P (take i xs) → All P xs
-all_taken xs i P le all = subst (All P) (take_all i xs le) all
-
-pub path_none_at : (xs : List Assigned) (i u : ℕ) → length xs ≤ i → All (λ a. a.router ≢ u) (take i xs) → path_of xs u ≡ []
-path_none_at xs i u le all = path_none xs u (subst (All (λ (a : Assigned). a.router ≢ u)) (take_all i xs le) all)
-
 -- it has the path of its first place
 pub path_at : (xs : List Assigned) (i u : ℕ) (d : Assigned) → i < length xs → All (λ a. a.router ≢ u) (take i xs) → (get_or xs i d).router ≡ u → path_of xs u ≡ (get_or xs i d).path
 path_at [] i u d lt all e = absurd (omega (arith, lt))
@@ -85,11 +78,11 @@ behind_one x a rest more u true false eb ec apart e = rw (eb, ec) refl
 behind_one x a rest more u false c eb ec apart e =
     ap (λ (d : Bool). cond d x.path (path_of more u)) eb ∙ e ∙ ap (λ (d : Bool). cond (a.router == u) a.path (cond d x.path (path_of rest u))) (sym eb)
 
--- a router that is put behind all has its path, and the others have theirs
-pub path_put : (xs : List Assigned) (a : Assigned) (u : ℕ) → All (λ x. x.router ≢ a.router) xs → path_of (xs ++ a ∷ []) u ≡ cond (a.router == u) a.path (path_of xs u)
-path_put [] a u all = refl
-path_put (x ∷ rest) a u all =
-    behind_one x a rest (rest ++ a ∷ []) u (x.router == u) (a.router == u) refl refl (all 0 x (omega arith)) (path_put rest a u (rest_of x rest (λ y. y.router ≢ a.router) all))
+-- a router that is put behind others has its path, and all the others have theirs
+pub path_put : (xs more : List Assigned) (a : Assigned) (u : ℕ) → All (λ x. x.router ≢ a.router) xs → path_of (xs ++ a ∷ more) u ≡ cond (a.router == u) a.path (path_of (xs ++ more) u)
+path_put [] more a u all = refl
+path_put (x ∷ rest) more a u all =
+    behind_one x a (rest ++ more) (rest ++ a ∷ more) u (x.router == u) (a.router == u) refl refl (all 0 x (omega arith)) (path_put rest more a u (rest_of x rest (λ y. y.router ≢ a.router) all))
 
 set_first : (b : Bool) (a x : Assigned) (rest : List Assigned) (u : ℕ) → x.router ≡ a.router → (a.router == u) ≡ b
     → cond (a.router == u) a.path (path_of rest u) ≡ cond (a.router == u) a.path (cond (x.router == u) x.path (path_of rest u))

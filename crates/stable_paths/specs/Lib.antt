@@ -3,3 +3,4 @@ pub mod Judging
 pub mod Promises
 pub mod ByRank
 pub mod Examples
+pub mod Rising

@@ -1,9 +1,10 @@
 //! Paths that routers have.
 
-ghost use Rattle.std.specs.Prelude.{◌≡◌, ◌==◌, ℕ, List, [], ◌<◌, ◌≤◌, ◌≢◌, length, take, slice_index_or, if◌then◌else◌, IfErr, MatchOption, OnOk, OnErr};
-ghost use Rattle.std.specs.List.{All};
+ghost use Rattle.std.specs.Prelude.{◌≡◌, ◌==◌, ℕ, List, [], ◌<◌, ◌≤◌, ◌≢◌, nat_lt, length, take, drop, slice_index_or, if◌then◌else◌, IfOk, IfErr, MatchOption, OnOk, OnErr};
+ghost use Rattle.std.specs.List.{All, AllPairs};
 ghost use Rattle.stable_paths.specs.declared.assignment.Assigned.{Assigned};
 ghost use Rattle.stable_paths.specs.Stable.{path_of};
+ghost use Rattle.stable_paths.specs.Rising.{Rise, StandsAt, BelongsAt};
 
 use crate::refusal::StableError;
 use ranked_policy::{Asn, Path};
@@ -22,30 +23,38 @@ pub struct Assigned {
 /// A path for each router, the empty path where none was set.
 #[derive(Debug, Drop)]
 pub struct Assignment {
+    // By rising router, so that each is found by a binary search.
     paths: Vec<Assigned>,
 }
 
 impl Model for Assignment {
     ghost use Rattle.std.specs.Prelude.{List};
     ghost use Rattle.stable_paths.specs.declared.assignment.Assigned.{Assigned};
+    ghost use Rattle.stable_paths.specs.Rising.{Rise};
 
     ghost Value = { List Assigned };
 
     ghost view = { λ a. a.paths.items };
+
+    ghost invariant = { λ a. Rise a.paths.items };
 }
 
-// The first place where the router stands, or behind all.
-fn place_of(paths: &[Assigned], router: Asn) -> usize
-    ensures within { result ≤ length paths.now }
-    ensures before { All (λ a. a.router ≢ router) (take result paths.now) }
-    ensures here { (d : Assigned) → result < length paths.now → (slice_index_or paths.now result d).router ≡ router }
+// The place of the router, or the place where it belongs.
+fn place_of(paths: &[Assigned], router: Asn) -> Result<usize, usize>
+    requires { Rise paths.now }
+    ensures found { IfOk result (λ place. StandsAt paths.now router place) }
+    ensures missing { IfErr result (λ place. BelongsAt paths.now router place) }
 {
-    for (place, assigned) in paths.iter().enumerate() {
-        if assigned.router == router {
-            return place;
-        }
+    let place = paths.partition_point(
+        |assigned: &Assigned| -> bool
+            ensures { result ≡ nat_lt assigned.now.router router }
+        { assigned.router < router },
+    );
+    if place < paths.len() && paths[place].router == router {
+        Ok(place)
+    } else {
+        Err(place)
     }
-    paths.len()
 }
 
 impl Assignment {
@@ -63,11 +72,9 @@ impl Assignment {
         ensures { MatchOption result (path_of self.now router ≡ []) (λ path. path.now ≡ path_of self.now router) }
     {
         let paths = self.paths.as_slice();
-        let place = place_of(paths, router);
-        if place < paths.len() {
-            Some(&paths[place].path)
-        } else {
-            None
+        match place_of(paths, router) {
+            Ok(place) => Some(&paths[place].path),
+            Err(_) => None,
         }
     }
 
@@ -88,11 +95,9 @@ impl Assignment {
         ensures err { OnErr result (self.new ≡ self.old) }
         ensures memory { IfErr result (λ e. e ≡ StableError.Memory) }
     {
-        let place = place_of(self.paths.as_slice(), router);
-        if place < self.paths.len() {
-            self.paths[place] = Assigned { router, path };
-        } else {
-            self.paths.push(Assigned { router, path })?;
+        match place_of(self.paths.as_slice(), router) {
+            Ok(place) => self.paths[place] = Assigned { router, path },
+            Err(place) => self.paths.insert(place, Assigned { router, path })?,
         }
         Ok(())
     }
