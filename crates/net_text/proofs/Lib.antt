@@ -9,6 +9,7 @@ pub mod DigestLemmas
 pub mod RouterLemmas
 pub mod DraftLemmas
 pub mod StepLemmas
+pub mod LinkLemmas
 pub mod TextLemmas
 pub mod NetworkLemmas
 pub mod SectionLemmas

@@ -20,7 +20,7 @@ named routers u h =
     let same : (get_or routers h.0 none).asn ≡ u = sym (get_or-map (λ r. r.asn) routers h.0 none u inside) ∙ h.2 in
     list_any_at (λ r. r.asn == u) routers h.0 none inside (eq-eqb (get_or routers h.0 none).asn u same)
 
-listed : (routers : List Router) (u : ℕ) → is_router routers u ≡ true → IsRouter routers u
+pub listed : (routers : List Router) (u : ℕ) → is_router routers u ≡ true → IsRouter routers u
 listed routers u t =
     let any = Any-from_list_any (λ r. r.asn == u) routers t in
     (any.0, omega (arith, any.2, length-map routers (λ r. r.asn)), get_or-map (λ r. r.asn) routers any.0 any.1 u any.2 ∙ ap (λ (r : Router). r.asn) any.3 ∙ eqb-true any.1.asn u any.4)
@@ -37,6 +37,6 @@ in_four_octets Four u h = omega (arith, h.1)
 pub too_great : (width : Width) (routers : List Router) (u : ℕ) → All (IsAsn width) (numbers routers) → 4294967296 ≤ u → false ≡ is_router routers u
 too_great width routers u all great =
     sym (false_from_ne_true (is_router routers u) (λ t.
-      let h = listed routers u t in
-      let below = in_four_octets width u (subst (IsAsn width) h.2 (all h.0 u h.1)) in
-      omega (arith, great, below)))
+    let h = listed routers u t in
+    let below = in_four_octets width u (subst (IsAsn width) h.2 (all h.0 u h.1)) in
+    omega (arith, great, below)))

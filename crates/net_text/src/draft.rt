@@ -3,6 +3,7 @@
 ghost use Rattle.std.specs.Prelude.{◌≡◌, ◌≢◌, ◌≤◌, IfOk, IfErr, if◌then◌else◌};
 ghost use Rattle.ranked_policy.specs.Plans.{IsNetwork};
 ghost use Rattle.net_text.specs.Lexing.{lines_of, is_skipped};
+ghost use Rattle.net_text.specs.Steps.{link_code};
 ghost use Rattle.net_text.specs.Networks.{empty_draft, SpellsNetwork, RefusesNetwork, FailsAsNetwork};
 
 use crate::code::{Code, Refused};
@@ -23,13 +24,14 @@ pub(crate) struct Draft {
 }
 
 impl Draft {
-    ghost use Rattle.std.specs.Prelude.{◌≡◌, OnOk, IfErr};
-    ghost use Rattle.ranked_policy.specs.Adding.{with_link};
+    ghost use Rattle.std.specs.Prelude.{◌≡◌, true, OnOk, IfErr};
+    ghost use Rattle.net_text.specs.Words.{is_router};
+    ghost use Rattle.net_text.specs.Steps.{Steps, link_told};
     ghost use Rattle.net_text.specs.declared.code.Code.TheVariants.{Memory};
     ghost use Rattle.net_text.specs.Lines.{with_router, with_origin, with_rule};
 
-    // All but memory was judged before each of these. What `settings` says of the plan is used in
-    // the proofs.
+    // All but memory was judged before each of these, but for links. What `settings` says of the plan
+    // is used in the proofs.
 
     pub(crate) fn add_router(&mut self, asn: Asn, id: u32) -> Result<(), Code>
         ensures ok { OnOk result (self.new ≡ with_router self.old asn id) }
@@ -44,11 +46,16 @@ impl Draft {
         }
     }
 
+    // A link between two routers is judged as it is added: a network refuses in a text's order.
     pub(crate) fn add_link(&mut self, a: Asn, b: Asn) -> Result<(), Code>
-        ensures ok { OnOk result (self.new ≡ record self.old { net = with_link self.old.net a b }) }
-        ensures err { IfErr result (λ code. code ≡ Code.Memory) }
+        requires a { is_router self.old.net.routers a ≡ true }
+        requires b { is_router self.old.net.routers b ≡ true }
+        ensures { Steps result (link_told self.old a b) self.new }
     {
-        self.net.push_link(a, b).map_err(|_| Code::Memory)
+        match self.net.push_link(a, b) {
+            Ok(()) => Ok(()),
+            Err(error) => Err(code_of(error)),
+        }
     }
 
     pub(crate) fn add_origin(&mut self, asn: Asn, prefix: Prefix) -> Result<(), Code>
@@ -80,6 +87,17 @@ impl Draft {
             }
             Err(_) => Err(Code::Memory),
         }
+    }
+}
+
+// The code of why a network refuses a link between two of its routers.
+fn code_of(error: NetError) -> Code
+    ensures { result ≡ link_code error }
+{
+    match error {
+        NetError::Memory => Code::Memory,
+        NetError::Repeated => Code::Repeated,
+        _ => Code::OutOfLimit,
     }
 }
 

@@ -1,11 +1,10 @@
 //! The lines of a network text: each is judged, and then adds to the network.
 
 ghost use Rattle.std.specs.Prelude.{◌≡◌};
-ghost use Rattle.std.specs.List.{list_any, count_by};
-ghost use Rattle.ranked_policy.specs.Plans.{touches};
+ghost use Rattle.std.specs.List.{list_any};
 ghost use Rattle.net_text.specs.Lexing.{words_of};
 ghost use Rattle.prefix_lanes.specs.Bits.{is_prefix};
-ghost use Rattle.net_text.specs.Lines.{setting_line, router_line, link_line, origin_line, rule_line, named_line, words_line, line_reading, joins, is_taken, is_ruled, is_full, rule_fault};
+ghost use Rattle.net_text.specs.Lines.{setting_line, router_line, link_line, origin_line, rule_line, named_line, words_line, line_reading, is_taken, is_ruled, is_full, rule_fault};
 ghost use Rattle.net_text.specs.Taking.{AreBrief};
 ghost use Rattle.net_text.specs.Steps.{Steps};
 
@@ -16,9 +15,7 @@ use crate::paths::{PathsBrief, are_distinct, judge_rule_paths, take_paths};
 use crate::settings::{Setting, judge_setting, naming, setting_of, was_named, width_named};
 use crate::words::{asn_word, id_word, is_named, prefix_word, router_word};
 use prefix_lanes::Prefix;
-use ranked_policy::{
-    Asn, Link, MOST_LINKS, MOST_PATHS, MOST_PREFIXES, MOST_ROUTERS, MOST_RULES, Router, Rule,
-};
+use ranked_policy::{Asn, MOST_PATHS, MOST_PREFIXES, MOST_ROUTERS, MOST_RULES, Router, Rule};
 use std::alloc::Global;
 
 // What a line of a setting says.
@@ -62,23 +59,6 @@ fn read_router(draft: &mut Draft, words: &[u8]) -> Result<(), Code>
     draft.add_router(asn, id)
 }
 
-// Whether a link joins the two.
-fn is_linked(links: &[Link], a: Asn, b: Asn) -> bool
-    ensures { result ≡ list_any (joins a b) links.now }
-{
-    links.iter().any(|link| link.one == a && link.other == b || link.one == b && link.other == a)
-}
-
-// How many links a router has.
-fn count_links(links: &[Link], asn: Asn) -> usize
-    ensures { result ≡ count_by (touches asn) links.now }
-{
-    links
-        .iter()
-        .filter(|link| link.one == asn || link.other == asn)
-        .count()
-}
-
 fn read_link(draft: &mut Draft, words: &[u8]) -> Result<(), Code>
     ensures { Steps result (link_line draft.old (words_of words.now)) draft.new }
 {
@@ -87,14 +67,6 @@ fn read_link(draft: &mut Draft, words: &[u8]) -> Result<(), Code>
     };
     let a = router_word(width_named(draft.named), draft.net.routers(), a)?;
     let b = router_word(width_named(draft.named), draft.net.routers(), b)?;
-    if a == b || is_linked(draft.net.links(), a, b) {
-        return Err(Code::Repeated);
-    }
-    if count_links(draft.net.links(), a) >= MOST_LINKS
-        || count_links(draft.net.links(), b) >= MOST_LINKS
-    {
-        return Err(Code::OutOfLimit);
-    }
     draft.add_link(a, b)
 }
 
