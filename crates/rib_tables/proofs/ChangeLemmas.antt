@@ -19,8 +19,7 @@ use Rattle.rib_tables.specs.Rows.{AreFit, Marks, on, hearing, hearing_all}
 use Rattle.rib_tables.proofs.RowChoices.{some_of}
 use Rattle.prefix_lanes.specs.Bits.{PrefixView, is_prefix}
 use Rattle.rib_tables.specs.declared.word.Word.{Word}
-use Rattle.rib_tables.specs.Words.{nothing, lists, mentions}
-use Rattle.bgp_codec.specs.declared.update.Update.{Update}
+use Rattle.rib_tables.specs.Words.{lists}
 use Rattle.rib_tables.proofs.WordLemmas.{is_prefix-true, is_prefix-from}
 
 or_false_left : (a b : Bool) → (a || b) ≡ false → a ≡ false
@@ -118,10 +117,6 @@ marks_one keys n rows fit q i at old new here others = λ j out.
       λ r there. false_from_ne_true (is_prefix q r.prefix) (λ t. apart (once_at keys fit.once j i q (key_at keys rows fit.listed j r there ∙ ap Some (sym (is_prefix-true q r.prefix t))) at)),
     )
 
-pub marks_none : (keys : List PrefixView) (n : ℕ) (rows : List Row) → AreFit keys n rows → (q : PrefixView) → ((i : ℕ) (p : PrefixView) → slice_get keys i ≡ Some p → is_prefix q p ≡ false)
-    → (s : PlaceSet) → Marks (λ r. is_prefix q r.prefix) rows s s
-marks_none keys n rows fit q none s = λ j out. (out, λ r there. none j r.prefix (key_at keys rows fit.listed j r there))
-
 pub same_rows : (keys : List PrefixView) (n : ℕ) (rows : List Row) → AreFit keys n rows → (q : PrefixView) → ((i : ℕ) (p : PrefixView) → slice_get keys i ≡ Some p → is_prefix q p ≡ false)
     → (g : Row → Row) → rows ≡ map (on q g) rows
 same_rows keys n rows fit q none g = sym (untouched q g rows (λ i r at. none i r.prefix (key_at keys rows fit.listed i r at)))
@@ -177,6 +172,9 @@ module _ (k : ℕ) (w : Word) where
     | inr n ↦ ap f (cond-false (lists ps r.prefix) (hearing k w r) r n)
   ]
 
+pub as_many : {X : Type 0} (f : X → X) (old new : List X) → new ≡ map f old → length new ≡ length old
+as_many {X} f old new is = ap (λ (xs : List X). length xs) is ∙ length-map old f
+
 -- where each row of a changed list comes from
 pub from_map : {X Y : Type 0} (f : X → Y) (xs : List X) (i : ℕ) (y : Y) → slice_get (map f xs) i ≡ Some y → (x : X) × (slice_get xs i ≡ Some x) × (y ≡ f x)
 from_map {X} {Y} f xs i y at =
@@ -204,27 +202,9 @@ fits_hearing keys n rows new ps k w fit is =
     subst (AreFit keys n) (sym is)
     (fits_map keys n rows (hearing_all ps k w) (hearing_keeps k w (λ r. r.prefix) (λ r. refl) ps) (hearing_keeps k w (λ r. length r.heard) (λ r. length-set r.heard k w) ps) (hearing_keeps k w (λ r. length r.sent) (λ r. refl) ps) fit)
 
-pub marks_more : (rows mid : List Row) (ps : List PrefixView) (q : PrefixView) (k : ℕ) (w : Word) (old between new : PlaceSet) → mid ≡ map (hearing_all ps k w) rows
-    → Marks (λ r. lists ps r.prefix) rows old between → Marks (λ r. is_prefix q r.prefix) mid between new → Marks (λ r. lists (ps ++ q ∷ []) r.prefix) rows old new
-marks_more rows mid ps q k w old between new is first next = λ i out.
-    let n = next i out in
-    let f = first i n.0 in (
-      f.0,
-      λ r at.
-          let there = ap (λ (rs : List Row). slice_get rs i) is ∙ to_map (hearing_all ps k w) rows i r at in
-          let not_q : is_prefix q r.prefix ≡ false = ap (is_prefix q) (sym (hearing_keeps k w (λ s. s.prefix) (λ s. refl) ps r)) ∙ n.1 (hearing_all ps k w r) there in
-          lists-push ps q r.prefix ∙ ap (λ (b : Bool). b || is_prefix q r.prefix) (f.1 r at) ∙ not_q,
-    )
-
-pub marks_start : (rows : List Row) (s : PlaceSet) → Marks (λ r. lists [] r.prefix) rows s s
-marks_start rows s = λ i out. (out, λ r at. refl)
-
 -- one prefix alone
 pub hears_single : (k : ℕ) (w : Word) (rows : List Row) (q : PrefixView) → map (on q (hearing k w)) rows ≡ map (hearing_all (q ∷ []) k w) rows
 hears_single k w rows q = ap (map (on q (hearing k w))) (hears_none k w rows) ∙ hears_one_more k w rows [] q
-
-pub marks_single : (rows : List Row) (q : PrefixView) (old new : PlaceSet) → Marks (λ r. is_prefix q r.prefix) rows old new → Marks (λ r. lists (q ∷ []) r.prefix) rows old new
-marks_single rows q old new marks = λ i out. let m = marks i out in (m.0, λ r at. or-false (is_prefix q r.prefix) ∙ m.1 r at)
 
 -- the last of words that are all one, and those before it
 module _ (a : Word) (ws front : List Word) (w : Word) (is : ws ≡ front ++ w ∷ []) (all : All (λ one. one ≡ a) ws) where
@@ -240,18 +220,6 @@ module _ (a : Word) (ws front : List Word) (w : Word) (is : ws ≡ front ++ w �
 -- a whole list that is written back over one of its length
 pub written_back : {X : Type 0} (n : ℕ) (new rest : List X) → length new ≡ n → take n (new ++ rest) ≡ new
 written_back {X} n new rest e = ap (λ (m : ℕ). take m (new ++ rest)) (sym e) ∙ take-append_seam new rest
-
-pub marks_both : (rows mid : List Row) (u : Update) (k : ℕ) (old between new : PlaceSet) → mid ≡ map (hearing_all u.withdrawn k nothing) rows
-    → Marks (λ r. lists u.withdrawn r.prefix) rows old between → Marks (λ r. lists u.nlri r.prefix) mid between new → Marks (λ r. mentions u r.prefix) rows old new
-marks_both rows mid u k old between new is first next = λ i out.
-    let n = next i out in
-    let f = first i n.0 in (
-      f.0,
-      λ r at.
-          let there = ap (λ (rs : List Row). slice_get rs i) is ∙ to_map (hearing_all u.withdrawn k nothing) rows i r at in
-          let no : lists u.nlri r.prefix ≡ false = ap (lists u.nlri) (sym (hearing_keeps k nothing (λ s. s.prefix) (λ s. refl) u.withdrawn r)) ∙ n.1 (hearing_all u.withdrawn k nothing r) there in
-          ap (λ (b : Bool). b || lists u.withdrawn r.prefix) no ∙ f.1 r at,
-    )
 
 -- a list whose items are those of another after a change, place by place
 pub map_by_places : {X : Type 0} (f : X → X) (old new : List X) → length new ≡ length old → ((i : ℕ) (x : X) → slice_get old i ≡ Some x → slice_get new i ≡ Some (f x)) → new ≡ map f old

@@ -15,3 +15,4 @@ pub mod DecidingLemmas
 pub mod OneRowLemmas
 pub mod AskingLemmas
 pub mod BestLemmas
+pub mod StayingLemmas

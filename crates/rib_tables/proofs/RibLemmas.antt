@@ -19,7 +19,7 @@ use Rattle.rib_tables.specs.Places.{has}
 use Rattle.rib_tables.specs.Words.{nothing, announced_word, Announces, Mentions, Says, lists, mentions}
 use Rattle.rib_tables.specs.Tables.{Words, word_of, Applies}
 use Rattle.rib_tables.specs.Owners.{HearsUpdate}
-use Rattle.rib_tables.specs.Rows.{says_in, said_in, established_in, kept_in, originated_in, view_of, IsRow, AreRows, AreDecided, IsRowBest, IsRib, AreFit, Marks, hearing, hearing_all, hearing_update}
+use Rattle.rib_tables.specs.Rows.{says_in, said_in, established_in, kept_in, originated_in, view_of, IsRow, AreRows, AreDecided, AreJudged, IsRowBest, IsRib, AreFit, StaysDecided, hearing, hearing_all, hearing_update}
 use Rattle.rib_tables.proofs.WordLemmas.{is_prefix-true, is_prefix-from, decides_lists, decides_mentions, by_test}
 use Rattle.rib_tables.proofs.RowChoices.{some_of}
 use Rattle.rib_tables.proofs.ChangeLemmas.{key_at, row_at, once_at, map_after, from_map, to_map, hearing_keeps}
@@ -114,13 +114,12 @@ module _ (k : ℕ) (u : Update) where
       right e = ap (λ (b : Bool). b || lists u.withdrawn r.prefix) (sym (left e)) ∙ e
 
   pub hear_keeps_rib : (net : Plan) (router : ℕ) (peers : List Peer) (keys : List PrefixView) (rows new : List Row) (dirty marked : PlaceSet) (waits : List PlaceSet) → IsRib net router peers keys rows dirty waits
-      → new ≡ map (hearing_update k u) rows → Marks (λ r. mentions u r.prefix) rows dirty marked → IsRib net router peers keys new marked waits
-  hear_keeps_rib net router peers keys rows new dirty marked waits rib is marks =
+      → new ≡ map (hearing_update k u) rows → StaysDecided router rows new dirty marked → IsRib net router peers keys new marked waits
+  hear_keeps_rib net router peers keys rows new dirty marked waits rib is stays =
+      let judged : AreJudged net router peers rows = record { network = rib.whole.network; routers = rib.whole.routers; each = rib.whole.each } in
       subst (λ (rs : List Row). IsRib net router peers keys rs marked waits) (sym is) (record {
         whole = rows_map net router peers keys rows (hearing_update k u) (hears_keep (λ r. r.prefix) (λ w r. refl)) (hears_row net router peers) rib.whole;
-        decided = decided_map net router peers keys rows (hearing_update k u) (hears_keep (λ r. r.prefix) (λ w r. refl)) marked (λ i r at out.
-            let m = marks i out in
-            subst (λ (s : Row). IsRowBest net router peers s s.kept) (sym (unmentioned r (m.1 r at))) (rib.decided i r at m.0));
+        decided = subst (λ (rs : List Row). AreDecided net router peers rs marked) is (stays net peers judged rib.decided).1;
         told = record {
           long = rib.told.long;
           each = λ j p waiting at there i r here.

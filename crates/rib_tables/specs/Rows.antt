@@ -200,6 +200,18 @@ MarksSpeaking k rows old new = (i : ℕ) → has new i ≡ false → (has old i 
 abbrev pub Marks : (Row → Bool) → List Row → PlaceSet → PlaceSet → Type 0
 Marks test rows old new = (i : ℕ) → has new i ≡ false → (has old i ≡ false) × ((r : Row) → slice_get rows i ≡ Some r → test r ≡ false)
 
+-- what is kept for a row stays the best when a peer says another word
+abbrev pub BestStays : ℕ → Row → ℕ → Word → Type 0
+BestStays router r k word =
+    (net : Plan) (peers : List Peer) → IsNetwork net → IsRouter net.routers router → IsRow net router peers r
+    → IsRowBest net router peers r r.kept → IsRowBest net router peers (hearing k word r) r.kept
+
+-- a change of the words heard, after which each kept path outside the set is still the best
+abbrev pub StaysDecided : ℕ → List Row → List Row → PlaceSet → PlaceSet → Type 0
+StaysDecided router rows changed old new =
+    (net : Plan) (peers : List Peer) → AreJudged net router peers rows → AreDecided net router peers rows old
+    → AreJudged net router peers changed × AreDecided net router peers changed new
+
 -- what an UPDATE of a peer says: an announcement wins over a withdrawal
 abbrev pub hearing_update : ℕ → Update → Row → Row
 hearing_update k u r = hearing_all u.nlri k (announced_word u.attrs) (hearing_all u.withdrawn k nothing r)

@@ -7,13 +7,13 @@ ghost use Rattle.rib_tables.specs.declared.row.Peer.{Peer};
 ghost use Rattle.rib_tables.specs.declared.row.Row.{Row};
 ghost use Rattle.rib_tables.specs.declared.word.Word.TheVariants.{Sequence};
 ghost use Rattle.rib_tables.specs.declared.place_set.PlaceSet.{PlaceSet};
-ghost use Rattle.rib_tables.specs.Words.{announced_word, nothing, lists, mentions};
+ghost use Rattle.rib_tables.specs.Words.{announced_word, nothing};
 ghost use Rattle.rib_tables.specs.Places.{has};
-ghost use Rattle.rib_tables.specs.Rows.{AreFit, AreWaiting, IsWaiting, Marks, MarksSpeaking, on, hearing, hearing_all, hearing_update, telling, keeping, originating, forgetting, clearing};
+ghost use Rattle.rib_tables.specs.Rows.{AreFit, AreWaiting, BestStays, IsWaiting, MarksSpeaking, StaysDecided, on, hearing, hearing_all, hearing_update, telling, keeping, originating, forgetting, clearing};
 
 use crate::place_set::PlaceSet;
 use crate::refusal::RibError;
-use crate::row::{Peer, Row};
+use crate::row::{Peer, Row, stays_best};
 use crate::word::{Word, announced};
 use bgp_codec::Update;
 use indexmap::IndexSet;
@@ -67,8 +67,21 @@ fn hear_at(rows: &mut [Row], place: usize, peer: usize, word: Word)
     row.heard.set(peer, word);
 }
 
+// Puts a place into the set, unless what is kept there stays the best when a peer says this word.
+fn mark_heard(router: Asn, row: &Row, peer: usize, word: &Word, place: usize, dirty: &mut PlaceSet)
+    requires peer { peer < length row.now.heard }
+    requires place { place < MOST_PREFIXES }
+    ensures here { has dirty.new place ≡ false → (has dirty.old place ≡ false) × BestStays router row.now peer word.now }
+    ensures others { (other : ℕ) → other ≢ place → has dirty.new other ≡ has dirty.old other }
+{
+    if !dirty.has(place) && !stays_best(router, row, peer, word) {
+        dirty.put(place);
+    }
+}
+
 // A word of a peer for a prefix, where the prefix is named.
 pub(crate) fn hear_one(
+    router: Asn,
     keys: &IndexSet<Prefix>,
     rows: &mut [Row],
     dirty: &mut PlaceSet,
@@ -78,17 +91,18 @@ pub(crate) fn hear_one(
 )
     requires { (peers : ℕ) × AreFit keys.now.keys peers rows.old × (peer < peers) }
     ensures rows { rows.new ≡ map (on prefix.now (hearing peer word)) rows.old }
-    ensures dirty { Marks (λ r. is_prefix prefix.now r.prefix) rows.old dirty.old dirty.new }
+    ensures dirty { StaysDecided router rows.old rows.new dirty.old dirty.new }
 {
     if let Some(place) = place_of(keys, prefix) {
+        mark_heard(router, &rows[place], peer, &word, place, dirty);
         hear_at(rows, place, peer, word);
-        dirty.put(place);
     }
 }
 
 // The same word of a peer, the empty path, for each of these prefixes that is named.
 pub(crate) fn hear_withdrawn(
     alloc: Global,
+    router: Asn,
     keys: &IndexSet<Prefix>,
     rows: &mut [Row],
     dirty: &mut PlaceSet,
@@ -97,16 +111,17 @@ pub(crate) fn hear_withdrawn(
 )
     requires { (peers : ℕ) × AreFit keys.now.keys peers rows.old × (peer < peers) }
     ensures rows { rows.new ≡ map (hearing_all prefixes.now peer nothing) rows.old }
-    ensures dirty { Marks (λ r. lists prefixes.now r.prefix) rows.old dirty.old dirty.new }
+    ensures dirty { StaysDecided router rows.old rows.new dirty.old dirty.new }
 {
     for prefix in prefixes {
         let word = Word::Sequence(Path::new(alloc));
-        hear_one(keys, rows, dirty, peer, prefix, word);
+        hear_one(router, keys, rows, dirty, peer, prefix, word);
     }
 }
 
 // The words of a peer that it announces, for the prefixes that are named.
 pub(crate) fn hear_announced(
+    router: Asn,
     keys: &IndexSet<Prefix>,
     rows: &mut [Row],
     dirty: &mut PlaceSet,
@@ -118,12 +133,12 @@ pub(crate) fn hear_announced(
     requires len { length words.items ≡ length update.now.nlri }
     requires same { All (λ one. one ≡ announced_word update.now.attrs) words.items }
     ensures rows { rows.new ≡ map (hearing_all update.now.nlri peer (announced_word update.now.attrs)) rows.old }
-    ensures dirty { Marks (λ r. lists update.now.nlri r.prefix) rows.old dirty.old dirty.new }
+    ensures dirty { StaysDecided router rows.old rows.new dirty.old dirty.new }
 {
     let mut words = words;
     for prefix in update.nlri.as_slice() {
         let word = words.pop().unwrap();
-        hear_one(keys, rows, dirty, peer, prefix, word);
+        hear_one(router, keys, rows, dirty, peer, prefix, word);
     }
 }
 
@@ -131,6 +146,7 @@ pub(crate) fn hear_announced(
 // memory.
 fn hear_single(
     alloc: Global,
+    router: Asn,
     keys: &IndexSet<Prefix>,
     rows: &mut Vec<Row>,
     dirty: &mut PlaceSet,
@@ -143,16 +159,25 @@ fn hear_single(
     requires only { update.now.nlri ≡ prefix.now ∷ [] }
     requires same { word ≡ announced_word update.now.attrs }
     ensures rows { rows.new.items ≡ map (hearing_update peer update.now) rows.old.items }
-    ensures dirty { Marks (λ r. mentions update.now r.prefix) rows.old.items dirty.old dirty.new }
+    ensures dirty { StaysDecided router rows.old.items rows.new.items dirty.old dirty.new }
 {
     let rows = rows.as_mut_slice();
-    hear_withdrawn(alloc, keys, rows, dirty, peer, update.withdrawn.as_slice());
-    hear_one(keys, rows, dirty, peer, prefix, word);
+    hear_withdrawn(
+        alloc,
+        router,
+        keys,
+        rows,
+        dirty,
+        peer,
+        update.withdrawn.as_slice(),
+    );
+    hear_one(router, keys, rows, dirty, peer, prefix, word);
 }
 
 // All that an UPDATE of a peer says, with the words that it announces. It takes no memory.
 fn hear_several(
     alloc: Global,
+    router: Asn,
     keys: &IndexSet<Prefix>,
     rows: &mut Vec<Row>,
     dirty: &mut PlaceSet,
@@ -164,16 +189,25 @@ fn hear_several(
     requires len { length words.items ≡ length update.now.nlri }
     requires same { All (λ one. one ≡ announced_word update.now.attrs) words.items }
     ensures rows { rows.new.items ≡ map (hearing_update peer update.now) rows.old.items }
-    ensures dirty { Marks (λ r. mentions update.now r.prefix) rows.old.items dirty.old dirty.new }
+    ensures dirty { StaysDecided router rows.old.items rows.new.items dirty.old dirty.new }
 {
     let rows = rows.as_mut_slice();
-    hear_withdrawn(alloc, keys, rows, dirty, peer, update.withdrawn.as_slice());
-    hear_announced(keys, rows, dirty, peer, update, words);
+    hear_withdrawn(
+        alloc,
+        router,
+        keys,
+        rows,
+        dirty,
+        peer,
+        update.withdrawn.as_slice(),
+    );
+    hear_announced(router, keys, rows, dirty, peer, update, words);
 }
 
 // All that an UPDATE of a peer says. A refusal leaves all as it was.
 pub(crate) fn hear_update(
     alloc: Global,
+    router: Asn,
     keys: &IndexSet<Prefix>,
     rows: &mut Vec<Row>,
     dirty: &mut PlaceSet,
@@ -182,16 +216,16 @@ pub(crate) fn hear_update(
 ) -> Result<(), RibError>
     requires { (peers : ℕ) × AreFit keys.now.keys peers rows.old.items × (peer < peers) }
     ensures rows { OnOk result (rows.new.items ≡ map (hearing_update peer update.now) rows.old.items) }
-    ensures dirty { OnOk result (Marks (λ r. mentions update.now r.prefix) rows.old.items dirty.old dirty.new) }
+    ensures dirty { OnOk result (StaysDecided router rows.old.items rows.new.items dirty.old dirty.new) }
     ensures same_rows { OnErr result (rows.new.items ≡ rows.old.items) }
     ensures same_dirty { OnErr result (dirty.new ≡ dirty.old) }
 {
     if let [prefix] = update.nlri.as_slice() {
         let word = announced(alloc, &update.attrs)?;
-        hear_single(alloc, keys, rows, dirty, peer, update, prefix, word);
+        hear_single(alloc, router, keys, rows, dirty, peer, update, prefix, word);
     } else {
         let words = announced_words(alloc, update)?;
-        hear_several(alloc, keys, rows, dirty, peer, update, words);
+        hear_several(alloc, router, keys, rows, dirty, peer, update, words);
     }
     Ok(())
 }

@@ -157,6 +157,7 @@ impl<'a> Rib<'a> {
         let place = place_of_peer(self.peers.as_slice(), peer).unwrap();
         hear_update(
             alloc,
+            self.router,
             &self.keys,
             &mut self.rows,
             &mut self.dirty,

@@ -1,13 +1,14 @@
 //! What stands of one prefix, and of one peer.
 
-ghost use Rattle.std.specs.Prelude.{◌≡◌, ◌≤◌, ◌↔◌, ◌⊎◌, ◌∷◌, ℕ, [], length, slice_get, Some, IfOk, IfSome, IsTrue, MatchOption};
+ghost use Rattle.std.specs.Prelude.{◌≡◌, ◌≢◌, ◌<◌, ◌≤◌, ◌↔◌, ◌⊎◌, ◌∷◌, ℕ, [], true, drop, length, slice_get, Some, IfOk, IfSome, IsTrue, MatchOption};
 ghost use Rattle.prefix_lanes.specs.Bits.{PrefixView};
 ghost use Rattle.ranked_policy.specs.Choosing.{chosen_permits, chosen_prefers};
 ghost use Rattle.ranked_policy.specs.Plans.{Plan, IsNetwork, IsRouter};
 ghost use Rattle.ranked_policy.specs.Policies.{Table, IsTable};
 ghost use Rattle.rib_tables.specs.declared.row.Row.{Row};
+ghost use Rattle.rib_tables.specs.Words.{path_in};
 ghost use Rattle.rib_tables.specs.Choices.{IsFirstOrNone, Speaks};
-ghost use Rattle.rib_tables.specs.Rows.{RowHears, IsRow, IsRowBest, AreDecided, AreJudged, AllBest, IsFirstUndecided, path_by};
+ghost use Rattle.rib_tables.specs.Rows.{RowHears, IsRow, IsRowBest, AreDecided, AreJudged, AllBest, BestStays, IsFirstUndecided, path_by};
 
 use crate::line::Line;
 use crate::paths::is_path;
@@ -136,6 +137,45 @@ pub(crate) fn first_undecided<'r>(
         dirty.take_out(place);
     }
     None
+}
+
+// The path behind its first router.
+fn onward(path: &[Asn]) -> &[Asn]
+    ensures { result.now ≡ drop 1 path.now }
+{
+    match path {
+        [_, rest @ ..] => rest,
+        [] => &[],
+    }
+}
+
+// Whether the word gives this way on, which there is.
+fn gives(word: &Word, way: &[Asn]) -> bool
+    ensures { IsTrue result ↔ ((way.now ≢ []) × (path_in word.now ≡ way.now)) }
+{
+    !way.is_empty() && is_path(word.path(), way)
+}
+
+// Whether what is kept for a row is known to stay the best, where it is, when the peer at a place
+// says another word: the kept path does not go on by what the peer said last, and the new word
+// gives no better choice. A rule's paths are left to a deciding, since they may be many.
+pub(crate) fn stays_best(router: Asn, row: &Row, peer: usize, word: &Word) -> bool
+    requires { peer < length row.now.heard }
+    ensures { result ≡ true → BestStays router row.now peer word.now }
+{
+    each_policy_is_an_order();
+    if row.own {
+        return true;
+    }
+    let Chosen::Shortest(_) = row.policy else {
+        return false;
+    };
+    let best = onward(row.kept.as_slice());
+    if gives(&row.heard.as_slice()[peer], best) {
+        return false;
+    }
+    let rest = word.path();
+    rest.is_empty() || !is_taken(&row.policy, router, rest, best)
 }
 
 // The path along a way on: the empty path where there is none.

@@ -1,17 +1,18 @@
-use Rattle.std.proofs.Common.{◌≡◌, ◌++◌, ◌∷◌, [], List, take, map, length, sym, ap, subst, ◌∙◌, arith}
+use Rattle.std.proofs.Common.{◌≡◌, ◌++◌, ◌∷◌, [], List, take, map, length, sym, ap, ◌∙◌, arith}
 use Rattle.std.specs.Option.{option_to_list}
 use Rattle.std.proofs.lemmas.List.{take_all, take_more, length-append}
 use Rattle.prefix_lanes.specs.Bits.{PrefixView}
 use Rattle.rib_tables.specs.declared.word.Word.{Word}
-use Rattle.rib_tables.specs.Words.{announced_word, lists}
-use Rattle.rib_tables.specs.Rows.{Marks, on, hearing, hearing_all}
-use Rattle.rib_tables.proofs.ChangeLemmas.{fits_hearing, hears_one_more, hears_none, marks_more, marks_start, last_of, front_of}
+use Rattle.rib_tables.specs.Words.{announced_word}
+use Rattle.rib_tables.specs.Rows.{on, hearing, hearing_all}
+use Rattle.rib_tables.proofs.ChangeLemmas.{fits_hearing, hears_one_more, hears_none, last_of, front_of}
+use Rattle.rib_tables.proofs.StayingLemmas.{none_heard, both_heard}
 use Rattle.rib_tables.proofs.changes.hear_announced.Goals as goal
 
 pub loop-prefix-init : goal.loop-prefix-init
 loop-prefix-init c = record {
   rows = hears_none c.args.peer (announced_word c.args.update.now.attrs) c.args.rows.now;
-  dirty = marks_start c.args.rows.now c.args.dirty.now;
+  dirty = none_heard c.args.router c.args.rows.now c.args.dirty.now;
   len = omega (arith, c.requires.len, ap (λ (ps : List PrefixView). length ps) c.as_slice-prefix-items.ensures);
   same = c.requires.same;
 }
@@ -40,8 +41,7 @@ loop-prefix-preserved c =
           ∙ ap (map (on q (hearing c.args.peer a))) c.loop-prefix.invariant.rows
           ∙ hears_one_more c.args.peer a c.args.rows.now (take i ps) q
           ∙ ap (λ (qs : List PrefixView). map (hearing_all qs c.args.peer a) c.args.rows.now) (sym more);
-      dirty = subst (λ (qs : List PrefixView). Marks (λ r. lists qs r.prefix) c.args.rows.now c.args.dirty.now c.hear_one.new.dirty) (sym more)
-          (marks_more c.args.rows.now c.loop-prefix.rows (take i ps) q c.args.peer a c.args.dirty.now c.loop-prefix.dirty c.hear_one.new.dirty c.loop-prefix.invariant.rows c.loop-prefix.invariant.dirty c.hear_one.ensures.dirty);
+      dirty = both_heard c.args.router c.args.rows.now c.loop-prefix.rows c.hear_one.new.rows c.args.dirty.now c.loop-prefix.dirty c.hear_one.new.dirty c.loop-prefix.invariant.dirty c.hear_one.ensures.dirty;
       len = let l = ap (λ (ws : List Word). length ws) popped ∙ length-append c.pop.new.self.items (w ∷ []) in let m = c.loop-prefix.invariant.len in omega (arith, l, m);
       same = front_of a c.loop-prefix.words.items c.pop.new.self.items w popped c.loop-prefix.invariant.same;
     }
@@ -50,8 +50,3 @@ pub returns-clause-rows : goal.returns-clause-rows
 returns-clause-rows c =
     c.loop-prefix.invariant.rows
     ∙ ap (λ (qs : List PrefixView). map (hearing_all qs c.args.peer (announced_word c.args.update.now.attrs)) c.args.rows.now) (take_all c.loop-prefix.prefix-index c.as_slice-prefix-items.result.now c.loop-prefix-test.false ∙ c.as_slice-prefix-items.ensures)
-
-pub returns-clause-dirty : goal.returns-clause-dirty
-returns-clause-dirty c =
-    subst (λ (qs : List PrefixView). Marks (λ r. lists qs r.prefix) c.args.rows.now c.args.dirty.now c.loop-prefix.dirty) (take_all c.loop-prefix.prefix-index c.as_slice-prefix-items.result.now c.loop-prefix-test.false ∙ c.as_slice-prefix-items.ensures)
-    c.loop-prefix.invariant.dirty

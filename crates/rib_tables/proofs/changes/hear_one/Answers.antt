@@ -1,6 +1,10 @@
-use Rattle.std.proofs.Common.{◌∙◌}
-use Rattle.rib_tables.specs.Rows.{hearing}
-use Rattle.rib_tables.proofs.ChangeLemmas.{row_at, set_at_key, marks_one, marks_none, same_rows}
+use Rattle.std.proofs.Common.{◌∙◌, ◌≡◌, List, false, sym, subst}
+use Rattle.std.proofs.lemmas.Option.{get_or_from_slice_get}
+use Rattle.rib_tables.specs.Places.{has}
+use Rattle.rib_tables.specs.declared.row.Row.{Row}
+use Rattle.rib_tables.specs.Rows.{BestStays, StaysDecided, hearing}
+use Rattle.rib_tables.proofs.ChangeLemmas.{row_at, set_at_key, same_rows}
+use Rattle.rib_tables.proofs.StayingLemmas.{row_stays, none_heard}
 use Rattle.rib_tables.proofs.changes.hear_one.Goals as goal
 
 pub returns-in-Some-clause-rows : goal.returns-in-Some-clause-rows
@@ -15,10 +19,15 @@ returns-in-Some-clause-rows c =
 
 pub returns-in-Some-clause-dirty : goal.returns-in-Some-clause-dirty
 returns-in-Some-clause-dirty c =
-    marks_one c.args.keys.now.keys c.requires.0 c.args.rows.now c.requires.1 c.args.prefix.now c.in-Some.place c.in-Some.ensures c.args.dirty.now c.put.new.self c.put.ensures.here c.put.ensures.others
+    let rows = c.args.rows.now in
+    let here = row_at c.args.keys.now.keys rows c.requires.1.listed c.in-Some.place c.args.prefix.now c.in-Some.ensures in
+    subst (λ (rs : List Row). StaysDecided c.args.router rows rs c.args.dirty.now c.mark_heard.new.dirty) (sym (c.hear_at.ensures here.0 here.1))
+    (row_stays c.args.router rows c.in-Some.place here.0 here.1 c.args.peer c.args.word c.args.dirty.now c.mark_heard.new.dirty c.mark_heard.ensures.others
+    (subst (λ (r : Row). has c.mark_heard.new.dirty c.in-Some.place ≡ false → (has c.args.dirty.now c.in-Some.place ≡ false) × BestStays c.args.router r c.args.peer c.args.word)
+    (get_or_from_slice_get rows c.in-Some.place here.0 c.index-rows-place.result here.1) c.mark_heard.ensures.here))
 
 pub returns-in_default-clause-rows : goal.returns-in_default-clause-rows
 returns-in_default-clause-rows c = same_rows c.args.keys.now.keys c.requires.0 c.args.rows.now c.requires.1 c.args.prefix.now c.in_default.ensures (hearing c.args.peer c.args.word)
 
 pub returns-in_default-clause-dirty : goal.returns-in_default-clause-dirty
-returns-in_default-clause-dirty c = marks_none c.args.keys.now.keys c.requires.0 c.args.rows.now c.requires.1 c.args.prefix.now c.in_default.ensures c.args.dirty.now
+returns-in_default-clause-dirty c = none_heard c.args.router c.args.rows.now c.args.dirty.now

@@ -3,9 +3,10 @@ use Rattle.std.proofs.lemmas.List.{length-map}
 use Rattle.prefix_lanes.specs.Bits.{PrefixView}
 use Rattle.rib_tables.specs.declared.row.Row.{Row}
 use Rattle.rib_tables.specs.declared.word.Word.{Word}
-use Rattle.rib_tables.specs.Words.{nothing, announced_word, lists}
-use Rattle.rib_tables.specs.Rows.{Marks, on, hearing, hearing_all, hearing_update}
-use Rattle.rib_tables.proofs.ChangeLemmas.{fits_hearing, map_after, marks_both, marks_single, hears_single, written_back}
+use Rattle.rib_tables.specs.Words.{nothing, announced_word}
+use Rattle.rib_tables.specs.Rows.{StaysDecided, on, hearing, hearing_all, hearing_update}
+use Rattle.rib_tables.proofs.ChangeLemmas.{as_many, fits_hearing, map_after, hears_single, written_back}
+use Rattle.rib_tables.proofs.StayingLemmas.{both_heard}
 use Rattle.rib_tables.proofs.changes.hear_single.Goals as goal
 
 pub hear_one-requires : goal.hear_one-requires
@@ -32,12 +33,14 @@ returns-clause-rows c =
 pub returns-clause-dirty : goal.returns-clause-dirty
 returns-clause-dirty c =
     let rows = c.args.rows.now.items in
-    let u = c.args.update.now in
-    let k = c.args.peer in
-    let first : c.hear_withdrawn.new.rows ≡ map (hearing_all u.withdrawn k nothing) rows =
-    c.hear_withdrawn.ensures.rows ∙ ap (λ (ps : List PrefixView). map (hearing_all ps k nothing) c.as_mut_slice-rows.result.now) c.as_slice.ensures ∙ ap (map (hearing_all u.withdrawn k nothing)) c.as_mut_slice-rows.ensures.value in
-    marks_both rows c.hear_withdrawn.new.rows u k c.args.dirty.now c.hear_withdrawn.new.dirty c.hear_one.new.dirty first
-    (subst (λ (ps : List PrefixView). Marks (λ r. lists ps r.prefix) rows c.args.dirty.now c.hear_withdrawn.new.dirty) c.as_slice.ensures
-    (subst (λ (rs : List Row). Marks (λ r. lists c.as_slice.result.now r.prefix) rs c.args.dirty.now c.hear_withdrawn.new.dirty) c.as_mut_slice-rows.ensures.value c.hear_withdrawn.ensures.dirty))
-    (subst (λ (ps : List PrefixView). Marks (λ r. lists ps r.prefix) c.hear_withdrawn.new.rows c.hear_withdrawn.new.dirty c.hear_one.new.dirty) (sym c.requires.only)
-    (marks_single c.hear_withdrawn.new.rows c.args.prefix.now c.hear_withdrawn.new.dirty c.hear_one.new.dirty c.hear_one.ensures.dirty))
+    let mine = c.as_mut_slice-rows.result.now in
+    let mid = c.hear_withdrawn.new.rows in
+    let new = c.hear_one.new.rows in
+    let router = c.args.router in
+    let old = c.args.dirty.now in
+    let len : length rows ≡ c.args.rows.now.len = search rules in
+    let size = as_many (on c.args.prefix.now (hearing c.args.peer c.args.word)) mid new c.hear_one.ensures.rows
+    ∙ as_many (hearing_all c.as_slice.result.now c.args.peer nothing) mine mid c.hear_withdrawn.ensures.rows ∙ ap (λ (rs : List Row). length rs) c.as_mut_slice-rows.ensures.value ∙ len in
+    subst (λ (rs : List Row). StaysDecided router rows rs old c.hear_one.new.dirty) (sym (written_back c.args.rows.now.len new (drop (length new) rows) size))
+    (subst (λ (rs : List Row). StaysDecided router rs new old c.hear_one.new.dirty) c.as_mut_slice-rows.ensures.value
+    (both_heard router mine mid new old c.hear_withdrawn.new.dirty c.hear_one.new.dirty c.hear_withdrawn.ensures.dirty c.hear_one.ensures.dirty))

@@ -1,14 +1,15 @@
-use Rattle.std.proofs.Common.{◌++◌, ◌∷◌, [], ℕ, List, take, map, sym, ap, subst, ◌∙◌}
+use Rattle.std.proofs.Common.{◌++◌, ◌∷◌, [], ℕ, List, take, map, sym, ap, ◌∙◌}
 use Rattle.std.proofs.lemmas.List.{take_all, take_more}
 use Rattle.prefix_lanes.specs.Bits.{PrefixView}
 use Rattle.rib_tables.specs.declared.word.Word.TheVariants.{Sequence}
-use Rattle.rib_tables.specs.Words.{nothing, lists}
-use Rattle.rib_tables.specs.Rows.{Marks, on, hearing, hearing_all}
-use Rattle.rib_tables.proofs.ChangeLemmas.{fits_hearing, hears_one_more, hears_none, marks_more, marks_start}
+use Rattle.rib_tables.specs.Words.{nothing}
+use Rattle.rib_tables.specs.Rows.{on, hearing, hearing_all}
+use Rattle.rib_tables.proofs.ChangeLemmas.{fits_hearing, hears_one_more, hears_none}
+use Rattle.rib_tables.proofs.StayingLemmas.{none_heard, both_heard}
 use Rattle.rib_tables.proofs.changes.hear_withdrawn.Goals as goal
 
 pub loop-prefix-init : goal.loop-prefix-init
-loop-prefix-init c = record { rows = hears_none c.args.peer nothing c.args.rows.now; dirty = marks_start c.args.rows.now c.args.dirty.now }
+loop-prefix-init c = record { rows = hears_none c.args.peer nothing c.args.rows.now; dirty = none_heard c.args.router c.args.rows.now c.args.dirty.now }
 
 pub hear_one-requires : goal.hear_one-requires
 hear_one-requires c =
@@ -27,15 +28,9 @@ loop-prefix-preserved c =
           ∙ ap (map (on q (hearing c.args.peer nothing))) c.loop-prefix.invariant.rows
           ∙ hears_one_more c.args.peer nothing c.args.rows.now (take i ps) q
           ∙ ap (λ (qs : List PrefixView). map (hearing_all qs c.args.peer nothing) c.args.rows.now) (sym more);
-      dirty = subst (λ (qs : List PrefixView). Marks (λ r. lists qs r.prefix) c.args.rows.now c.args.dirty.now c.hear_one.new.dirty) (sym more)
-          (marks_more c.args.rows.now c.loop-prefix.rows (take i ps) q c.args.peer nothing c.args.dirty.now c.loop-prefix.dirty c.hear_one.new.dirty c.loop-prefix.invariant.rows c.loop-prefix.invariant.dirty c.hear_one.ensures.dirty);
+      dirty = both_heard c.args.router c.args.rows.now c.loop-prefix.rows c.hear_one.new.rows c.args.dirty.now c.loop-prefix.dirty c.hear_one.new.dirty c.loop-prefix.invariant.dirty c.hear_one.ensures.dirty;
     }
 
 pub returns-clause-rows : goal.returns-clause-rows
 returns-clause-rows c =
     c.loop-prefix.invariant.rows ∙ ap (λ (qs : List PrefixView). map (hearing_all qs c.args.peer nothing) c.args.rows.now) (take_all c.loop-prefix.prefix-index c.args.prefixes.now c.loop-prefix-test.false)
-
-pub returns-clause-dirty : goal.returns-clause-dirty
-returns-clause-dirty c =
-    subst (λ (qs : List PrefixView). Marks (λ r. lists qs r.prefix) c.args.rows.now c.args.dirty.now c.loop-prefix.dirty) (take_all c.loop-prefix.prefix-index c.args.prefixes.now c.loop-prefix-test.false)
-    c.loop-prefix.invariant.dirty

@@ -1,11 +1,11 @@
 -- the prefixes passed are withdrawn
 use Rattle.std.proofs.Common.{◌≡◌, take, map}
-use Rattle.rib_tables.specs.Words.{nothing, lists}
-use Rattle.rib_tables.specs.Rows.{Marks, hearing_all}
+use Rattle.rib_tables.specs.Words.{nothing}
+use Rattle.rib_tables.specs.Rows.{StaysDecided, hearing_all}
 use Rattle.rib_tables.proofs.changes.hear_withdrawn.Given as goal
 
 abbrev pub invariant-loop-prefix : goal.invariant-loop-prefix
 invariant-loop-prefix l = record {
   rows : l.rows ≡ map (hearing_all (take l.prefix-index l.prefixes) l.peer nothing) l.fn.rows;
-  dirty : Marks (λ r. lists (take l.prefix-index l.prefixes) r.prefix) l.fn.rows l.fn.dirty l.dirty;
+  dirty : StaysDecided l.router l.fn.rows l.rows l.fn.dirty l.dirty;
 }
