@@ -5,7 +5,8 @@ use Rattle.std.specs.Int.{bit_at, w64, trailing_zeros}
 use Rattle.std.specs.Int.RustNames.{bit_or}
 use lib.Bits.{bit_and}
 use Rattle.std.proofs.lemmas.Bool.{cases_order, eq-eqb, ne_eqb}
-use Rattle.std.proofs.lemmas.List.{get_or-set_other}
+use Rattle.std.proofs.lemmas.List.{get_or-set_other, get_or_past}
+use Rattle.std.proofs.lemmas.Nat.{le_or_l, le_or_r}
 use Rattle.std.proofs.lemmas.Grind.{get_or-set_at}
 use Rattle.std.proofs.lemmas.Nat.Bits.{bit_at-zero, bit_at_set_same, bit_at_set_other, bit_at_clear_same, bit_at_clear_other, bit_at-trailing_zeros, shr_and_one}
 use Rattle.rib_tables.specs.Places.{has}
@@ -97,3 +98,21 @@ has-first ws k n four lt is some fits before =
 
 pub has-none : (ws : List ℕ) → ((j : ℕ) → get_or ws j 0 ≡ 0) → (q : ℕ) → has (record { words = ws }) q ≡ false
 has-none ws all q = has-is ws q ∙ bit_is_zero (get_or ws (q / 64) 0) (q % 64) (all (q / 64))
+
+-- where no word has a bit
+module _ (ws : List ℕ) (four : length ws ≡ 4) where
+  abbrev two : ℕ
+  two = bit_or (get_or ws 0 0) (get_or ws 1 0)
+
+  abbrev three : ℕ
+  three = bit_or two (get_or ws 2 0)
+
+  no_word : bit_or three (get_or ws 3 0) ≡ 0 → (j : ℕ) → get_or ws j 0 ≡ 0
+  no_word none zero = let a = le_or_l (get_or ws 0 0) (get_or ws 1 0) in let b = le_or_l two (get_or ws 2 0) in let c = le_or_l three (get_or ws 3 0) in omega (arith, a, b, c, none)
+  no_word none (suc zero) = let a = le_or_r (get_or ws 0 0) (get_or ws 1 0) in let b = le_or_l two (get_or ws 2 0) in let c = le_or_l three (get_or ws 3 0) in omega (arith, a, b, c, none)
+  no_word none (suc (suc zero)) = let b = le_or_r two (get_or ws 2 0) in let c = le_or_l three (get_or ws 3 0) in omega (arith, b, c, none)
+  no_word none (suc (suc (suc zero))) = let c = le_or_r three (get_or ws 3 0) in omega (arith, c, none)
+  no_word none (suc (suc (suc (suc j)))) = get_or_past ws (suc (suc (suc (suc j)))) 0 (omega (arith, four))
+
+  pub has-no_bits : bit_or three (get_or ws 3 0) ≡ 0 → (q : ℕ) → has (record { words = ws }) q ≡ false
+  has-no_bits none = has-none ws (no_word none)

@@ -27,6 +27,14 @@ impl PlaceSet {
         (self.words[place / 64] >> (place % 64)) & 1 == 1
     }
 
+    // Whether no place is in the set.
+    pub(crate) fn is_empty(&self) -> bool
+        ensures { result ≡ true → (place : ℕ) → has self.now place ≡ false }
+    {
+        let [first, second, third, last] = self.words;
+        first | second | third | last == 0
+    }
+
     // Puts the place in.
     pub(crate) fn put(&mut self, place: usize)
         requires { place < MOST_PREFIXES }
@@ -64,6 +72,9 @@ impl PlaceSet {
         ensures some { result ≡ true → (place : ℕ) × (place < places) × (has self.now place ≡ true) }
         ensures none { result ≡ false → (place : ℕ) → place < places → has self.now place ≡ false }
     {
+        if self.is_empty() {
+            return false;
+        }
         match self.first() {
             Some(place) => place < places,
             None => false,

@@ -306,6 +306,9 @@ impl<'a> Rib<'a> {
         ensures pending { IfErr result (λ _. (q : PrefixView) × IsLeastWithout self.old.net.origins (IsSettled self.old) q) }
         ensures err { OnErr result (self.new ≡ self.old) }
     {
+        if self.dirty.is_empty() {
+            return Ok(None);
+        }
         let found = first_undecided(
             self.router,
             self.peers.as_slice(),

@@ -13,6 +13,13 @@ use Rattle.rib_tables.proofs.AskingLemmas.{all_settled, first_unsettled}
 use Rattle.rib_tables.proofs.BestLemmas.{if_refused, left_rib, found_all, found_first, found_best, place_below, new_row, new_long, best_keeps_rib, best_view}
 use Rattle.rib_tables.proofs.rib.Rib.decide.Goals as goal
 
+pub returns-then-is_empty-clause-least : goal.returns-then-is_empty-clause-least
+returns-then-is_empty-clause-least c =
+    let s = c.self.inside in
+    let net = s.network.now in
+    subst (λ (v : RibView). HoldsOfAll v.net.origins (IsSettled v)) c.self.view_is
+    (all_settled net s.router s.peers.items s.keys.keys s.rows.items s.dirty s.waits.items c.self.invariant (λ i r at. c.self.invariant.decided i r at (c.is_empty.ensures c.if-is_empty.true i)))
+
 pub invariant_of-self : goal.invariant_of-self
 invariant_of-self c =
     let s = c.self.inside in
