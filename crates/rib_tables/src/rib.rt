@@ -11,8 +11,8 @@ ghost use Rattle.rib_tables.specs.Choices.{IsBest, IsSources};
 ghost use Rattle.rib_tables.specs.Owners.{sources_of, IsSettled, IsServed, IsAwaited, AllServed, IsPending, IsNew, HearsUpdate, TellsKept, ComesUp, ForgetsPeer, Originating, Withdrawing, KeepsPath, Decides, Clears};
 
 use crate::changes::{
-    await_all, clear_all, forget_all, hear_update, keep_at, mark_words, originate_at, place_of,
-    place_of_peer, set_up, tell_at, untold, wait_all,
+    await_all, clear_all, forget_all, hear_update, keep_at, mark_words, originate_at, place_near,
+    place_of, place_of_peer, place_of_peer_near, set_up, tell_at, untold, wait_all,
 };
 use crate::opening::{keys_of, no_waits, peers_down, rows_of};
 use crate::place_set::PlaceSet;
@@ -125,11 +125,31 @@ impl<'a> Rib<'a> {
         }
     }
 
+    /// The same. `at`: the place of the prefix in [`Network::origins`], where it is looked for first.
+    pub fn path_at(&self, at: usize, prefix: &Prefix) -> &[Asn]
+        ensures { result.now ≡ path_of self.now.kept prefix.now }
+    {
+        match place_near(&self.keys, at, prefix) {
+            Some(place) => self.rows[place].kept.as_slice(),
+            None => &[],
+        }
+    }
+
     /// Whether the router originates a prefix now.
     pub fn is_originated(&self, prefix: &Prefix) -> bool
         ensures { IsTrue result ↔ Contains self.now.originated prefix.now }
     {
         match place_of(&self.keys, prefix) {
+            Some(place) => self.rows[place].originated,
+            None => false,
+        }
+    }
+
+    /// The same. `at`: the place of the prefix in [`Network::origins`], where it is looked for first.
+    pub fn is_originated_at(&self, at: usize, prefix: &Prefix) -> bool
+        ensures { IsTrue result ↔ Contains self.now.originated prefix.now }
+    {
+        match place_near(&self.keys, at, prefix) {
             Some(place) => self.rows[place].originated,
             None => false,
         }
@@ -175,9 +195,26 @@ impl<'a> Rib<'a> {
         ensures ok { OnOk result (TellsKept self.old self.new peer prefix.now) }
         ensures err { OnErr result (self.new ≡ self.old) }
     {
+        self.tell_at(0, peer, 0, prefix)
+    }
+
+    /// The same. `to`: the place of the peer among the linked routers, by rising number; `at`: the
+    /// place of the prefix in [`Network::origins`]. Each is looked for at its place first.
+    pub fn tell_at(
+        &mut self,
+        to: usize,
+        peer: Asn,
+        at: usize,
+        prefix: &Prefix,
+    ) -> Result<(), RibError>
+        requires linked { Linked self.old.net.links self.old.router peer }
+        requires named { IsNamed self.old.net.origins prefix.now }
+        ensures ok { OnOk result (TellsKept self.old self.new peer prefix.now) }
+        ensures err { OnErr result (self.new ≡ self.old) }
+    {
         let alloc = *self.peers.allocator();
-        let to = place_of_peer(self.peers.as_slice(), peer).unwrap();
-        let place = place_of(&self.keys, prefix).unwrap();
+        let to = place_of_peer_near(self.peers.as_slice(), to, peer).unwrap();
+        let place = place_near(&self.keys, at, prefix).unwrap();
         let path = Path::from_slice(alloc, self.rows[place].kept.as_slice())?;
         tell_at(&mut self.rows, place, to, Word::Sequence(path));
         let waiting = &mut self.waits[to];
@@ -333,12 +370,22 @@ impl<'a> Rib<'a> {
         requires { Linked self.now.net.links self.now.router peer }
         ensures { MatchOption result (HoldsOfAll self.now.net.origins (IsServed self.now peer)) (IsLeastWithout self.now.net.origins (IsServed self.now peer)) }
     {
-        let to = place_of_peer(self.peers.as_slice(), peer).unwrap();
+        let (_, prefix) = self.waiting_at(0, peer)?;
+        Some(prefix)
+    }
+
+    /// The same, with the prefix's place in [`Network::origins`]. `at`: the place of the peer among
+    /// the linked routers, by rising number, where it is looked for first.
+    pub fn waiting_at(&self, at: usize, peer: Asn) -> Option<(usize, Prefix)>
+        requires { Linked self.now.net.links self.now.router peer }
+        ensures { MatchOption result (HoldsOfAll self.now.net.origins (IsServed self.now peer)) (λ found. IsLeastWithout self.now.net.origins (IsServed self.now peer) found.1) }
+    {
+        let to = place_of_peer_near(self.peers.as_slice(), at, peer).unwrap();
         let place = self.waits[to].first()?;
         if place >= self.rows.len() {
             return None;
         }
-        Some(self.rows[place].prefix)
+        Some((place, self.rows[place].prefix))
     }
 
     /// Whether some Established peer was not told some kept path. It takes no memory.

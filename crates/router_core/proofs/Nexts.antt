@@ -146,9 +146,9 @@ module _ (x : RouterView) (sound : IsSound x) where
       may_tell : MayTell x i q
       may_tell = record { peer = p.number; place = at; waits = sym (untold_is (unchosen x.net) x sound refl p.number link (Some q) least) }
 
-      pub is_next : nat_lt (octets_waiting (side p.end).outbox) OUTBOX_LIMIT ≡ true → (blocked : Option ℕ) → Looked x i blocked → IsNext x (next.Peer i q)
+      pub is_next : nat_lt (octets_waiting (side p.end).outbox) OUTBOX_LIMIT ≡ true → (blocked : Option ℕ) → Looked x i blocked → (place : ℕ) → IsNext x (next.Peer i place q)
       unfolding may_tell
-      is_next free blocked k =
+      is_next free blocked k place =
           let room : has_room_at x p.number ≡ true = rw (waits, octets, free) refl in
           (may_tell, sym (all_numbers (has_room_at x)) ∙ sym k.rooms ∙ find_on (has_room_at x) x.peers i p lt is ∙ rw room refl)
 

@@ -232,7 +232,7 @@ pub record MayTell (x : RouterView) (at : ℕ) (q : PrefixView) : Type 0 where
 
 -- the first peer that waits and has room; where none has, the first that waits
 abbrev pub IsNext : RouterView → Next → Type 0
-IsNext x (next.Peer at q) = (found : MayTell x at q) × (find (has_room_at x) (peers x.net x.number) ≡ Some found.peer)
+IsNext x (next.Peer at place q) = (found : MayTell x at q) × (find (has_room_at x) (peers x.net x.number) ≡ Some found.peer)
 IsNext x (next.Blocked v) = (find (has_room_at x) (peers x.net x.number) ≡ None) × (find (waits_at x) (peers x.net x.number) ≡ Some v)
 IsNext x next.Nobody = (find (has_room_at x) (peers x.net x.number) ≡ None) × (find (waits_at x) (peers x.net x.number) ≡ None)
 

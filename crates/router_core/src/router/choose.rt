@@ -16,8 +16,8 @@ use std::alloc::AllocError;
 
 // Whom to tell next.
 pub(super) enum Next {
-    // The least peer that waits and has room, at its place, and its least prefix.
-    Peer(usize, Prefix),
+    // The least peer that waits and has room, at its place, and its least prefix, at its own.
+    Peer(usize, usize, Prefix),
     // Each peer that waits is at the limit: the least of them.
     Blocked(Asn),
     // Nobody waits.
@@ -74,11 +74,11 @@ impl Router<'_> {
         let mut blocked = None;
         for at in 0..self.peers.len() {
             let peer = &self.peers[at];
-            let Some(prefix) = self.tables.waiting(peer.number) else {
+            let Some(found) = self.tables.waiting_at(at, peer.number) else {
                 continue;
             };
             if peer.end.octets_waiting() < OUTBOX_LIMIT {
-                return Next::Peer(at, prefix);
+                return Next::Peer(at, found.0, found.1);
             }
             blocked = blocked.or(Some(peer.number));
         }
@@ -113,14 +113,16 @@ impl Router<'_> {
         match self.next_to_tell() {
             Next::Nobody => Ok(Stepped::Nothing),
             Next::Blocked(peer) => Err(RouterError::Blocked { peer }),
-            Next::Peer(at, prefix) => self.tell(at, &prefix, room),
+            Next::Peer(at, place, prefix) => self.tell(at, place, &prefix, room),
         }
     }
 
-    // The kept path of a prefix is told to the peer at a place.
+    // The kept path of a prefix is told to the peer at a place. The prefix is looked for at its own
+    // first.
     fn tell(
         &mut self,
         at: usize,
+        place: usize,
         prefix: &Prefix,
         room: Result<(), AllocError>,
     ) -> Result<Stepped, RouterError>
@@ -136,7 +138,7 @@ impl Router<'_> {
             self.network,
             self.number,
             prefix,
-            self.tables.path(prefix),
+            self.tables.path_at(place, prefix),
         ) else {
             return Err(RouterError::Memory);
         };
@@ -144,7 +146,7 @@ impl Router<'_> {
         let Ok(()) = end.reserve_route(&route) else {
             return Err(RouterError::Memory);
         };
-        let Ok(()) = self.tables.tell(*number, prefix) else {
+        let Ok(()) = self.tables.tell_at(at, *number, place, prefix) else {
             return Err(RouterError::Memory);
         };
         end.tell_route(&route);

@@ -36,8 +36,8 @@ fn kept_paths(
 {
     let mut kept = Vec::new(alloc);
     kept.reserve(origins.len())?;
-    for origin in origins {
-        let path = Path::from_slice(alloc, tables.path(&origin.prefix))?;
+    for (at, origin) in origins.iter().enumerate() {
+        let path = Path::from_slice(alloc, tables.path_at(at, &origin.prefix))?;
         kept.push(KeptPath {
             prefix: origin.prefix,
             path,
@@ -47,10 +47,10 @@ fn kept_paths(
 }
 
 // Whether a prefix is originated.
-fn is_own(tables: &Rib<'_>, prefix: &Prefix) -> bool
+fn is_own(tables: &Rib<'_>, at: usize, prefix: &Prefix) -> bool
     ensures { result ≡ lists tables.now.originated prefix.now }
 {
-    tables.is_originated(prefix)
+    tables.is_originated_at(at, prefix)
 }
 
 // The prefixes of the network that are originated.
@@ -62,8 +62,8 @@ fn originated(
     ensures { IfOk result (λ own. own.items ≡ own_of origins.now tables.now.originated) }
 {
     let mut own = Vec::new(alloc);
-    for origin in origins {
-        if is_own(tables, &origin.prefix) {
+    for (at, origin) in origins.iter().enumerate() {
+        if is_own(tables, at, &origin.prefix) {
             own.push(origin.prefix)?;
         }
     }

@@ -117,7 +117,7 @@ impl Router<'_> {
         ensures { IsToldNext self.now result }
     {
         match self.next_to_tell() {
-            Next::Peer(at, prefix) => Some((self.peers[at].number, prefix)),
+            Next::Peer(at, _, prefix) => Some((self.peers[at].number, prefix)),
             Next::Blocked(_) | Next::Nobody => None,
         }
     }

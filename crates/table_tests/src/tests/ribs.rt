@@ -332,6 +332,17 @@ fn waiting(rib: &Rib, peer: Asn) -> Option<Option<Prefix>> {
     Some(rib.waiting(peer))
 }
 
+// The same, where the peer is looked for at a place first: its own, or that of another.
+fn waiting_at(rib: &Rib, at: usize, peer: Asn) -> Option<Option<Prefix>> {
+    if !rib.network().linked(rib.router(), peer) {
+        return None;
+    }
+    match rib.waiting_at(at, peer) {
+        Some((_, prefix)) => Some(Some(prefix)),
+        None => Some(None),
+    }
+}
+
 // The best of a prefix that is named.
 fn best(alloc: Global, rib: &Rib, prefix: &Prefix) -> Option<Path> {
     if !rib.network().names(prefix) {
@@ -401,8 +412,16 @@ fn keeps_path(rib: &Rib, prefix: &Prefix, path: &[Asn]) -> bool {
     kept(rib, prefix) == path
 }
 
+fn keeps_path_at(rib: &Rib, at: usize, prefix: &Prefix, path: &[Asn]) -> bool {
+    rib.path_at(at, prefix) == path
+}
+
 fn is_originated(rib: &Rib, prefix: &Prefix) -> bool {
     rib.is_originated(prefix)
+}
+
+fn is_originated_at(rib: &Rib, at: usize, prefix: &Prefix) -> bool {
+    rib.is_originated_at(at, prefix)
 }
 
 fn is_established(rib: &Rib, peer: Asn) -> bool {

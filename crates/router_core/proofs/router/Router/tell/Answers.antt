@@ -69,8 +69,8 @@ returns-in_default-reserve_route-clause-tells c =
     subst (λ (x : RouterView). (v : ℕ) → IsAt x.peers v c.args.at → Tells (Err error.Memory) x v q (with_peer_and_tables r c.args.at kept r.tables r.stamp)) c.self.view_is (λ v at.
     rw early (refl, plain_still r c.self.invariant p.number c.args.at (place r c.self.invariant c.args.at q may p is) kept refl still))
 
-pub tell-requires-clause-linked : goal.tell-requires-clause-linked
-tell-requires-clause-linked c =
+pub tell_at-requires-clause-linked : goal.tell_at-requires-clause-linked
+tell_at-requires-clause-linked c =
     let r : RouterView = record { net = c.self.inside.network.now; number = c.self.inside.number; own_open = c.self.inside.own_open; peers = c.self.inside.peers.items; tables = c.self.inside.tables; marks = c.self.inside.marks; stamp = c.self.inside.stamp } in
     let q = c.args.prefix.now in
     let may = subst (λ (x : RouterView). MayTell x c.args.at q) (sym c.self.view_is) c.requires in
@@ -78,15 +78,15 @@ tell-requires-clause-linked c =
     let is = c.index_mut.ensures.value in
     is_linked r c.self.invariant c.args.at q may p is
 
-pub tell-requires-clause-named : goal.tell-requires-clause-named
-tell-requires-clause-named c =
+pub tell_at-requires-clause-named : goal.tell_at-requires-clause-named
+tell_at-requires-clause-named c =
     let r : RouterView = record { net = c.self.inside.network.now; number = c.self.inside.number; own_open = c.self.inside.own_open; peers = c.self.inside.peers.items; tables = c.self.inside.tables; marks = c.self.inside.marks; stamp = c.self.inside.stamp } in
     let q = c.args.prefix.now in
     let may = subst (λ (x : RouterView). MayTell x c.args.at q) (sym c.self.view_is) c.requires in
     named_there r c.self.invariant c.args.at q may
 
-pub invariant_of-self-in_default-tell : goal.invariant_of-self-in_default-tell
-invariant_of-self-in_default-tell c =
+pub invariant_of-self-in_default-tell_at : goal.invariant_of-self-in_default-tell_at
+invariant_of-self-in_default-tell_at c =
     let r : RouterView = record { net = c.self.inside.network.now; number = c.self.inside.number; own_open = c.self.inside.own_open; peers = c.self.inside.peers.items; tables = c.self.inside.tables; marks = c.self.inside.marks; stamp = c.self.inside.stamp } in
     let q = c.args.prefix.now in
     let may = subst (λ (x : RouterView). MayTell x c.args.at q) (sym c.self.view_is) c.requires in
@@ -94,10 +94,10 @@ invariant_of-self-in_default-tell c =
     let is = c.index_mut.ensures.value in
     let kept : Peer = record { number = p.number; end = c.reserve_route.new.self } in
     let still : side kept.end ≡ sides_of r p.number = c.reserve_route.ensures.side ∙ here r c.self.invariant c.args.at q may p is in
-    rw c.in_default-tell.ensures.err (sound_still r c.self.invariant p.number c.args.at (place r c.self.invariant c.args.at q may p is) kept refl still)
+    rw c.in_default-tell_at.ensures.err (sound_still r c.self.invariant p.number c.args.at (place r c.self.invariant c.args.at q may p is) kept refl still)
 
-pub returns-in_default-tell-clause-tells : goal.returns-in_default-tell-clause-tells
-returns-in_default-tell-clause-tells c =
+pub returns-in_default-tell_at-clause-tells : goal.returns-in_default-tell_at-clause-tells
+returns-in_default-tell_at-clause-tells c =
     let r : RouterView = record { net = c.self.inside.network.now; number = c.self.inside.number; own_open = c.self.inside.own_open; peers = c.self.inside.peers.items; tables = c.self.inside.tables; marks = c.self.inside.marks; stamp = c.self.inside.stamp } in
     let q = c.args.prefix.now in
     let may = subst (λ (x : RouterView). MayTell x c.args.at q) (sym c.self.view_is) c.requires in
@@ -106,7 +106,7 @@ returns-in_default-tell-clause-tells c =
     let kept : Peer = record { number = p.number; end = c.reserve_route.new.self } in
     let still : side kept.end ≡ sides_of r p.number = c.reserve_route.ensures.side ∙ here r c.self.invariant c.args.at q may p is in
     let early : nat_lt GREATEST_STAMP (r.stamp + 1) ≡ false = c.in_ok-stamp.ensures.next.1 in
-    rw c.in_default-tell.ensures.err
+    rw c.in_default-tell_at.ensures.err
     (subst (λ (x : RouterView). (v : ℕ) → IsAt x.peers v c.args.at → Tells (Err error.Memory) x v q (with_peer_and_tables r c.args.at kept r.tables r.stamp)) c.self.view_is (λ v at.
     rw early (refl, plain_still r c.self.invariant p.number c.args.at (place r c.self.invariant c.args.at q may p is) kept refl still)))
 
@@ -139,13 +139,13 @@ invariant_of-self-2 c =
     let is = c.index_mut.ensures.value in
     let told_peer : Peer = record { number = p.number; end = c.tell_route.new.self } in
     let update : c.in-Ok.route ≡ telling (identifier r.net.routers r.number) q (path_of r.tables.kept q) =
-    c.in-Ok.ensures.update ∙ ap (telling (identifier r.net.routers r.number) q) c.path.ensures in
+    c.in-Ok.ensures.update ∙ ap (telling (identifier r.net.routers r.number) q) c.path_at.ensures in
     let before : side c.reserve_route.new.self ≡ sides_of r p.number = c.reserve_route.ensures.side ∙ here r c.self.invariant c.args.at q may p is in
     let says : side told_peer.end ≡ told (sides_of r p.number) (telling (identifier r.net.routers r.number) q (path_of r.tables.kept q)) =
     c.tell_route.ensures ∙ ap (λ (s : Side). told s c.in-Ok.route) before ∙ ap (told (sides_of r p.number)) update in
     let few : r.stamp + 1 ≤ GREATEST_STAMP = grind (arith, nat_tests, c.in_ok-stamp.ensures.next.1) in
     rw c.in_ok-stamp.ensures.next.0
-    (sound_told r c.self.invariant p.number c.args.at (place r c.self.invariant c.args.at q may p is) told_peer refl q (up r c.self.invariant c.args.at q may p is) c.tell.new.self c.in-Ok-tell.ensures.ok says (r.stamp + 1) few)
+    (sound_told r c.self.invariant p.number c.args.at (place r c.self.invariant c.args.at q may p is) told_peer refl q (up r c.self.invariant c.args.at q may p is) c.tell_at.new.self c.in-Ok-tell_at.ensures.ok says (r.stamp + 1) few)
 
 pub returns-clause-tells : goal.returns-clause-tells
 returns-clause-tells c =
@@ -156,13 +156,13 @@ returns-clause-tells c =
     let is = c.index_mut.ensures.value in
     let told_peer : Peer = record { number = p.number; end = c.tell_route.new.self } in
     let update : c.in-Ok.route ≡ telling (identifier r.net.routers r.number) q (path_of r.tables.kept q) =
-    c.in-Ok.ensures.update ∙ ap (telling (identifier r.net.routers r.number) q) c.path.ensures in
+    c.in-Ok.ensures.update ∙ ap (telling (identifier r.net.routers r.number) q) c.path_at.ensures in
     let before : side c.reserve_route.new.self ≡ sides_of r p.number = c.reserve_route.ensures.side ∙ here r c.self.invariant c.args.at q may p is in
     let says : side told_peer.end ≡ told (sides_of r p.number) (telling (identifier r.net.routers r.number) q (path_of r.tables.kept q)) =
     c.tell_route.ensures ∙ ap (λ (s : Side). told s c.in-Ok.route) before ∙ ap (told (sides_of r p.number)) update in
     let early : nat_lt GREATEST_STAMP (r.stamp + 1) ≡ false = c.in_ok-stamp.ensures.next.1 in
-    let all : Tells (Ok stepped.Did) r p.number q (with_peer_and_tables r c.args.at told_peer c.tell.new.self (r.stamp + 1)) =
-    rw early (refl, plain_told r c.self.invariant p.number c.args.at (place r c.self.invariant c.args.at q may p is) told_peer refl q (up r c.self.invariant c.args.at q may p is) c.tell.new.self c.in-Ok-tell.ensures.ok says (r.stamp + 1) refl) in
+    let all : Tells (Ok stepped.Did) r p.number q (with_peer_and_tables r c.args.at told_peer c.tell_at.new.self (r.stamp + 1)) =
+    rw early (refl, plain_told r c.self.invariant p.number c.args.at (place r c.self.invariant c.args.at q may p is) told_peer refl q (up r c.self.invariant c.args.at q may p is) c.tell_at.new.self c.in-Ok-tell_at.ensures.ok says (r.stamp + 1) refl) in
     rw c.in_ok-stamp.ensures.next.0
-    (subst (λ (x : RouterView). (v : ℕ) → IsAt x.peers v c.args.at → Tells (Ok stepped.Did) x v q (with_peer_and_tables r c.args.at told_peer c.tell.new.self (r.stamp + 1))) c.self.view_is (λ v at.
-    subst (λ (n : ℕ). Tells (Ok stepped.Did) r n q (with_peer_and_tables r c.args.at told_peer c.tell.new.self (r.stamp + 1))) (number_is r c.self.invariant c.args.at q may p is v at) all))
+    (subst (λ (x : RouterView). (v : ℕ) → IsAt x.peers v c.args.at → Tells (Ok stepped.Did) x v q (with_peer_and_tables r c.args.at told_peer c.tell_at.new.self (r.stamp + 1))) c.self.view_is (λ v at.
+    subst (λ (n : ℕ). Tells (Ok stepped.Did) r n q (with_peer_and_tables r c.args.at told_peer c.tell_at.new.self (r.stamp + 1))) (number_is r c.self.invariant c.args.at q may p is v at) all))

@@ -11,17 +11,17 @@ use Rattle.rib_tables.proofs.ChangeLemmas.{within}
 use Rattle.rib_tables.proofs.RibLemmas.{place_some, place_is}
 use Rattle.rib_tables.proofs.DecidingLemmas.{read_at}
 use Rattle.rib_tables.proofs.AskingLemmas.{waits_for_none, waits_for_first}
-use Rattle.rib_tables.proofs.rib.Rib.waiting.Goals as goal
+use Rattle.rib_tables.proofs.rib.Rib.waiting_at.Goals as goal
 
 pub unwrap-to-requires : goal.unwrap-to-requires
 unwrap-to-requires c =
     let there = c.self.invariant.whole.linked c.args.peer (subst (λ (v : RibView). Linked v.net.links v.router c.args.peer) (sym c.self.view_is) c.requires) in
-    place_some c.as_slice.result.now c.args.peer c.place_of_peer.result c.place_of_peer.ensures there.0 there.1 (ap (λ (ps : List Peer). slice_get ps there.0) c.as_slice.ensures.value ∙ there.2) there.3
+    place_some c.as_slice.result.now c.args.peer c.place_of_peer_near.result c.place_of_peer_near.ensures there.0 there.1 (ap (λ (ps : List Peer). slice_get ps there.0) c.as_slice.ensures.value ∙ there.2) there.3
 
 pub index-requires : goal.index-requires
 index-requires c =
     let s = c.self.inside in
-    let here = place_is c.as_slice.result.now s.peers.items c.args.peer c.place_of_peer.result c.unwrap-to.result c.as_slice.ensures.value c.place_of_peer.ensures c.unwrap-to.ensures in
+    let here = place_is c.as_slice.result.now s.peers.items c.args.peer c.place_of_peer_near.result c.unwrap-to.result c.as_slice.ensures.value c.place_of_peer_near.ensures c.unwrap-to.ensures in
     let lt = slice_get_within s.peers.items c.unwrap-to.result here.0 here.1 in
     let long = c.self.invariant.told.long in
     let len : length s.waits.items ≡ s.waits.len = search rules in
@@ -32,7 +32,7 @@ returns-in_err-place c =
     let s = c.self.inside in
     let net = s.network.now in
     let to = c.unwrap-to.result in
-    let here = place_is c.as_slice.result.now s.peers.items c.args.peer c.place_of_peer.result to c.as_slice.ensures.value c.place_of_peer.ensures c.unwrap-to.ensures in
+    let here = place_is c.as_slice.result.now s.peers.items c.args.peer c.place_of_peer_near.result to c.as_slice.ensures.value c.place_of_peer_near.ensures c.unwrap-to.ensures in
     let lt = slice_get_within s.peers.items to here.0 here.1 in
     let long = c.self.invariant.told.long in
     let set = read_at s.waits.items to c.index.result.now (omega (arith, lt, long)) c.index.ensures in
@@ -45,7 +45,7 @@ returns-then-place-len c =
     let s = c.self.inside in
     let net = s.network.now in
     let to = c.unwrap-to.result in
-    let here = place_is c.as_slice.result.now s.peers.items c.args.peer c.place_of_peer.result to c.as_slice.ensures.value c.place_of_peer.ensures c.unwrap-to.ensures in
+    let here = place_is c.as_slice.result.now s.peers.items c.args.peer c.place_of_peer_near.result to c.as_slice.ensures.value c.place_of_peer_near.ensures c.unwrap-to.ensures in
     let lt = slice_get_within s.peers.items to here.0 here.1 in
     let long = c.self.invariant.told.long in
     let set = read_at s.waits.items to c.index.result.now (omega (arith, lt, long)) c.index.ensures in
@@ -62,7 +62,7 @@ returns c =
     let net = s.network.now in
     let to = c.unwrap-to.result in
     let place = c.in_ok-place.place in
-    let here = place_is c.as_slice.result.now s.peers.items c.args.peer c.place_of_peer.result to c.as_slice.ensures.value c.place_of_peer.ensures c.unwrap-to.ensures in
+    let here = place_is c.as_slice.result.now s.peers.items c.args.peer c.place_of_peer_near.result to c.as_slice.ensures.value c.place_of_peer_near.ensures c.unwrap-to.ensures in
     let lt = slice_get_within s.peers.items to here.0 here.1 in
     let long = c.self.invariant.told.long in
     let set = read_at s.waits.items to c.index.result.now (omega (arith, lt, long)) c.index.ensures in
