@@ -14,7 +14,7 @@ use Rattle.bgp_codec.specs.declared.path.SegmentKind.TheVariants.{AsSet, AsSeque
 use Rattle.bgp_codec.specs.Spelling.{IsOctets}
 use Rattle.bgp_codec.specs.Updates.{segment_code, segment_octets, path_octets, SegmentFits}
 use Rattle.bgp_codec.specs.UpdateReading.{update_fault, segment_of, segment_at, path_reading}
-use Rattle.bgp_codec.specs.AsNumbers.{asn_size, asn_octets, AsnFits, numbers_of}
+use Rattle.bgp_codec.specs.AsNumbers.{asn_size, asn_octets, AsnFits, AreNumbers, numbers_of}
 use Rattle.bgp_codec.proofs.FaultData.{FaultsWithin, either_within}
 use Rattle.bgp_codec.proofs.OctetLemmas.{octets_front, octets_tail, two_octets, four_octets}
 use Rattle.bgp_codec.proofs.OctetLemmas.{octets_behind}
@@ -77,12 +77,6 @@ segment_shortens width (code ∷ count ∷ rest) s more e =
     omega (arith, ap length p.2, length-drop (asn_size width * count) rest)
 
 -- ---- numbers of two octets each, or of four
-
--- so many numbers, which are written as these octets
-pub record AreNumbers (width : Width) (count : ℕ) (octets : List ℕ) : Type 0 where
-  pub size : length (numbers_of width octets) ≡ count
-  pub whole : flat_map (asn_octets width) (numbers_of width octets) ≡ octets
-  pub small : AllByRecursion (AsnFits width) (numbers_of width octets)
 
 -- octets are those of their number
 one_of_two : (a b : ℕ) → a < 256 → b < 256 → to_be_bytes w16 (from_be_bytes w16 (a ∷ b ∷ [])) ≡ a ∷ b ∷ []

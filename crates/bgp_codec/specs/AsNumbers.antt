@@ -1,5 +1,6 @@
 -- Numbers in messages, and AS numbers of two octets or of four (RFC 4271 section 4.3, RFC 6793 section 4.1).
-use Rattle.std.specs.Prelude.{ℕ, ◌+◌, ◌≤◌, List, [], ◌∷◌, slice_index}
+use Rattle.std.specs.Prelude.{ℕ, ◌≡◌, ◌+◌, ◌≤◌, List, [], ◌∷◌, length, slice_index}
+use Rattle.std.specs.List.{flat_map, AllByRecursion}
 use Rattle.std.specs.Int.{w16, w32, to_be_bytes, from_be_bytes}
 use Rattle.bgp_values.specs.declared.width.Width.{Width}
 use Rattle.bgp_values.specs.declared.width.Width.TheVariants.{Two, Four}
@@ -41,3 +42,9 @@ numbers_of Four (a ∷ []) = []
 numbers_of Four (a ∷ b ∷ []) = []
 numbers_of Four (a ∷ b ∷ c ∷ []) = []
 numbers_of Four (a ∷ b ∷ c ∷ d ∷ rest) = from_be_bytes w32 (a ∷ b ∷ c ∷ d ∷ []) ∷ numbers_of Four rest
+
+-- so many numbers, which are written as these octets
+pub record AreNumbers (width : Width) (count : ℕ) (octets : List ℕ) : Type 0 where
+  pub size : length (numbers_of width octets) ≡ count
+  pub whole : flat_map (asn_octets width) (numbers_of width octets) ≡ octets
+  pub small : AllByRecursion (AsnFits width) (numbers_of width octets)

@@ -9,8 +9,9 @@
 //! message is spelt, and the one spelling that is written), `Opens` (the body of an OPEN),
 //! `AsNumbers` (AS numbers of either width), `Updates` (the body of an UPDATE, as it is spelt and
 //! written), `AttrTable` (the attributes that are known), `UpdateReading` (what reading an UPDATE
-//! answers), `Reading` (what a reader answers), `Faults` (the first fault of a frame), `Judging` (what
-//! a search for that fault remembers, where a growth was refused).
+//! answers), `Gathering` (attributes as they come, before they are put in order), `Reading` (what a
+//! reader answers), `Faults` (the first fault of a frame), `Judging` (what a search for that fault
+//! remembers, where a growth was refused).
 //! The laws that tie them together are the public functions of [`laws`].
 //!
 //! Numbers of autonomous systems have two octets in messages, or four (RFC 6793): a [`Rule`] says
@@ -51,7 +52,7 @@ pub use notice::{Notice, notice_of};
 pub use numbers::asn_size;
 pub use octets::Octets;
 pub use open::{Cap, Open};
-pub use path::{Numbers, Segment, SegmentKind, put_numbers};
+pub use path::{Numbers, Segment, SegmentKind, put_numbers, read_numbers};
 pub use prefixes::octet_count;
 pub use reading::decode;
 pub use rule::{Asn, NOBODY, Rule};

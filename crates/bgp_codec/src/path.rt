@@ -1,11 +1,11 @@
 //! AS_PATH (RFC 4271 sections 4.3 and 5.1.2): its segments, their reader and their writer.
 
-ghost use Rattle.std.specs.Prelude.{◌≡◌, ◌+◌, ◌*◌, ◌-◌, ◌^◌, ◌≤◌, ◌<◌, ◌++◌, ◌↔◌, IsTrue, IsOk, IfOk, IfErr, length, min, vec_len, vec_capacity};
+ghost use Rattle.std.specs.Prelude.{ℕ, ◌≡◌, ◌+◌, ◌*◌, ◌-◌, ◌^◌, ◌≤◌, ◌<◌, ◌++◌, ◌↔◌, IsTrue, IsOk, IfOk, IfErr, length, min, vec_len, vec_capacity};
 ghost use Rattle.std.specs.List.{flat_map, AllByRecursion};
 ghost use Rattle.bgp_codec.specs.Reading.{Gives, IsNoWant};
 ghost use Rattle.bgp_codec.specs.Updates.{segment_code, path_octets, SegmentFits, begins_with};
 ghost use Rattle.bgp_codec.specs.UpdateReading.{segment_at, segment_with, path_reading};
-ghost use Rattle.bgp_codec.specs.AsNumbers.{asn_size, asn_octets, AsnFits, numbers_of};
+ghost use Rattle.bgp_codec.specs.AsNumbers.{asn_size, asn_octets, AsnFits, AreNumbers, numbers_of};
 ghost use Rattle.bgp_values.specs.declared.width.Width.TheVariants.{Two, Four};
 
 use crate::fault::{CodecError, update_fault};
@@ -105,9 +105,11 @@ fn read_of_four(alloc: Global, octets: &[u8]) -> Result<Numbers, AllocError>
     Ok(Numbers { numbers })
 }
 
-// The numbers of so many octets each.
-fn read_numbers(alloc: Global, width: Width, octets: &[u8]) -> Result<Numbers, AllocError>
-    ensures { IfOk result (λ numbers. numbers ≡ numbers_of width octets.now) }
+/// The AS numbers that octets are, each of so many octets: where these are whole numbers, as
+/// [`put_numbers`] appends them. It is refused only where memory was.
+pub fn read_numbers(alloc: Global, width: Width, octets: &[u8]) -> Result<Numbers, AllocError>
+    ensures numbers { IfOk result (λ numbers. numbers ≡ numbers_of width octets.now) }
+    ensures whole { (count : ℕ) → length octets.now ≡ asn_size width * count → AreNumbers width count octets.now }
 {
     match width {
         Width::Two => read_of_two(alloc, octets),

@@ -1,4 +1,5 @@
 pub mod WordLemmas
+pub mod TellsLemmas
 pub mod KeptLemmas
 pub mod ChoiceLemmas
 pub mod RouterLemmas

@@ -54,6 +54,12 @@ Says u q word =
     (Announces u q × (word ≡ announced_word u.attrs))
     ⊎ ((Announces u q → ⊥) × Withdraws u q × (word ≡ nothing))
 
+-- the UPDATE tells this path of this prefix alone: it announces it, or withdraws the prefix where the path is empty
+abbrev pub TellsPath : Update → PrefixView → List ℕ → Type 0
+TellsPath u q path =
+    ((u.withdrawn ≡ []) × (u.nlri ≡ q ∷ []) × (announced_word u.attrs ≡ Sequence path))
+    ⊎ ((u.withdrawn ≡ q ∷ []) × (u.nlri ≡ []) × (path ≡ []))
+
 -- ---- the same as tests
 
 abbrev pub lists : List PrefixView → PrefixView → Bool

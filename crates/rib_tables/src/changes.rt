@@ -7,7 +7,8 @@ ghost use Rattle.rib_tables.specs.declared.row.Peer.{Peer};
 ghost use Rattle.rib_tables.specs.declared.row.Row.{Row};
 ghost use Rattle.rib_tables.specs.declared.word.Word.TheVariants.{Sequence};
 ghost use Rattle.rib_tables.specs.declared.place_set.PlaceSet.{PlaceSet};
-ghost use Rattle.rib_tables.specs.Words.{announced_word, nothing};
+ghost use Rattle.bgp_codec.specs.declared.update.Update.{Update};
+ghost use Rattle.rib_tables.specs.Words.{announced_word, nothing, TellsPath};
 ghost use Rattle.rib_tables.specs.Places.{has};
 ghost use Rattle.rib_tables.specs.Rows.{AreFit, AreWaiting, BestStays, IsWaiting, MarksSpeaking, StaysDecided, on, hearing, hearing_all, hearing_update, telling, keeping, originating, forgetting, clearing};
 
@@ -261,6 +262,28 @@ pub(crate) fn hear_update(
         let words = announced_words(alloc, update)?;
         hear_several(alloc, router, keys, rows, dirty, peer, update, words);
     }
+    Ok(())
+}
+
+// A path that a peer tells of one prefix, the empty one where it withdraws it. A refusal leaves all as it was.
+pub(crate) fn hear_path(
+    alloc: Global,
+    router: Asn,
+    keys: &IndexSet<Prefix>,
+    rows: &mut Vec<Row>,
+    dirty: &mut PlaceSet,
+    peer: usize,
+    prefix: &Prefix,
+    path: &[Asn],
+) -> Result<(), RibError>
+    requires { (peers : ℕ) × AreFit keys.now.keys peers rows.old.items × (peer < peers) }
+    ensures rows { OnOk result ((u : Update) → TellsPath u prefix.now path.now → rows.new.items ≡ map (hearing_update peer u) rows.old.items) }
+    ensures dirty { OnOk result (StaysDecided router rows.old.items rows.new.items dirty.old dirty.new) }
+    ensures same_rows { OnErr result (rows.new.items ≡ rows.old.items) }
+    ensures same_dirty { OnErr result (dirty.new ≡ dirty.old) }
+{
+    let word = Word::Sequence(Path::from_slice(alloc, path)?);
+    hear_one(router, keys, rows.as_mut_slice(), dirty, peer, prefix, word);
     Ok(())
 }
 

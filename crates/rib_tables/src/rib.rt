@@ -4,15 +4,16 @@ ghost use Rattle.std.specs.Prelude.{◌≡◌, ◌≢◌, ◌↔◌, ℕ, true, 
 ghost use Rattle.std.specs.List.{Contains};
 ghost use Rattle.ranked_policy.specs.Plans.{IsRouter, IsNamed, IsOrigin, Linked};
 ghost use Rattle.prefix_lanes.specs.Bits.{PrefixView};
-ghost use Rattle.rib_tables.specs.Words.{nothing};
+ghost use Rattle.bgp_codec.specs.declared.update.Update as updates;
+ghost use Rattle.rib_tables.specs.Words.{nothing, TellsPath};
 ghost use Rattle.rib_tables.specs.Tables.{word_of, path_of};
 ghost use Rattle.rib_tables.specs.Least.{HoldsOfAll, IsLeastWithout};
 ghost use Rattle.rib_tables.specs.Choices.{IsBest, IsSources};
 ghost use Rattle.rib_tables.specs.Owners.{sources_of, IsSettled, IsServed, IsAwaited, AllServed, IsPending, IsNew, HearsUpdate, TellsKept, ComesUp, ForgetsPeer, Originating, Withdrawing, KeepsPath, Decides, Clears};
 
 use crate::changes::{
-    await_all, clear_all, forget_all, hear_update, keep_at, mark_words, originate_at, place_near,
-    place_of, place_of_peer, place_of_peer_near, set_up, tell_at, untold, wait_all,
+    await_all, clear_all, forget_all, hear_path, hear_update, keep_at, mark_words, originate_at,
+    place_near, place_of, place_of_peer, place_of_peer_near, set_up, tell_at, untold, wait_all,
 };
 use crate::opening::{keys_of, no_waits, peers_down, rows_of};
 use crate::place_set::PlaceSet;
@@ -125,7 +126,7 @@ impl<'a> Rib<'a> {
         }
     }
 
-    /// The same. `at`: the place of the prefix in [`Network::origins`], where it is looked for first.
+    /// What [`Rib::path`] answers. `at`: a place in [`Network::origins`] where the prefix is looked for first.
     pub fn path_at(&self, at: usize, prefix: &Prefix) -> &[Asn]
         ensures { result.now ≡ path_of self.now.kept prefix.now }
     {
@@ -145,7 +146,8 @@ impl<'a> Rib<'a> {
         }
     }
 
-    /// The same. `at`: the place of the prefix in [`Network::origins`], where it is looked for first.
+    /// What [`Rib::is_originated`] answers. `at`: a place in [`Network::origins`] where the prefix is looked for
+    /// first.
     pub fn is_originated_at(&self, at: usize, prefix: &Prefix) -> bool
         ensures { IsTrue result ↔ Contains self.now.originated prefix.now }
     {
@@ -187,6 +189,28 @@ impl<'a> Rib<'a> {
         Ok(())
     }
 
+    /// Takes the UPDATE of a peer that tells a path of one prefix, the empty one where it withdraws it, as
+    /// [`Rib::hear`] takes it. Refused [`RibError::Memory`] where a growth was, and then all is as it was.
+    pub fn hear_path(&mut self, peer: Asn, prefix: &Prefix, path: &[Asn]) -> Result<(), RibError>
+        requires { Linked self.old.net.links self.old.router peer }
+        ensures ok { OnOk result ((u : updates.Update) → TellsPath u prefix.now path.now → HearsUpdate self.old self.new peer u) }
+        ensures err { OnErr result (self.new ≡ self.old) }
+    {
+        let alloc = *self.peers.allocator();
+        let place = place_of_peer(self.peers.as_slice(), peer).unwrap();
+        hear_path(
+            alloc,
+            self.router,
+            &self.keys,
+            &mut self.rows,
+            &mut self.dirty,
+            place,
+            prefix,
+            path,
+        )?;
+        Ok(())
+    }
+
     /// The kept path of a prefix was told to a peer. Refused [`RibError::Memory`] where a growth
     /// was, and then all is as it was.
     pub fn tell(&mut self, peer: Asn, prefix: &Prefix) -> Result<(), RibError>
@@ -198,8 +222,8 @@ impl<'a> Rib<'a> {
         self.tell_at(0, peer, 0, prefix)
     }
 
-    /// The same. `to`: the place of the peer among the linked routers, by rising number; `at`: the
-    /// place of the prefix in [`Network::origins`]. Each is looked for at its place first.
+    /// Does what [`Rib::tell`] does, and is refused as it is. `to`: a place among the linked routers, by rising
+    /// number, where the peer is looked for first; `at`: one in [`Network::origins`] for the prefix.
     pub fn tell_at(
         &mut self,
         to: usize,
@@ -374,8 +398,9 @@ impl<'a> Rib<'a> {
         Some(prefix)
     }
 
-    /// The same, with the prefix's place in [`Network::origins`]. `at`: the place of the peer among
-    /// the linked routers, by rising number, where it is looked for first.
+    /// The prefix that [`Rib::waiting`] answers, behind the place where it was found, as a hint for the calls
+    /// that take one. `at`: a place among the linked routers, by rising number, where the peer is looked for
+    /// first.
     pub fn waiting_at(&self, at: usize, peer: Asn) -> Option<(usize, Prefix)>
         requires { Linked self.now.net.links self.now.router peer }
         ensures { MatchOption result (HoldsOfAll self.now.net.origins (IsServed self.now peer)) (λ found. IsLeastWithout self.now.net.origins (IsServed self.now peer) found.1) }

@@ -11,7 +11,6 @@ pub mod Choosing
 pub mod Deciding
 pub mod Pending
 pub mod Starting
-pub mod Sayable
 pub mod Nexts
 pub mod Tellings
 pub mod Untold
@@ -21,6 +20,7 @@ pub mod Serving
 pub mod Showing
 pub mod Taking
 pub mod Handling
+pub mod HearingRoutes
 pub mod Marking
 pub mod Recording
 pub mod Snapshots

@@ -6,7 +6,8 @@
 //! a growth was refused or the caller has no room (`specs/Calling`), after every other refusal.
 //!
 //! Each draft is made by value, judged, given room, and then carried out by appends alone
-//! (`router_side`).
+//! (`router_side`). A second in which no timer runs out, and an UPDATE that tells a path, are done
+//! without one.
 #![tactic(auto)]
 
 mod choices;

@@ -8,10 +8,10 @@ ghost use Rattle.router_model.specs.State.{telling};
 ghost use Rattle.router_side.specs.Sayings.{IsSayable};
 ghost use Rattle.router_core.specs.Views.{IsTellable};
 
-use bgp_codec::laws::written_has_a_header;
 use prefix_lanes::Prefix;
 use ranked_policy::{Asn, Network};
 use router_side::Route;
+use router_side::laws::tellings_are_sayable;
 use std::alloc::{AllocError, Global};
 
 /// What tells the path that a router of the network keeps for a prefix: an announcement with its
@@ -30,7 +30,7 @@ pub(crate) fn telling(
     ensures update { IfOk result (λ route. route ≡ telling (identifier network.now.routers number) prefix.now path.now) }
     ensures sayable { IfOk result (λ route. IsSayable network.now.settings.width (UpdateMsg route)) }
 {
-    written_has_a_header();
+    tellings_are_sayable();
     let _len = prefix.len();
     let id = network.router(number).unwrap().id;
     Route::new(alloc, id, prefix, path)

@@ -5,3 +5,5 @@ pub mod FrontLemmas
 pub mod Fresh
 pub mod Coming
 pub mod Kept
+pub mod Sayable
+pub mod Acting

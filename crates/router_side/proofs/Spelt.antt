@@ -1,5 +1,5 @@
 -- The octets of what tells a path, put piece by piece.
-use Rattle.std.proofs.Common.{◌≡◌, ℕ, suc, ◌+◌, ◌*◌, ◌≤◌, Bool, false, List, [], ◌∷◌, ◌++◌, length, take, get_or, refl, sym, ap, ◌∙◌, append_assoc, length-append, arith}
+use Rattle.std.proofs.Common.{◌≡◌, ℕ, suc, ◌+◌, ◌*◌, ◌≤◌, Bool, false, List, [], ◌∷◌, ◌++◌, length, get_or, refl, sym, ap, ◌∙◌, append_assoc, length-append, arith}
 use Rattle.std.specs.Prelude.{nat_le}
 use Rattle.std.specs.List.{flat_map, AllByRecursion}
 use Rattle.std.specs.Int.{w16, w32, to_be_bytes}
@@ -14,6 +14,7 @@ use Rattle.bgp_codec.specs.AsNumbers.{asn_size, asn_octets, AsnFits}
 use Rattle.bgp_codec.specs.Updates.{octet_count, attr_octets, raw_of}
 use Rattle.bgp_codec.specs.Spelling.{header_of, framed, written}
 use Rattle.router_model.specs.State.{withdrawal, announcement, telling}
+use Rattle.router_side.specs.Layout.{marked, address, withdrawal_front, announcement_front, announcement_hop}
 use Rattle.router_side.specs.Sayings.{IsSayable}
 
 pub numbers_length : (w : Width) (ns : List ℕ) → length (flat_map (asn_octets w) ns) ≡ asn_size w * length ns
@@ -29,9 +30,6 @@ size_at_most Four n = omega arith
 
 at_most_four : (len : ℕ) → len ≤ 32 → octet_count len ≤ 4
 at_most_four len le = omega arith
-
-abbrev pub address : PrefixView → List ℕ
-address q = take (octet_count q.len) (to_be_bytes w32 q.addr)
 
 pub address_length : (q : PrefixView) → IsCanonical q → length (address q) ≡ octet_count q.len
 address_length q canonical = length-take-le (octet_count q.len) (to_be_bytes w32 q.addr) (at_most_four q.len canonical.short)
@@ -55,10 +53,6 @@ three old front middle back a b c ea eb ec =
 -- the octets with their header
 abbrev with_header : ℕ → List ℕ → List ℕ
 with_header n octets = header_of 2 n ++ octets
-
--- sixteen octets of ones, before what follows
-abbrev marked : List ℕ → List ℕ
-marked rest = 255 ∷ 255 ∷ 255 ∷ 255 ∷ 255 ∷ 255 ∷ 255 ∷ 255 ∷ 255 ∷ 255 ∷ 255 ∷ 255 ∷ 255 ∷ 255 ∷ 255 ∷ 255 ∷ rest
 
 header_at : (n : ℕ) (octets : List ℕ) → marked (get_or (to_be_bytes w16 (19 + n)) 0 0 ∷ get_or (to_be_bytes w16 (19 + n)) 1 0 ∷ 2 ∷ octets) ≡ with_header n octets
 unfolding header_of marker
@@ -92,13 +86,12 @@ module _ (w : Width) (q : PrefixView) (canonical : IsCanonical q) where
   pub withdrawal_length : 24 + octet_count q.len ≡ length (written w (UpdateMsg (withdrawal q)))
   withdrawal_length = omega (arith, ap length (withdrawal_is ∙ sym (header_at (5 + octet_count q.len) (withdrawn (1 + octet_count q.len) (address q)))), withdrawal_size)
 
-  pub withdrawal_put : (old a b d field size : List ℕ) → a ≡ old ++ marked (get_or field 0 0 ∷ get_or field 1 0 ∷ 2 ∷ get_or size 0 0 ∷ get_or size 1 0 ∷ q.len ∷ []) → b ≡ a ++ address q → d ≡ b ++ 0 ∷ 0 ∷ []
-      → field ≡ to_be_bytes w16 (24 + octet_count q.len) → size ≡ to_be_bytes w16 (1 + octet_count q.len) → d ≡ old ++ written w (UpdateMsg (withdrawal q))
-  withdrawal_put old a b d field size ea eb ed ef es =
-      three old (marked (get_or field 0 0 ∷ get_or field 1 0 ∷ 2 ∷ get_or size 0 0 ∷ get_or size 1 0 ∷ q.len ∷ [])) (address q) (0 ∷ 0 ∷ []) a b d ea eb ed
-      ∙ ap (λ (f : List ℕ). old ++ marked (get_or f 0 0 ∷ get_or f 1 0 ∷ 2 ∷ get_or size 0 0 ∷ get_or size 1 0 ∷ q.len ∷ (address q ++ 0 ∷ 0 ∷ []))) ef
-      ∙ ap (λ (f : List ℕ). old ++ marked (get_or (to_be_bytes w16 (24 + octet_count q.len)) 0 0 ∷ get_or (to_be_bytes w16 (24 + octet_count q.len)) 1 0 ∷ 2 ∷ get_or f 0 0 ∷ get_or f 1 0 ∷ q.len ∷ (address q ++ 0 ∷ 0 ∷ []))) es
-      ∙ ap (λ (x : List ℕ). old ++ x) (header_is (5 + octet_count q.len) (24 + octet_count q.len) (withdrawn (1 + octet_count q.len) (address q)) (omega arith) ∙ sym withdrawal_is)
+  pub withdrawal_whole : withdrawal_front q.len (octet_count q.len) ++ (address q ++ 0 ∷ 0 ∷ []) ≡ written w (UpdateMsg (withdrawal q))
+  withdrawal_whole = header_is (5 + octet_count q.len) (24 + octet_count q.len) (withdrawn (1 + octet_count q.len) (address q)) (omega arith) ∙ sym withdrawal_is
+
+  pub withdrawal_put : (old a b d : List ℕ) → a ≡ old ++ withdrawal_front q.len (octet_count q.len) → b ≡ a ++ address q → d ≡ b ++ 0 ∷ 0 ∷ [] → d ≡ old ++ written w (UpdateMsg (withdrawal q))
+  withdrawal_put old a b d ea eb ed =
+      three old (withdrawal_front q.len (octet_count q.len)) (address q) (0 ∷ 0 ∷ []) a b d ea eb ed ∙ ap (λ (x : List ℕ). old ++ x) withdrawal_whole
 
 -- ---- an announcement
 
@@ -157,26 +150,21 @@ module _ (w : Width) (id : ℕ) (q : PrefixView) (ns : List ℕ) (canonical : Is
   pub announcement_length : 40 + size + octet_count q.len ≡ length (written w (UpdateMsg (announcement id q ns)))
   announcement_length = omega (arith, ap length (announcement_is ∙ sym (header_at (21 + (size + octet_count q.len)) counted)), counted_size)
 
-  abbrev front : List ℕ → List ℕ → List ℕ
-  front field attrs = marked (get_or field 0 0 ∷ get_or field 1 0 ∷ 2 ∷ 0 ∷ 0 ∷ get_or attrs 0 0 ∷ get_or attrs 1 0 ∷ 64 ∷ 1 ∷ 1 ∷ 0 ∷ 64 ∷ 2 ∷ (2 + size) ∷ 2 ∷ length ns ∷ [])
+  abbrev front : List ℕ
+  front = announcement_front (length ns) size (octet_count q.len)
 
-  abbrev hop : List ℕ → List ℕ
-  hop octets = 64 ∷ 3 ∷ 4 ∷ get_or octets 0 0 ∷ get_or octets 1 0 ∷ get_or octets 2 0 ∷ get_or octets 3 0 ∷ q.len ∷ []
+  abbrev hop : List ℕ
+  hop = announcement_hop id q.len
 
-  pub announcement_put : (old a b d e field attrs octets : List ℕ) → a ≡ old ++ front field attrs → b ≡ a ++ numbers → d ≡ b ++ hop octets → e ≡ d ++ address q
-      → field ≡ to_be_bytes w16 (40 + size + octet_count q.len) → attrs ≡ to_be_bytes w16 (16 + size) → octets ≡ to_be_bytes w32 id → e ≡ old ++ written w (UpdateMsg (announcement id q ns))
-  announcement_put old a b d e field attrs octets ea eb ed ee ef es eo =
-      ee ∙ ap (λ (x : List ℕ). x ++ address q) (three old (front field attrs) numbers (hop octets) a b d ea eb ed)
-      ∙ append_assoc old (front field attrs ++ (numbers ++ hop octets)) (address q)
-      ∙ ap (λ (x : List ℕ). old ++ x) (
-      append_assoc (front field attrs) (numbers ++ hop octets) (address q)
-      ∙ ap (λ (x : List ℕ). front field attrs ++ x) (append_assoc numbers (hop octets) (address q))
-      ∙ ap (λ (o : List ℕ). front field attrs ++ (numbers ++ (hop o ++ address q))) eo
-      ∙ ap (λ (s : List ℕ). front field s ++ (numbers ++ (next_hop ++ (q.len ∷ address q)))) es
-      ∙ ap (λ (f : List ℕ). front f (to_be_bytes w16 (16 + size)) ++ (numbers ++ (next_hop ++ (q.len ∷ address q)))) ef
-      ∙ header_is (21 + (size + octet_count q.len)) (40 + size + octet_count q.len) counted (omega arith)
-      ∙ sym announcement_is
-      )
+  pub announcement_whole : front ++ (numbers ++ (hop ++ address q)) ≡ written w (UpdateMsg (announcement id q ns))
+  announcement_whole = header_is (21 + (size + octet_count q.len)) (40 + size + octet_count q.len) counted (omega arith) ∙ sym announcement_is
+
+  pub announcement_put : (old a b d e : List ℕ) → a ≡ old ++ front → b ≡ a ++ numbers → d ≡ b ++ hop → e ≡ d ++ address q → e ≡ old ++ written w (UpdateMsg (announcement id q ns))
+  announcement_put old a b d e ea eb ed ee =
+      ee ∙ ap (λ (x : List ℕ). x ++ address q) (three old front numbers hop a b d ea eb ed)
+      ∙ append_assoc old (front ++ (numbers ++ hop)) (address q)
+      ∙ ap (λ (x : List ℕ). old ++ x)
+      (append_assoc front (numbers ++ hop) (address q) ∙ ap (λ (x : List ℕ). front ++ x) (append_assoc numbers hop (address q)) ∙ announcement_whole)
 
 -- ---- what tells a path
 

@@ -3,3 +3,5 @@ pub mod Drafts
 pub mod Histories
 pub mod SideOf
 pub mod Freshness
+pub mod Layout
+pub mod Acting

@@ -10,7 +10,7 @@ use Rattle.session_fsm.specs.Table as sessions
 use Rattle.session_fsm.specs.declared.config.SessionConfig.{SessionConfig}
 use Rattle.run_model.specs.Links.{Says}
 use Rattle.outbox.specs.Items.{next_item, left_behind}
-use Rattle.router_model.specs.Sides.{Side, AtHand, appended, at_hand, front}
+use Rattle.router_model.specs.Sides.{Side, AtHand, Draft, appended, at_hand, draft_of, front}
 use Rattle.router_side.specs.declared.draft.Sketch.{Sketch}
 use Rattle.router_side.specs.declared.side.SideEnd.{SideEnd}
 use Rattle.router_side.specs.Histories.{history, told_with}
@@ -64,3 +64,12 @@ pub record HasRoomToTell (m : Message) (s : SideEnd) : Type 0 where
 -- a marker can be appended without memory
 abbrev pub HasRoomToMark : SideEnd → Type 0
 HasRoomToMark s = 1 ≤ s.outbox.places
+
+-- an UPDATE can be acted on without memory
+pub record HasRoomToAct (s : SideEnd) : Type 0 where
+  pub acted : MESSAGE_LIMIT ≤ s.acted.room
+  pub acted_places : 1 ≤ s.acted.places
+
+-- the draft of an UPDATE that comes in Established: it is acted on, the HoldTimer is set again, and nothing else is done
+abbrev pub acting : Side → Draft
+acting s = record (draft_of (sessions.held s.session) s.link) { acts = true }

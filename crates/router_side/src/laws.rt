@@ -1,7 +1,10 @@
 //! What the definitions of a side say together. Each is the contract of a function without work of
 //! its own.
 
+ghost use Rattle.router_side.specs.Acting.{UpdatesAreActedOn, TellingsAreSayable};
 ghost use Rattle.router_side.specs.Freshness.{SessionsKeepFresh, SignsKeepFresh, MessagesKeepFresh};
+
+use bgp_codec::laws::written_has_a_header;
 
 /// A start, a stop, a reset and a second leave an incarnation without UPDATEs acted on or sent until its
 /// session is Established: so a session that comes up begins with no words. An incarnation never
@@ -16,3 +19,15 @@ pub fn what_comes_keeps_fresh()
     ensures signs { SignsKeepFresh }
     ensures messages { MessagesKeepFresh }
 {}
+
+/// An UPDATE that comes in Established is acted on, and its draft does nothing else but to set the HoldTimer again.
+pub fn updates_are_acted_on()
+    ensures { UpdatesAreActedOn }
+{}
+
+/// What tells a path of at most [`crate::MOST_NUMBERS`] numbers that fit the width can be said.
+pub fn tellings_are_sayable()
+    ensures { TellingsAreSayable }
+{
+    written_has_a_header();
+}

@@ -7,6 +7,11 @@
 //! messages and faults, and handled as the session's events (RFC 4271 section 8); UPDATEs and
 //! markers are appended behind all that waits.
 //!
+//! What most events do needs no draft: a second in which no timer runs out counts the timers down
+//! ([`SideEnd::count_down`]), and an UPDATE that tells a path, a [`Route`], is told and acted on in its
+//! octets ([`SideEnd::tell_route`], [`SideEnd::route_in_front`], [`SideEnd::act`]; `specs/Layout`,
+//! `specs/Acting`).
+//!
 //! What a draft says is kept in short (`specs/Sayings`): a message is encoded once, in the outbox.
 //! Each UPDATE that is acted on or sent is kept in its octets, behind the others of the side
 //! ([`History`]), and read again where it is asked for.

@@ -5,20 +5,25 @@
 //! behind them, are known by their counts. So its octets are put from the path, and no message is made
 //! and measured first.
 
-ghost use Rattle.std.specs.Prelude.{◌≡◌, ◌+◌, ◌≤◌, ◌*◌, ◌++◌, length, IfOk, IsOk, vec_len, vec_capacity};
+ghost use Rattle.std.specs.Prelude.{◌≡◌, ◌+◌, ◌≤◌, ◌*◌, ◌++◌, length, ℕ, true, IfOk, IfSome, IsOk, vec_len, vec_capacity};
 ghost use Rattle.std.specs.List.{AllByRecursion};
 ghost use Rattle.bgp_values.specs.declared.width.Width as widths;
 ghost use Rattle.bgp_codec.specs.declared.message.Message.TheVariants.{UpdateMsg};
-ghost use Rattle.bgp_codec.specs.AsNumbers.{asn_size, AsnFits};
-ghost use Rattle.bgp_codec.specs.Updates.{octet_count};
+ghost use Rattle.bgp_codec.specs.AsNumbers.{asn_size, numbers_of, AsnFits};
+ghost use Rattle.bgp_codec.specs.Updates.{octet_count, begins_with};
 ghost use Rattle.bgp_codec.specs.Spelling.{written};
+ghost use Rattle.prefix_lanes.specs.Bits.{IsCanonical};
 ghost use Rattle.router_model.specs.State.{withdrawal, announcement, telling};
+ghost use Rattle.router_side.specs.Layout.{address, announcement_front, announcement_hop, withdrawal_front, IsAnnouncement, IsWithdrawal};
+ghost use Rattle.router_side.specs.Acting.{IsToldBy};
 ghost use Rattle.router_side.specs.Sayings.{IsSayable};
 ghost use Rattle.router_side.specs.declared.route.TheConstants.{MOST_NUMBERS};
 
-use bgp_codec::{Asn, Numbers, asn_size, octet_count, put_numbers};
+use crate::laws::tellings_are_sayable;
+use bgp_codec::laws::a_peers_writing_is_read;
+use bgp_codec::{Asn, Numbers, asn_size, octet_count, put_numbers, read_numbers};
 use bgp_values::{
-    AS_PATH, AS_SEQUENCE, HEADER_LEN, IGP, NEXT_HOP, ORIGIN, TRANSITIVE, UPDATE, Width,
+    AS_PATH, AS_SEQUENCE, HEADER_LEN, IGP, NEXT_HOP, ORIGIN, TRANSITIVE, UPDATE, Width, is_unicast,
 };
 use prefix_lanes::Prefix;
 use std::alloc::{AllocError, Global};
@@ -53,38 +58,30 @@ impl Model for Route {
     ghost invariant = { λ r. length r.path ≤ MOST_NUMBERS };
 }
 
-// Appends the UPDATE that withdraws a prefix, for which there is room.
-fn put_withdrawal(out: &mut Vec<u8>, prefix: &Prefix)
-    requires room { vec_len out.old + (24 + octet_count prefix.now.len) ≤ vec_capacity out.old }
-    ensures { (w : widths.Width) → out.new.items ≡ out.old.items ++ written w (UpdateMsg (withdrawal prefix.now)) }
+// The octets of a withdrawal before those of its prefix, which are so many.
+fn withdrawal_front(len: u8, count: usize) -> [u8; 22]
+    requires { count ≤ 4 }
+    ensures { result ≡ withdrawal_front len count }
 {
-    let (len, address) = (prefix.len(), prefix.addr().to_be_bytes());
-    let count = octet_count(len);
     let [high, low] = ((HEADER_LEN + 5 + count) as u16).to_be_bytes();
     let [upper, lower] = ((1 + count) as u16).to_be_bytes();
-    out.extend_from_slice(&[
+    [
         0xff, 0xff, 0xff, 0xff, 0xff, 0xff, 0xff, 0xff, 0xff, 0xff, 0xff, 0xff, 0xff, 0xff, 0xff,
         0xff, high, low, UPDATE, upper, lower, len,
-    ])
-    .unwrap();
-    out.extend_from_slice(&address[..count]).unwrap();
-    out.extend_from_slice(&[0, 0]).unwrap();
+    ]
 }
 
-// Appends the UPDATE that announces a path, for which there is room.
-fn put_announcement(out: &mut Vec<u8>, width: Width, id: u32, prefix: &Prefix, path: &[Asn])
-    requires fit { AllByRecursion (AsnFits width) path.now }
-    requires few { length path.now ≤ MOST_NUMBERS }
-    requires room { vec_len out.old + (40 + asn_size width * length path.now + octet_count prefix.now.len) ≤ vec_capacity out.old }
-    ensures { out.new.items ≡ out.old.items ++ written width (UpdateMsg (announcement id prefix.now path.now)) }
+// The octets of an announcement before the numbers of its path, which have `size` octets; those of its
+// prefix are `count`.
+fn announcement_front(numbers: usize, size: usize, count: usize) -> [u8; 32]
+    requires numbers { numbers ≤ MOST_NUMBERS }
+    requires size { size ≤ 4 * MOST_NUMBERS }
+    requires count { count ≤ 4 }
+    ensures { result ≡ announcement_front numbers size count }
 {
-    let (len, address) = (prefix.len(), prefix.addr().to_be_bytes());
-    let count = octet_count(len);
-    let size = asn_size(width) * path.len();
     let [high, low] = ((HEADER_LEN + 5 + FIXED_ATTRS + size + count) as u16).to_be_bytes();
     let [upper, lower] = ((FIXED_ATTRS + size) as u16).to_be_bytes();
-    let [a, b, c, d] = id.to_be_bytes();
-    out.extend_from_slice(&[
+    [
         0xff,
         0xff,
         0xff,
@@ -116,13 +113,139 @@ fn put_announcement(out: &mut Vec<u8>, width: Width, id: u32, prefix: &Prefix, p
         AS_PATH,
         (2 + size) as u8,
         AS_SEQUENCE,
-        path.len() as u8,
-    ])
-    .unwrap();
-    put_numbers(out, width, path);
-    out.extend_from_slice(&[TRANSITIVE, NEXT_HOP, 4, a, b, c, d, len])
+        numbers as u8,
+    ]
+}
+
+// Those behind the numbers, before those of its prefix.
+fn announcement_hop(id: u32, len: u8) -> [u8; 8]
+    ensures { result ≡ announcement_hop id len }
+{
+    let [a, b, c, d] = id.to_be_bytes();
+    [TRANSITIVE, NEXT_HOP, 4, a, b, c, d, len]
+}
+
+// Appends the UPDATE that withdraws a prefix, for which there is room.
+fn put_withdrawal(out: &mut Vec<u8>, prefix: &Prefix)
+    requires room { vec_len out.old + (24 + octet_count prefix.now.len) ≤ vec_capacity out.old }
+    ensures { (w : widths.Width) → out.new.items ≡ out.old.items ++ written w (UpdateMsg (withdrawal prefix.now)) }
+{
+    let (len, address) = (prefix.len(), prefix.addr().to_be_bytes());
+    let count = octet_count(len);
+    out.extend_from_slice(&withdrawal_front(len, count))
         .unwrap();
     out.extend_from_slice(&address[..count]).unwrap();
+    out.extend_from_slice(&[0, 0]).unwrap();
+}
+
+// Appends the UPDATE that announces a path, for which there is room.
+fn put_announcement(out: &mut Vec<u8>, width: Width, id: u32, prefix: &Prefix, path: &[Asn])
+    requires fit { AllByRecursion (AsnFits width) path.now }
+    requires few { length path.now ≤ MOST_NUMBERS }
+    requires room { vec_len out.old + (40 + asn_size width * length path.now + octet_count prefix.now.len) ≤ vec_capacity out.old }
+    ensures { out.new.items ≡ out.old.items ++ written width (UpdateMsg (announcement id prefix.now path.now)) }
+{
+    let (len, address) = (prefix.len(), prefix.addr().to_be_bytes());
+    let count = octet_count(len);
+    let size = asn_size(width) * path.len();
+    out.extend_from_slice(&announcement_front(path.len(), size, count))
+        .unwrap();
+    put_numbers(out, width, path);
+    out.extend_from_slice(&announcement_hop(id, len)).unwrap();
+    out.extend_from_slice(&address[..count]).unwrap();
+}
+
+// The prefix of so many bits whose octets these are.
+fn prefix_of(len: u8, octets: &[u8]) -> Option<Prefix>
+    ensures len { IfSome result (λ prefix. prefix.len ≡ len) }
+    ensures octets { IfSome result (λ prefix. octets.now ≡ address prefix) }
+    ensures canonical { IfSome result IsCanonical }
+{
+    let count = octet_count(len);
+    if octets.len() != count || count > 4 {
+        return None;
+    }
+    let mut address = [0; 4];
+    address[..count].copy_from_slice(octets);
+    let prefix = Prefix::new(u32::from_be_bytes(address), len)?;
+    let written = prefix.addr().to_be_bytes();
+    if octets == &written[..count] {
+        Some(prefix)
+    } else {
+        None
+    }
+}
+
+// Whether octets are these.
+fn are(octets: &[u8], these: &[u8]) -> bool
+    ensures { result ≡ true → octets.now ≡ these.now }
+{
+    octets == these
+}
+
+// Whether octets of AS numbers begin with this one.
+fn begin_with(width: Width, octets: &[u8], asn: Asn) -> bool
+    ensures { result ≡ begins_with asn (numbers_of width octets.now) }
+{
+    match width {
+        Width::Two => match octets {
+            [high, low, ..] => Asn::from(u16::from_be_bytes([*high, *low])) == asn,
+            _ => false,
+        },
+        Width::Four => match octets {
+            [a, b, c, d, ..] => u32::from_be_bytes([*a, *b, *c, *d]) == asn,
+            _ => false,
+        },
+    }
+}
+
+// The prefix that a frame withdraws, where it is what `put_withdrawal` puts for it.
+fn withdrawn(frame: &[u8]) -> Option<Prefix>
+    ensures { IfSome result (λ prefix. IsCanonical prefix × IsWithdrawal frame.now prefix) }
+{
+    let (front, rest) = frame.split_at_checked(22)?;
+    let (address, end) = rest.split_at_checked(rest.len().checked_sub(2)?)?;
+    let prefix = prefix_of(front[21], address)?;
+    if are(front, &withdrawal_front(prefix.len(), address.len())) && are(end, &[0, 0]) {
+        Some(prefix)
+    } else {
+        None
+    }
+}
+
+// What a frame announces: the NEXT_HOP, the prefix, and the octets of the numbers of the path.
+#[derive(Drop)]
+struct Announcement<'a> {
+    id: u32,
+    prefix: Prefix,
+    numbers: &'a [u8],
+}
+
+// What a frame announces, where it is what `put_announcement` puts for it.
+fn announced(width: Width, frame: &[u8]) -> Option<Announcement<'_>>
+    ensures { IfSome result (λ told. IsCanonical told.prefix × IsAnnouncement width frame.now told.id told.prefix told.numbers.now) }
+{
+    let (front, rest) = frame.split_at_checked(32)?;
+    let count = front[31] as usize;
+    let size = asn_size(width) * count;
+    let (numbers, rest) = rest.split_at_checked(size)?;
+    let (hop, address) = rest.split_at_checked(8)?;
+    let id = u32::from_be_bytes([hop[3], hop[4], hop[5], hop[6]]);
+    let prefix = prefix_of(hop[7], address)?;
+    if 1 <= count
+        && count <= MOST_NUMBERS
+        && is_unicast(id)
+        && are(front, &announcement_front(count, size, address.len()))
+        && are(hop, &announcement_hop(id, prefix.len()))
+    {
+        Some(Announcement {
+            id,
+            prefix,
+            numbers,
+        })
+    } else {
+        None
+    }
 }
 
 impl Route {
@@ -138,6 +261,43 @@ impl Route {
             prefix: *prefix,
             path: Numbers::from_slice(alloc, path)?,
         })
+    }
+
+    /// The path that a frame of a peer tells, where the frame is the one UPDATE that tells it, and a path that
+    /// is announced begins with the peer. It is refused only where memory was.
+    pub fn read(
+        alloc: Global,
+        width: Width,
+        peer: Asn,
+        frame: &[u8],
+    ) -> Result<Option<Route>, AllocError>
+        ensures { IfOk result (λ found. IfSome found (IsToldBy width peer frame.now)) }
+    {
+        a_peers_writing_is_read();
+        tellings_are_sayable();
+        if let Some(told) = announced(width, frame) {
+            // one that does not begin with the peer is faulty, whatever memory there is
+            if !begin_with(width, told.numbers, peer) {
+                return Ok(None);
+            }
+            let path = read_numbers(alloc, width, told.numbers)?;
+            return Ok(Some(Route {
+                id: told.id,
+                prefix: told.prefix,
+                path,
+            }));
+        }
+        match withdrawn(frame) {
+            Some(prefix) => Ok(Some(Route::new(alloc, 0, &prefix, &[])?)),
+            None => Ok(None),
+        }
+    }
+
+    /// The prefix, and the path that is told of it: the empty one where it is withdrawn.
+    pub fn told(&self) -> (&Prefix, &[Asn])
+        ensures { (id : ℕ) × (self.now ≡ telling id result.0.now result.1.now) }
+    {
+        (&self.prefix, self.path.as_slice())
     }
 
     // How many octets the UPDATE has.

@@ -7,6 +7,7 @@ ghost use Rattle.router_model.specs.Sides.{is_up, uses};
 ghost use Rattle.router_side.specs.Histories.{history};
 ghost use Rattle.router_side.specs.SideOf.{side, side_opening};
 
+mod acting;
 mod carrying;
 mod drafting;
 mod hearing;

@@ -168,8 +168,8 @@ impl Router<'_> {
         }
     }
 
-    // A second in which no timer runs out says, dials and leaves nothing. So it needs no draft and no room,
-    // and moves the timers alone.
+    // A second in which no timer runs out says, dials and leaves nothing. So it needs no draft, and no memory of its
+    // own, and moves the timers alone.
     fn count_down(&mut self, room: Result<(), AllocError>) -> Result<Stepped, RouterError>
         requires { runs_out_in self.old.peers ≡ false }
         ensures answers { Answers result self.old Tick self.new }

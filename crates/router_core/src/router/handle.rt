@@ -7,11 +7,14 @@ ghost use Rattle.bgp_framing.specs.Held.{is_waiting};
 ghost use Rattle.ranked_policy.specs.Plans.{Linked};
 ghost use Rattle.snap_marker.specs.Recordings.{closed};
 ghost use Rattle.snap_marker.specs.Parts.{snapshots_of, is_heard, HasRoom, IsLink, IsOver, AreOf};
+ghost use Rattle.rib_tables.specs.Owners.{HearsUpdate};
+ghost use Rattle.router_model.specs.Sides.{is_up, carried, without_front, HasUpdate};
 ghost use Rattle.router_model.specs.Step.{close_at};
 ghost use Rattle.router_model.specs.Calls.{Handle};
 ghost use Rattle.router_side.specs.Drafts.{hand};
 ghost use Rattle.router_side.specs.Sayings.{IsSayable};
-ghost use Rattle.router_side.specs.SideOf.{side, naming};
+ghost use Rattle.router_side.specs.Acting.{IsRouteInFront};
+ghost use Rattle.router_side.specs.SideOf.{side, acting, naming};
 ghost use Rattle.router_core.specs.Views.{IsSame, Answers};
 ghost use Rattle.router_core.specs.Calling.{NeedsRoom};
 ghost use Rattle.router_core.specs.Handling.{update_acted, copy_where, seen_where, Hears, HandlesFront};
@@ -23,8 +26,8 @@ use ranked_policy::Asn;
 use rib_tables::Rib;
 use rib_tables::laws::the_word_follows;
 use router_model::{RouterError, Stepped};
-use router_side::laws::what_comes_keeps_fresh;
-use router_side::{Given, SideEnd, opened};
+use router_side::laws::{updates_are_acted_on, what_comes_keeps_fresh};
+use router_side::{Given, Route, SideEnd, opened};
 use snap_marker::MarkState;
 use std::alloc::{AllocError, Global};
 
@@ -88,6 +91,32 @@ fn record(marks: &mut MarkState, peer: Asn, left: Option<u32>, copy: Option<Upda
     }
 }
 
+// The UPDATE in front of a side that is up tells a path, and is acted on: there is no draft. A refusal leaves all
+// as it was.
+fn act_on(
+    end: &mut SideEnd,
+    tables: &mut Rib<'_>,
+    peer: Asn,
+    route: &Route,
+) -> Result<(), AllocError>
+    requires linked { Linked tables.old.net.links tables.old.router peer }
+    requires up { is_up (side end.old) ≡ true }
+    requires waits { is_waiting (side end.old).held ≡ true }
+    requires front { IsRouteInFront (side end.old).width peer (side end.old).held route.now }
+    ensures side { OnOk result (side end.new ≡ carried (HasUpdate route.now) (without_front (side end.old)) (acting (side end.old))) }
+    ensures hears { OnOk result (HearsUpdate tables.old tables.new peer route.now) }
+    ensures end { OnErr result (side end.new ≡ side end.old) }
+    ensures tables { OnErr result (tables.new ≡ tables.old) }
+{
+    end.reserve_acting()?;
+    let (prefix, path) = route.told();
+    let Ok(()) = tables.hear_path(peer, prefix, path) else {
+        return Err(AllocError);
+    };
+    end.act();
+    Ok(())
+}
+
 // The message or fault in front of a side is handled, as what its peer says. A refusal leaves all as it was.
 fn handle_front(
     alloc: Global,
@@ -110,6 +139,13 @@ fn handle_front(
     ensures over { (peers : List ℕ) → IsOver peers marks.old.unfinished → IsOver peers marks.new.unfinished }
     ensures router { (u : ℕ) → AreOf u marks.old → AreOf u marks.new }
 {
+    updates_are_acted_on();
+    // most are UPDATEs as a router tells them, and are not recorded
+    if end.is_up() && marks.unfinished().is_none() {
+        if let Some(route) = end.route_in_front(alloc, peer)? {
+            return act_on(end, tables, peer, &route);
+        }
+    }
     let read = end.front(alloc, rule)?;
     let (event, given) = opened(read);
     let made = end.handle(own_open, &given, event);

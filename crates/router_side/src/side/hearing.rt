@@ -1,17 +1,21 @@
 //! Octets of the peer are taken and read.
 
-ghost use Rattle.std.specs.Prelude.{◌≡◌, ◌≤◌, true, false, length, IfOk};
+ghost use Rattle.std.specs.Prelude.{◌≡◌, ◌≤◌, true, false, length, IfOk, IfSome};
 ghost use Rattle.bgp_values.specs.declared.messages.TheConstants.{MESSAGE_LIMIT};
 ghost use Rattle.bgp_codec.specs.Spelling.{IsWritable};
 ghost use Rattle.bgp_framing.specs.Held.{is_waiting};
 ghost use Rattle.session_fsm.specs.Table.{IsGoodEvent};
 ghost use Rattle.router_model.specs.Sides.{uses, fed, front, event_of, at_hand};
+ghost use Rattle.router_side.specs.Acting.{IsRouteInFront};
 ghost use Rattle.router_side.specs.Sayings.{told_of, IsSayableWhere};
 ghost use Rattle.router_side.specs.SideOf.{side};
 
 use super::SideEnd;
 use crate::reading::read_front;
-use bgp_codec::{Fault, Message, Rule};
+use crate::route::Route;
+use bgp_codec::laws::header_is_its_front;
+use bgp_codec::{Asn, Fault, Message, Rule};
+use bgp_framing::Next;
 use std::alloc::{AllocError, Global};
 
 impl SideEnd {
@@ -36,5 +40,20 @@ impl SideEnd {
         ensures writable { IfOk result (λ read. IfOk read (IsWritable rule.now)) }
     {
         read_front(alloc, &self.framer, rule)
+    }
+
+    /// The path that the message in front tells, where it is such an UPDATE as a router appends for a path, and
+    /// one that is announced begins with the peer. It is refused only where memory was.
+    pub fn route_in_front(&self, alloc: Global, peer: Asn) -> Result<Option<Route>, AllocError>
+        ensures { IfOk result (λ found. IfSome found (IsRouteInFront (side self.now).width peer (side self.now).held)) }
+    {
+        header_is_its_front();
+        match self.framer.next() {
+            Next::Whole(_, end) => {
+                let (frame, _) = self.framer.bytes().split_at(end);
+                Route::read(alloc, self.width, peer, frame)
+            }
+            Next::More | Next::Bad(_) => Ok(None),
+        }
     }
 }

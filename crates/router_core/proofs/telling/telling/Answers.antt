@@ -5,8 +5,7 @@ use Rattle.bgp_codec.specs.declared.message.Message.TheVariants.{UpdateMsg}
 use Rattle.bgp_codec.specs.declared.update.Update.{Update}
 use Rattle.router_model.specs.State.{telling}
 use Rattle.router_side.specs.Sayings.{IsSayable}
-use Rattle.router_core.proofs.Sayable.{telling_sayable}
-use Rattle.router_core.proofs.Beginnings.{identifier_is, is_unicast_host}
+use Rattle.router_core.proofs.Beginnings.{identifier_is, is_unicast_host, unicast_is}
 use Rattle.router_core.proofs.telling.telling.Goals as goal
 
 pub new-requires : goal.new-requires
@@ -26,6 +25,6 @@ returns-clause-sayable c =
     let q = c.args.prefix.now in
     let path = c.args.path.now in
     let unicast = is_unicast_host net c.requires.network c.unwrap.result.now found.1 in
-    let sayable = telling_sayable c.written_has_a_header.ensures net.settings.width id q path (omega (arith, unicast.1)) unicast c.len-len.ensures.canonical c.requires.tellable in
+    let sayable = c.tellings_are_sayable.ensures net.settings.width id q path (omega (arith, unicast.1)) (unicast_is id unicast) c.len-len.ensures.canonical (omega (arith, c.requires.tellable.few)) c.requires.tellable.short in
     IfOk-weaker c.new.result (λ (route : Update). route ≡ telling id q path) (λ (route : Update). IsSayable net.settings.width (UpdateMsg route))
     (λ route is. subst (λ (u : Update). IsSayable net.settings.width (UpdateMsg u)) (sym is) sayable) c.new.ensures.ok

@@ -1,4 +1,4 @@
-use Rattle.std.proofs.Common.{◌∙◌, ap, sym, subst}
+use Rattle.std.proofs.Common.{◌≡◌, ◌∙◌, None, ap, sym, subst}
 use Rattle.std.specs.Prelude.{Result, IfOk}
 use Rattle.bgp_codec.specs.declared.message.Message.{Message}
 use Rattle.bgp_codec.specs.declared.fault.Fault.{Fault}
@@ -13,6 +13,7 @@ use Rattle.router_side.specs.SideOf.{side, IsInFront}
 use Rattle.router_core.specs.Following.{Followed, standing}
 use Rattle.router_core.specs.Handling.{update_acted, seen_where}
 use Rattle.router_core.proofs.Handling.{link_on}
+use Rattle.router_core.proofs.HearingRoutes.{no_part, route_handled}
 use Rattle.router_core.proofs.router.handle.handle_front.Goals as goal
 
 pub record-requires-clause-link : goal.record-requires-clause-link
@@ -65,3 +66,10 @@ returns-clause-over c = λ vs o. c.record.ensures.over vs (c.copy_for.ensures.ov
 
 pub returns-clause-router : goal.returns-clause-router
 returns-clause-router c = λ u o. c.record.ensures.router u (c.copy_for.ensures.router u o)
+
+pub returns-in-Some-clause-ok : goal.returns-in-Some-clause-ok
+returns-in-Some-clause-ok c =
+    let route = rw c.in-Some.is at c.in_ok-route.ensures in
+    let none : c.args.marks.now.unfinished ≡ None = no_part c.args.marks.now.unfinished c.unfinished.result _ c.is_none.result c.unfinished.ensures c.is_none.ensures c.if-is_none.true in
+    route_handled c.updates_are_acted_on.ensures c.args.own_open.now c.args.rule.now c.requires.rule.0 c.args.peer (side c.args.end.now) c.in-Some.route (sym c.is_up.ensures ∙ c.if-is_up.true) c.requires.rule.1 route c.args.marks.now none
+    c.act_on.result (side c.act_on.new.end) c.args.tables.now c.act_on.new.tables c.act_on.ensures.side c.act_on.ensures.hears

@@ -1,11 +1,11 @@
 -- What tells of a kept path can be said: it is writable with nobody named, and short.
 use Rattle.std.proofs.Common.{◌≡◌, ℕ, zero, suc, ◌+◌, ◌*◌, ◌^◌, ◌<◌, ◌≤◌, Bool, true, false, List, [], ◌∷◌, ◌++◌, length, take, refl, arith, length-append}
 use Rattle.std.specs.Prelude.{nat_le}
-use Rattle.std.specs.List.{flat_map}
+use Rattle.std.specs.List.{flat_map, AllByRecursion}
 use Rattle.std.specs.Int.{w32, to_be_bytes}
 use Rattle.bgp_values.specs.declared.width.Width.{Width}
 use Rattle.bgp_values.specs.declared.width.Width.TheVariants.{Two, Four}
-use Rattle.bgp_codec.specs.AsNumbers.{asn_octets}
+use Rattle.bgp_codec.specs.AsNumbers.{asn_octets, AsnFits}
 use Rattle.prefix_lanes.specs.Bits.{PrefixView, IsCanonical}
 use Rattle.bgp_codec.specs.declared.message.Message.TheVariants.{UpdateMsg}
 use Rattle.bgp_codec.specs.declared.path.SegmentKind.TheVariants.{AsSequence}
@@ -13,11 +13,10 @@ use Rattle.bgp_codec.specs.declared.attributes.Raw.{Raw}
 use Rattle.bgp_codec.specs.declared.update.Update.{Update}
 use Rattle.bgp_codec.specs.Updates.{prefix_octets, raw_octets, attr_octets, raw_of, attrs_octets, path_octets, long_string, octet_count, UpdateFits, AttrsFit}
 use Rattle.bgp_codec.specs.Spelling.{WrittenHasAHeader}
-use Rattle.bgp_values.specs.Ranges.{IsUnicast}
-use Rattle.router_model.specs.State.{withdrawal, announcement, telling}
+use Rattle.bgp_values.specs.Ranges.{is_unicast}
+use Rattle.router_model.specs.State.{withdrawal, announcement}
 use Rattle.router_side.specs.Sayings.{IsSayable}
-use Rattle.router_core.specs.Views.{IsTellable}
-use Rattle.router_core.proofs.Beginnings.{unicast_is}
+use Rattle.router_side.specs.Acting.{TellingsAreSayable}
 
 -- ---- lengths
 
@@ -74,11 +73,10 @@ withdrawal_sayable header w q canonical =
 
 -- ---- an announcement
 
-announcement_sayable : WrittenHasAHeader → (w : Width) (id : ℕ) (q : PrefixView) (path : List ℕ) → id < 2 ^ 32 → IsUnicast id → IsCanonical q → IsTellable w path → 1 ≤ length path
-    → IsSayable w (UpdateMsg (announcement id q path))
-announcement_sayable header w id q path fit unicast canonical tells some =
+announcement_sayable : WrittenHasAHeader → (w : Width) (id : ℕ) (q : PrefixView) (path : List ℕ) → id < 2 ^ 32 → is_unicast id ≡ true → IsCanonical q → length path ≤ 63 → AllByRecursion (AsnFits w) path
+    → 1 ≤ length path → IsSayable w (UpdateMsg (announcement id q path))
+announcement_sayable header w id q path fit unicast canonical few short some =
     let u : Update = announcement id q path in
-    let few = tells.few in
     let all = header w (UpdateMsg u) in
     let octets = path_length w path in
     let size = three_length (raw_of 64 1 (0 ∷ [])) (raw_of 64 2 (path_octets w (record { kind = AsSequence; numbers = path } ∷ []))) (raw_of 64 3 (to_be_bytes w32 id)) in
@@ -86,20 +84,20 @@ announcement_sayable header w id q path fit unicast canonical tells some =
     let one = one_prefix q in
     let attrs : AttrsFit w u.attrs = record {
       origin = omega arith;
-      path = ((some, (omega (arith, few), tells.short)), tt);
-      next_hop = (fit, unicast_is id unicast);
+      path = ((some, (omega (arith, few), short)), tt);
+      next_hop = (fit, unicast);
       med = tt;
       local_pref = tt;
       aggregator = tt;
       other = tt;
       rising = tt;
     } in
-    let short : length (attrs_octets w u.attrs) ≤ 96 = omega (arith, size, octets, few) in
-    let fits : UpdateFits w u = record { withdrawn = tt; attrs = attrs; nlri = (canonical, tt); mandatory = λ there. refl; withdrawn_size = omega arith; attrs_size = omega (arith, short) } in
-    (fits, omega (arith, all, body, one, short))
+    let within : length (attrs_octets w u.attrs) ≤ 300 = omega (arith, size, octets, few) in
+    let fits : UpdateFits w u = record { withdrawn = tt; attrs = attrs; nlri = (canonical, tt); mandatory = λ there. refl; withdrawn_size = omega arith; attrs_size = omega (arith, within) } in
+    (fits, omega (arith, all, body, one, within))
 
 -- ---- what tells a path
 
-pub telling_sayable : WrittenHasAHeader → (w : Width) (id : ℕ) (q : PrefixView) (path : List ℕ) → id < 2 ^ 32 → IsUnicast id → IsCanonical q → IsTellable w path → IsSayable w (UpdateMsg (telling id q path))
-telling_sayable header w id q [] fit unicast canonical tells = withdrawal_sayable header w q canonical
-telling_sayable header w id q (v ∷ path) fit unicast canonical tells = announcement_sayable header w id q (v ∷ path) fit unicast canonical tells (omega arith)
+pub tellings_sayable : WrittenHasAHeader → TellingsAreSayable
+tellings_sayable header w id q [] fit unicast canonical few short = withdrawal_sayable header w q canonical
+tellings_sayable header w id q (v ∷ path) fit unicast canonical few short = announcement_sayable header w id q (v ∷ path) fit unicast canonical few short (omega arith)

@@ -1,0 +1,35 @@
+-- What an UPDATE that comes in Established does, and what can be said of a path.
+use Rattle.std.specs.Prelude.{ℕ, ◌≡◌, ◌^◌, ◌<◌, ◌≤◌, true, List, length, Some, Ok}
+use Rattle.std.specs.List.{AllByRecursion}
+use Rattle.bgp_values.specs.Ranges.{is_unicast}
+use Rattle.bgp_values.specs.declared.width.Width.{Width}
+use Rattle.prefix_lanes.specs.Bits.{PrefixView, IsCanonical}
+use Rattle.bgp_codec.specs.declared.message.Message.{Message}
+use Rattle.bgp_codec.specs.declared.message.Message.TheVariants.{UpdateMsg}
+use Rattle.bgp_codec.specs.declared.update.Update.{Update}
+use Rattle.bgp_codec.specs.declared.rule.Rule.{Rule}
+use Rattle.bgp_codec.specs.AsNumbers.{AsnFits}
+use Rattle.bgp_codec.specs.Faults.{reading}
+use Rattle.router_model.specs.Sides.{Side, is_up, front, handled}
+use Rattle.router_model.specs.State.{telling}
+use Rattle.router_side.specs.declared.route.TheConstants.{MOST_NUMBERS}
+use Rattle.router_side.specs.Sayings.{IsSayable}
+use Rattle.router_side.specs.SideOf.{acting}
+
+-- the frame of a peer tells the UPDATE, which can be said: whoever reads it as the peer's reads this
+pub record IsToldBy (width : Width) (peer : ℕ) (frame : List ℕ) (u : Update) : Type 0 where
+  pub sayable : IsSayable width (UpdateMsg u)
+  pub reads : (rule : Rule) → rule.width ≡ width → rule.peer ≡ Some peer → reading rule frame ≡ Ok (UpdateMsg u)
+
+-- the same of what stands in front of octets
+pub record IsRouteInFront (width : Width) (peer : ℕ) (octets : List ℕ) (u : Update) : Type 0 where
+  pub sayable : IsSayable width (UpdateMsg u)
+  pub reads : (rule : Rule) → rule.width ≡ width → rule.peer ≡ Some peer → front rule octets ≡ Ok (UpdateMsg u)
+
+abbrev pub UpdatesAreActedOn : Type 0
+UpdatesAreActedOn = (own_open : Message) (u : Update) (s : Side) → is_up s ≡ true → handled own_open (Ok (UpdateMsg u)) s ≡ acting s
+
+abbrev pub TellingsAreSayable : Type 0
+TellingsAreSayable =
+    (w : Width) (id : ℕ) (q : PrefixView) (path : List ℕ) → id < 2 ^ 32 → is_unicast id ≡ true → IsCanonical q → length path ≤ MOST_NUMBERS → AllByRecursion (AsnFits w) path
+    → IsSayable w (UpdateMsg (telling id q path))
