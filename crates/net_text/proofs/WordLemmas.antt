@@ -1,5 +1,6 @@
 -- Values of words, as far as 64 bits hold them.
 use Rattle.std.proofs.Common.{◌≡◌, ℕ, ◌==◌, None, inl, inr, subst, ◌+◌, ◌-◌, ◌*◌, ◌^◌, ◌<◌, ◌≤◌, List, [], ◌∷◌, length, drop, get_or, min, refl, sym, ap, ◌∙◌, arith}
+use Rattle.std.proofs.Math.Nat.{pow-le-pow_right}
 use Rattle.std.proofs.lemmas.List.{drop_more, drop_all}
 use Rattle.std.proofs.lemmas.Bool.{cases_Bool, cond-true, cond-false}
 use Rattle.net_text.specs.Lexing.{Text, parts, first_more}
@@ -30,6 +31,14 @@ value_on w i x old new lt at is =
 
 pub value_end : (w : Text) (i n : ℕ) → length w ≤ i → n ≤ most → min most (value_behind n (drop i w)) ≡ n
 value_end w i n le fits = ap (λ (v : Text). min most (value_behind n v)) (drop_all i w le) ∙ omega arith
+
+-- ---- few digits
+
+tens : (i : ℕ) → i < 17 → 10 ^ i ≤ 10 ^ 16
+tens i lt = let le : i ≤ 16 = omega (arith, lt) in let some : 0 < 10 = omega arith in pow-le-pow_right some le
+
+pub short_fits : (i value : ℕ) → i < 17 → value + 23 ≤ 23 * 10 ^ i → value ≤ 230000000000000000
+short_fits i value lt small = let most_of_them = tens i lt in omega (arith, most_of_them, small)
 
 -- ---- words of more parts than they may have
 

@@ -13,7 +13,7 @@ ghost use Rattle.net_text.specs.Taking.{parts_left, IsTakeable, IsBrief, AreBrie
 use crate::code::Code;
 use crate::lexing::{cut, next_word, same};
 use crate::repeats::come_twice;
-use crate::words::{is_number, value_of};
+use crate::words::{is_number, number_of, value_of};
 use bgp_values::{Width, is_asn};
 use ranked_policy::{Asn, LONGEST_PATH, MOST_PATHS, NetBuilder, Path};
 use std::alloc::{AllocError, Global};
@@ -138,10 +138,13 @@ fn read_numbers(word: &[u8], numbers: &mut [u64; LONGEST_PATH]) -> Option<usize>
     let (mut left, mut more) = (word, true);
     'parts: while more {
         let (part, rest, on) = next_part(left);
-        if count == LONGEST_PATH || !is_number(part) {
+        if count == LONGEST_PATH {
             return None;
         }
-        numbers[count] = value_of(part);
+        let Some(number) = number_of(part) else {
+            return None;
+        };
+        numbers[count] = number;
         count += 1;
         left = rest;
         more = on;

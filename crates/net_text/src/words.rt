@@ -1,6 +1,6 @@
 //! What one word stands for.
 
-ghost use Rattle.std.specs.Prelude.{◌≡◌, ◌-◌, ◌^◌, ◌∷◌, [], ℕ, true, false, min, IfSome, IfNone};
+ghost use Rattle.std.specs.Prelude.{◌≡◌, ◌≤◌, ◌∷◌, [], ℕ, true, false, length, IfSome, IfNone};
 ghost use Rattle.std.specs.List.{list_all, list_any};
 ghost use Rattle.net_text.specs.Words.{is_digit, is_number, value_of, is_octet, asn_word, is_router, router_word, address_of, id_word, prefix_of, prefix_word, is_named, origin_word};
 ghost use Rattle.bgp_values.specs.Ranges.{is_asn, is_unicast};
@@ -10,6 +10,9 @@ use crate::lexing::cut;
 use bgp_values::{Width, is_asn, is_unicast};
 use prefix_lanes::Prefix;
 use ranked_policy::{Asn, Origin, Router};
+
+// A word of so few octets has a value that 64 bits hold.
+const MOST_SHORT: usize = 17;
 
 fn is_digit(x: u8) -> bool
     ensures { result ≡ is_digit x }
@@ -30,11 +33,26 @@ pub fn is_number(word: &[u8]) -> bool
     !word.is_empty() && are_digits(word)
 }
 
+// The number that octets are where 64 bits hold it, whatever octets so few are.
+fn short_value(word: &[u8]) -> u64
+    requires { length word.now ≤ 17 }
+    ensures { result ≡ value_of word.now }
+{
+    let mut value = 0u64;
+    for x in word {
+        value = value * 10 + u64::from(x.saturating_sub(b'0'));
+    }
+    value
+}
+
 /// The number that digits are. One that 64 bits do not hold is answered as the greatest that they
 /// hold, which is above each limit too.
 pub fn value_of(word: &[u8]) -> u64
     ensures { result ≡ value_of word.now }
 {
+    if word.len() <= MOST_SHORT {
+        return short_value(word);
+    }
     let mut value = 0u64;
     for x in word {
         value = value
@@ -44,14 +62,47 @@ pub fn value_of(word: &[u8]) -> u64
     value
 }
 
+// The number that a short word is: its digits are tested and summed at once.
+fn short_number(word: &[u8]) -> Option<u64>
+    requires { length word.now ≤ 17 }
+    ensures none { IfNone result (list_all is_digit word.now ≡ false) }
+    ensures some { IfSome result (λ n. (list_all is_digit word.now ≡ true) × (n ≡ value_of word.now)) }
+{
+    let mut value = 0u64;
+    for x in word {
+        if !is_digit(*x) {
+            return None;
+        }
+        value = value * 10 + u64::from(*x - b'0');
+    }
+    Some(value)
+}
+
+/// The number that a word is, where it is one: what [`is_number`] and [`value_of`] say of it.
+pub fn number_of(word: &[u8]) -> Option<u64>
+    ensures none { IfNone result (is_number word.now ≡ false) }
+    ensures some { IfSome result (λ n. (is_number word.now ≡ true) × (n ≡ value_of word.now)) }
+{
+    if word.is_empty() {
+        return None;
+    }
+    if word.len() <= MOST_SHORT {
+        return short_number(word);
+    }
+    if are_digits(word) {
+        Some(value_of(word))
+    } else {
+        None
+    }
+}
+
 // A number that an AS can have, where numbers have so many octets (RFC 4271 section 4.2, RFC 7607).
 pub(crate) fn asn_word(width: Width, word: &[u8]) -> Result<Asn, Code>
     ensures { result ≡ asn_word width word.now }
 {
-    if !is_number(word) {
+    let Some(number) = number_of(word) else {
         return Err(Code::Unreadable);
-    }
-    let number = value_of(word);
+    };
     if !is_asn(width, number) {
         return Err(Code::OutOfLimit);
     }

@@ -1,4 +1,4 @@
-use Rattle.std.proofs.Common.{◌&&◌, Bool, ap, sym, ◌∙◌, arith}
+use Rattle.std.proofs.Common.{◌&&◌, Bool, ap, ◌∙◌, arith}
 use Rattle.std.specs.List.{list_all}
 use Rattle.std.proofs.Math.ListN.{length-set}
 use Rattle.net_text.specs.Words.{is_number}
@@ -12,8 +12,8 @@ parts-preserved c =
     let inv = c.parts.invariant in
     let full = c.if-count-eq-LONGEST_PATH.false in
     record {
-      room = length-set c.parts.numbers c.parts.count c.value_of.result ∙ inv.room;
+      room = length-set c.parts.numbers c.parts.count c.in-Some.number ∙ inv.room;
       few = grind (arith, inv.few, full);
-      whole = taken_on c.parts.numbers _ c.parts.count c.value_of.result _ _ c.next_part-on.result.0.now (grind (arith, inv.few, full, inv.room)) left c.value_of.ensures inv.whole;
-      numbers = inv.numbers ∙ ap (list_all is_number) left ∙ ap (λ (b : Bool). b && list_all is_number (parts_left c.next_part-on.result.2 c.next_part-on.result.1.now)) (sym c.is_number.ensures ∙ c.if-not-is_number.false);
+      whole = taken_on c.parts.numbers _ c.parts.count c.in-Some.number _ _ c.next_part-on.result.0.now (grind (arith, inv.few, full, inv.room)) left c.in-Some.ensures.some.1 inv.whole;
+      numbers = inv.numbers ∙ ap (list_all is_number) left ∙ ap (λ (b : Bool). b && list_all is_number (parts_left c.next_part-on.result.2 c.next_part-on.result.1.now)) c.in-Some.ensures.some.0;
     }
