@@ -109,10 +109,23 @@ pub(crate) fn asn_word(width: Width, word: &[u8]) -> Result<Asn, Code>
     Ok(number as Asn)
 }
 
+// Whether the number is that of the router that has it where numbers have no gap.
+fn is_without_gap(routers: &[Router], number: u64) -> bool
+    ensures { result ≡ true → is_router routers.now number ≡ true }
+{
+    let Some(first) = routers.first() else {
+        return false;
+    };
+    let place = number.saturating_sub(u64::from(first.asn));
+    place < routers.len() as u64 && u64::from(routers[place as usize].asn) == number
+}
+
+// Whether a router has the number. Most networks number theirs without a gap, so that one place is
+// looked at before all are.
 pub(crate) fn is_router(routers: &[Router], number: u64) -> bool
     ensures { result ≡ is_router routers.now number }
 {
-    routers.iter().any(|router| u64::from(router.asn) == number)
+    is_without_gap(routers, number) || routers.iter().any(|router| u64::from(router.asn) == number)
 }
 
 /// The number of a router: `Unreadable`, then `OutOfLimit`, then `UnknownRouter` where it is none.
