@@ -1,4 +1,5 @@
 pub mod LexLemmas
+pub mod MarkLemmas
 pub mod LayoutLemmas
 pub mod AddingLemmas
 pub mod DeclaringLemmas

@@ -1,20 +1,48 @@
 //! Lines of a text, words of a line, parts of a word.
 
-ghost use Rattle.std.specs.Prelude.{◌≡◌, ◌≢◌, ℕ, ◌-◌, ◌<◌, ◌≤◌, List, take, ◌++◌, ◌∷◌, [], true, false, length, slice_index, IfSome, IfNone};
+ghost use Rattle.std.specs.Prelude.{◌≡◌, ◌≢◌, ℕ, ◌+◌, ◌-◌, ◌<◌, ◌≤◌, ◌==◌, nat_le, List, take, map, ◌++◌, ◌∷◌, [], true, false, length, slice_index, IfSome, IfNone};
+ghost use Rattle.std.specs.Simd.Lanes.{mask_l};
 ghost use Rattle.net_text.specs.Lexing.{lines_of, words_of, parts, same, is_blank, is_skipped, is_ascii, without_return, IsWordNext};
 
-// The first place of an octet, or the length.
+use std::simd::prelude::*;
+
+// Which of the octets are this one, the first in the lowest bit.
+fn marks_of(octets: u8x16, wanted: u8) -> u64
+    ensures { result ≡ mask_l (map (λ x. x == wanted) octets) }
+{
+    octets.simd_eq(u8x16::splat(wanted)).to_bitmask()
+}
+
+// The first place of an octet from this one on, or the length.
+fn place_from(octets: &[u8], from: usize, wanted: u8) -> usize
+    requires { from ≤ length octets.now }
+    ensures bound { result ≤ length octets.now }
+    ensures before { (k : ℕ) → from ≤ k → k < result → slice_index octets.now k ≢ wanted }
+    ensures found { result < length octets.now → slice_index octets.now result ≡ wanted }
+{
+    let mut at = from;
+    while at < octets.len() && octets[at] != wanted {
+        at += 1;
+    }
+    at
+}
+
+// The first place of an octet, or the length. Sixteen octets are compared at a time, and the last
+// ones one by one.
 fn place_of(octets: &[u8], wanted: u8) -> usize
     ensures bound { result ≤ length octets.now }
     ensures before { (k : ℕ) → k < result → slice_index octets.now k ≢ wanted }
     ensures found { result < length octets.now → slice_index octets.now result ≡ wanted }
 {
-    for (i, x) in octets.iter().enumerate() {
-        if *x == wanted {
-            return i;
+    let mut at = 0usize;
+    while octets.len() - at >= 16 {
+        let marks = marks_of(u8x16::from_slice(&octets[at..]), wanted);
+        if marks != 0 {
+            return at + marks.trailing_zeros() as usize;
         }
+        at += 16;
     }
-    octets.len()
+    place_from(octets, at, wanted)
 }
 
 // The line without the CR that stands before its LF.
@@ -69,18 +97,41 @@ fn skip_blanks(line: &[u8]) -> &[u8]
     left
 }
 
+// Which of the octets are at most a space, as blanks are, the first in the lowest bit.
+fn low_ones(octets: u8x8) -> u64
+    ensures { result ≡ mask_l (map (λ x. nat_le x 32) octets) }
+{
+    octets.simd_le(u8x8::splat(b' ')).to_bitmask()
+}
+
+// The first place that can be a blank's: no octet before it is one. Eight octets are compared at a
+// time, and the last ones of a line not at all.
+fn blank_from(line: &[u8]) -> usize
+    ensures bound { result ≤ length line.now }
+    ensures before { (k : ℕ) → k < result → is_blank (slice_index line.now k) ≡ false }
+{
+    let mut at = 0usize;
+    while line.len() - at >= 8 {
+        let marks = low_ones(u8x8::from_slice(&line[at..]));
+        if marks != 0 {
+            return at + marks.trailing_zeros() as usize;
+        }
+        at += 8;
+    }
+    at
+}
+
 // The first place of a blank, or the length.
 fn word_len(line: &[u8]) -> usize
     ensures bound { result ≤ length line.now }
     ensures before { (k : ℕ) → k < result → is_blank (slice_index line.now k) ≡ false }
     ensures found { result < length line.now → is_blank (slice_index line.now result) ≡ true }
 {
-    for (i, x) in line.iter().enumerate() {
-        if is_blank(*x) {
-            return i;
-        }
+    let mut at = blank_from(line);
+    while at < line.len() && !is_blank(line[at]) {
+        at += 1;
     }
-    line.len()
+    at
 }
 
 /// The first word of a line, and what is behind it.
@@ -128,11 +179,29 @@ pub fn is_skipped(line: &[u8]) -> bool
     }
 }
 
-/// Whether each octet of the line is one of ASCII.
+// Which of the octets are none of ASCII, the first in the lowest bit.
+fn others(octets: u8x8) -> u64
+    ensures { result ≡ mask_l (map (λ x. nat_le 128 x) octets) }
+{
+    octets.simd_ge(u8x8::splat(128)).to_bitmask()
+}
+
+/// Whether each octet of the line is one of ASCII. Eight are tested at a time, the last eight of a
+/// line maybe once more.
 pub fn is_ascii(line: &[u8]) -> bool
     ensures { result ≡ is_ascii line.now }
 {
-    line.iter().all(|x| *x < 128)
+    if line.len() < 8 {
+        return line.iter().all(|x| *x < 128);
+    }
+    let mut at = 0usize;
+    while line.len() - at > 8 {
+        if others(u8x8::from_slice(&line[at..])) != 0 {
+            return false;
+        }
+        at += 8;
+    }
+    others(u8x8::from_slice(&line[line.len() - 8..])) == 0
 }
 
 /// Whether two words are one.

@@ -90,6 +90,7 @@ fn are_asns(width: Width, word: &[u8]) -> bool
 fn names_router(net: &NetBuilder, number: u64) -> bool
     ensures { result ≡ is_router net.now.routers number }
 {
+    // what a builder keeps in order is told with its settings
     let _plan = net.settings();
     if number > u64::from(u32::MAX) {
         return false;
