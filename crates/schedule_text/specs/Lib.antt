@@ -1,4 +1,5 @@
 pub mod Schedules
+pub mod Keywords
 pub mod Sayings
 pub mod Events
 pub mod Reports

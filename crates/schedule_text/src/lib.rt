@@ -9,9 +9,9 @@
 //! snapshot cuts the events of a run, [`stop_line`] that a run refused the order of a line. A refused call leaves the
 //! buffer's octets as they were.
 //!
-//! The definitions stand in `specs/`: `Schedules` (keywords, their operands, whole texts), `Sayings`
-//! (which words say which order), `Events` (the line of an event), `Reports` (lines of a run). [`laws`] has what they
-//! say together.
+//! The definitions stand in `specs/`: `Schedules` (keywords, their operands, whole texts), `Keywords` (keywords by their
+//! first octet), `Sayings` (which words say which order), `Events` (the line of an event), `Reports` (lines of a run).
+//! [`laws`] has what they say together.
 //!
 //! Left out: what orders do.
 #![tactic(auto)]

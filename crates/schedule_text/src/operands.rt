@@ -7,7 +7,7 @@ ghost use Rattle.schedule_text.specs.Schedules.{is_within, router_operand, peer_
 
 use net_text::Code;
 use net_text::lexing::{one_word, two_words};
-use net_text::words::{is_number, origin_word, router_word, value_of};
+use net_text::words::{number_of, origin_word, router_word};
 use prefix_lanes::Prefix;
 use ranked_policy::{Asn, Network};
 
@@ -18,10 +18,9 @@ pub(crate) const MOST_COUNT: u32 = 1_000_000;
 fn number_word(word: &[u8], greatest: u32) -> Result<u32, Code>
     ensures { result ≡ number_word (is_within greatest) word.now }
 {
-    if !is_number(word) {
+    let Some(number) = number_of(word) else {
         return Err(Code::Unreadable);
-    }
-    let number = value_of(word);
+    };
     if number < 1 || number > u64::from(greatest) {
         return Err(Code::OutOfLimit);
     }

@@ -1,6 +1,6 @@
 //! A schedule text, line by line.
 
-ghost use Rattle.std.specs.Prelude.{◌≡◌, ◌≢◌, ◌+◌, ◌<◌, ◌^◌, ◌++◌, length, IfOk, IfErr, OnOk};
+ghost use Rattle.std.specs.Prelude.{◌≡◌, ◌≢◌, ◌+◌, ◌<◌, ◌^◌, ◌++◌, ◌∷◌, length, IfOk, IfErr, OnOk};
 ghost use Rattle.net_text.specs.Lexing.{lines_of, words_of};
 ghost use Rattle.schedule_text.specs.Schedules.{ordered, words_order, line_order, order_at, IsGood, IsFaulty, SpellsSchedule, RefusesSchedule};
 
@@ -8,7 +8,7 @@ use crate::keyword::{Keyword, keyword_of};
 use crate::operands::{
     count_operand, number_operands, peer_operands, prefix_operands, router_operand,
 };
-use net_text::lexing::{is_ascii, is_skipped, next_line, next_word};
+use net_text::lexing::{is_ascii, next_line, next_word};
 use net_text::{Code, Refused};
 use ranked_policy::Network;
 use router_model::Command;
@@ -76,12 +76,10 @@ fn ordered(network: &Network, keyword: Keyword, words: &[u8]) -> Result<Order, C
     Ok(Order::One(event))
 }
 
-fn words_order(network: &Network, text: &[u8]) -> Result<Option<Order>, Code>
-    ensures { result ≡ words_order network.now (words_of text.now) }
+// What a line with this first word orders, by the words behind it.
+fn words_order(network: &Network, name: &[u8], words: &[u8]) -> Result<Option<Order>, Code>
+    ensures { result ≡ words_order network.now (name.now ∷ words_of words.now) }
 {
-    let Some((name, words)) = next_word(text) else {
-        return Ok(None);
-    };
     let Some(keyword) = keyword_of(name) else {
         return Err(Code::BadForm);
     };
@@ -92,13 +90,16 @@ fn words_order(network: &Network, text: &[u8]) -> Result<Option<Order>, Code>
 fn line_order(network: &Network, text: &[u8]) -> Result<Option<Order>, Code>
     ensures { result ≡ line_order network.now text.now }
 {
-    if is_skipped(text) {
+    let Some((name, words)) = next_word(text) else {
+        return Ok(None);
+    };
+    if let [b'#', ..] = name {
         return Ok(None);
     }
     if !is_ascii(text) {
         return Err(Code::BadForm);
     }
-    words_order(network, text)
+    words_order(network, name, words)
 }
 
 // Adds what a line orders.
