@@ -12,7 +12,7 @@ use Rattle.world_core.specs.declared.schedule.Event.{Event}
 use Rattle.world_core.specs.declared.schedule.Order.TheVariants as order
 use Rattle.world_core.specs.declared.schedule.StepFault.{StepFault}
 use Rattle.world_core.specs.declared.schedule.StepFault.TheVariants.{Memory}
-use Rattle.world_core.specs.World.{World, new_world, played, world_answer}
+use Rattle.world_core.specs.World.{World, played, world_answer}
 use Rattle.world_core.specs.Orders.{IsRefused, StopsAt, events_of, repeated, round, second}
 use Rattle.world_core.specs.Views.{WorldView, plain_world, Answers, Opens}
 use Rattle.world_core.proofs.Orders.{on_to, repeated_one, repeated_among}
@@ -27,7 +27,7 @@ use Rattle.play_engine.specs.declared.schedules.Stop.{Stop}
 use Rattle.play_engine.specs.Playing.{LeadTo, IsFirstRefused}
 use Rattle.play_engine.proofs.PlayLemmas.{lead_on}
 use Rattle.schedule_text.specs.Events.{event_line}
-use Rattle.trace_engine.specs.Tracing.{AreComments, EventsText, reached, rest_in, rest_of, head_text, tail_text, count_of, OrderText, OrdersText, StoppedText, stop_comment, limited, OrdersTrace, Adds, HaltsAt, TracesOne, TracesEvents, TracesRounds, TracesWork, TracesOrder, TracesAll}
+use Rattle.trace_engine.specs.Tracing.{AreComments, EventsText, rest_in, rest_of, head_text, tail_text, count_of, OrderText, OrdersText, StoppedText, stop_comment, limited, OrdersTrace, Adds, HaltsAt, TracesOne, TracesEvents, TracesRounds, TracesWork, TracesOrder, TracesAll}
 use Rattle.trace_engine.specs.Tracings.{ScheduleTraces, network_lines, InputTraces, Traces}
 use Rattle.trace_engine.proofs.TextLemmas.{text_behind, silent, halted_text, reached_is, did, idled, failed, orders_behind, rested, moved}
 
@@ -84,7 +84,7 @@ halts x y z es fs gs old mid new why same h k = λ g e ranks kind.
     } in
     (length es + b.0, all, added (EventsText g wx es) (EventsText g wy s.before) (EventsText g wx (es ++ s.before)) old mid new a.1 b.2 (λ q t p r. text_behind g es s.before wx wy 0 q t a.0 p r))
 
-one_halts : (x y : WorldView) (event : Event) (old new : List ℕ) (why : StepFault) → TracesOne (Err why) x event old y new → TracesEvents (Err why) x (event ∷ []) old y new
+pub one_halts : (x y : WorldView) (event : Event) (old new : List ℕ) (why : StepFault) → TracesOne (Err why) x event old y new → TracesEvents (Err why) x (event ∷ []) old y new
 one_halts x y event old new why h = λ g e ranks kind.
     let a = h g e ranks kind in
     let there : IsRefused g (plain_world y) event why = subst (λ (w : World). IsRefused g w event why) (sym a.1) (inl a.0) in (

@@ -2,5 +2,6 @@ pub mod CallLemmas
 pub mod EventLemmas
 pub mod LawLemmas
 pub mod LineLemmas
+pub mod RoundLemmas
 pub mod RunLemmas
 pub mod TextLemmas

@@ -14,6 +14,7 @@ mod network;
 mod notes;
 mod orders;
 mod rounds;
+mod seconds;
 mod steps;
 mod stream;
 mod trace;

@@ -10,8 +10,9 @@ ghost use Rattle.trace_engine.specs.Tracing.{TracesWork, TracesOrder, TracesAll,
 use crate::comments::{put_head, put_limit, put_stop, put_tail};
 use crate::network::put_network;
 use crate::notes::Notes;
-use crate::rounds::{round_of, second_of};
-use crate::steps::{trace_events, trace_rounds, trace_seconds};
+use crate::rounds::trace_rounds;
+use crate::seconds::{second_of, trace_seconds};
+use crate::steps::trace_events;
 use play_engine::Stop;
 use ranked_policy::Network;
 use schedule_text::ScheduledOrder;
@@ -34,10 +35,7 @@ fn trace_work(
 {
     match order {
         Order::One(event) => trace_events(world, &[*event], notes, out)?,
-        Order::Rounds(times) => {
-            let round = round_of(alloc, world.network())?;
-            return trace_rounds(world, round.as_slice(), *times, notes, out);
-        }
+        Order::Rounds(times) => return trace_rounds(alloc, world, *times, notes, out),
         Order::Ticks(times) => {
             let second = second_of(alloc, world.network())?;
             trace_seconds(world, second.as_slice(), *times, notes, out)?;

@@ -1,58 +1,174 @@
-//! The events of one round and of one second of a network.
+//! Rounds of a network: each router has its turn, but for those that rest, and tries what it may with each peer, but
+//! for those with whom nothing is to be done. What is passed over would find nothing to do, so it has no line.
+//!
+//! A world walks its own rounds alike (`World::obey`). This walk stands beside it, since a trace looks at the world
+//! before each event and behind it.
 
-ghost use Rattle.std.specs.Prelude.{◌≡◌, ◌++◌, OnOk, IfOk};
-ghost use Rattle.world_core.specs.Orders.{with_peer, turn, round, second};
+ghost use Rattle.std.specs.Prelude.{◌≡◌, slice_get, Some, OnOk};
+ghost use Rattle.ranked_policy.specs.Plans.{numbers};
+ghost use Rattle.router_model.specs.Settings.{peers};
+ghost use Rattle.world_core.specs.declared.schedule.Event.TheVariants.{Put};
+ghost use Rattle.world_core.specs.Orders.{with_peer, turn, round};
+ghost use Rattle.world_core.specs.Resting.{AreResting, AreRestingBeside};
+ghost use Rattle.trace_engine.specs.Tracing.{TracesOne, TracesEvents, TracesRounds};
 
-use ranked_policy::{Asn, Network};
-use router_core::is_peer;
-use std::alloc::{AllocError, Global};
-use world_core::Event;
+use crate::notes::Notes;
+use crate::steps::{trace_event, trace_events};
+use ranked_policy::Asn;
+use router_model::laws::answers_are_steps;
+use std::alloc::Global;
+use world_core::marks::{is_marked, mark, no_marks, wake};
+use world_core::{Event, StepFault, World};
 
-// Appends what a router tries with one peer.
-fn push_with_peer(number: Asn, peer: Asn, events: &mut Vec<Event>) -> Result<(), AllocError>
-    ensures { OnOk result (events.new.items ≡ events.old.items ++ with_peer number peer) }
+// A router puts what is next towards a peer, which rests no longer where something is.
+fn trace_put(
+    world: &mut World<'_>,
+    number: Asn,
+    peer: Asn,
+    marks: &mut Vec<bool>,
+    notes: &mut Notes,
+    out: &mut Vec<u8>,
+) -> Result<(), StepFault>
+    requires { AreRestingBeside world.old number marks.old.items }
+    ensures traces { TracesOne result world.old (Put number peer) out.old.items world.new out.new.items }
+    ensures same { world.new.net ≡ world.old.net }
+    ensures resting { OnOk result (AreRestingBeside world.new number marks.new.items) }
 {
-    events.extend_from_slice(&[
-        Event::Put(number, peer),
-        Event::Take(number, peer),
-        Event::Handle(number, peer),
-    ])
+    answers_are_steps();
+    let network = world.network();
+    let _ = network.built();
+    let before = world.run().len();
+    trace_event(world, &Event::Put(number, peer), notes, out)?;
+    if world.run().len() != before {
+        wake(network, peer, marks);
+    }
+    Ok(())
 }
 
-// Appends the turn of a router.
-fn push_turn(network: &Network, number: Asn, events: &mut Vec<Event>) -> Result<(), AllocError>
-    ensures { OnOk result (events.new.items ≡ events.old.items ++ turn network.now number) }
+// What a router that stands there tries with the peer at a place: nothing where nothing is to be done between them.
+fn trace_exchange(
+    world: &mut World<'_>,
+    at: usize,
+    number: Asn,
+    place: usize,
+    peer: Asn,
+    marks: &mut Vec<bool>,
+    notes: &mut Notes,
+    out: &mut Vec<u8>,
+) -> Result<(), StepFault>
+    requires router { slice_get (numbers world.old.net.routers) at ≡ Some number }
+    requires peer { slice_get (peers world.old.net number) place ≡ Some peer }
+    requires resting { AreRestingBeside world.old number marks.old.items }
+    ensures traces { TracesEvents result world.old (with_peer number peer) out.old.items world.new out.new.items }
+    ensures same { world.new.net ≡ world.old.net }
+    ensures resting { OnOk result (AreRestingBeside world.new number marks.new.items) }
 {
-    for other in network.routers() {
-        if is_peer(network, number, other.asn) {
-            push_with_peer(number, other.asn, events)?;
-        }
+    answers_are_steps();
+    let network = world.network();
+    let _ = network.built();
+    if world.is_quiet_at(at, number, place, peer) {
+        return Ok(());
     }
-    events.extend_from_slice(&[
+    trace_put(world, number, peer, marks, notes, out)?;
+    let then = [Event::Take(number, peer), Event::Handle(number, peer)];
+    trace_events(world, &then, notes, out)
+}
+
+// What the router that stands there tries with each peer, rising, and then alone.
+fn trace_turn(
+    world: &mut World<'_>,
+    at: usize,
+    number: Asn,
+    marks: &mut Vec<bool>,
+    notes: &mut Notes,
+    out: &mut Vec<u8>,
+) -> Result<(), StepFault>
+    requires router { slice_get (numbers world.old.net.routers) at ≡ Some number }
+    requires resting { AreRestingBeside world.old number marks.old.items }
+    ensures traces { TracesEvents result world.old (turn world.old.net number) out.old.items world.new out.new.items }
+    ensures same { world.new.net ≡ world.old.net }
+    ensures resting { OnOk result (AreRestingBeside world.new number marks.new.items) }
+{
+    answers_are_steps();
+    let network = world.network();
+    let _ = network.built();
+    for place in 0..world.count_peers(at, number) {
+        let peer = world.peer_at(at, number, place);
+        trace_exchange(world, at, number, place, peer, marks, notes, out)?;
+    }
+    let alone = [
         Event::Decide(number),
         Event::Advertise(number),
         Event::Offer(number),
-    ])
+    ];
+    trace_events(world, &alone, notes, out)
 }
 
-/// The events of one round: each router, rising, has its turn.
-pub(crate) fn round_of(alloc: Global, network: &Network) -> Result<Vec<Event>, AllocError>
-    ensures { IfOk result (λ events. events.items ≡ round network.now) }
+// The turn of the router at a place, unless it rests: its last turn did nothing, and nothing was put towards it since.
+fn trace_visit(
+    world: &mut World<'_>,
+    at: usize,
+    number: Asn,
+    marks: &mut Vec<bool>,
+    notes: &mut Notes,
+    out: &mut Vec<u8>,
+) -> Result<(), StepFault>
+    requires router { slice_get (numbers world.old.net.routers) at ≡ Some number }
+    requires resting { AreResting world.old marks.old.items }
+    ensures traces { TracesEvents result world.old (turn world.old.net number) out.old.items world.new out.new.items }
+    ensures same { world.new.net ≡ world.old.net }
+    ensures resting { OnOk result (AreResting world.new marks.new.items) }
 {
-    let mut events = Vec::new(alloc);
-    for router in network.routers() {
-        push_turn(network, router.asn, &mut events)?;
+    if is_marked(marks.as_slice(), at) {
+        return Ok(());
     }
-    Ok(events)
+    let network = world.network();
+    let _ = network.built();
+    let before = world.run().len();
+    trace_turn(world, at, number, marks, notes, out)?;
+    if world.run().len() == before {
+        mark(marks, at, true);
+    }
+    Ok(())
 }
 
-/// The events of one second: it passes at each router, rising.
-pub(crate) fn second_of(alloc: Global, network: &Network) -> Result<Vec<Event>, AllocError>
-    ensures { IfOk result (λ events. events.items ≡ second network.now) }
+// Each router, rising, has its turn, but for those that rest.
+fn trace_round(
+    world: &mut World<'_>,
+    marks: &mut Vec<bool>,
+    notes: &mut Notes,
+    out: &mut Vec<u8>,
+) -> Result<(), StepFault>
+    requires { AreResting world.old marks.old.items }
+    ensures traces { TracesEvents result world.old (round world.old.net) out.old.items world.new out.new.items }
+    ensures same { world.new.net ≡ world.old.net }
+    ensures resting { OnOk result (AreResting world.new marks.new.items) }
 {
-    let mut events = Vec::new(alloc);
-    for router in network.routers() {
-        events.extend_from_slice(&[Event::Tick(router.asn)])?;
+    for (at, router) in world.network().routers().iter().enumerate() {
+        trace_visit(world, at, router.asn, marks, notes, out)?;
     }
-    Ok(events)
+    Ok(())
+}
+
+/// Does so many rounds, and answers how many of them did something before one did nothing, where one did nothing.
+/// Behind that one all others do nothing.
+pub(crate) fn trace_rounds(
+    alloc: Global,
+    world: &mut World<'_>,
+    times: u32,
+    notes: &mut Notes,
+    out: &mut Vec<u8>,
+) -> Result<Option<u32>, StepFault>
+    ensures traces { TracesRounds result world.old times out.old.items world.new out.new.items }
+    ensures same { world.new.net ≡ world.old.net }
+{
+    let mut marks = no_marks(alloc, world.network().routers().len());
+    for passed in 0..times {
+        let before = world.run().len();
+        trace_round(world, &mut marks, notes, out)?;
+        if world.run().len() == before {
+            return Ok(Some(passed));
+        }
+    }
+    Ok(None)
 }

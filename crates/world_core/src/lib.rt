@@ -7,7 +7,7 @@ pub mod examples;
 mod flags;
 mod inbox;
 pub mod laws;
-mod marks;
+pub mod marks;
 mod obeying;
 mod opening;
 mod player;

@@ -17,10 +17,10 @@ returns-in_err-trace_seconds-in-Ticks-clause-traces c =
     let p = err_from_is_err_and c.from_residual-in_err-trace_seconds-in-Ticks.result c.from_residual-in_err-trace_seconds-in-Ticks.ensures.1 in
     rw (p.1, p.2, c.in-Ticks.is)
     (ticks_halt c.args.world.now c.trace_seconds.new.world _ _ c.args.out.now.items c.trace_seconds.new.out.items c.in_err-trace_seconds-in-Ticks.field-0.0
-    (c.as_slice-in-Ticks.ensures.value ∙ c.in_ok-second-in-Ticks.ensures ∙ ap second c.network-in-Ticks.ensures) c.in_err-trace_seconds-in-Ticks.ensures.traces)
+    (c.as_slice.ensures.value ∙ c.in_ok-second-in-Ticks.ensures ∙ ap second c.network.ensures) c.in_err-trace_seconds-in-Ticks.ensures.traces)
 
 pub returns-in_ok-trace_seconds-in-Ticks-clause-traces : goal.returns-in_ok-trace_seconds-in-Ticks-clause-traces
 returns-in_ok-trace_seconds-in-Ticks-clause-traces c =
     rw c.in-Ticks.is
     (ticks_done c.args.world.now c.trace_seconds.new.world _ _ c.args.out.now.items c.trace_seconds.new.out.items
-    (c.as_slice-in-Ticks.ensures.value ∙ c.in_ok-second-in-Ticks.ensures ∙ ap second c.network-in-Ticks.ensures) c.in_ok-trace_seconds-in-Ticks.ensures.traces)
+    (c.as_slice.ensures.value ∙ c.in_ok-second-in-Ticks.ensures ∙ ap second c.network.ensures) c.in_ok-trace_seconds-in-Ticks.ensures.traces)

@@ -2,7 +2,7 @@
 use Rattle.std.proofs.Common.{◌≡◌, Ok}
 use Rattle.world_core.specs.Orders.{repeated}
 use Rattle.trace_engine.specs.Tracing.{TracesEvents}
-use Rattle.trace_engine.proofs.steps.trace_seconds.Given as goal
+use Rattle.trace_engine.proofs.seconds.trace_seconds.Given as goal
 
 abbrev pub invariant-loop : goal.invariant-loop
 invariant-loop l =

@@ -3,7 +3,7 @@ use Rattle.std.proofs.lemmas.Result.{err_from_is_err_and}
 use Rattle.world_core.specs.Orders.{repeated}
 use Rattle.trace_engine.specs.Tracing.{TracesEvents}
 use Rattle.trace_engine.proofs.CallLemmas.{first_traced, again_on, again_halts}
-use Rattle.trace_engine.proofs.steps.trace_seconds.Goals as goal
+use Rattle.trace_engine.proofs.seconds.trace_seconds.Goals as goal
 
 pub returns-in_err-trace_events-clause-traces : goal.returns-in_err-trace_events-clause-traces
 returns-in_err-trace_events-clause-traces c =
