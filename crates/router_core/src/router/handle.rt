@@ -146,6 +146,33 @@ fn handle_front(
             return act_on(end, tables, peer, &route);
         }
     }
+    handle_by_draft(alloc, rule, end, tables, marks, own_open, peer)
+}
+
+// Any message or fault: it is read, and what it makes of the side is drafted, given room, and carried out. A draft is
+// large, and a function pays for what it may hold as it begins: so `handle_front` holds none.
+#[inline(never)]
+fn handle_by_draft(
+    alloc: Global,
+    rule: &Rule,
+    end: &mut SideEnd,
+    tables: &mut Rib<'_>,
+    marks: &mut MarkState,
+    own_open: &Message,
+    peer: Asn,
+) -> Result<(), AllocError>
+    requires linked { Linked tables.old.net.links tables.old.router peer }
+    requires own { (w : widths.Width) → IsSayable w own_open.now }
+    requires rule { (own : ℕ) × (rule.now ≡ naming (side end.old).width own peer) }
+    requires waits { is_waiting (side end.old).held ≡ true }
+    requires link { IsLink marks.old.unfinished peer }
+    ensures ok { OnOk result (HandlesFront own_open.now rule.now peer (side end.old) (side end.new) tables.old tables.new (snapshots_of marks.old) (snapshots_of marks.new)) }
+    ensures end { OnErr result (side end.new ≡ side end.old) }
+    ensures tables { OnErr result (tables.new ≡ tables.old) }
+    ensures marks { OnErr result (snapshots_of marks.new ≡ snapshots_of marks.old) }
+    ensures over { (peers : List ℕ) → IsOver peers marks.old.unfinished → IsOver peers marks.new.unfinished }
+    ensures router { (u : ℕ) → AreOf u marks.old → AreOf u marks.new }
+{
     let read = end.front(alloc, rule)?;
     let (event, given) = opened(read);
     let made = end.handle(own_open, &given, event);
