@@ -426,6 +426,14 @@ impl<'a> Rib<'a> {
         false
     }
 
+    /// Whether nothing is to be done, where that is seen without a look at a path: each kept path is the best, and
+    /// each Established peer was told all. It takes no memory.
+    pub fn rests(&self) -> bool
+        ensures { result ≡ true → HoldsOfAll self.now.net.origins (IsSettled self.now) × AllServed self.now }
+    {
+        self.dirty.is_empty() && !self.is_awaited()
+    }
+
     /// Whether anything is still to be done: some kept path is not the best, or some Established
     /// peer was not told some kept path. Nothing that a clause sees changes. It takes no memory.
     pub fn is_pending(&mut self) -> bool

@@ -1,6 +1,6 @@
 -- Who is told next, in each setting of the network, and the step that tells it.
 use Rattle.std.proofs.Common.{◌≡◌, ℕ, ◌+◌, Bool, true, false, Option, None, Some, refl, sym, ap, subst, ◌∙◌}
-use Rattle.std.specs.Prelude.{nat_lt, Result, Err}
+use Rattle.std.specs.Prelude.{nat_lt, Result, Ok, Err}
 use Rattle.std.specs.List.{find}
 use Rattle.prefix_lanes.specs.Bits.{PrefixView}
 use Rattle.run_model.specs.Network.{alone}
@@ -8,6 +8,7 @@ use Rattle.ranked_policy.specs.Plans.{Plan}
 use Rattle.router_model.specs.declared.refusal.RouterError.{RouterError}
 use Rattle.router_model.specs.declared.refusal.RouterError.TheVariants as error
 use Rattle.router_model.specs.declared.refusal.Stepped.{Stepped}
+use Rattle.router_model.specs.declared.refusal.Stepped.TheVariants as stepped
 use Rattle.router_model.specs.Settings.{Setting, peers}
 use Rattle.router_model.specs.State.{untold, is_waiting_peer}
 use Rattle.router_model.specs.Step.{Advertises, telling_to, telling_of}
@@ -25,6 +26,9 @@ module _ (g : Setting) (x : RouterView) (same : g.net ≡ x.net) where
 
   pub is_blocked : (v : ℕ) → IsNext x (next.Blocked v) → Gives g x.number (Err (error.Blocked v)) (answer g x.number (plain_of x) Advertise) (plain_of x) Advertise (plain_of x)
   is_blocked v h = rw (rooms ∙ h.0, waits ∙ h.1) (refl, refl)
+
+  pub is_nobody : IsNext x next.Nobody → Gives g x.number (Ok stepped.Nothing) (answer g x.number (plain_of x) Advertise) (plain_of x) Advertise (plain_of x)
+  is_nobody h = rw (rooms ∙ h.0, waits ∙ h.1) (refl, refl)
 
   told_is : (v : ℕ) (q : PrefixView) → untold (unchosen x.net) x.number (plain_of x).router v ≡ Some q
       → told_to (plain_of x) x.net x.number v q ≡ stamped_after g x.number (plain_of x) Advertise (alone (Advertises v))

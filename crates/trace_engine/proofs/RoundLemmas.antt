@@ -11,10 +11,10 @@ use Rattle.world_core.specs.declared.schedule.Event.TheVariants as event
 use Rattle.world_core.specs.declared.schedule.StepFault.{StepFault}
 use Rattle.world_core.specs.Orders.{with_peer}
 use Rattle.world_core.specs.Resting.{AreRestingBeside}
-use Rattle.world_core.specs.Steps.{IsQuiet}
+use Rattle.world_core.specs.Steps.{IsQuiet, IsIdle}
 use Rattle.world_core.specs.Views.{WorldView, plain_world, Obeys}
 use Rattle.world_core.proofs.Awake.{Spares, beside_own}
-use Rattle.world_core.proofs.Orders.{obeys_behind, obeys_one}
+use Rattle.world_core.proofs.Orders.{obeys_behind, obeys_one, idle_obeys}
 use Rattle.trace_engine.specs.Tracing.{TracesOne, TracesEvents}
 use Rattle.trace_engine.proofs.TextLemmas.{silent}
 use Rattle.trace_engine.proofs.CallLemmas.{one_halts, first_traced, joined, halts}
@@ -55,6 +55,10 @@ quiet_over x u v old q =
     passed_over x (with_peer u v) old
     (obeys_behind x x x (event.Put u v ∷ []) (event.Take u v ∷ event.Handle u v ∷ []) (Ok tt) refl (obeys_one x x (event.Put u v) stepped.Nothing q.put)
     (obeys_behind x x x (event.Take u v ∷ []) (event.Handle u v ∷ []) (Ok tt) refl (obeys_one x x (event.Take u v) stepped.Nothing q.take) (obeys_one x x (event.Handle u v) stepped.Nothing q.handle)))
+
+-- a router that has nothing to do alone
+pub idle_over : (x : WorldView) (u : ℕ) (old : List ℕ) → IsIdle x u → TracesEvents (Ok tt) x (event.Decide u ∷ event.Advertise u ∷ event.Offer u ∷ []) old x old
+idle_over x u old q = passed_over x (event.Decide u ∷ event.Advertise u ∷ event.Offer u ∷ []) old (idle_obeys x u q)
 
 -- ---- who rests
 

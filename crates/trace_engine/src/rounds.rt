@@ -1,13 +1,14 @@
 //! Rounds of a network: each router has its turn, but for those that rest, and tries what it may with each peer, but
-//! for those with whom nothing is to be done. What is passed over would find nothing to do, so it has no line.
+//! for those with whom nothing is to be done, and alone, but for where it is idle. What is passed over would find
+//! nothing to do, so it has no line.
 //!
 //! A world walks its own rounds alike (`World::obey`). This walk stands beside it, since a trace looks at the world
 //! before each event and behind it.
 
-ghost use Rattle.std.specs.Prelude.{◌≡◌, slice_get, Some, OnOk};
+ghost use Rattle.std.specs.Prelude.{◌≡◌, [], ◌∷◌, slice_get, Some, OnOk};
 ghost use Rattle.ranked_policy.specs.Plans.{numbers};
 ghost use Rattle.router_model.specs.Settings.{peers};
-ghost use Rattle.world_core.specs.declared.schedule.Event.TheVariants.{Put};
+ghost use Rattle.world_core.specs.declared.schedule.Event.TheVariants.{Put, Decide, Advertise, Offer};
 ghost use Rattle.world_core.specs.Orders.{with_peer, turn, round};
 ghost use Rattle.world_core.specs.Resting.{AreResting, AreRestingBeside};
 ghost use Rattle.trace_engine.specs.Tracing.{TracesOne, TracesEvents, TracesRounds};
@@ -74,6 +75,29 @@ fn trace_exchange(
     trace_events(world, &then, notes, out)
 }
 
+// What the router that stands there tries alone: nothing where it has nothing to do.
+fn trace_alone(
+    world: &mut World<'_>,
+    at: usize,
+    number: Asn,
+    notes: &mut Notes,
+    out: &mut Vec<u8>,
+) -> Result<(), StepFault>
+    requires { slice_get (numbers world.old.net.routers) at ≡ Some number }
+    ensures traces { TracesEvents result world.old (Decide number ∷ Advertise number ∷ Offer number ∷ []) out.old.items world.new out.new.items }
+    ensures same { world.new.net ≡ world.old.net }
+{
+    if world.is_idle_at(at, number) {
+        return Ok(());
+    }
+    let alone = [
+        Event::Decide(number),
+        Event::Advertise(number),
+        Event::Offer(number),
+    ];
+    trace_events(world, &alone, notes, out)
+}
+
 // What the router that stands there tries with each peer, rising, and then alone.
 fn trace_turn(
     world: &mut World<'_>,
@@ -96,12 +120,7 @@ fn trace_turn(
         let peer = world.peer_at(at, number, place);
         trace_exchange(world, at, number, place, peer, marks, notes, out)?;
     }
-    let alone = [
-        Event::Decide(number),
-        Event::Advertise(number),
-        Event::Offer(number),
-    ];
-    trace_events(world, &alone, notes, out)
+    trace_alone(world, at, number, notes, out)
 }
 
 // The turn of the router at a place, unless it rests: its last turn did nothing, and nothing was put towards it since.

@@ -8,6 +8,7 @@ use Rattle.std.proofs.lemmas.Grind.{flat_map-append}
 use Rattle.ranked_policy.specs.declared.network.Router.{Router}
 use Rattle.ranked_policy.specs.Plans.{numbers}
 use Rattle.router_model.specs.declared.refusal.Stepped.{Stepped}
+use Rattle.router_model.specs.declared.refusal.Stepped.TheVariants as stepped
 use Rattle.router_model.specs.Settings.{Setting}
 use Rattle.world_core.specs.declared.inbox.Pipe.{Pipe}
 use Rattle.world_core.specs.declared.schedule.Event.{Event}
@@ -16,6 +17,7 @@ use Rattle.world_core.specs.declared.schedule.StepFault.{StepFault}
 use Rattle.world_core.specs.World.{World, WorldAnswer, Does, Nothing, Stops, Gives, world_of, onward, played, world_answer, world_after}
 use Rattle.world_core.specs.Orders.{StopsAt, repeated}
 use Rattle.world_core.specs.Views.{WorldView, plain_world, Answers, Obeys}
+use Rattle.world_core.specs.Steps.{IsIdle}
 use Rattle.world_core.proofs.Worlds.{played_then, one_more, is_refused}
 
 -- a schedule that leads on does so from any place
@@ -67,6 +69,12 @@ obeys_before x z xs ys why h g e ranks = (let s = h g e ranks in (s.0, stops_bef
 
 pub obeys_one : (x y : WorldView) (event : Event) (s : Stepped) → Answers (Ok s) x event y → Obeys (Ok tt) x (event ∷ []) y
 obeys_one x y event s h g e ranks = one_more g [] event (plain_world x) (plain_world x) (plain_world y) s refl (h g e ranks)
+
+-- a router that has nothing to do alone stays as it is
+pub idle_obeys : (x : WorldView) (u : ℕ) → IsIdle x u → Obeys (Ok tt) x (schedule.Decide u ∷ schedule.Advertise u ∷ schedule.Offer u ∷ []) x
+idle_obeys x u q =
+    obeys_behind x x x (schedule.Decide u ∷ []) (schedule.Advertise u ∷ schedule.Offer u ∷ []) (Ok tt) refl (obeys_one x x (schedule.Decide u) stepped.Nothing q.decide)
+    (obeys_behind x x x (schedule.Advertise u ∷ []) (schedule.Offer u ∷ []) (Ok tt) refl (obeys_one x x (schedule.Advertise u) stepped.Nothing q.advertise) (obeys_one x x (schedule.Offer u) stepped.Nothing q.offer))
 
 still_is : (g : Setting) (w z : World) (event : Event) (why : StepFault) (a : WorldAnswer) → Gives g (Err why) a w event z → z ≡ w
 still_is g w z event why (Does u e stamp) h = h.1

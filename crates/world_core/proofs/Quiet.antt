@@ -1,6 +1,6 @@
--- Two routers between which nothing is to be done.
+-- Two routers between which nothing is to be done, and a router that has nothing to do alone.
 use Rattle.std.proofs.Common.{◌≡◌, ℕ, Bool, true, false, ◌&&◌, not, List, [], ◌∷◌, refl, ap, sym, ◌∙◌, subst, arith, length, ◌≤◌, get_or, Option, None, Some}
-use Rattle.std.specs.Prelude.{Ok, slice_get, is_some}
+use Rattle.std.specs.Prelude.{Ok, ◌+◌, max, slice_get, is_some}
 use Rattle.bgp_framing.specs.Held.{is_waiting}
 use Rattle.outbox.specs.Items.{next_item}
 use Rattle.outbox.specs.declared.item.Item.{Item}
@@ -8,17 +8,20 @@ use Rattle.outbox.specs.declared.item.What.{What}
 use Rattle.ranked_policy.specs.Plans.{Plan}
 use Rattle.router_model.specs.declared.refusal.Stepped.TheVariants as stepped
 use Rattle.router_model.specs.Settings.{Setting, linked}
-use Rattle.router_model.specs.Calls.{Stamped, Put, Handle, Answer, Idle, answer, stamp_of}
+use Rattle.router_model.specs.Calls as calls
+use Rattle.router_model.specs.Calls.{Stamped, Call, Put, Handle, Decide, Advertise, Answer, Steps, Idle, Refuses, answer, stamp_of}
+use Rattle.router_model.specs.Step.{next_offer}
+use Rattle.router_core.specs.Views as core
 use Rattle.router_core.specs.Views.{RouterView, plain_of, sides_of}
 use Rattle.world_core.specs.declared.inbox.Pipe.{Pipe}
 use Rattle.world_core.specs.declared.inbox.Inbox.{Inbox}
 use Rattle.world_core.specs.declared.schedule.Event.{Event}
 use Rattle.world_core.specs.declared.schedule.Event.TheVariants as schedule
-use Rattle.world_core.specs.World.{World, WorldAnswer, Nothing, Gives, of_answer, called, taking_of, world_answer}
-use Rattle.world_core.specs.Views.{WorldView, plain_world, routers_of, pipes_of, items_from, IsAt, IsWhole}
-use Rattle.world_core.specs.Steps.{LinkAt, IsQuiet}
+use Rattle.world_core.specs.World.{World, WorldAnswer, Nothing, Gives, of_answer, of_offer, called, taking_of, world_answer}
+use Rattle.world_core.specs.Views.{WorldView, plain_world, routers_of, pipes_of, items_from, IsAt, IsWhole, Answers}
+use Rattle.world_core.specs.Steps.{LinkAt, StandsAt, IsQuiet, IsIdle}
 use Rattle.world_core.proofs.Places.{here}
-use Rattle.world_core.proofs.Stepping.{stands}
+use Rattle.world_core.proofs.Stepping.{stands, by_router}
 
 -- ---- what a router answers that waits for nothing
 
@@ -81,4 +84,59 @@ quiet x u v i k xr box p whole at is_router is_box is_pipe none rest =
           let l = joined g e t.0 in
           let a : answer g u (routers_of x u) (Handle v) ≡ Idle = ap (λ (r : Stamped). answer g u r (Handle v)) s.2 ∙ handle_idle g u v (plain_of xr) l t.2 in
           rests g w (schedule.Handle u v) (at.linked g e (called g w u (Handle v)) ∙ idle_is g u (stamp_of g u (routers_of x u) (Handle v)) (answer g u (routers_of x u) (Handle v)) a);
+    }
+
+-- ---- one event of the three
+
+none_put : (a b : Bool) → (a && not b) ≡ true → (a ≡ true) × (b ≡ false)
+none_put true false h = (refl, refl)
+none_put true true h = absurd cc
+none_put false b h = absurd cc
+
+pub puts_nothing : (x : WorldView) (u v i k : ℕ) (xr : RouterView) → IsWhole x → LinkAt x u v i k → xr ≡ get_or x.routers i xr
+    → ((cut : ℕ) → (linked xr.net xr.number v && not (is_some (next_item cut (sides_of xr v).outbox))) ≡ true) → Answers (Ok stepped.Nothing) x (schedule.Put u v) x
+puts_nothing x u v i k xr whole at is_router rest = λ g e ranks.
+    let s = stands x u i xr whole at.here is_router in
+    let w = plain_world x in
+    let t = none_put (linked xr.net xr.number v) (is_some (next_item g.net.settings.cut (sides_of xr v).outbox)) (rest g.net.settings.cut) in
+    let l : linked g.net u v ≡ true = ap (λ (n : ℕ). linked g.net n v) (sym s.0) ∙ ap (λ (n : Plan). linked n xr.number v) (e ∙ sym s.1) ∙ t.0 in
+    let a : answer g u (routers_of x u) (Put v) ≡ Idle = ap (λ (r : Stamped). answer g u r (Put v)) s.2 ∙ put_idle g u v (plain_of xr) l (none_is (next_item g.net.settings.cut (sides_of xr v).outbox) t.1) in
+    rests g w (schedule.Put u v) (at.linked g e (called g w u (Put v)) ∙ idle_is g u (stamp_of g u (routers_of x u) (Put v)) (answer g u (routers_of x u) (Put v)) a)
+
+pub handles_nothing : (x : WorldView) (u v i k : ℕ) (xr : RouterView) → IsWhole x → LinkAt x u v i k → xr ≡ get_or x.routers i xr
+    → (linked xr.net xr.number v && not (is_waiting (sides_of xr v).held)) ≡ true → Answers (Ok stepped.Nothing) x (schedule.Handle u v) x
+handles_nothing x u v i k xr whole at is_router rest = λ g e ranks.
+    let s = stands x u i xr whole at.here is_router in
+    let w = plain_world x in
+    let t = none_put (linked xr.net xr.number v) (is_waiting (sides_of xr v).held) rest in
+    let l : linked g.net u v ≡ true = ap (λ (n : ℕ). linked g.net n v) (sym s.0) ∙ ap (λ (n : Plan). linked n xr.number v) (e ∙ sym s.1) ∙ t.0 in
+    let a : answer g u (routers_of x u) (Handle v) ≡ Idle = ap (λ (r : Stamped). answer g u r (Handle v)) s.2 ∙ handle_idle g u v (plain_of xr) l t.1 in
+    rests g w (schedule.Handle u v) (at.linked g e (called g w u (Handle v)) ∙ idle_is g u (stamp_of g u (routers_of x u) (Handle v)) (answer g u (routers_of x u) (Handle v)) a)
+
+-- ---- a router alone
+
+-- a router that gives nothing where it stays as it is has nothing to do
+gives_idle : (g : Setting) (u : ℕ) (a : Answer) (t : Stamped) (call : Call) → calls.Gives g u (Ok stepped.Nothing) a t call t → a ≡ Idle
+gives_idle g u (Steps e) t call h = (let k = h.0 in absurd cc)
+gives_idle g u Idle t call h = refl
+gives_idle g u (Refuses why) t call h = (let k = h.0 in absurd cc)
+
+-- so it has in the world
+alone_idle : (g : Setting) (n u : ℕ) (t w : Stamped) (call : Call) → n ≡ u → w ≡ t → calls.Gives g n (Ok stepped.Nothing) (answer g n t call) t call t
+    → of_answer u (stamp_of g u w call) (answer g u w call) ≡ Nothing
+alone_idle g n u t w call en ew h =
+    rw (sym en, ew) (idle_is g n (stamp_of g n t call) (answer g n t call) (gives_idle g n (answer g n t call) t call h))
+
+pub idle : (x : WorldView) (u i : ℕ) (xr : RouterView) → IsWhole x → StandsAt x u i → xr ≡ get_or x.routers i xr → core.Answers (Ok stepped.Nothing) xr Decide xr
+    → core.Answers (Ok stepped.Nothing) xr Advertise xr → next_offer (plain_of xr).router ≡ None → IsIdle x u
+idle x u i xr whole at is_router decides tells offers =
+    let s = stands x u i xr whole at is_router in
+    let w = plain_world x in
+    record {
+      decide = λ g e ranks. rests g w (schedule.Decide u) (by_router g u (called g w u Decide) (at.known g e) ∙ alone_idle g xr.number u (plain_of xr) (routers_of x u) Decide s.0 s.2 (decides g (e ∙ sym s.1) ranks));
+      advertise = λ g e ranks. rests g w (schedule.Advertise u) (by_router g u (called g w u Advertise) (at.known g e) ∙ alone_idle g xr.number u (plain_of xr) (routers_of x u) Advertise s.0 s.2 (tells g (e ∙ sym s.1) ranks));
+      offer = λ g e ranks.
+          let stamp = max (routers_of x u).stamp x.board + 1 in
+          let none : next_offer (routers_of x u).router ≡ None = ap (λ (t : Stamped). next_offer t.router) s.2 ∙ offers in
+          rests g w (schedule.Offer u) (by_router g u (of_offer u stamp (next_offer (routers_of x u).router)) (at.known g e) ∙ ap (of_offer u stamp) none);
     }

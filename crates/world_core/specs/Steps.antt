@@ -71,3 +71,9 @@ pub record IsQuiet (x : WorldView) (u v : ℕ) : Type 0 where
   pub put : Answers (Ok stepped.Nothing) x (schedule.Put u v) x
   pub take : Answers (Ok stepped.Nothing) x (schedule.Take u v) x
   pub handle : Answers (Ok stepped.Nothing) x (schedule.Handle u v) x
+
+-- the router has nothing to do alone: each of the three events finds nothing to do
+pub record IsIdle (x : WorldView) (u : ℕ) : Type 0 where
+  pub decide : Answers (Ok stepped.Nothing) x (schedule.Decide u) x
+  pub advertise : Answers (Ok stepped.Nothing) x (schedule.Advertise u) x
+  pub offer : Answers (Ok stepped.Nothing) x (schedule.Offer u) x

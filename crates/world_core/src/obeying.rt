@@ -187,7 +187,8 @@ impl<'a> World<'a> {
         Ok(())
     }
 
-    // A router puts what is next towards a peer, where it and the pipe from the peer stand there.
+    // A router puts what is next towards a peer, where it and the pipe from the peer stand there. The pipe to the peer is
+    // not looked for where nothing is next.
     fn put_from(
         &mut self,
         at: usize,
@@ -201,6 +202,9 @@ impl<'a> World<'a> {
         ensures link { LinkAt self.new number peer at pipe }
     {
         steps_are_replayed();
+        if self.state.puts_nothing_at(at, pipe, number, peer) {
+            return Ok(Stepped::Nothing);
+        }
         self.state.put_from(at, number, peer)
     }
 
@@ -235,6 +239,9 @@ impl<'a> World<'a> {
         ensures link { LinkAt self.new number peer at pipe }
     {
         steps_are_replayed();
+        if self.state.handles_nothing_at(at, pipe, number, peer) {
+            return Ok(Stepped::Nothing);
+        }
         self.state.handle_at(at, pipe, number, peer)
     }
 
@@ -256,12 +263,15 @@ impl<'a> World<'a> {
         Ok(())
     }
 
-    // The router that stands there chooses, tells and offers, each once.
+    // The router that stands there chooses, tells and offers, each once: nothing where it has nothing to do.
     fn alone(&mut self, at: usize, number: Asn) -> Result<(), StepFault>
         requires { StandsAt self.old number at }
         ensures obeys { Obeys result self.old (Decide number ∷ Advertise number ∷ Offer number ∷ []) self.new }
         ensures same { self.new.net ≡ self.old.net }
     {
+        if self.state.is_idle_at(at, number) {
+            return Ok(());
+        }
         self.decide_at(at, number)?;
         self.advertise_at(at, number)?;
         self.offer_at(at, number)?;

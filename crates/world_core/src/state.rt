@@ -1,11 +1,12 @@
 //! What a world holds, and what each event does to it.
 
-ghost use Rattle.std.specs.Prelude.{◌≡◌, ◌<◌, length, map, MatchResult, MatchOption, Some, IfOk, true, false};
+ghost use Rattle.std.specs.Prelude.{◌≡◌, ◌<◌, length, map, MatchResult, MatchOption, Some, Ok, IfOk, true, false};
+ghost use Rattle.router_model.specs.declared.refusal.Stepped.TheVariants.{Nothing};
 ghost use Rattle.world_core.specs.declared.schedule.Event.TheVariants.{Put, Take, Handle, Offer};
 ghost use Rattle.router_model.specs.Settings.{peers};
 ghost use Rattle.router_core.specs.Calling.{call_of};
 ghost use Rattle.world_core.specs.Views.{IsWhole, Answers, IsNoRouter, IsRouterOf, comes_next, NothingComes};
-ghost use Rattle.world_core.specs.Steps.{view_of, IsSameNet, Asks, StandsAt, LinkAt, IsPlaceOf, FindsLink, FindsLinkTo, IsQuiet};
+ghost use Rattle.world_core.specs.Steps.{view_of, IsSameNet, Asks, StandsAt, LinkAt, IsPlaceOf, FindsLink, FindsLinkTo, IsQuiet, IsIdle};
 
 use crate::entering::{enter, enter_offer, enter_put, enter_take};
 use crate::inbox::{Inbox, Pipe, place_of};
@@ -229,6 +230,34 @@ impl<'a> State<'a> {
             None => self.routers[at].is_quiet(peer),
             Some(_) => false,
         }
+    }
+
+    /// Whether a router has nothing to put towards a peer, where the router and the pipe from the peer stand there.
+    pub fn puts_nothing_at(&self, at: usize, pipe: usize, number: Asn, peer: Asn) -> bool
+        requires whole { IsWhole (view_of self.now) }
+        requires link { LinkAt (view_of self.now) number peer at pipe }
+        ensures { result ≡ true → Answers (Ok Nothing) (view_of self.now) (Put number peer) (view_of self.now) }
+    {
+        self.routers[at].puts_nothing(peer)
+    }
+
+    /// Whether a router has nothing of a peer to handle, where the router and the pipe from the peer stand there.
+    pub fn handles_nothing_at(&self, at: usize, pipe: usize, number: Asn, peer: Asn) -> bool
+        requires whole { IsWhole (view_of self.now) }
+        requires link { LinkAt (view_of self.now) number peer at pipe }
+        ensures { result ≡ true → Answers (Ok Nothing) (view_of self.now) (Handle number peer) (view_of self.now) }
+    {
+        self.routers[at].may_take(peer)
+    }
+
+    /// Whether the router that stands there has nothing to decide, nobody to tell and nothing to offer, where that is
+    /// seen without a look at a path.
+    pub fn is_idle_at(&self, at: usize, number: Asn) -> bool
+        requires whole { IsWhole (view_of self.now) }
+        requires stands { StandsAt (view_of self.now) number at }
+        ensures { result ≡ true → IsIdle (view_of self.now) number }
+    {
+        self.routers[at].is_idle()
     }
 
     /// The item that a router takes next from a peer, where one is on its way.

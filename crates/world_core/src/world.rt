@@ -6,7 +6,7 @@ ghost use Rattle.router_model.specs.Settings as settings;
 ghost use Rattle.world_core.specs.declared.schedule.StepFault.TheVariants.{Memory};
 ghost use Rattle.snap_collector.specs.Collecting.{member_of};
 ghost use Rattle.snap_collector.specs.Collector.{AreMembers};
-ghost use Rattle.world_core.specs.Steps.{IsQuiet};
+ghost use Rattle.world_core.specs.Steps.{IsQuiet, IsIdle};
 ghost use Rattle.world_core.specs.Verdicts.{members_of, JudgesItsRuns, SettledCanBeBelieved};
 ghost use Rattle.world_core.specs.Views.{Opens, Answers, ComesOut, KeepsPromises, IsNoRouter, IsRouterOf, comes_next, NothingComes};
 
@@ -116,6 +116,15 @@ impl<'a> World<'a> {
     {
         linked_routers_are_peers();
         self.state.is_quiet_at(at, place, number, peer)
+    }
+
+    /// Whether a router has nothing to decide, nobody to tell and nothing to offer, where it stands at that place of the
+    /// network, and where that is seen without a look at a path.
+    pub fn is_idle_at(&self, at: usize, number: Asn) -> bool
+        requires { slice_get (numbers self.now.net.routers) at ≡ Some number }
+        ensures { result ≡ true → IsIdle self.now number }
+    {
+        self.state.is_idle_at(at, number)
     }
 
     /// The network.

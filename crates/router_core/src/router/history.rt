@@ -42,6 +42,16 @@ impl Router<'_> {
         }
     }
 
+    /// Whether the router has nothing to put towards a peer: a link leads to it, and no item waits in the outbox.
+    pub fn puts_nothing(&self, peer: Asn) -> bool
+        ensures { (cut : ℕ) → result ≡ (linked self.now.net self.now.number peer && not (is_some (next_item cut (sides_of self.now peer).outbox))) }
+    {
+        match self.find(peer) {
+            Some(at) => !self.peers[at].end.has_item(),
+            None => false,
+        }
+    }
+
     /// Whether the router has nothing to put towards a peer and nothing of it to handle: a link leads to
     /// it, no item waits in the outbox, and no whole message and no fault in front of its octets.
     pub fn is_quiet(&self, peer: Asn) -> bool

@@ -74,13 +74,16 @@ returns-clause-traces c =
     let old = c.args.out.now.items in
     let done =
     subst (λ (k : List Event). TracesEvents (Ok tt) x k old l.world l.out.items) (all_done (with_peer u) all l.place (omega (arith, c.loop-place-test.false, c.count_peers-place-end.ensures))) l.invariant.done in
-    traced_behind x l.world c.trace_events.new.world (flat_map (with_peer u) all) (schedule.Decide u ∷ schedule.Advertise u ∷ schedule.Offer u ∷ []) c.trace_events.result old l.out.items c.trace_events.new.out.items
-    l.invariant.net done c.trace_events.ensures.traces
+    traced_behind x l.world c.trace_alone.new.world (flat_map (with_peer u) all) (schedule.Decide u ∷ schedule.Advertise u ∷ schedule.Offer u ∷ []) c.trace_alone.result old l.out.items c.trace_alone.new.out.items
+    l.invariant.net done c.trace_alone.ensures.traces
 
 pub returns-clause-resting : goal.returns-clause-resting
 returns-clause-resting c =
     let l = c.loop-place in
     let u = c.args.number in
     let is_net = subst IsNetwork (sym l.invariant.net) (subst IsNetwork c.network-network.ensures c.built.ensures.network) in
-    own_traced l.world c.trace_events.new.world u c.trace_events.ensures.same c.answers_are_steps.ensures is_net (schedule.Decide u ∷ schedule.Advertise u ∷ schedule.Offer u ∷ []) l.marks.items (decides_spare u)
-    c.trace_events.result l.out.items c.trace_events.new.out.items c.trace_events.ensures.traces l.invariant.resting
+    own_traced l.world c.trace_alone.new.world u c.trace_alone.ensures.same c.answers_are_steps.ensures is_net (schedule.Decide u ∷ schedule.Advertise u ∷ schedule.Offer u ∷ []) l.marks.items (decides_spare u)
+    c.trace_alone.result l.out.items c.trace_alone.new.out.items c.trace_alone.ensures.traces l.invariant.resting
+
+pub trace_alone-requires : goal.trace_alone-requires
+trace_alone-requires c = subst (λ (n : Plan). slice_get (numbers n.routers) c.args.at ≡ Some c.args.number) (sym c.loop-place.invariant.net) c.requires.router

@@ -1,8 +1,10 @@
-use Rattle.std.proofs.Common.{◌∷◌, []}
+use Rattle.std.proofs.Common.{◌∷◌, [], sym, subst}
 use Rattle.std.specs.Prelude.{Ok, Err}
 use Rattle.std.proofs.lemmas.Result.{err_from_is_err_and}
 use Rattle.world_core.specs.declared.schedule.Event.TheVariants as schedule
-use Rattle.world_core.proofs.Orders.{obeys_one, obeys_none, obeys_before, obeys_behind}
+use Rattle.world_core.specs.Steps.{StandsAt, IsIdle}
+use Rattle.world_core.specs.Views.{WorldView}
+use Rattle.world_core.proofs.Orders.{obeys_one, obeys_none, obeys_before, obeys_behind, idle_obeys}
 use Rattle.world_core.proofs.world.World.alone.Goals as goal
 
 pub returns-in_err-decide_at-clause-obeys : goal.returns-in_err-decide_at-clause-obeys
@@ -48,3 +50,9 @@ returns-clause-obeys c =
     obeys_behind x y c.offer_at.new.self (schedule.Decide u ∷ []) (schedule.Advertise u ∷ schedule.Offer u ∷ []) (Ok tt) c.in_ok-decide_at.ensures.same (obeys_one x y (schedule.Decide u) c.in_ok-decide_at.field-0 c.in_ok-decide_at.ensures.answers)
     (obeys_behind y z c.offer_at.new.self (schedule.Advertise u ∷ []) (schedule.Offer u ∷ []) (Ok tt) c.in_ok-advertise_at.ensures.same (obeys_one y z (schedule.Advertise u) c.in_ok-advertise_at.field-0 c.in_ok-advertise_at.ensures.answers)
     (obeys_one z c.offer_at.new.self (schedule.Offer u) c.in_ok-offer_at.field-0 c.in_ok-offer_at.ensures.answers))
+
+pub is_idle_at-requires-clause-stands : goal.is_idle_at-requires-clause-stands
+is_idle_at-requires-clause-stands c = subst (λ (x : WorldView). StandsAt x c.args.number c.args.at) (sym c.self.view_is) c.requires
+
+pub returns-then-is_idle_at-clause-obeys : goal.returns-then-is_idle_at-clause-obeys
+returns-then-is_idle_at-clause-obeys c = idle_obeys c.args.self.now c.args.number (subst (λ (x : WorldView). IsIdle x c.args.number) c.self.view_is (c.is_idle_at.ensures c.if-is_idle_at.true))

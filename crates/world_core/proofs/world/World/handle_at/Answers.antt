@@ -1,4 +1,5 @@
-use Rattle.std.proofs.Common.{subst, sym}
+use Rattle.std.proofs.Common.{Ok, subst, sym}
+use Rattle.router_model.specs.declared.refusal.Stepped.TheVariants as stepped
 use Rattle.world_core.specs.declared.schedule.Event.TheVariants as schedule
 use Rattle.world_core.specs.Views.{WorldView, Answers}
 use Rattle.world_core.specs.Steps.{view_of, LinkAt}
@@ -21,3 +22,9 @@ returns-clause-link c =
     let y = view_of c.handle_at.new.self in
     link_stays x y c.args.number c.args.peer c.args.at c.args.pipe c.self.invariant.0 c.handle_at.ensures.whole c.handle_at.ensures.same
     (subst (λ (z : WorldView). LinkAt z c.args.number c.args.peer c.args.at c.args.pipe) (sym c.self.view_is) c.requires)
+
+pub handles_nothing_at-requires-clause-link : goal.handles_nothing_at-requires-clause-link
+handles_nothing_at-requires-clause-link c = subst (λ (z : WorldView). LinkAt z c.args.number c.args.peer c.args.at c.args.pipe) (sym c.self.view_is) c.requires
+
+pub returns-then-handles_nothing_at-clause-answers : goal.returns-then-handles_nothing_at-clause-answers
+returns-then-handles_nothing_at-clause-answers c = subst (λ (x : WorldView). Answers (Ok stepped.Nothing) x (schedule.Handle c.args.number c.args.peer) x) c.self.view_is (c.handles_nothing_at.ensures c.if-handles_nothing_at.true)

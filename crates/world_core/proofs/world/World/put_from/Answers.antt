@@ -1,4 +1,5 @@
-use Rattle.std.proofs.Common.{subst, sym}
+use Rattle.std.proofs.Common.{Ok, subst, sym}
+use Rattle.router_model.specs.declared.refusal.Stepped.TheVariants as stepped
 use Rattle.world_core.specs.declared.schedule.Event.TheVariants as schedule
 use Rattle.world_core.specs.Views.{WorldView, Answers}
 use Rattle.world_core.specs.Steps.{view_of, LinkAt}
@@ -21,3 +22,9 @@ returns-clause-link c =
     let y = view_of c.put_from.new.self in
     link_stays x y c.args.number c.args.peer c.args.at c.args.pipe c.self.invariant.0 c.put_from.ensures.whole c.put_from.ensures.same
     (subst (λ (z : WorldView). LinkAt z c.args.number c.args.peer c.args.at c.args.pipe) (sym c.self.view_is) c.requires)
+
+pub puts_nothing_at-requires-clause-link : goal.puts_nothing_at-requires-clause-link
+puts_nothing_at-requires-clause-link c = subst (λ (z : WorldView). LinkAt z c.args.number c.args.peer c.args.at c.args.pipe) (sym c.self.view_is) c.requires
+
+pub returns-then-puts_nothing_at-clause-answers : goal.returns-then-puts_nothing_at-clause-answers
+returns-then-puts_nothing_at-clause-answers c = subst (λ (x : WorldView). Answers (Ok stepped.Nothing) x (schedule.Put c.args.number c.args.peer) x) c.self.view_is (c.puts_nothing_at.ensures c.if-puts_nothing_at.true)

@@ -1,0 +1,20 @@
+use Rattle.std.proofs.Common.{Ok, subst}
+use Rattle.router_model.specs.declared.refusal.Stepped.TheVariants as stepped
+use Rattle.router_model.specs.Calls.{Decide, Advertise}
+use Rattle.router_core.specs.Views.{RouterView, Answers}
+use Rattle.router_core.proofs.Advertising.{is_nobody}
+use Rattle.router_core.proofs.Deciding.{decided_all}
+use Rattle.router_core.proofs.Nexts.{nobody_waits}
+use Rattle.router_core.proofs.router.Router.is_idle.Goals as goal
+
+pub returns-then-rests-clause-decide : goal.returns-then-rests-clause-decide
+returns-then-rests-clause-decide c = λ _.
+    let r : RouterView = record { net = c.self.inside.network.now; number = c.self.inside.number; own_open = c.self.inside.own_open; peers = c.self.inside.peers.items; tables = c.self.inside.tables; marks = c.self.inside.marks; stamp = c.self.inside.stamp } in
+    let laws = c.the_best_is_the_route.ensures in
+    subst (λ (x : RouterView). Answers (Ok stepped.Nothing) x Decide x) c.self.view_is (λ g e ranks.
+    decided_all laws.over laws.one g r (record { sound = c.self.invariant; net = e; ranks = ranks; linked = laws.linked }) (c.rests.ensures c.if-rests.true).0)
+
+pub returns-then-rests-clause-advertise : goal.returns-then-rests-clause-advertise
+returns-then-rests-clause-advertise c = λ _.
+    let r : RouterView = record { net = c.self.inside.network.now; number = c.self.inside.number; own_open = c.self.inside.own_open; peers = c.self.inside.peers.items; tables = c.self.inside.tables; marks = c.self.inside.marks; stamp = c.self.inside.stamp } in
+    subst (λ (x : RouterView). Answers (Ok stepped.Nothing) x Advertise x) c.self.view_is (λ g e ranks. is_nobody g r e (nobody_waits r c.self.invariant (c.rests.ensures c.if-rests.true).1))
