@@ -8,9 +8,9 @@
 //! markers are appended behind all that waits.
 //!
 //! What most events do needs no draft: a second in which no timer runs out counts the timers down
-//! ([`SideEnd::count_down`]), and an UPDATE that tells a path, a [`Route`], is told and acted on in its
-//! octets ([`SideEnd::tell_route`], [`SideEnd::route_in_front`], [`SideEnd::act`]; `specs/Layout`,
-//! `specs/Acting`).
+//! ([`SideEnd::count_down`]), and an UPDATE that tells a path, a [`Route`], is told, read and acted on in
+//! its octets ([`SideEnd::tell_route`], [`read_frame`], [`SideEnd::route_in_front`], [`SideEnd::act`];
+//! `specs/Layout`, `specs/Acting`).
 //!
 //! What a draft says is kept in short (`specs/Sayings`): a message is encoded once, in the outbox.
 //! Each UPDATE that is acted on or sent is kept in its octets, behind the others of the side
@@ -32,7 +32,7 @@ mod side;
 pub use at_hand::Given;
 pub use draft::Sketch;
 pub use history::{History, Told};
-pub use reading::{opened, read_front};
+pub use reading::{opened, read_frame, read_front};
 pub use route::{MOST_NUMBERS, Route};
 pub use say::{Say, Says};
 pub use side::SideEnd;

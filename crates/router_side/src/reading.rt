@@ -12,6 +12,7 @@ ghost use Rattle.router_side.specs.Sayings.{told_of, IsSayableWhere};
 ghost use Rattle.router_side.specs.Drafts.{hand};
 
 use crate::at_hand::Given;
+use crate::route::Route;
 use bgp_codec::laws::{
     fault_fits_a_message, header_fault_is_short, header_is_its_front, open_has_a_hold_time,
     spelt_is_writable, written_has_a_header,
@@ -22,8 +23,8 @@ use bgp_values::{MESSAGE_HEADER_ERROR, OPEN_MESSAGE_ERROR, UNSUPPORTED_VERSION_N
 use session_fsm::FsmEvent;
 use std::alloc::{AllocError, Global};
 
-// What a frame reads as.
-fn read_frame(
+// What a frame reads as, decoded.
+fn decode_frame(
     alloc: Global,
     frame: &[u8],
     rule: &Rule,
@@ -46,6 +47,27 @@ fn read_frame(
     }
 }
 
+/// What a frame reads as: a message or a fault. Where it is the one UPDATE that tells a path, the path is
+/// read from its octets, and nothing is decoded. It is refused only where memory was.
+pub fn read_frame(
+    alloc: Global,
+    frame: &[u8],
+    rule: &Rule,
+) -> Result<Result<Message, Fault>, AllocError>
+    requires { IsFrame frame.now }
+    ensures read { IfOk result (λ read. read ≡ reading rule.now frame.now) }
+    ensures good { IfOk result (λ read. IsGoodEvent (event_of read)) }
+    ensures told { IfOk result (λ read. IsSayableWhere rule.now.width (told_of (at_hand read))) }
+    ensures writable { IfOk result (λ read. IfOk read (IsWritable rule.now)) }
+{
+    if let Some(peer) = rule.peer {
+        if let Some(route) = Route::read(alloc, rule.width, peer, frame)? {
+            return Ok(Ok(Message::UpdateMsg(route.into_update(alloc))));
+        }
+    }
+    decode_frame(alloc, frame, rule)
+}
+
 /// What stands in front of the octets held, as a message or a fault. It is refused only where
 /// memory was.
 pub fn read_front(
@@ -65,7 +87,7 @@ pub fn read_front(
     match framer.next() {
         Next::Whole(_, end) => {
             let (frame, _) = framer.bytes().split_at(end);
-            read_frame(alloc, frame, rule)
+            decode_frame(alloc, frame, rule)
         }
         Next::More => unreachable!(),
         Next::Bad(fault) => Ok(Err(fault)),

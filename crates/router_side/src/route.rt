@@ -21,7 +21,10 @@ ghost use Rattle.router_side.specs.declared.route.TheConstants.{MOST_NUMBERS};
 
 use crate::laws::tellings_are_sayable;
 use bgp_codec::laws::a_peers_writing_is_read;
-use bgp_codec::{Asn, Numbers, asn_size, octet_count, put_numbers, read_numbers};
+use bgp_codec::{
+    Asn, Attrs, Items, Numbers, Segment, SegmentKind, Update, asn_size, octet_count, put_numbers,
+    read_numbers,
+};
 use bgp_values::{
     AS_PATH, AS_SEQUENCE, HEADER_LEN, IGP, NEXT_HOP, ORIGIN, TRANSITIVE, UPDATE, Width, is_unicast,
 };
@@ -222,6 +225,7 @@ struct Announcement<'a> {
 }
 
 // What a frame announces, where it is what `put_announcement` puts for it.
+#[inline(always)]
 fn announced(width: Width, frame: &[u8]) -> Option<Announcement<'_>>
     ensures { IfSome result (λ told. IsCanonical told.prefix × IsAnnouncement width frame.now told.id told.prefix told.numbers.now) }
 {
@@ -265,6 +269,7 @@ impl Route {
 
     /// The path that a frame of a peer tells, where the frame is the one UPDATE that tells it, and a path that
     /// is announced begins with the peer. It is refused only where memory was.
+    #[inline(always)]
     pub fn read(
         alloc: Global,
         width: Width,
@@ -298,6 +303,32 @@ impl Route {
         ensures { (id : ℕ) × (self.now ≡ telling id result.0.now result.1.now) }
     {
         (&self.prefix, self.path.as_slice())
+    }
+
+    // The UPDATE, as a message has it. It takes no memory.
+    pub(crate) fn into_update(self, alloc: Global) -> Update
+        ensures { result ≡ self }
+    {
+        if self.path.as_slice().is_empty() {
+            return Update {
+                withdrawn: Items::one(self.prefix),
+                attrs: Attrs::none(alloc),
+                nlri: Items::new(alloc),
+            };
+        }
+        let segment = Segment {
+            kind: SegmentKind::AsSequence,
+            numbers: self.path,
+        };
+        let mut attrs = Attrs::none(alloc);
+        attrs.origin = Some(IGP);
+        attrs.path = Some(Items::one(segment));
+        attrs.next_hop = Some(self.id);
+        Update {
+            withdrawn: Items::new(alloc),
+            attrs,
+            nlri: Items::one(self.prefix),
+        }
     }
 
     // How many octets the UPDATE has.

@@ -1,13 +1,14 @@
 //! What is noted of an event: what it will send, take, hear, tell or offer, and what changed by it.
 
 use crate::lines::{say_change, say_count, say_fault, say_item, say_number, say_path};
-use bgp_codec::{CodecError, Message, Rule, decode};
+use bgp_codec::{Message, Rule};
 use bgp_framing::{Next, next_message};
 use bgp_values::{HEADER_LEN, MESSAGE_LIMIT};
 use net_text::message_line;
 use prefix_lanes::Prefix;
 use ranked_policy::{Asn, MOST_LINKS, Network};
 use router_core::{Command, Offer, Router, RouterError, What};
+use router_side::read_frame;
 use session_fsm::State;
 use std::alloc::{AllocError, Global};
 use world_core::{Event, World};
@@ -58,10 +59,9 @@ fn message_in_front<'a>(
         return Ok(None);
     };
     let (frame, rest) = octets.split_at(end);
-    match decode(alloc, frame, rule) {
+    match read_frame(alloc, frame, rule)? {
         Ok(message) => Ok(Some((message, rest))),
-        Err(CodecError::Fault(_)) => Ok(None),
-        Err(CodecError::TooLong | CodecError::Memory) => Err(AllocError),
+        Err(_) => Ok(None),
     }
 }
 

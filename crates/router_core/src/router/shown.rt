@@ -75,7 +75,7 @@ impl Router<'_> {
             peer: Some(peer),
             own: Some(self.number),
         };
-        Some(end.front(alloc, &rule))
+        Some(end.front_to_show(alloc, &rule))
     }
 
     /// The word heard last from a peer for a prefix (Adj-RIB-In, RFC 4271 section 3.2). None exactly where it is

@@ -11,7 +11,7 @@ ghost use Rattle.router_side.specs.Sayings.{told_of, IsSayableWhere};
 ghost use Rattle.router_side.specs.SideOf.{side};
 
 use super::SideEnd;
-use crate::reading::read_front;
+use crate::reading::{read_frame, read_front};
 use crate::route::Route;
 use bgp_codec::laws::header_is_its_front;
 use bgp_codec::{Asn, Fault, Message, Rule};
@@ -40,6 +40,29 @@ impl SideEnd {
         ensures writable { IfOk result (λ read. IfOk read (IsWritable rule.now)) }
     {
         read_front(alloc, &self.framer, rule)
+    }
+
+    /// What [`SideEnd::front`] answers, for a caller that has not asked [`SideEnd::route_in_front`] before: a path
+    /// that is told is read from its octets. It is refused only where memory was.
+    pub fn front_to_show(
+        &self,
+        alloc: Global,
+        rule: &Rule,
+    ) -> Result<Result<Message, Fault>, AllocError>
+        requires { is_waiting (side self.now).held ≡ true }
+        ensures read { IfOk result (λ read. read ≡ front rule.now (side self.now).held) }
+        ensures good { IfOk result (λ read. IsGoodEvent (event_of read)) }
+        ensures told { IfOk result (λ read. IsSayableWhere rule.now.width (told_of (at_hand read))) }
+        ensures writable { IfOk result (λ read. IfOk read (IsWritable rule.now)) }
+    {
+        header_is_its_front();
+        match self.framer.next() {
+            Next::Whole(_, end) => {
+                let (frame, _) = self.framer.bytes().split_at(end);
+                read_frame(alloc, frame, rule)
+            }
+            Next::More | Next::Bad(_) => self.front(alloc, rule),
+        }
     }
 
     /// The path that the message in front tells, where it is such an UPDATE as a router appends for a path, and

@@ -30,4 +30,4 @@ returns c =
     ap (λ (s : Settings). front (naming s.width r.number v) (side end).held) c.settings.ensures.value
     ∙ ap (λ (y : RouterView). front (naming y.net.settings.width y.number v) (side end).held) c.self.view_is
     ∙ ap (λ (s : Side). front (naming x.net.settings.width x.number v) s.held) (sym here) in
-    (rw (c.in_ok-at.ensures.none, waits) refl, subst (λ (t : Result Message Fault). IfOk c.front.result (λ f. f ≡ t)) read c.front.ensures.read)
+    (rw (c.in_ok-at.ensures.none, waits) refl, subst (λ (t : Result Message Fault). IfOk c.front_to_show.result (λ f. f ≡ t)) read c.front_to_show.ensures.read)

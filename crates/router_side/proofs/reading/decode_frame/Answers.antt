@@ -1,5 +1,5 @@
 use Rattle.router_side.proofs.FrontLemmas.{fault_sayable}
-use Rattle.router_side.proofs.reading.read_frame.Goals as goal
+use Rattle.router_side.proofs.reading.decode_frame.Goals as goal
 
 pub returns-in-Err-Fault-clause-told : goal.returns-in-Err-Fault-clause-told
 returns-in-Err-Fault-clause-told c =
