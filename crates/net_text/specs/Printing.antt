@@ -1,4 +1,4 @@
--- The lines that messages and faults are printed as, and those that a check of an assignment prints.
+-- The lines that messages and faults are printed as, those of paths, and those that a check of an assignment prints.
 use Rattle.std.specs.Prelude.{ℕ, ◌/◌, ◌%◌, ◌^◌, List, [], ◌∷◌, ◌++◌, codes, decimal, map, Option, Some, None, unwrap_or}
 use Rattle.std.specs.List.{flat_map, join_with_byte}
 use Rattle.prefix_lanes.specs.Bits.{PrefixView}
@@ -126,6 +126,10 @@ truncated_line n = line (codes "truncated " ++ decimal n)
 abbrev pub numbers_text : List ℕ → List ℕ
 numbers_text [] = codes "none"
 numbers_text (number ∷ numbers) = join_with_byte 45 (map decimal (number ∷ numbers))
+
+-- a word, a number, a prefix and a path
+unfoldable pub path_line : List ℕ → ℕ → PrefixView → List ℕ → List ℕ
+path_line word number prefix path = line (word ++ (decimal number ++ (prefix_text prefix ++ (codes " " ++ numbers_text path))))
 
 -- the code of a refusal
 abbrev pub code_text : Code → List ℕ

@@ -15,11 +15,7 @@ pub fn put_path(out: &mut Tail, numbers: &[Asn]) -> Result<(), AllocError>
     ensures text { OnOk result (out.new.text ≡ out.old.text ++ numbers_text numbers.now) }
     ensures front { out.new.front ≡ out.old.front }
 {
-    if numbers.is_empty() {
-        out.put_text(b"none")
-    } else {
-        out.put_joined(numbers, b'-')
-    }
+    out.put_path(numbers)
 }
 
 /// Appends the line of a refusal.

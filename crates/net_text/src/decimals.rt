@@ -1,14 +1,18 @@
-//! Numbers in decimal digits: at a place of a text, and behind what a buffer has.
+//! Numbers in decimal digits, and paths of them: at a place of a text, and behind what a buffer has.
 
 ghost use Rattle.std.specs.Prelude.{◌≡◌, ◌+◌, ◌*◌, ◌%◌, ◌<◌, ◌≤◌, ◌∷◌, [], ◌++◌, length, take, map, decimal, OnOk, OnErr};
 ghost use Rattle.std.specs.List.{flat_map, join_with_byte};
+ghost use Rattle.net_text.specs.Printing.{numbers_text};
 
-use crate::texts::{write_mark, write_octet};
+use crate::texts::{write_mark, write_octet, write_text};
 use bgp_codec::Asn;
 use std::alloc::AllocError;
 
 // The most octets that may change where a number is written.
 const NUMBER_ROOM: usize = 12;
+
+// The octets of a path without numbers.
+const NONE_ROOM: usize = 4;
 
 // Writes the last digit of a number.
 fn write_last(text: &mut [u8], at: usize, number: u32) -> usize
@@ -74,8 +78,9 @@ fn write_long(text: &mut [u8], at: usize, number: u32) -> usize
     write_last(text, at, number)
 }
 
-// Writes a number at a place, and answers the place behind it. Twelve octets may change.
-fn write_decimal(text: &mut [u8], at: usize, number: u32) -> usize
+/// Writes a number at a place in decimal digits, and answers the place behind it. Twelve octets may
+/// change.
+pub fn write_decimal(text: &mut [u8], at: usize, number: u32) -> usize
     requires { at + 12 ≤ length text.old }
     ensures end { result ≤ at + 11 }
     ensures text { take result text.new ≡ take at text.old ++ decimal number }
@@ -89,7 +94,8 @@ fn write_decimal(text: &mut [u8], at: usize, number: u32) -> usize
 // Writes numbers behind others, a mark before each, and answers the place behind them.
 fn write_marked(text: &mut [u8], start: usize, numbers: &[Asn], mark: u8) -> usize
     requires { start + 13 * length numbers.now ≤ length text.old }
-    ensures { take result text.new ≡ take start text.old ++ flat_map (λ n. mark ∷ decimal n) numbers.now }
+    ensures end { result ≤ start + 12 * length numbers.now }
+    ensures text { take result text.new ≡ take start text.old ++ flat_map (λ n. mark ∷ decimal n) numbers.now }
 {
     let mut at = start;
     for number in numbers {
@@ -102,7 +108,8 @@ fn write_marked(text: &mut [u8], start: usize, numbers: &[Asn], mark: u8) -> usi
 // Writes numbers with a mark between them, and answers the place behind them.
 fn write_joined(text: &mut [u8], start: usize, numbers: &[Asn], mark: u8) -> usize
     requires { start + 13 * length numbers.now ≤ length text.old }
-    ensures { take result text.new ≡ take start text.old ++ join_with_byte mark (map decimal numbers.now) }
+    ensures end { result ≤ start + 12 * length numbers.now }
+    ensures text { take result text.new ≡ take start text.old ++ join_with_byte mark (map decimal numbers.now) }
 {
     match numbers {
         [] => start,
@@ -110,6 +117,20 @@ fn write_joined(text: &mut [u8], start: usize, numbers: &[Asn], mark: u8) -> usi
             let at = write_decimal(text, start, *first);
             write_marked(text, at, rest, mark)
         }
+    }
+}
+
+/// Writes a path at a place, and answers the place behind it: its numbers with a dash between them, or
+/// that there is none. Thirteen octets may change for each number, and four besides.
+pub fn write_path(text: &mut [u8], start: usize, numbers: &[Asn]) -> usize
+    requires { start + (13 * length numbers.now + 4) ≤ length text.old }
+    ensures end { result ≤ start + (12 * length numbers.now + 4) }
+    ensures text { take result text.new ≡ take start text.old ++ numbers_text numbers.now }
+{
+    if numbers.is_empty() {
+        write_text(text, start, b"none")
+    } else {
+        write_joined(text, start, numbers, b'-')
     }
 }
 
@@ -134,6 +155,22 @@ pub fn put_joined(out: &mut Vec<u8>, numbers: &[Asn], mark: u8) -> Result<(), Al
     let room = numbers.len().saturating_mul(NUMBER_ROOM + 1);
     out.resize(start.saturating_add(room), 0)?;
     let end = write_joined(out.as_mut_slice(), start, numbers, mark);
+    out.truncate(end);
+    Ok(())
+}
+
+/// Appends a path. It grows once, by the most that it can take.
+pub fn put_path(out: &mut Vec<u8>, numbers: &[Asn]) -> Result<(), AllocError>
+    ensures ok { OnOk result (out.new.items ≡ out.old.items ++ numbers_text numbers.now) }
+    ensures err { OnErr result (out.new.items ≡ out.old.items) }
+{
+    let start = out.len();
+    let room = numbers
+        .len()
+        .saturating_mul(NUMBER_ROOM + 1)
+        .saturating_add(NONE_ROOM);
+    out.resize(start.saturating_add(room), 0)?;
+    let end = write_path(out.as_mut_slice(), start, numbers);
     out.truncate(end);
     Ok(())
 }

@@ -1,5 +1,5 @@
-//! Texts of networks and of assignments: their lines, words and refusals; and the lines that messages
-//! and checks are printed as.
+//! Texts of networks and of assignments: their lines, words and refusals; and the lines that messages,
+//! paths and checks are printed as.
 //!
 //! A network text has a line for each router, link, origin, rule and setting; [`read_network`]
 //! answers the network that it spells. An assignment text has a line for each path that a router
@@ -12,11 +12,12 @@
 //!
 //! The definitions stand in `specs/`: `Lexing` (lines and words), `Words` (what a word stands for
 //! and its fault), `Lines` (what a network line adds and its first fault), `Networks` and
-//! `Assignments` (whole texts), `Printing` (lines of messages and of checks). The laws that tie the
-//! texts together are the public functions of [`laws`].
+//! `Assignments` (whole texts), `Printing` (lines of messages, of paths and of checks). The laws that
+//! tie the texts together are the public functions of [`laws`].
 //!
-//! Readers of other texts stand on the same [`lexing`] and [`words`], and writers of other lines on
-//! [`Tail`].
+//! Readers of other texts stand on the same [`lexing`] and [`words`]. Writers of other lines stand on
+//! [`path_line`] and [`Tail`]; or, where room for a whole line was made, on [`write_text`], [`write_mark`],
+//! [`write_decimal`] and [`write_prefix`], each of which writes at a place and answers the place behind.
 //!
 //! Left out: schedules, reports of runs, and every use of a network.
 #![tactic(auto)]
@@ -32,6 +33,7 @@ pub mod lexing;
 mod lines;
 mod messages;
 mod network_lines;
+mod path_lines;
 mod paths;
 mod prefix_texts;
 mod repeats;
@@ -45,10 +47,14 @@ pub mod words;
 pub use assignment::{Entry, read_assignment};
 pub use checks::put_path;
 pub use code::{Code, Refused};
+pub use decimals::write_decimal;
 pub use draft::read_network;
 pub use lines::{
     fault_lines, flight_line, message_line, refused_line, stable_line, truncated_line,
     unstable_line,
 };
+pub use path_lines::path_line;
+pub use prefix_texts::write_prefix;
 pub use sections::{Split, split_at_section};
 pub use tail::Tail;
+pub use texts::{write_mark, write_text};

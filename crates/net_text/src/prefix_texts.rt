@@ -11,11 +11,11 @@ use std::alloc::AllocError;
 // the place behind the last.
 const PREFIX_ROOM: usize = 21;
 
-// Writes a prefix at a place, with a space before it, and answers the place behind it. As many
-// octets may change as it has room.
+/// Writes a prefix at a place, with a space before it, and answers the place behind it. Twenty-one
+/// octets may change.
 #[tactic(auto, unfolding(crate::specs::Printing::prefix_text))]
-fn write_prefix(text: &mut [u8], at: usize, prefix: &Prefix) -> usize
-    requires { at + PREFIX_ROOM ≤ length text.old }
+pub fn write_prefix(text: &mut [u8], at: usize, prefix: &Prefix) -> usize
+    requires { at + 21 ≤ length text.old }
     ensures end { result ≤ at + 20 }
     ensures text { take result text.new ≡ take at text.old ++ prefix_text prefix.now }
 {

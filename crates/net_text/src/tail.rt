@@ -3,9 +3,9 @@
 ghost use Rattle.std.specs.Prelude.{◌≡◌, ◌++◌, [], ◌∷◌, ◌≤◌, take, drop, map, decimal, vec_len, is_ok, if◌then◌else◌, OnOk};
 ghost use Rattle.std.specs.List.{join_with_byte};
 ghost use Rattle.hex.specs.Hex.{encode_lower};
-ghost use Rattle.net_text.specs.Printing.{hex_or_dash, address_text, prefixes_text};
+ghost use Rattle.net_text.specs.Printing.{hex_or_dash, address_text, numbers_text, prefixes_text};
 
-use crate::decimals::{put_decimal, put_joined};
+use crate::decimals::{put_decimal, put_joined, put_path};
 use crate::prefix_texts::put_prefixes;
 use crate::texts::{put_address, put_hex, put_hex_or_dash, put_len, put_octet};
 use bgp_codec::Asn;
@@ -86,6 +86,14 @@ impl Tail {
         ensures front { self.new.front ≡ self.old.front }
     {
         put_joined(&mut self.octets, numbers, mark)
+    }
+
+    /// Writes a path.
+    pub(crate) fn put_path(&mut self, numbers: &[Asn]) -> Result<(), AllocError>
+        ensures text { OnOk result (self.new.text ≡ self.old.text ++ numbers_text numbers.now) }
+        ensures front { self.new.front ≡ self.old.front }
+    {
+        put_path(&mut self.octets, numbers)
     }
 
     /// Writes a count in decimal digits.

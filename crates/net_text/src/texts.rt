@@ -51,6 +51,18 @@ pub fn write_mark(text: &mut [u8], at: usize, mark: u8) -> usize
     at + 1
 }
 
+/// Writes octets at a place as they are, and answers the place behind them.
+#[inline(always)]
+pub fn write_text(text: &mut [u8], at: usize, octets: &[u8]) -> usize
+    requires { at + length octets.now ≤ length text.old }
+    ensures end { result ≡ at + length octets.now }
+    ensures text { take result text.new ≡ take at text.old ++ octets.now }
+{
+    let end = at + octets.len();
+    text[at..end].copy_from_slice(octets);
+    end
+}
+
 // The four octets at a place.
 fn four_at(octets: &[u8], at: usize) -> [u8; 4]
     requires { at + 4 ≤ length octets.now }

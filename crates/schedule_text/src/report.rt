@@ -6,7 +6,7 @@ ghost use Rattle.snap_marker.specs.Parts.{cause_of};
 ghost use Rattle.snap_collector.specs.Collecting.{why_of, outcome_of};
 ghost use Rattle.schedule_text.specs.Reports.{why_text, cause_text, outcome_text, snapshot_text, snapshot_line, route_line, now_line, cut_line, cut_none_line, stop_line, router_code, fault_code};
 
-use net_text::{Tail, put_path, refused_line};
+use net_text::{Tail, path_line, refused_line};
 use prefix_lanes::Prefix;
 use ranked_policy::Asn;
 use router_model::RouterError;
@@ -87,19 +87,6 @@ fn put_snapshot(out: &mut Tail, number: u32, outcome: &Outcome) -> Result<(), Al
     out.put_text(b"\n")
 }
 
-#[tactic(auto, unfolding(crate::specs::Reports::route_line))]
-fn put_route(out: &mut Tail, router: Asn, prefix: &Prefix, path: &[Asn]) -> Result<(), AllocError>
-    ensures text { OnOk result (out.new.text ≡ out.old.text ++ route_line router prefix.now path.now) }
-    ensures front { out.new.front ≡ out.old.front }
-{
-    out.put_text(b"route ")?;
-    out.put_decimal(router)?;
-    out.put_prefixes(&[*prefix])?;
-    out.put_text(b" ")?;
-    put_path(out, path)?;
-    out.put_text(b"\n")
-}
-
 #[tactic(auto, unfolding(crate::specs::Reports::cut_line))]
 fn put_cut(out: &mut Tail, number: u32, recorded: usize, all: usize) -> Result<(), AllocError>
     ensures text { OnOk result (out.new.text ≡ out.old.text ++ cut_line number recorded all) }
@@ -143,6 +130,7 @@ pub fn snapshot_line(number: u32, outcome: &Outcome, out: &mut Vec<u8>) -> Resul
 
 /// Appends the path of a router for a prefix, `none` where it is empty. It is refused only where
 /// memory was, and then changes nothing.
+#[tactic(auto, unfolding(crate::specs::Reports::route_line, net_text::specs::Printing::path_line))]
 pub fn route_line(
     router: Asn,
     prefix: &Prefix,
@@ -152,10 +140,7 @@ pub fn route_line(
     ensures ok { OnOk result (out.new.items ≡ out.old.items ++ route_line router prefix.now path.now) }
     ensures err { OnErr result (out.new.items ≡ out.old.items) }
 {
-    let mut tail = Tail::behind(out);
-    let result = put_route(&mut tail, router, prefix, path);
-    *out = tail.finish(result.is_ok());
-    result
+    path_line(b"route ", router, prefix, path, out)
 }
 
 /// Appends how many of all events were done up to the recordings of a snapshot. It is refused only where

@@ -1,7 +1,7 @@
 //! The lines that say what an event did.
 
 use bgp_codec::Fault;
-use net_text::{Tail, put_path};
+use net_text::{Tail, path_line, put_path};
 use prefix_lanes::Prefix;
 use ranked_policy::Asn;
 use router_core::What;
@@ -74,15 +74,6 @@ pub(crate) fn say_fault(fault: &Fault, text: &mut Vec<u8>) -> Result<(), AllocEr
     result
 }
 
-fn write_path(out: &mut Tail, peer: Asn, prefix: &Prefix, path: &[Asn]) -> Result<(), AllocError> {
-    out.put_text(b"tells ")?;
-    out.put_decimal(peer)?;
-    out.put_prefixes(&[*prefix])?;
-    out.put_text(b" ")?;
-    put_path(out, path)?;
-    out.put_text(b"\n")
-}
-
 /// Says the path that a peer is told for a prefix: `none` where it is withdrawn.
 pub(crate) fn say_path(
     peer: Asn,
@@ -90,10 +81,7 @@ pub(crate) fn say_path(
     path: &[Asn],
     text: &mut Vec<u8>,
 ) -> Result<(), AllocError> {
-    let mut tail = Tail::behind(text);
-    let result = write_path(&mut tail, peer, prefix, path);
-    *text = tail.finish(result.is_ok());
-    result
+    path_line(b"tells ", peer, prefix, path, text)
 }
 
 fn write_change(
