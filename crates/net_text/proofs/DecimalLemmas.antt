@@ -5,16 +5,21 @@ use Rattle.std.specs.Str.{bytes_eq}
 use Rattle.std.specs.Cmp.Lexicographic.{bytes_decides}
 use Rattle.std.proofs.lemmas.Bool.Decides.{Decides-below_and}
 use Rattle.std.proofs.lemmas.Fmt.{decimal_digit, decimal_step}
+use Rattle.std.proofs.lemmas.List.{get_or-take}
 
 -- the last digit behind the others
 pub last_digit : (n : ℕ) → 10 ≤ n → n < 2 ^ 32 → decimal n ≡ decimal (n / 10) ++ ((48 + n % 10) ∷ [])
 last_digit n low high = decimal_step n low (omega arith)
 
--- what a text has behind its front, where the last digit was written behind the others
-pub last_behind : (n m : ℕ) (front text new : List ℕ) → 10 ≤ n → n < 2 ^ 32 → m ≡ n / 10 → text ≡ front ++ decimal m → new ≡ text ++ ((48 + n % 10) ∷ []) → new ≡ front ++ decimal n
-last_behind n m front text new low high is others e =
-    let digits : decimal m ++ ((48 + n % 10) ∷ []) ≡ decimal n = ap (λ (k : ℕ). decimal k ++ ((48 + n % 10) ∷ [])) is ∙ sym (last_digit n low high) in
-    e ∙ ap (λ (ds : List ℕ). ds ++ ((48 + n % 10) ∷ [])) others ∙ append_assoc front (decimal m) ((48 + n % 10) ∷ []) ∙ ap (λ (ds : List ℕ). front ++ ds) digits
+-- what a text has behind its front, where the last two digits were written behind the others
+pub two_behind : (n m : ℕ) (front text new : List ℕ) → 100 ≤ n → n < 2 ^ 32 → m ≡ n / 100 → text ≡ front ++ decimal m → new ≡ text ++ ((48 + n / 10 % 10) ∷ (48 + n % 10) ∷ []) → new ≡ front ++ decimal n
+two_behind n m front text new low high is others e =
+    let tens = (48 + n / 10 % 10) ∷ [] in
+    let ones = (48 + n % 10) ∷ [] in
+    let rest : n / 10 / 10 ≡ m = omega (arith, is) in
+    let before : decimal (n / 10) ≡ decimal m ++ tens = last_digit (n / 10) (omega arith) (omega arith) ∙ ap (λ (k : ℕ). decimal k ++ tens) rest in
+    let digits : decimal n ≡ decimal m ++ (tens ++ ones) = last_digit n (omega arith) high ∙ ap (λ (ds : List ℕ). ds ++ ones) before ∙ append_assoc (decimal m) tens ones in
+    e ∙ ap (λ (ds : List ℕ). ds ++ (tens ++ ones)) others ∙ append_assoc front (decimal m) (tens ++ ones) ∙ ap (λ (ds : List ℕ). front ++ ds) (sym digits)
 
 -- the digits, by how many there are
 pub two_digits : (n : ℕ) → 10 ≤ n → n < 100 → decimal n ≡ (48 + n / 10) ∷ (48 + n % 10) ∷ []
@@ -27,6 +32,13 @@ three_digits n low high =
     let low_front : 10 ≤ n / 10 = omega arith in
     let high_front : n / 10 < 100 = omega arith in
     decimal_step n (omega arith) (omega arith) ∙ ap (λ (ds : List ℕ). ds ++ ((48 + n % 10) ∷ [])) (two_digits (n / 10) low_front high_front)
+
+-- the last two of three digits, in a row that has them in front
+pub two_in_row : (row : List ℕ) (n : ℕ) → 100 ≤ n → n < 1000 → take (length (decimal n)) row ≡ decimal n → (slice_index_or row 1 0 ≡ 48 + n / 10 % 10) × (slice_index_or row 2 0 ≡ 48 + n % 10)
+two_in_row row n low high is =
+    let digits = three_digits n low high in
+    let front : take 3 row ≡ (48 + n / 10 / 10) ∷ (48 + n / 10 % 10) ∷ (48 + n % 10) ∷ [] = sym (ap (λ (ds : List ℕ). take (length ds) row) digits) ∙ is ∙ digits in
+    (sym (get_or-take 3 row 1 0 (omega arith)) ∙ ap (λ (ds : List ℕ). slice_index_or ds 1 0) front, sym (get_or-take 3 row 2 0 (omega arith)) ∙ ap (λ (ds : List ℕ). slice_index_or ds 2 0) front)
 
 -- the digits of a number below 256, by the number itself
 abbrev pub digits_of : ℕ → List ℕ

@@ -1,10 +1,10 @@
 //! Numbers in decimal digits, and paths of them: at a place of a text, and behind what a buffer has.
 
-ghost use Rattle.std.specs.Prelude.{◌≡◌, ◌+◌, ◌*◌, ◌%◌, ◌<◌, ◌≤◌, ◌∷◌, [], ◌++◌, length, take, map, decimal, OnOk, OnErr};
+ghost use Rattle.std.specs.Prelude.{◌≡◌, ◌+◌, ◌*◌, ◌/◌, ◌%◌, ◌<◌, ◌≤◌, ◌∷◌, [], ◌++◌, length, take, map, decimal, OnOk, OnErr};
 ghost use Rattle.std.specs.List.{flat_map, join_with_byte};
 ghost use Rattle.net_text.specs.Printing.{numbers_text};
 
-use crate::texts::{write_mark, write_octet, write_text};
+use crate::texts::{octet_row, write_mark, write_octet, write_text};
 use bgp_codec::Asn;
 use std::alloc::AllocError;
 
@@ -14,68 +14,43 @@ const NUMBER_ROOM: usize = 12;
 // The octets of a path without numbers.
 const NONE_ROOM: usize = 4;
 
-// Writes the last digit of a number.
-fn write_last(text: &mut [u8], at: usize, number: u32) -> usize
-    requires { at < length text.old }
-    ensures end { result ≡ at + 1 }
-    ensures text { take result text.new ≡ take at text.old ++ (48 + number % 10) ∷ [] }
+// Writes the last two digits of a number, as the row of a number from 100 to 199 has them.
+fn write_last_two(text: &mut [u8], at: usize, number: u32) -> usize
+    requires { at + 2 ≤ length text.old }
+    ensures end { result ≡ at + 2 }
+    ensures text { take result text.new ≡ take at text.old ++ (48 + number / 10 % 10) ∷ (48 + number % 10) ∷ [] }
 {
-    write_mark(text, at, b'0' + (number % 10) as u8)
+    let [_, tens, ones, _] = octet_row((100 + number % 100) as u8);
+    let at = write_mark(text, at, tens);
+    write_mark(text, at, ones)
 }
 
-// Writes a number below 2560: of two digits or three by one look at a table, and a last one.
-fn write_below_2560(text: &mut [u8], at: usize, number: u32) -> usize
-    requires number { number < 2560 }
-    requires room { at + 5 ≤ length text.old }
-    ensures end { result ≤ at + 4 }
-    ensures text { take result text.new ≡ take at text.old ++ decimal number }
-{
-    if number < 256 {
-        return write_octet(text, at, number as u8);
-    }
-    let at = write_octet(text, at, (number / 10) as u8);
-    write_last(text, at, number)
-}
-
+// Writes a number of which an octet holds all but the last two digits.
 fn write_below_25600(text: &mut [u8], at: usize, number: u32) -> usize
     requires number { number < 25600 }
     requires room { at + 6 ≤ length text.old }
     ensures end { result ≤ at + 5 }
     ensures text { take result text.new ≡ take at text.old ++ decimal number }
 {
-    if number < 2560 {
-        return write_below_2560(text, at, number);
+    if number < 256 {
+        return write_octet(text, at, number as u8);
     }
-    let at = write_below_2560(text, at, number / 10);
-    write_last(text, at, number)
+    let at = write_octet(text, at, (number / 100) as u8);
+    write_last_two(text, at, number)
 }
 
-fn write_below_256000(text: &mut [u8], at: usize, number: u32) -> usize
-    requires number { number < 256000 }
-    requires room { at + 7 ≤ length text.old }
-    ensures end { result ≤ at + 6 }
+// Writes a number of which an octet holds all but the last four digits.
+fn write_below_2560000(text: &mut [u8], at: usize, number: u32) -> usize
+    requires number { number < 2560000 }
+    requires room { at + 8 ≤ length text.old }
+    ensures end { result ≤ at + 7 }
     ensures text { take result text.new ≡ take at text.old ++ decimal number }
 {
     if number < 25_600 {
         return write_below_25600(text, at, number);
     }
-    let at = write_below_25600(text, at, number / 10);
-    write_last(text, at, number)
-}
-
-// Writes a number of six digits or more: what stands before the last five, and these.
-fn write_long(text: &mut [u8], at: usize, number: u32) -> usize
-    requires number { 256000 ≤ number }
-    requires room { at + 12 ≤ length text.old }
-    ensures end { result ≤ at + 11 }
-    ensures text { take result text.new ≡ take at text.old ++ decimal number }
-{
-    let at = write_below_256000(text, at, number / 100_000);
-    let at = write_last(text, at, number / 10_000);
-    let at = write_last(text, at, number / 1_000);
-    let at = write_last(text, at, number / 100);
-    let at = write_last(text, at, number / 10);
-    write_last(text, at, number)
+    let at = write_below_25600(text, at, number / 100);
+    write_last_two(text, at, number)
 }
 
 /// Writes a number at a place in decimal digits, and answers the place behind it. Twelve octets may
@@ -85,10 +60,12 @@ pub fn write_decimal(text: &mut [u8], at: usize, number: u32) -> usize
     ensures end { result ≤ at + 11 }
     ensures text { take result text.new ≡ take at text.old ++ decimal number }
 {
-    if number < 256_000 {
-        return write_below_256000(text, at, number);
+    if number < 2_560_000 {
+        return write_below_2560000(text, at, number);
     }
-    write_long(text, at, number)
+    let at = write_below_2560000(text, at, number / 10_000);
+    let at = write_last_two(text, at, number / 100);
+    write_last_two(text, at, number)
 }
 
 // Writes numbers behind others, a mark before each, and answers the place behind them.

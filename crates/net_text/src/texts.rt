@@ -71,8 +71,8 @@ fn four_at(octets: &[u8], at: usize) -> [u8; 4]
     [octets[at], octets[at + 1], octets[at + 2], octets[at + 3]]
 }
 
-// The row of an octet.
-fn octet_row(octet: u8) -> [u8; 4]
+/// The row of an octet: its digits in front, blanks behind them, and in the last place how many digits there are.
+pub fn octet_row(octet: u8) -> [u8; 4]
     ensures digits { take (length (decimal octet)) result ≡ decimal octet }
     ensures count { slice_index result 3 ≡ length (decimal octet) }
     ensures few { length (decimal octet) ≤ 3 }
