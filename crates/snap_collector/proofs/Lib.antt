@@ -8,3 +8,4 @@ pub mod Decided
 pub mod FirstParts
 pub mod NoFlights
 pub mod Sole
+mod Apart

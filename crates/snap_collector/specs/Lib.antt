@@ -1,5 +1,6 @@
 pub mod Verdicts
 pub mod Laws
+pub mod Places
 pub mod Collecting
 pub mod Collector
 pub mod Taking

@@ -24,6 +24,7 @@ mod flights;
 pub mod laws;
 mod members;
 mod outcome;
+mod places;
 mod verdicts;
 
 pub use answer::{CollectError, Taken};

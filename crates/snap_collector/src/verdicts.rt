@@ -1,6 +1,6 @@
 //! What the offers for one snapshot show.
 
-ghost use Rattle.std.specs.Prelude.{◌≡◌, map, Bool, true, false, not, ◌==◌, Option, Some, None, MatchOption, option_copied};
+ghost use Rattle.std.specs.Prelude.{◌≡◌, map, Bool, true, false, not, ◌==◌, Option, Some, None, IfSome, MatchOption, option_copied};
 ghost use Rattle.std.specs.List.{find};
 ghost use Rattle.std.specs.Option.{option_map};
 ghost use Rattle.snap_marker.specs.Parts.{part_of, cause_of, is_empty};
@@ -9,10 +9,12 @@ ghost use Rattle.run_model.specs.Offers.{Abandoned};
 ghost use Rattle.run_model.specs.Offers as model;
 ghost use Rattle.snap_collector.specs.Verdicts.{any_lost, abandoned_or, all_parts, decides, has_part, pending, in_flight, mismatch, fault_at, first_fault, moving_or_settled, verdict};
 ghost use Rattle.snap_collector.specs.Collector.{first_part};
+ghost use Rattle.snap_collector.specs.Places.{LeadTo};
 ghost use Rattle.snap_collector.specs.Collecting.{member_of, made_in, why_of, outcome_of, has_offered};
 
 use crate::members::Member;
 use crate::outcome::{Outcome, Why};
+use crate::places::{Places, places_of};
 use ranked_policy::Asn;
 use snap_marker::{Lost, Offer, Part};
 
@@ -77,12 +79,40 @@ pub(crate) fn has_part(offers: &[Offer], router: Asn) -> bool
     false
 }
 
+/// The part of a router in the slot of a member, where the places lead to it: then it is the only one.
+fn found_part<'o>(
+    offers: &'o [Offer],
+    places: Option<&Places>,
+    slot: usize,
+    router: Asn,
+) -> Option<&'o Part>
+    requires { IfSome places (λ p. LeadTo p.now.routers p.now.places offers.now) }
+    ensures { MatchOption result (Unit {0}) (λ part. (holds : RouterPart → Bool) → has_part (made_in offers.now) router holds ≡ holds (part_of part.now)) }
+{
+    match places {
+        Some(places) => places.part_at(offers, slot, router),
+        None => None,
+    }
+}
+
+/// Whether the router of the member in this slot has offered a part.
+fn has_part_in(offers: &[Offer], places: Option<&Places>, slot: usize, router: Asn) -> bool
+    requires { IfSome places (λ p. LeadTo p.now.routers p.now.places offers.now) }
+    ensures { result ≡ has_part (made_in offers.now) router (λ part. true) }
+{
+    match found_part(offers, places, slot, router) {
+        Some(_part) => true,
+        None => has_part(offers, router),
+    }
+}
+
 /// Whether every router has offered a part.
-fn all_parts(members: &[Member], offers: &[Offer]) -> bool
+fn all_parts(members: &[Member], offers: &[Offer], places: Option<&Places>) -> bool
+    requires { IfSome places (λ p. LeadTo p.now.routers p.now.places offers.now) }
     ensures { result ≡ all_parts (map member_of members.now) (made_in offers.now) }
 {
-    for member in members {
-        if !has_part(offers, member.router) {
+    for (slot, member) in members.iter().enumerate() {
+        if !has_part_in(offers, places, slot, member.router) {
             return false;
         }
     }
@@ -96,7 +126,7 @@ pub fn decides(members: &[Member], offers: &[Offer]) -> bool
 {
     match first_lost(offers) {
         Some(_lost) => true,
-        None => all_parts(members, offers),
+        None => all_parts(members, offers, None),
     }
 }
 
@@ -215,25 +245,45 @@ fn flight_in(part: &Part, peers: &[Asn]) -> Option<Asn>
 }
 
 /// Whether a part of the peer names another incarnation of its link to the router than this part of the router.
-fn differs(offers: &[Offer], router: Asn, part: &Part, peer: Asn) -> bool
+fn differs(offers: &[Offer], places: Option<&Places>, router: Asn, part: &Part, peer: Asn) -> bool
+    requires { IfSome places (λ p. LeadTo p.now.routers p.now.places offers.now) }
     ensures { result ≡ has_part (made_in offers.now) peer (λ other. not ((part_of part.now).incarnation peer == other.incarnation router)) }
 {
-    names_another(offers, peer, router, part.epoch(peer))
+    let epoch = part.epoch(peer);
+    if let Some(places) = places {
+        if let Some(other) = places.part(offers, peer) {
+            return epoch != other.epoch(router);
+        }
+    }
+    names_another(offers, peer, router, epoch)
 }
 
 /// The least peer whose part names another incarnation of the link than this part of the router.
-fn mismatch_in(offers: &[Offer], router: Asn, part: &Part, peers: &[Asn]) -> Option<Asn>
+fn mismatch_in(
+    offers: &[Offer],
+    places: Option<&Places>,
+    router: Asn,
+    part: &Part,
+    peers: &[Asn],
+) -> Option<Asn>
+    requires { IfSome places (λ p. LeadTo p.now.routers p.now.places offers.now) }
     ensures { result ≡ find (λ v. has_part (made_in offers.now) v (λ other. not ((part_of part.now).incarnation v == other.incarnation router))) peers.now }
 {
     peers
         .iter()
         .copied()
-        .find(|peer| differs(offers, router, part, *peer))
+        .find(|peer| differs(offers, places, router, part, *peer))
 }
 
 /// The first fault of the only part of a router: the others are gone through for its mismatches alone.
-fn sole_fault(offers: &[Offer], member: &Member, part: &Part) -> Option<Why>
-    requires { (holds : RouterPart → Bool) → has_part (made_in offers.now) member.now.router holds ≡ holds (part_of part.now) }
+fn sole_fault(
+    offers: &[Offer],
+    places: Option<&Places>,
+    member: &Member,
+    part: &Part,
+) -> Option<Why>
+    requires led { IfSome places (λ p. LeadTo p.now.routers p.now.places offers.now) }
+    requires sole { (holds : RouterPart → Bool) → has_part (made_in offers.now) member.now.router holds ≡ holds (part_of part.now) }
     ensures { option_map why_of result ≡ fault_at (made_in offers.now) (member_of member.now) }
 {
     if part.pending {
@@ -242,19 +292,23 @@ fn sole_fault(offers: &[Offer], member: &Member, part: &Part) -> Option<Why>
     let peers = member.peers.as_slice();
     match flight_in(part, peers) {
         Some(peer) => Some(Why::InFlight(peer)),
-        None => match mismatch_in(offers, member.router, part, peers) {
+        None => match mismatch_in(offers, places, member.router, part, peers) {
             Some(peer) => Some(Why::Mismatch(peer)),
             None => None,
         },
     }
 }
 
-/// The first fault of a router's parts.
-fn fault_at(offers: &[Offer], member: &Member) -> Option<Why>
+/// The first fault of a router's parts, the member being in this slot.
+fn fault_at(offers: &[Offer], places: Option<&Places>, slot: usize, member: &Member) -> Option<Why>
+    requires { IfSome places (λ p. LeadTo p.now.routers p.now.places offers.now) }
     ensures { option_map why_of result ≡ fault_at (made_in offers.now) (member_of member.now) }
 {
+    if let Some(part) = found_part(offers, places, slot, member.router) {
+        return sole_fault(offers, places, member, part);
+    }
     if let Some(part) = sole_part(offers, member.router) {
-        return sole_fault(offers, member, part);
+        return sole_fault(offers, places, member, part);
     }
     if pending(offers, member.router) {
         return Some(Why::Pending);
@@ -269,11 +323,12 @@ fn fault_at(offers: &[Offer], member: &Member) -> Option<Why>
 }
 
 /// The outcome of parts of every router: the first fault of them, or settled.
-fn faults(members: &[Member], offers: &[Offer]) -> Outcome
+fn faults(members: &[Member], offers: &[Offer], places: Option<&Places>) -> Outcome
+    requires { IfSome places (λ p. LeadTo p.now.routers p.now.places offers.now) }
     ensures { outcome_of result ≡ moving_or_settled (first_fault (map member_of members.now) (made_in offers.now)) }
 {
-    for member in members {
-        if let Some(why) = fault_at(offers, member) {
+    for (slot, member) in members.iter().enumerate() {
+        if let Some(why) = fault_at(offers, places, slot, member) {
             return Outcome::Moving {
                 router: member.router,
                 why,
@@ -291,8 +346,9 @@ pub fn verdict(members: &[Member], offers: &[Offer]) -> Outcome
     match first_lost(offers) {
         Some(lost) => Outcome::Abandoned(*lost),
         None => {
-            if all_parts(members, offers) {
-                faults(members, offers)
+            let places = places_of(members, offers);
+            if all_parts(members, offers, places.as_ref()) {
+                faults(members, offers, places.as_ref())
             } else {
                 Outcome::Waiting
             }
