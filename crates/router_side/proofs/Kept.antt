@@ -2,8 +2,8 @@
 use Rattle.std.proofs.Common.{◌≡◌, ℕ, ◌==◌, ◌≤◌, Bool, true, false, cond, List, [], ◌∷◌, ◌++◌, length, take, drop, append_assoc, refl, ap, sym, ◌∙◌, subst, arith}
 use Rattle.std.proofs.Math.Path.{fun_ext}
 use Rattle.std.proofs.Math.Seq.{take-length, drop-length}
-use Rattle.std.proofs.lemmas.List.{length-append, take-append-le, drop-append-le}
-use Rattle.std.specs.Prelude.{Result, Ok}
+use Rattle.std.proofs.lemmas.List.{length-append, append-nil, take-append-le, drop-append-le}
+use Rattle.std.specs.Prelude.{Result, Ok, Option, None, Some}
 use Rattle.bgp_values.specs.declared.width.Width.{Width}
 use Rattle.bgp_codec.specs.declared.fault.Fault.{Fault}
 use Rattle.bgp_codec.specs.declared.message.Message.{Message}
@@ -13,10 +13,11 @@ use Rattle.bgp_codec.specs.Header.{IsFrame}
 use Rattle.bgp_codec.specs.Faults.{reading, WrittenIsRead}
 use Rattle.bgp_codec.specs.Spelling.{written}
 use Rattle.router_model.specs.Sides.{with_update}
-use Rattle.router_side.specs.declared.history.Place.{Place}
+use Rattle.router_side.specs.declared.block.Block.{Block}
+use Rattle.router_side.specs.declared.block.Place.{Place}
 use Rattle.router_side.specs.declared.history.Told.{Told}
-use Rattle.router_side.specs.Histories.{history, updates_read, dated, told_in, AreKept}
-use Rattle.router_side.specs.Sayings.{nobody, IsSayable}
+use Rattle.router_side.specs.Histories.{history, updates_read, dated, told_in, told_by_blocks, entries_in, octets_in, AreKept, AreAllKept}
+use Rattle.router_side.specs.Sayings.{nobody, acted_where, IsSayable}
 
 under : (b c : Bool) (t u : Update) (us : List Update) → cond b (t ∷ cond c (us ++ u ∷ []) us) (cond c (us ++ u ∷ []) us) ≡ cond c (cond b (t ∷ us) us ++ u ∷ []) (cond b (t ∷ us) us)
 under true true t u us = refl
@@ -43,16 +44,16 @@ kept_on (q ∷ ps) octets new p (le, is, kept) one =
     longer : q.len ≤ length octets → q.len ≤ length (octets ++ new)
     longer le = omega (arith, le, length-append octets new)
 
-pub told_on : (width : Width) (ps : List Place) (octets new : List ℕ) (p : Place) → AreKept ps octets → told_in width (ps ++ p ∷ []) (octets ++ new) ≡ told_in width ps octets ++ told_in width (p ∷ []) new
-told_on width [] octets new p none = ap (λ (os : List ℕ). told_in width (p ∷ []) (os ++ new)) none
-told_on width (q ∷ ps) octets new p (le, is, kept) =
+pub told_on : (width : Width) (ps : List Place) (octets new : List ℕ) (more : List Place) → AreKept ps octets → told_in width (ps ++ more) (octets ++ new) ≡ told_in width ps octets ++ told_in width more new
+told_on width [] octets new more none = ap (λ (os : List ℕ). told_in width more (os ++ new)) none
+told_on width (q ∷ ps) octets new more (le, is, kept) =
     let front = take-append-le q.len octets new le in
     let behind = drop-append-le q.len octets new le in
     let one = λ (os : List ℕ). dated q.epoch (updates_read (reading (nobody width) os)) in
-    ap (λ (os : List ℕ). one os ++ told_in width (ps ++ p ∷ []) (drop q.len (octets ++ new))) front
-    ∙ ap (λ (os : List ℕ). one (take q.len octets) ++ told_in width (ps ++ p ∷ []) os) behind
-    ∙ ap (λ (ts : List Told). one (take q.len octets) ++ ts) (told_on width ps (drop q.len octets) new p kept)
-    ∙ sym (append_assoc (one (take q.len octets)) (told_in width ps (drop q.len octets)) (told_in width (p ∷ []) new))
+    ap (λ (os : List ℕ). one os ++ told_in width (ps ++ more) (drop q.len (octets ++ new))) front
+    ∙ ap (λ (os : List ℕ). one (take q.len octets) ++ told_in width (ps ++ more) os) behind
+    ∙ ap (λ (ts : List Told). one (take q.len octets) ++ ts) (told_on width ps (drop q.len octets) new more kept)
+    ∙ sym (append_assoc (one (take q.len octets)) (told_in width ps (drop q.len octets)) (told_in width more new))
 
 -- one UPDATE
 pub one_kept : (p : Place) (octets : List ℕ) → IsFrame octets → p.len ≡ length octets → AreKept (p ∷ []) octets
@@ -77,8 +78,60 @@ pub history_grown : (width : Width) (ps : List Place) (octets new : List ℕ) (p
     → history (told_in width (ps ++ p ∷ []) (octets ++ new)) ≡ with_update (history (told_in width ps octets)) p.epoch u
 history_grown width ps octets new p u kept read len =
     let t : Told = record { epoch = p.epoch; update = u } in
-    ap history (told_on width ps octets new p kept ∙ ap (λ (ts : List Told). told_in width ps octets ++ ts) (one_told width p new u read len)) ∙ history_on (told_in width ps octets) t
+    ap history (told_on width ps octets new (p ∷ []) kept ∙ ap (λ (ts : List Told). told_in width ps octets ++ ts) (one_told width p new u read len)) ∙ history_on (told_in width ps octets) t
 
 -- an UPDATE that is read at a place
 pub told_at : (width : Width) (octets : List ℕ) (t : Told) (epoch : ℕ) → t.epoch ≡ epoch → updates_read (reading (nobody width) octets) ≡ t.update ∷ [] → dated epoch (updates_read (reading (nobody width) octets)) ≡ t ∷ []
 told_at width octets t epoch e u = ap (λ (us : List Update). dated epoch us) u ∙ ap (λ (n : ℕ). record { epoch = n; update = t.update } ∷ []) (sym e)
+
+-- ---- blocks one behind the other
+
+-- what blocks tell, and what is told behind them
+pub told_behind : (width : Width) (bs : List Block) (ps : List Place) (octets : List ℕ) → AreAllKept bs → told_in width (entries_in bs ++ ps) (octets_in bs ++ octets) ≡ told_by_blocks width bs ++ told_in width ps octets
+told_behind width [] ps octets kept = refl
+told_behind width (b ∷ bs) ps octets (one, kept) =
+    ap (λ (qs : List Place). told_in width qs ((b.octets.items ++ octets_in bs) ++ octets)) (append_assoc b.places.items (entries_in bs) ps)
+    ∙ ap (λ (os : List ℕ). told_in width (b.places.items ++ (entries_in bs ++ ps)) os) (append_assoc b.octets.items (octets_in bs) octets)
+    ∙ told_on width b.places.items b.octets.items (octets_in bs ++ octets) (entries_in bs ++ ps) one
+    ∙ ap (λ (ts : List Told). told_in width b.places.items b.octets.items ++ ts) (told_behind width bs ps octets kept)
+    ∙ sym (append_assoc (told_in width b.places.items b.octets.items) (told_by_blocks width bs) (told_in width ps octets))
+
+-- a block more
+pub entries_more : (bs : List Block) (b : Block) → entries_in (bs ++ b ∷ []) ≡ entries_in bs ++ b.places.items
+entries_more [] b = append-nil b.places.items
+entries_more (a ∷ bs) b = ap (λ (ps : List Place). a.places.items ++ ps) (entries_more bs b) ∙ sym (append_assoc a.places.items (entries_in bs) b.places.items)
+
+pub octets_more : (bs : List Block) (b : Block) → octets_in (bs ++ b ∷ []) ≡ octets_in bs ++ b.octets.items
+octets_more [] b = append-nil b.octets.items
+octets_more (a ∷ bs) b = ap (λ (os : List ℕ). a.octets.items ++ os) (octets_more bs b) ∙ sym (append_assoc a.octets.items (octets_in bs) b.octets.items)
+
+pub all_kept_more : (bs : List Block) (b : Block) → AreAllKept bs → AreKept b.places.items b.octets.items → AreAllKept (bs ++ b ∷ [])
+all_kept_more [] b kept one = (one, kept)
+all_kept_more (a ∷ bs) b (first, kept) one = (first, all_kept_more bs b kept one)
+
+-- the histories of what is told behind
+history_behind : (ts us : List Told) (n : ℕ) → history (ts ++ us) n ≡ history ts n ++ history us n
+history_behind [] us n = refl
+history_behind (t ∷ ts) us n = rw (history_behind ts us n) (chosen (n == t.epoch) t.update (history ts n) (history us n))
+  where
+    chosen : (b : Bool) (u : Update) (vs ws : List Update) → cond b (u ∷ (vs ++ ws)) (vs ++ ws) ≡ cond b (u ∷ vs) vs ++ ws
+    chosen true u vs ws = refl
+    chosen false u vs ws = refl
+
+grown_at : (ts us more : List Told) (e : ℕ) (u : Update) (n : ℕ) → history more ≡ with_update (history us) e u → history (ts ++ more) n ≡ with_update (history (ts ++ us)) e u n
+grown_at ts us more e u n grown =
+    history_behind ts more n
+    ∙ ap (λ (h : ℕ → List Update). history ts n ++ h n) grown
+    ∙ joined (n == e) (history ts n) (history us n)
+    ∙ ap (λ (vs : List Update). cond (n == e) (vs ++ u ∷ []) vs) (sym (history_behind ts us n))
+  where
+    joined : (b : Bool) (vs ws : List Update) → vs ++ cond b (ws ++ u ∷ []) ws ≡ cond b ((vs ++ ws) ++ u ∷ []) (vs ++ ws)
+    joined true vs ws = sym (append_assoc vs ws (u ∷ []))
+    joined false vs ws = refl
+
+pub grown_behind : (ts us more : List Told) (e : ℕ) (u : Update) → history more ≡ with_update (history us) e u → history (ts ++ more) ≡ with_update (history (ts ++ us)) e u
+grown_behind ts us more e u grown = fun_ext (λ n. grown_at ts us more e u n grown)
+
+pub grown_where : (ts us more : List Told) (e : ℕ) (x : Option Update) → history more ≡ acted_where true x e (history us) → history (ts ++ more) ≡ acted_where true x e (history (ts ++ us))
+grown_where ts us more e None same = fun_ext (λ n. history_behind ts more n ∙ ap (λ (h : ℕ → List Update). history ts n ++ h n) same ∙ sym (history_behind ts us n))
+grown_where ts us more e (Some u) grown = grown_behind ts us more e u grown

@@ -1,5 +1,6 @@
 -- UPDATEs that were acted on or sent, in the octets that spell them.
 use Rattle.std.specs.Prelude.{ℕ, ◌≡◌, ◌≤◌, ◌==◌, cond, List, [], ◌∷◌, ◌++◌, length, take, drop, Result, Ok, Err}
+use Rattle.std.specs.List.{AllByRecursion}
 use Rattle.bgp_values.specs.declared.width.Width.{Width}
 use Rattle.bgp_codec.specs.declared.fault.Fault.{Fault}
 use Rattle.bgp_codec.specs.declared.message.Message.{Message}
@@ -7,8 +8,8 @@ use Rattle.bgp_codec.specs.declared.message.Message.TheVariants.{OpenMsg, Update
 use Rattle.bgp_codec.specs.declared.update.Update.{Update}
 use Rattle.bgp_codec.specs.Header.{IsFrame}
 use Rattle.bgp_codec.specs.Faults.{reading}
-use Rattle.bgp_codec.specs.Spelling.{written}
-use Rattle.router_side.specs.declared.history.Place.{Place}
+use Rattle.router_side.specs.declared.block.Block.{Block}
+use Rattle.router_side.specs.declared.block.Place.{Place}
 use Rattle.router_side.specs.declared.history.Told.{Told}
 use Rattle.router_side.specs.Sayings.{nobody}
 
@@ -39,12 +40,23 @@ abbrev pub AreKept : List Place → List ℕ → Type 0
 AreKept [] octets = octets ≡ []
 AreKept (p ∷ ps) octets = (p.len ≤ length octets) × IsFrame (take p.len octets) × AreKept ps (drop p.len octets)
 
--- the octets of a message that is kept, where it is an UPDATE
-abbrev pub octets_kept : Width → Message → List ℕ
-octets_kept width (OpenMsg message) = []
-octets_kept width (UpdateMsg update) = written width (UpdateMsg update)
-octets_kept width (NoticeMsg notice) = []
-octets_kept width AliveMsg = []
+-- the places of blocks, and their octets
+abbrev pub entries_in : List Block → List Place
+entries_in [] = []
+entries_in (b ∷ bs) = b.places.items ++ entries_in bs
+
+abbrev pub octets_in : List Block → List ℕ
+octets_in [] = []
+octets_in (b ∷ bs) = b.octets.items ++ octets_in bs
+
+-- what was told in blocks
+abbrev pub told_by_blocks : Width → List Block → List Told
+told_by_blocks width [] = []
+told_by_blocks width (b ∷ bs) = told_in width b.places.items b.octets.items ++ told_by_blocks width bs
+
+-- the octets of each place of a block are a frame, and no others are there
+abbrev pub AreAllKept : List Block → Type 0
+AreAllKept bs = AllByRecursion (λ (b : Block). AreKept b.places.items b.octets.items) bs
 
 -- the places, their octets, and the room for more
 pub record Past : Type 0 where

@@ -1,22 +1,33 @@
 //! The UPDATEs of a side, by incarnation, in the octets that spell them.
 
-ghost use Rattle.std.specs.Prelude.{◌≡◌, ◌≤◌, ◌∷◌, ◌++◌, [], true, length, Ok, IfOk, OnOk};
+ghost use Rattle.std.specs.Prelude.{◌≡◌, ◌≤◌, ◌++◌, [], true, length, Ok, IfOk, OnOk};
 ghost use Rattle.bgp_codec.specs.declared.message.Message.TheVariants.{UpdateMsg};
 ghost use Rattle.bgp_codec.specs.declared.update.Update as update;
 ghost use Rattle.bgp_codec.specs.Header.{IsFrame};
 ghost use Rattle.bgp_values.specs.declared.width.Width as widths;
 ghost use Rattle.bgp_codec.specs.Faults.{reading};
 ghost use Rattle.bgp_codec.specs.Spelling.{written};
+ghost use Rattle.run_model.specs.Octets.{octets_of};
 ghost use Rattle.router_model.specs.Sides.{with_update};
 ghost use Rattle.router_side.specs.Sayings.{acted_where, nobody, update_in, IsSayable};
-ghost use Rattle.router_side.specs.Histories.{history, octets_kept, told_with, updates_read};
+ghost use Rattle.router_side.specs.Histories.{history, told_with};
 
+use crate::block::Block;
 use crate::route::Route;
-use bgp_codec::laws::written_is_read;
-use bgp_codec::{Message, Rule, Update, decode, put_message};
+use bgp_codec::{Message, Rule, Update};
 use bgp_values::Width;
+use outbox::Outbox;
 use std::alloc::{AllocError, Global};
 use std::marker::Model;
+use std::mem::replace;
+
+// A block has room for the UPDATE for which it is begun, and for so many octets more: at least, and at most.
+const LEAST_MORE: usize = 512;
+
+const MOST_MORE: usize = 65_536;
+
+// It has a place for each so many of those; most UPDATEs are longer.
+const OCTETS_A_PLACE: usize = 32;
 
 /// An UPDATE that was acted on or sent, with its incarnation.
 #[derive(Debug, Drop)]
@@ -27,35 +38,30 @@ pub struct Told {
     pub update: Update,
 }
 
-// The incarnation of an UPDATE, and how many octets it has.
-#[derive(Clone, Copy, Debug)]
-struct Place {
-    epoch: u32,
-    len: usize,
-}
-
 /// The UPDATEs that were acted on or sent, in their order, each once, in octets that spell them: some
-/// fifty for a route.
+/// fifty for a route. They stand in blocks, so that none is moved for those that follow.
 #[derive(Debug, Drop)]
 pub struct History {
-    octets: Vec<u8>,
-    places: Vec<Place>,
+    // Those that had no room for the next, the oldest first.
+    full: Vec<Block>,
+    // The one behind them.
+    last: Block,
 }
 
 impl Model for History {
-    ghost use Rattle.std.specs.Prelude.{◌-◌, vec_len, vec_capacity};
-    ghost use Rattle.router_side.specs.Histories.{Past, AreKept};
+    ghost use Rattle.std.specs.Prelude.{◌-◌, ◌++◌, vec_len, vec_capacity};
+    ghost use Rattle.router_side.specs.Histories.{Past, AreKept, AreAllKept, entries_in, octets_in};
 
     ghost Value = { Past };
 
     ghost view = { λ h. record {
-      entries = h.places.items;
-      octets = h.octets.items;
-      room = vec_capacity h.octets - vec_len h.octets;
-      places = vec_capacity h.places - vec_len h.places;
+      entries = entries_in h.full.items ++ h.last.places.items;
+      octets = octets_in h.full.items ++ h.last.octets.items;
+      room = vec_capacity h.last.octets - vec_len h.last.octets;
+      places = vec_capacity h.last.places - vec_len h.last.places;
     } };
 
-    ghost invariant = { λ h. AreKept h.places.items h.octets.items };
+    ghost invariant = { λ h. AreAllKept h.full.items × AreKept h.last.places.items h.last.octets.items };
 }
 
 // The rule that names nobody.
@@ -69,28 +75,14 @@ pub(crate) fn nobody(width: Width) -> Rule
     }
 }
 
-// The UPDATE that some octets spell. It is refused only where memory was: what is kept is an UPDATE.
-fn read(alloc: Global, width: Width, epoch: u32, octets: &[u8]) -> Result<Told, AllocError>
-    requires { IsFrame octets.now }
-    ensures epoch { IfOk result (λ told. told.epoch ≡ epoch) }
-    ensures update { IfOk result (λ told. updates_read (reading (nobody width) octets.now) ≡ told.update ∷ []) }
-{
-    match decode(alloc, octets, &nobody(width)) {
-        Ok(Message::UpdateMsg(update)) => Ok(Told { epoch, update }),
-        Ok(Message::OpenMsg(_) | Message::NoticeMsg(_) | Message::AliveMsg) | Err(_) => {
-            Err(AllocError)
-        }
-    }
-}
-
 impl History {
     /// No UPDATE yet. It takes no memory.
     pub fn new(alloc: Global) -> History
         ensures { result.entries ≡ [] }
     {
         History {
-            octets: Vec::new(alloc),
-            places: Vec::new(alloc),
+            full: Vec::new(alloc),
+            last: Block::new(alloc),
         }
     }
 
@@ -99,20 +91,11 @@ impl History {
         ensures { IfOk result (λ told. told.items ≡ told_with width self.now) }
     {
         let mut all = Vec::new(alloc);
-        let mut rest = self.octets.as_slice();
-        for place in self.places.as_slice() {
-            let (octets, behind) = rest.split_at(place.len);
-            all.push(read(alloc, width, place.epoch, octets)?)?;
-            rest = behind;
+        for block in self.full.as_slice() {
+            block.put_told(alloc, width, &mut all)?;
         }
+        self.last.put_told(alloc, width, &mut all)?;
         Ok(all)
-    }
-
-    // The octets that spell them, one behind the other.
-    pub(crate) fn octets(&self) -> &[u8]
-        ensures { result.now ≡ self.now.octets }
-    {
-        self.octets.as_slice()
     }
 
     // Makes room for an UPDATE of so many octets.
@@ -122,8 +105,35 @@ impl History {
         ensures room { OnOk result (octets ≤ self.new.room) }
         ensures places { OnOk result (1 ≤ self.new.places) }
     {
-        self.octets.reserve(octets)?;
-        self.places.reserve(1)?;
+        if self.last.has_room(octets) {
+            return Ok(());
+        }
+        self.begin_block(octets)
+    }
+
+    // Begins a block with room for an UPDATE of so many octets, and within bounds for twice the octets of the last one.
+    // Where a growth is refused all stays.
+    #[inline(never)]
+    fn begin_block(&mut self, octets: usize) -> Result<(), AllocError>
+        ensures entries { self.new.entries ≡ self.old.entries }
+        ensures octets { self.new.octets ≡ self.old.octets }
+        ensures room { OnOk result (octets ≤ self.new.room) }
+        ensures places { OnOk result (1 ≤ self.new.places) }
+    {
+        let alloc = *self.full.allocator();
+        let twice = self.last.len().saturating_mul(2);
+        let more = twice.max(LEAST_MORE).min(MOST_MORE);
+        let next = Block::with_room(
+            alloc,
+            octets.saturating_add(more),
+            1 + more / OCTETS_A_PLACE,
+        )?;
+        if self.last.is_empty() {
+            self.last = next;
+            return Ok(());
+        }
+        self.full.reserve(1)?;
+        self.full.push_reserved(replace(&mut self.last, next));
         Ok(())
     }
 
@@ -134,43 +144,39 @@ impl History {
         requires place { 1 ≤ self.old.places }
         ensures { (w : widths.Width) (u : update.Update) → reading (nobody w) frame.now ≡ Ok (UpdateMsg u) → history (told_with w self.new) ≡ with_update (history (told_with w self.old)) epoch u }
     {
-        self.octets.extend_from_slice(frame).unwrap();
-        let len = frame.len();
-        self.places.push_reserved(Place { epoch, len });
+        self.last.keep_frame(epoch, frame);
     }
 
-    // Puts an UPDATE behind the others, for which there is room; another message is none of them.
-    pub(crate) fn keep(&mut self, width: Width, epoch: u32, message: &Message)
+    // Appends a message to what waits towards a peer, for which there is room; an UPDATE joins those that are here.
+    pub(crate) fn keep(&mut self, width: Width, epoch: u32, message: &Message, outbox: &mut Outbox)
         requires sayable { IsSayable width message.now }
         requires room { length (written width message.now) ≤ self.old.room }
         requires place { 1 ≤ self.old.places }
+        requires waiting { length (written width message.now) ≤ outbox.old.room }
+        requires more { 1 ≤ outbox.old.places }
         ensures told { history (told_with width self.new) ≡ acted_where true (update_in message.now) epoch (history (told_with width self.old)) }
-        ensures octets { self.new.octets ≡ self.old.octets ++ octets_kept width message.now }
+        ensures passing { outbox.new.passing ≡ outbox.old.passing ++ octets_of epoch (written width message.now) }
     {
-        match message {
-            Message::UpdateMsg(_) => {
-                written_is_read();
-                let before = self.octets.len();
-                put_message(&mut self.octets, message, &nobody(width));
-                let len = self.octets.len() - before;
-                self.places.push_reserved(Place { epoch, len });
-            }
-            Message::OpenMsg(_) | Message::NoticeMsg(_) | Message::AliveMsg => {}
-        }
+        self.last.keep(width, epoch, message, outbox);
     }
 
-    // Puts the UPDATE of a path that is told behind the others, for which there is room.
-    pub(crate) fn keep_route(&mut self, width: Width, epoch: u32, route: &Route)
+    // Appends the UPDATE of a path that is told to what waits towards a peer, for which there is room, and it joins
+    // those that are here.
+    pub(crate) fn keep_route(
+        &mut self,
+        width: Width,
+        epoch: u32,
+        route: &Route,
+        outbox: &mut Outbox,
+    )
         requires sayable { IsSayable width (UpdateMsg route.now) }
         requires room { length (written width (UpdateMsg route.now)) ≤ self.old.room }
         requires place { 1 ≤ self.old.places }
+        requires waiting { length (written width (UpdateMsg route.now)) ≤ outbox.old.room }
+        requires more { 1 ≤ outbox.old.places }
         ensures told { history (told_with width self.new) ≡ with_update (history (told_with width self.old)) epoch route.now }
-        ensures octets { self.new.octets ≡ self.old.octets ++ written width (UpdateMsg route.now) }
+        ensures passing { outbox.new.passing ≡ outbox.old.passing ++ octets_of epoch (written width (UpdateMsg route.now)) }
     {
-        written_is_read();
-        let before = self.octets.len();
-        route.put(width, &mut self.octets);
-        let len = self.octets.len() - before;
-        self.places.push_reserved(Place { epoch, len });
+        self.last.keep_route(width, epoch, route, outbox);
     }
 }

@@ -20,6 +20,7 @@
 #![tactic(auto)]
 
 mod at_hand;
+mod block;
 mod draft;
 mod enqueue;
 mod history;

@@ -7,9 +7,7 @@ ghost use Rattle.router_side.specs.Sayings.{IsSayable};
 ghost use Rattle.router_side.specs.SideOf.{side, told_by, HasRoomToTell, HasRoomToMark};
 
 use super::SideEnd;
-use crate::history::nobody;
 use crate::route::Route;
-use bgp_codec::laws::written_has_a_header;
 use bgp_codec::{Message, written_len};
 use outbox::Control;
 use std::alloc::AllocError;
@@ -37,20 +35,8 @@ impl SideEnd {
         requires room { HasRoomToTell message.now self.old }
         ensures { side self.new ≡ told_by (side self.old) message.now }
     {
-        written_has_a_header();
         let epoch = self.link.epoch();
-        match message {
-            Message::UpdateMsg(_) => {
-                let before = self.sent.octets().len();
-                self.sent.keep(self.width, epoch, message);
-                let (_, octets) = self.sent.octets().split_at(before);
-                self.outbox.push_octets(epoch, octets);
-            }
-            Message::OpenMsg(_) | Message::NoticeMsg(_) | Message::AliveMsg => {
-                self.outbox
-                    .push_message(epoch, message, &nobody(self.width));
-            }
-        }
+        self.sent.keep(self.width, epoch, message, &mut self.outbox);
         self.session.update_sent();
     }
 
@@ -74,12 +60,9 @@ impl SideEnd {
         requires room { HasRoomToTell (UpdateMsg route.now) self.old }
         ensures { side self.new ≡ told_by (side self.old) (UpdateMsg route.now) }
     {
-        written_has_a_header();
         let epoch = self.link.epoch();
-        let before = self.sent.octets().len();
-        self.sent.keep_route(self.width, epoch, route);
-        let (_, octets) = self.sent.octets().split_at(before);
-        self.outbox.push_octets(epoch, octets);
+        self.sent
+            .keep_route(self.width, epoch, route, &mut self.outbox);
         self.session.update_sent();
     }
 

@@ -1,45 +1,22 @@
-use Rattle.std.proofs.Common.{◌≡◌, ◌++◌, ◌∷◌, ◌∙◌, ◌-◌, ℕ, List, [], true, length, sym, ap, subst, arith}
-use Rattle.std.proofs.lemmas.List.{length-append}
-use Rattle.bgp_codec.specs.declared.message.Message.{Message}
-use Rattle.bgp_codec.specs.declared.message.Message.TheVariants.{UpdateMsg}
-use Rattle.bgp_codec.specs.declared.rule.Rule.{Rule}
-use Rattle.bgp_codec.specs.declared.update.Update.{Update}
-use Rattle.bgp_codec.specs.Spelling.{written}
-use Rattle.router_side.specs.declared.history.Place.{Place}
-use Rattle.router_side.specs.Histories.{history, told_in, told_with, AreKept}
-use Rattle.router_side.specs.Sayings.{acted_where, update_in, IsSayable}
-use Rattle.router_side.proofs.Kept.{kept_on, one_kept, written_kept, history_grown}
+use Rattle.std.proofs.Common.{◌∙◌, List, true, ap, sym}
+use Rattle.router_side.specs.declared.history.Told.{Told}
+use Rattle.router_side.specs.Histories.{history, told_in, told_by_blocks, told_with}
+use Rattle.router_side.specs.Sayings.{acted_where, update_in}
+use Rattle.router_side.proofs.Kept.{told_behind, grown_where}
 use Rattle.router_side.proofs.history.History.keep.Goals as goal
 
--- its octets stand behind those of the others
 pub invariant_of-self : goal.invariant_of-self
-invariant_of-self c =
-    let m = c.in-UpdateMsg.is in
-    let u = c.in-UpdateMsg.field-0 in
-    let new = written c.args.width c.args.message.now in
-    let p : Place = record { epoch = c.args.epoch; len = c.len.result - c.len-before.result } in
-    let items = c.put_message.ensures.items ∙ ap (λ (r : Rule). c.self.inside.octets.items ++ written r.width c.args.message.now) c.nobody.ensures in
-    let grown = ap length items ∙ length-append c.self.inside.octets.items new in
-    let len : p.len ≡ length new = omega (arith, grown, c.len.ensures, c.len-before.ensures, c.put_message.new.out.ok.0, c.self.inside.octets.ok.0) in
-    let w = written_kept c.args.width c.written_is_read.ensures new u (subst (IsSayable c.args.width) m c.requires.sayable) (ap (written c.args.width) m) in
-    let all = kept_on c.self.inside.places.items c.self.inside.octets.items new p c.self.invariant (one_kept p new w.0 len) in
-    subst (λ (ps : List Place). AreKept ps c.put_message.new.out.items) (sym c.push_reserved.ensures.items)
-    (subst (λ (os : List ℕ). AreKept (c.self.inside.places.items ++ p ∷ []) os) (sym items) all)
+invariant_of-self c = (c.self.invariant.0, c.keep.ensures.kept)
 
-pub returns-in-UpdateMsg-clause-told : goal.returns-in-UpdateMsg-clause-told
-returns-in-UpdateMsg-clause-told c =
-    let m = c.in-UpdateMsg.is in
-    let u = c.in-UpdateMsg.field-0 in
-    let new = written c.args.width c.args.message.now in
-    let ps = c.self.inside.places.items in
-    let os = c.self.inside.octets.items in
-    let p : Place = record { epoch = c.args.epoch; len = c.len.result - c.len-before.result } in
-    let items = c.put_message.ensures.items ∙ ap (λ (r : Rule). c.self.inside.octets.items ++ written r.width c.args.message.now) c.nobody.ensures in
-    let grown = ap length items ∙ length-append os new in
-    let len : p.len ≡ length new = omega (arith, grown, c.len.ensures, c.len-before.ensures, c.put_message.new.out.ok.0, c.self.inside.octets.ok.0) in
-    let w = written_kept c.args.width c.written_is_read.ensures new u (subst (IsSayable c.args.width) m c.requires.sayable) (ap (written c.args.width) m) in
-    ap history (ap (λ (xs : List Place). told_in c.args.width xs c.put_message.new.out.items) c.push_reserved.ensures.items
-    ∙ ap (λ (xs : List ℕ). told_in c.args.width (ps ++ p ∷ []) xs) items)
-    ∙ history_grown c.args.width ps os new p u c.self.invariant w.1 len
-    ∙ ap (λ (h : ℕ → List Update). acted_where true (update_in (UpdateMsg u)) c.args.epoch h) (ap (λ v. history (told_with c.args.width v)) c.self.view_is)
-    ∙ sym (ap (λ (k : Message). acted_where true (update_in k) c.args.epoch (history (told_with c.args.width c.args.self.now))) m)
+-- it is told behind what the full blocks tell
+pub returns-clause-told : goal.returns-clause-told
+returns-clause-told c =
+    let width = c.args.width in
+    let one = update_in c.args.message.now in
+    let bs = c.self.inside.full.items in
+    let old = c.self.inside.last in
+    let new = c.keep.new.self in
+    ap history (told_behind width bs new.places.items new.octets.items c.self.invariant.0)
+    ∙ grown_where (told_by_blocks width bs) (told_in width old.places.items old.octets.items) (told_in width new.places.items new.octets.items) c.args.epoch one c.keep.ensures.told
+    ∙ ap (λ (ts : List Told). acted_where true one c.args.epoch (history ts)) (sym (told_behind width bs old.places.items old.octets.items c.self.invariant.0))
+    ∙ ap (λ v. acted_where true one c.args.epoch (history (told_with width v))) c.self.view_is

@@ -1,32 +1,20 @@
-use Rattle.std.proofs.Common.{◌++◌, ◌∷◌, ◌∙◌, ℕ, List, [], length, sym, ap, subst, refl}
-use Rattle.std.specs.Prelude.{is_ok, if◌then◌else◌}
-use Rattle.bgp_codec.specs.declared.update.Update.{Update}
+use Rattle.std.proofs.Common.{◌∙◌, List, ap, sym}
 use Rattle.router_model.specs.Sides.{with_update}
-use Rattle.router_side.specs.declared.history.Place.{Place}
-use Rattle.router_side.specs.Histories.{history, told_in, told_with, AreKept}
-use Rattle.router_side.proofs.Kept.{kept_on, one_kept, history_grown}
+use Rattle.router_side.specs.declared.history.Told.{Told}
+use Rattle.router_side.specs.Histories.{history, told_in, told_by_blocks, told_with}
+use Rattle.router_side.proofs.Kept.{told_behind, grown_behind}
 use Rattle.router_side.proofs.history.History.keep_frame.Goals as goal
 
--- its octets stand behind those of the others
 pub invariant_of-self : goal.invariant_of-self
-invariant_of-self c =
-    let ps = c.self.inside.places.items in
-    let os = c.self.inside.octets.items in
-    let new = c.args.frame.now in
-    let p : Place = record { epoch = c.args.epoch; len = length new } in
-    let grown = c.extend_from_slice.ensures.items ∙ ap (λ r. if is_ok r then os ++ new else os) c.unwrap.ensures in
-    let all = kept_on ps os new p c.self.invariant (one_kept p new c.requires.frame refl) in
-    subst (λ (xs : List Place). AreKept xs c.extend_from_slice.new.self.items) (sym c.push_reserved.ensures.items)
-    (subst (λ (xs : List ℕ). AreKept (ps ++ p ∷ []) xs) (sym grown) all)
+invariant_of-self c = (c.self.invariant.0, c.keep_frame.ensures.kept)
 
+-- it is told behind what the full blocks tell
 pub returns : goal.returns
 returns c = λ width u read.
-    let ps = c.self.inside.places.items in
-    let os = c.self.inside.octets.items in
-    let new = c.args.frame.now in
-    let p : Place = record { epoch = c.args.epoch; len = length new } in
-    let grown = c.extend_from_slice.ensures.items ∙ ap (λ r. if is_ok r then os ++ new else os) c.unwrap.ensures in
-    ap history (ap (λ (xs : List Place). told_in width xs c.extend_from_slice.new.self.items) c.push_reserved.ensures.items
-    ∙ ap (λ (xs : List ℕ). told_in width (ps ++ p ∷ []) xs) grown)
-    ∙ history_grown width ps os new p u c.self.invariant read refl
-    ∙ ap (λ (h : ℕ → List Update). with_update h c.args.epoch u) (ap (λ v. history (told_with width v)) c.self.view_is)
+    let bs = c.self.inside.full.items in
+    let old = c.self.inside.last in
+    let new = c.keep_frame.new.self in
+    ap history (told_behind width bs new.places.items new.octets.items c.self.invariant.0)
+    ∙ grown_behind (told_by_blocks width bs) (told_in width old.places.items old.octets.items) (told_in width new.places.items new.octets.items) c.args.epoch u (c.keep_frame.ensures.told width u read)
+    ∙ ap (λ (ts : List Told). with_update (history ts) c.args.epoch u) (sym (told_behind width bs old.places.items old.octets.items c.self.invariant.0))
+    ∙ ap (λ v. with_update (history (told_with width v)) c.args.epoch u) c.self.view_is

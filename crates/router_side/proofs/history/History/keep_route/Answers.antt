@@ -1,40 +1,22 @@
-use Rattle.std.proofs.Common.{◌≡◌, ◌++◌, ◌∷◌, ◌∙◌, ◌-◌, ℕ, List, [], length, sym, ap, subst, refl, arith}
-use Rattle.std.proofs.lemmas.List.{length-append}
-use Rattle.bgp_codec.specs.declared.message.Message.TheVariants.{UpdateMsg}
-use Rattle.bgp_codec.specs.declared.update.Update.{Update}
-use Rattle.bgp_codec.specs.Spelling.{written}
+use Rattle.std.proofs.Common.{◌∙◌, List, ap, sym}
 use Rattle.router_model.specs.Sides.{with_update}
-use Rattle.router_side.specs.declared.history.Place.{Place}
-use Rattle.router_side.specs.Histories.{history, told_in, told_with, AreKept}
-use Rattle.router_side.proofs.Kept.{kept_on, one_kept, written_kept, history_grown}
+use Rattle.router_side.specs.declared.history.Told.{Told}
+use Rattle.router_side.specs.Histories.{history, told_in, told_by_blocks, told_with}
+use Rattle.router_side.proofs.Kept.{told_behind, grown_behind}
 use Rattle.router_side.proofs.history.History.keep_route.Goals as goal
 
--- its octets stand behind those of the others
 pub invariant_of-self : goal.invariant_of-self
-invariant_of-self c =
-    let u = c.args.route.now in
-    let new = written c.args.width (UpdateMsg u) in
-    let p : Place = record { epoch = c.args.epoch; len = c.len.result - c.len-before.result } in
-    let items = c.put.ensures in
-    let grown = ap length items ∙ length-append c.self.inside.octets.items new in
-    let len : p.len ≡ length new = omega (arith, grown, c.len.ensures, c.len-before.ensures, c.put.new.out.ok.0, c.self.inside.octets.ok.0) in
-    let w = written_kept c.args.width c.written_is_read.ensures new u c.requires.sayable refl in
-    let all = kept_on c.self.inside.places.items c.self.inside.octets.items new p c.self.invariant (one_kept p new w.0 len) in
-    subst (λ (ps : List Place). AreKept ps c.put.new.out.items) (sym c.push_reserved.ensures.items)
-    (subst (λ (os : List ℕ). AreKept (c.self.inside.places.items ++ p ∷ []) os) (sym items) all)
+invariant_of-self c = (c.self.invariant.0, c.keep_route.ensures.kept)
 
+-- it is told behind what the full blocks tell
 pub returns-clause-told : goal.returns-clause-told
 returns-clause-told c =
+    let width = c.args.width in
     let u = c.args.route.now in
-    let new = written c.args.width (UpdateMsg u) in
-    let ps = c.self.inside.places.items in
-    let os = c.self.inside.octets.items in
-    let p : Place = record { epoch = c.args.epoch; len = c.len.result - c.len-before.result } in
-    let items = c.put.ensures in
-    let grown = ap length items ∙ length-append os new in
-    let len : p.len ≡ length new = omega (arith, grown, c.len.ensures, c.len-before.ensures, c.put.new.out.ok.0, c.self.inside.octets.ok.0) in
-    let w = written_kept c.args.width c.written_is_read.ensures new u c.requires.sayable refl in
-    ap history (ap (λ (xs : List Place). told_in c.args.width xs c.put.new.out.items) c.push_reserved.ensures.items
-    ∙ ap (λ (xs : List ℕ). told_in c.args.width (ps ++ p ∷ []) xs) items)
-    ∙ history_grown c.args.width ps os new p u c.self.invariant w.1 len
-    ∙ ap (λ (h : ℕ → List Update). with_update h c.args.epoch u) (ap (λ v. history (told_with c.args.width v)) c.self.view_is)
+    let bs = c.self.inside.full.items in
+    let old = c.self.inside.last in
+    let new = c.keep_route.new.self in
+    ap history (told_behind width bs new.places.items new.octets.items c.self.invariant.0)
+    ∙ grown_behind (told_by_blocks width bs) (told_in width old.places.items old.octets.items) (told_in width new.places.items new.octets.items) c.args.epoch u c.keep_route.ensures.told
+    ∙ ap (λ (ts : List Told). with_update (history ts) c.args.epoch u) (sym (told_behind width bs old.places.items old.octets.items c.self.invariant.0))
+    ∙ ap (λ v. with_update (history (told_with width v)) c.args.epoch u) c.self.view_is

@@ -1,0 +1,34 @@
+use Rattle.std.proofs.Common.{◌≡◌, ◌++◌, ◌∷◌, ◌∙◌, ℕ, List, [], ap}
+use Rattle.std.proofs.lemmas.List.{append-nil}
+use Rattle.router_side.specs.declared.block.Block.{Block}
+use Rattle.router_side.specs.declared.block.Place.{Place}
+use Rattle.router_side.specs.Histories.{entries_in, octets_in}
+use Rattle.router_side.proofs.Kept.{entries_more, octets_more}
+use Rattle.router_side.proofs.history.History.begin_block.Goals as goal
+
+-- the last block joins those that are full, and the new one has nothing yet
+pub returns-clause-entries : goal.returns-clause-entries
+returns-clause-entries c =
+    let bs = c.self.inside.full.items in
+    let last = c.self.inside.last in
+    let full : c.push_reserved.new.self.items ≡ bs ++ last ∷ [] =
+    c.push_reserved.ensures.items ∙ ap (λ (xs : List Block). xs ++ c.replace.result ∷ []) c.in_ok-reserve.ensures.items ∙ ap (λ (b : Block). bs ++ b ∷ []) c.replace.ensures.value in
+    ap (λ (xs : List Block). entries_in xs ++ c.replace.new.dest.places.items) full
+    ∙ ap (λ (b : Block). entries_in (bs ++ last ∷ []) ++ b.places.items) c.replace.ensures.after
+    ∙ ap (λ (ps : List Place). entries_in (bs ++ last ∷ []) ++ ps) c.in_ok-next.ensures.places
+    ∙ append-nil (entries_in (bs ++ last ∷ []))
+    ∙ entries_more bs last
+    ∙ ap (λ v. v.entries) c.self.view_is
+
+pub returns-clause-octets : goal.returns-clause-octets
+returns-clause-octets c =
+    let bs = c.self.inside.full.items in
+    let last = c.self.inside.last in
+    let full : c.push_reserved.new.self.items ≡ bs ++ last ∷ [] =
+    c.push_reserved.ensures.items ∙ ap (λ (xs : List Block). xs ++ c.replace.result ∷ []) c.in_ok-reserve.ensures.items ∙ ap (λ (b : Block). bs ++ b ∷ []) c.replace.ensures.value in
+    ap (λ (xs : List Block). octets_in xs ++ c.replace.new.dest.octets.items) full
+    ∙ ap (λ (b : Block). octets_in (bs ++ last ∷ []) ++ b.octets.items) c.replace.ensures.after
+    ∙ ap (λ (os : List ℕ). octets_in (bs ++ last ∷ []) ++ os) c.in_ok-next.ensures.octets
+    ∙ append-nil (octets_in (bs ++ last ∷ []))
+    ∙ octets_more bs last
+    ∙ ap (λ v. v.octets) c.self.view_is

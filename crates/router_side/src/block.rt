@@ -1,0 +1,195 @@
+//! UPDATEs one behind the other, in the octets that spell them, in room that never grows.
+
+ghost use Rattle.std.specs.Prelude.{◌≡◌, ◌+◌, ◌≤◌, ◌∷◌, ◌++◌, ◌↔◌, [], true, length, Ok, IfOk, OnOk, IsTrue, vec_len, vec_capacity};
+ghost use Rattle.bgp_codec.specs.declared.message.Message.TheVariants.{UpdateMsg};
+ghost use Rattle.bgp_codec.specs.declared.update.Update as update;
+ghost use Rattle.bgp_codec.specs.Header.{IsFrame};
+ghost use Rattle.bgp_values.specs.declared.width.Width as widths;
+ghost use Rattle.bgp_codec.specs.Faults.{reading};
+ghost use Rattle.bgp_codec.specs.Spelling.{written};
+ghost use Rattle.run_model.specs.Octets.{octets_of};
+ghost use Rattle.router_model.specs.Sides.{with_update};
+ghost use Rattle.router_side.specs.Sayings.{acted_where, nobody, update_in, IsSayable};
+ghost use Rattle.router_side.specs.Histories.{history, told_in, updates_read, AreKept};
+
+use crate::history::{Told, nobody};
+use crate::route::Route;
+use bgp_codec::laws::{header_is_its_front, written_has_a_header, written_is_read};
+use bgp_codec::{Message, decode, put_message};
+use bgp_values::Width;
+use outbox::Outbox;
+use std::alloc::{AllocError, Global};
+
+// The incarnation of an UPDATE, and how many octets it has.
+#[derive(Clone, Copy, Debug)]
+struct Place {
+    epoch: u32,
+    len: u16,
+}
+
+/// UPDATEs in their order, each once.
+#[derive(Debug, Drop)]
+pub(crate) struct Block {
+    octets: Vec<u8>,
+    places: Vec<Place>,
+}
+
+// The UPDATE that some octets spell. It is refused only where memory was: what is kept is an UPDATE.
+fn read(alloc: Global, width: Width, epoch: u32, octets: &[u8]) -> Result<Told, AllocError>
+    requires { IsFrame octets.now }
+    ensures epoch { IfOk result (λ told. told.epoch ≡ epoch) }
+    ensures update { IfOk result (λ told. updates_read (reading (nobody width) octets.now) ≡ told.update ∷ []) }
+{
+    match decode(alloc, octets, &nobody(width)) {
+        Ok(Message::UpdateMsg(update)) => Ok(Told { epoch, update }),
+        Ok(Message::OpenMsg(_) | Message::NoticeMsg(_) | Message::AliveMsg) | Err(_) => {
+            Err(AllocError)
+        }
+    }
+}
+
+impl Block {
+    // No UPDATE, and no room. It takes no memory.
+    pub(crate) fn new(alloc: Global) -> Block
+        ensures octets { result.octets.items ≡ [] }
+        ensures places { result.places.items ≡ [] }
+    {
+        Block {
+            octets: Vec::new(alloc),
+            places: Vec::new(alloc),
+        }
+    }
+
+    // No UPDATE, with room for so many octets, and for so many UPDATEs. It is refused only where memory was.
+    pub(crate) fn with_room(
+        alloc: Global,
+        octets: usize,
+        places: usize,
+    ) -> Result<Block, AllocError>
+        ensures octets { IfOk result (λ block. block.octets.items ≡ []) }
+        ensures places { IfOk result (λ block. block.places.items ≡ []) }
+        ensures room { IfOk result (λ block. vec_len block.octets + octets ≤ vec_capacity block.octets) }
+        ensures more { IfOk result (λ block. vec_len block.places + places ≤ vec_capacity block.places) }
+    {
+        Ok(Block {
+            octets: Vec::with_capacity(alloc, octets)?,
+            places: Vec::with_capacity(alloc, places)?,
+        })
+    }
+
+    // Whether there is room for one UPDATE more, of so many octets.
+    pub(crate) fn has_room(&self, octets: usize) -> bool
+        ensures { IsTrue result ↔ ((vec_len self.now.octets + octets ≤ vec_capacity self.now.octets) × (vec_len self.now.places + 1 ≤ vec_capacity self.now.places)) }
+    {
+        let left = self.octets.capacity() - self.octets.len();
+        octets <= left && self.places.len() < self.places.capacity()
+    }
+
+    // Whether no UPDATE is here.
+    pub(crate) fn is_empty(&self) -> bool
+        ensures { IsTrue result ↔ (self.now.places.items ≡ []) }
+    {
+        self.places.is_empty()
+    }
+
+    // How many octets they have.
+    pub(crate) fn len(&self) -> usize
+        ensures { result ≡ vec_len self.now.octets }
+    {
+        self.octets.len()
+    }
+
+    // Appends the UPDATEs, each with its incarnation. It is refused only where memory was.
+    pub(crate) fn put_told(
+        &self,
+        alloc: Global,
+        width: Width,
+        all: &mut Vec<Told>,
+    ) -> Result<(), AllocError>
+        requires { AreKept self.now.places.items self.now.octets.items }
+        ensures { OnOk result (all.new.items ≡ all.old.items ++ told_in width self.now.places.items self.now.octets.items) }
+    {
+        let mut rest = self.octets.as_slice();
+        for place in self.places.as_slice() {
+            let (octets, behind) = rest.split_at(place.len as usize);
+            all.push(read(alloc, width, place.epoch, octets)?)?;
+            rest = behind;
+        }
+        Ok(())
+    }
+
+    // Puts the UPDATE of a frame behind the others, for which there is room, whatever the width.
+    pub(crate) fn keep_frame(&mut self, epoch: u32, frame: &[u8])
+        requires kept { AreKept self.old.places.items self.old.octets.items }
+        requires frame { IsFrame frame.now }
+        requires room { vec_len self.old.octets + length frame.now ≤ vec_capacity self.old.octets }
+        requires place { vec_len self.old.places + 1 ≤ vec_capacity self.old.places }
+        ensures kept { AreKept self.new.places.items self.new.octets.items }
+        ensures told { (w : widths.Width) (u : update.Update) → reading (nobody w) frame.now ≡ Ok (UpdateMsg u) → history (told_in w self.new.places.items self.new.octets.items) ≡ with_update (history (told_in w self.old.places.items self.old.octets.items)) epoch u }
+    {
+        header_is_its_front();
+        self.octets.extend_from_slice(frame).unwrap();
+        let len = frame.len() as u16;
+        self.places.push_reserved(Place { epoch, len });
+    }
+
+    // Appends a message to what waits towards a peer, for which there is room; an UPDATE joins those that are here.
+    pub(crate) fn keep(&mut self, width: Width, epoch: u32, message: &Message, outbox: &mut Outbox)
+        requires kept { AreKept self.old.places.items self.old.octets.items }
+        requires sayable { IsSayable width message.now }
+        requires room { vec_len self.old.octets + length (written width message.now) ≤ vec_capacity self.old.octets }
+        requires place { vec_len self.old.places + 1 ≤ vec_capacity self.old.places }
+        requires waiting { length (written width message.now) ≤ outbox.old.room }
+        requires more { 1 ≤ outbox.old.places }
+        ensures kept { AreKept self.new.places.items self.new.octets.items }
+        ensures told { history (told_in width self.new.places.items self.new.octets.items) ≡ acted_where true (update_in message.now) epoch (history (told_in width self.old.places.items self.old.octets.items)) }
+        ensures passing { outbox.new.passing ≡ outbox.old.passing ++ octets_of epoch (written width message.now) }
+    {
+        written_has_a_header();
+        match message {
+            Message::UpdateMsg(_) => {
+                written_is_read();
+                header_is_its_front();
+                let before = self.octets.len();
+                put_message(&mut self.octets, message, &nobody(width));
+                let (_, put) = self.octets.split_at(before);
+                outbox.push_octets(epoch, put);
+                let len = (self.octets.len() - before) as u16;
+                self.places.push_reserved(Place { epoch, len });
+            }
+            Message::OpenMsg(_) | Message::NoticeMsg(_) | Message::AliveMsg => {
+                outbox.push_message(epoch, message, &nobody(width));
+            }
+        }
+    }
+
+    // Appends the UPDATE of a path that is told to what waits towards a peer, for which there is room, and it joins
+    // those that are here.
+    pub(crate) fn keep_route(
+        &mut self,
+        width: Width,
+        epoch: u32,
+        route: &Route,
+        outbox: &mut Outbox,
+    )
+        requires kept { AreKept self.old.places.items self.old.octets.items }
+        requires sayable { IsSayable width (UpdateMsg route.now) }
+        requires room { vec_len self.old.octets + length (written width (UpdateMsg route.now)) ≤ vec_capacity self.old.octets }
+        requires place { vec_len self.old.places + 1 ≤ vec_capacity self.old.places }
+        requires waiting { length (written width (UpdateMsg route.now)) ≤ outbox.old.room }
+        requires more { 1 ≤ outbox.old.places }
+        ensures kept { AreKept self.new.places.items self.new.octets.items }
+        ensures told { history (told_in width self.new.places.items self.new.octets.items) ≡ with_update (history (told_in width self.old.places.items self.old.octets.items)) epoch route.now }
+        ensures passing { outbox.new.passing ≡ outbox.old.passing ++ octets_of epoch (written width (UpdateMsg route.now)) }
+    {
+        written_has_a_header();
+        written_is_read();
+        header_is_its_front();
+        let before = self.octets.len();
+        route.put(width, &mut self.octets);
+        let (_, put) = self.octets.split_at(before);
+        outbox.push_octets(epoch, put);
+        let len = (self.octets.len() - before) as u16;
+        self.places.push_reserved(Place { epoch, len });
+    }
+}
