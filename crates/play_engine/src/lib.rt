@@ -6,7 +6,8 @@
 //! `bgpnet why` that of [`why_stream`]: what is written is the text of what was read. The definitions stand in
 //! `specs/`: `Playing` (the text of a schedule), `Reporting` (that of routes and snapshots) and `Cutting` (that of a
 //! cut); what is said of a router is `why_engine`'s. The lines themselves are `net_text`'s and `schedule_text`'s. No
-//! thread is started here: `run_engine` runs a network in threads, and takes [`put_parts`] from here.
+//! thread is started here: `run_engine` runs a network in threads, and takes [`put_parts`] from here; `trace_engine` lets its
+//! worlds go by [`leave`].
 #![tactic(auto)]
 
 mod cut;
@@ -19,6 +20,6 @@ mod why;
 
 pub use cut::cut_stream;
 pub use play::play_stream;
-pub use schedules::Stop;
+pub use schedules::{Stop, leave};
 pub use snapshots::put_parts;
 pub use why::why_stream;

@@ -20,6 +20,9 @@ use text_engines::status::{DONE, REFUSED};
 use why_engine::why_output;
 use world_core::{StepFault, World};
 
+// A small world has so many rows at most: one for each router and each prefix of its network.
+const FEW_ROWS: usize = 256;
+
 /// An order that was refused.
 #[derive(Clone, Copy, PartialEq, Eq)]
 pub struct Stop {
@@ -29,9 +32,17 @@ pub struct Stop {
     pub why: StepFault,
 }
 
-/// Leaves a world to the end of the process, which comes next: what it holds is many small blocks.
-pub(crate) fn leave(world: World<'_>) {
-    forget(world);
+/// Lets a world go that was played. A small one is dropped, so that a process that plays many holds one at a time. A
+/// larger one is left to the end of the process, which comes next: what it holds is many small blocks.
+pub fn leave(world: World<'_>) {
+    let network = world.network();
+    let rows = network
+        .routers()
+        .len()
+        .saturating_mul(network.origins().len());
+    if rows > FEW_ROWS {
+        forget(world);
+    }
 }
 
 // Appends the path that a router keeps for the prefix of each origin.

@@ -13,11 +13,10 @@ use crate::notes::Notes;
 use crate::rounds::trace_rounds;
 use crate::seconds::{second_of, trace_seconds};
 use crate::steps::trace_events;
-use play_engine::Stop;
+use play_engine::{Stop, leave};
 use ranked_policy::Network;
 use schedule_text::ScheduledOrder;
 use std::alloc::{AllocError, Global};
-use std::mem::forget;
 use text_engines::status::{DONE, REFUSED};
 use world_core::{Order, StepFault, World};
 
@@ -105,8 +104,7 @@ fn stop_output(stop: Stop, mut out: Vec<u8>) -> Result<(Vec<u8>, u8), AllocError
     end_output(out, REFUSED)
 }
 
-// What is printed, behind what was, for orders in a world in which nothing was done. The world is left to the end of the
-// process, which comes next: what it holds is many small blocks.
+// What is printed, behind what was, for orders in a world in which nothing was done.
 fn world_output(
     alloc: Global,
     network: &Network,
@@ -120,11 +118,11 @@ fn world_output(
     let mut notes = Notes::new(alloc);
     match trace_all(alloc, &mut world, orders, &mut notes, &mut out) {
         Ok(()) => {
-            forget(world);
+            leave(world);
             end_output(out, DONE)
         }
         Err(stop) => {
-            forget(world);
+            leave(world);
             stop_output(stop, out)
         }
     }
