@@ -73,13 +73,24 @@ impl MarkState {
         self.queue.front()
     }
 
+    /// Takes the offer that is made next, where one waits: it is made, and waits no more. It takes no
+    /// memory.
+    pub fn take_offer(&mut self) -> Option<Offer>
+        ensures offer { result ≡ slice_get self.old.queue 0 }
+        ensures made { snapshots_of self.new ≡ without_first (snapshots_of self.old) }
+        ensures unfinished { self.new.unfinished ≡ self.old.unfinished }
+        ensures router { (u : ℕ) → AreOf u self.old → AreOf u self.new }
+    {
+        self.queue.pop_front()
+    }
+
     /// The next offer was made. It takes no memory.
     pub fn offer_made(&mut self)
         ensures made { snapshots_of self.new ≡ without_first (snapshots_of self.old) }
         ensures unfinished { self.new.unfinished ≡ self.old.unfinished }
         ensures router { (u : ℕ) → AreOf u self.old → AreOf u self.new }
     {
-        self.queue.pop_front();
+        self.take_offer();
     }
 
     /// Whether a link of the unfinished recording leads to the peer; true where nothing is being
