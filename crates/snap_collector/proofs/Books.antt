@@ -1,25 +1,25 @@
 -- Offers by their number, and those of them that are kept.
-use Rattle.std.proofs.Common.{ℕ, ◌≡◌, ◌==◌, arith, Bool, true, false, cond, List, [], ◌∷◌, ◌++◌, map, filter, refl, ap, sym, ◌∙◌, subst}
-use Rattle.std.specs.Prelude.{Option, None, Some, Result, Ok, Err, OnErr, nat_lt}
+use Rattle.std.proofs.Common.{ℕ, ◌≡◌, ◌<◌, ◌==◌, arith, Bool, true, false, cond, List, [], ◌∷◌, ◌++◌, map, filter, refl, ap, sym, ◌∙◌, subst}
+use Rattle.std.specs.Prelude.{Option, None, Some, Result, Ok, Err, OnErr, nat_lt, vec_len, vec_capacity}
 use Rattle.std.specs.Ordering.{nat_cmp, is_eq}
 use Rattle.std.specs.declared.cmp.Ordering.TheVariants.{Less, Equal, Greater}
 use Rattle.std.specs.BTreeMap.{is_at}
 use Rattle.std.proofs.Math.Path.{fun_ext}
 use Rattle.std.proofs.lemmas.List.{map-append}
 use Rattle.std.specs.Map.{lookup, set_value}
-use Rattle.std.proofs.lemmas.Bool.{eqb-true, false≢true, true≢false}
+use Rattle.std.proofs.lemmas.Bool.{eq-eqb, eqb-true, false≢true, true≢false}
 use Rattle.std.proofs.lemmas.Bool.Decides.{nat_tests}
 use Rattle.std.proofs.lemmas.List.{append-nil}
 use Rattle.snap_marker.specs.declared.part.Offer.{Offer}
 use Rattle.run_model.specs.Offers.{number_of}
 use Rattle.snap_collector.specs.Collecting.{made_in, made_by}
 use Rattle.snap_collector.specs.declared.book.Book.{Book}
-use Rattle.snap_collector.specs.Booking.{entry_of, IsBook, AreBooks}
+use Rattle.snap_collector.specs.Booking.{entry_of, IsBook, AreBooks, HasRoom}
 use Rattle.snap_collector.specs.Verdicts.{Member}
 use Rattle.snap_marker.specs.Parts as parts
 use Rattle.snap_marker.specs.Parts.{offer_of}
 use Rattle.snap_marker.specs.declared.part.Offer.TheVariants as offer
-use Rattle.snap_collector.specs.Collector.{with_offers, offers_at, is_for}
+use Rattle.snap_collector.specs.Collector.{made_at, with_offers, offers_at, is_for}
 
 -- ---- a number's entry
 
@@ -76,12 +76,6 @@ module _ where
       at s = rw (at_number fs s, at_number es s, updates s, is_same n s, one_for (n == s) o s (ap (λ k. k == s) (sym is)))
           (joined_by (n == s) o w (Gets es s) (same s (n == s) refl))
 
-  pub joined_from : (was es fs : List (ℕ × Book)) (n : ℕ) (w : Book) (o : Offer) → was ≡ es → ((q : ℕ) → Gets fs q ≡ cond (is_at (nat_cmp n) q) (Some w) (Gets was q))
-      → w.offers.items ≡ items_of (Gets es n) ++ o ∷ [] → n ≡ number_of (offer_of o)
-      → (λ s. made_in (offers_at (map entry_of fs) s)) ≡ with_offers (λ s. made_in (offers_at (map entry_of es) s)) (made_by o ∷ [])
-  joined_from was es fs n w o same updates items is =
-      joined_at es fs n w o (λ q. updates q ∙ ap (λ (l : List (ℕ × Book)). cond (is_at (nat_cmp n) q) (Some w) (Gets l q)) same) items is
-
   -- a list that is written where the same elements were
   same_cond : (b : Bool) (e : ℕ × Book) (es fs : List (ℕ × Book)) (o : Option Book) (v w : Book) → w.offers.items ≡ v.offers.items → cond b (Some e.1) o ≡ Some v
       → (o ≡ Some v → map entry_of fs ≡ map entry_of es) → map entry_of (cond b ((e.0, w) ∷ es) (e ∷ fs)) ≡ entry_of e ∷ map entry_of es
@@ -94,6 +88,38 @@ module _ where
   same_entries n [] v w i h = refl
   same_entries n (e ∷ es) v w i h =
       same_cond (is_at (nat_cmp n) e.0) e es (set_value (is_at (nat_cmp n)) es w) (Gets es n) v w i h (same_entries n es v w i)
+
+  -- a book that is there where none was, with no offer
+  same_by : (t : Bool) (w : Book) (g : Option Book) → (t ≡ true → w.offers.items ≡ items_of g) → made_in (items_of (cond t (Some w) g)) ≡ made_in (items_of g)
+  same_by true w g h = ap made_in (h refl)
+  same_by false w g h = refl
+
+  pub same_made : (was es fs : List (ℕ × Book)) (n : ℕ) (w : Book) → was ≡ es → ((q : ℕ) → Gets fs q ≡ cond (is_at (nat_cmp n) q) (Some w) (Gets was q))
+      → w.offers.items ≡ items_of (Gets es n) → made_at (map entry_of fs) ≡ made_at (map entry_of es)
+  same_made was es fs n w is updates items = fun_ext at
+    where
+      same : (s : ℕ) (t : Bool) → (n == s) ≡ t → t ≡ true → w.offers.items ≡ items_of (Gets es s)
+      same s t e h = subst (λ k. w.offers.items ≡ items_of (Gets es k)) (eqb-true n s (e ∙ h)) items
+
+      at : (s : ℕ) → made_at (map entry_of fs) s ≡ made_at (map entry_of es) s
+      at s = rw (at_number fs s, at_number es s, updates s, is, is_same n s) (same_by (n == s) w (Gets es s) (same s (n == s) refl))
+
+  -- ---- room for an offer more
+
+  here : (b : Bool) (w : Book) (o : Option Book) → b ≡ true → cond b (Some w) o ≡ Some w
+  here true w o h = refl
+  here false w o h = absurd (false≢true h)
+
+  pub room_for : (es fs : List (ℕ × Book)) (n : ℕ) (w : Book) → ((q : ℕ) → Gets fs q ≡ cond (is_at (nat_cmp n) q) (Some w) (Gets es q)) → vec_len w.offers < vec_capacity w.offers → HasRoom fs n
+  room_for es fs n w updates room = record { book = w; there = updates n ∙ here (is_at (nat_cmp n) n) w (Gets es n) (is_same n n ∙ eq-eqb n n refl); room = room }
+
+  pub room_of : (es : List (ℕ × Book)) (n : ℕ) (b : Book) → Some b ≡ Gets es n → HasRoom es n → vec_len b.offers < vec_capacity b.offers
+  room_of es n b is has =
+      let same : has.book ≡ b = some_same has.book b (sym has.there ∙ sym is) in
+      subst (λ (x : Book). vec_len x.offers < vec_capacity x.offers) same has.room
+    where
+      some_same : (a b : Book) → Some a ≡ Some b → a ≡ b
+      some_same a b e = cc
 
 -- ---- each entry is a book
 

@@ -158,6 +158,18 @@ nothing_decided net n members entries numbers are none nothing =
     subst (λ (l : List (ℕ × Book)). AreDecided (record { members = members; offers = map entry_of l; decided = numbers }) numbers) (sym none)
     (subst (λ (l : List ℕ). AreDecided (record { members = members; offers = []; decided = l }) l) (sym nothing) (opened net n members are))
 
+-- ---- room for an offer more
+
+-- they are still so where the same offers stand among new entries
+pub still_decided : (ks ms : List MemberOf) (old new : List (ℕ × List Offer)) (before after : List ℕ) → ks ≡ ms → made_at new ≡ made_at old → after ≡ before
+    → AreDecided (record { members = ms; offers = old; decided = before }) before → AreDecided (record { members = ks; offers = new; decided = after }) after
+still_decided ks ms old new before after same made kept was = record {
+  rising = subst (λ (l : List ℕ). AllPairs (λ s t. s < t) l) (sym kept) was.rising;
+  exact = λ s. subst (λ (l : List ℕ). Contains l s ↔ (decides (map member_of ks) (made_at new s) ≡ true)) (sym kept)
+      (subst (λ (f : ℕ → List MadeOffer). Contains before s ↔ (decides (map member_of ks) (f s) ≡ true)) (sym made)
+      (subst (λ (l : List MemberOf). Contains before s ↔ (decides (map member_of l) (made_at old s) ≡ true)) (sym same) (was.exact s)));
+}
+
 -- ---- an offer more
 
 module _ (members : List Member) (old new : ℕ → List MadeOffer) (m : MadeOffer) (is : new ≡ with_offers old (m ∷ [])) where

@@ -1,5 +1,5 @@
 -- What is known of the offers for one number: how many of them are kept, and how many routers they await.
-use Rattle.std.specs.Prelude.{ℕ, suc, ◌≡◌, ◌≢◌, ◌≤◌, ◌==◌, true, cond, List, [], ◌∷◌, length, take, Some}
+use Rattle.std.specs.Prelude.{ℕ, suc, ◌≡◌, ◌≢◌, ◌<◌, ◌≤◌, ◌==◌, true, cond, List, [], ◌∷◌, length, take, vec_len, vec_capacity, Some}
 use Rattle.std.specs.Ordering.{nat_cmp}
 use Rattle.std.specs.Map.{lookup}
 use Rattle.std.specs.BTreeMap.{is_at}
@@ -41,3 +41,9 @@ entry_of e = (e.0, e.1.offers.items)
 -- each is so
 abbrev pub AreBooks : List Member → List (ℕ × Book) → Type 0
 AreBooks members es = (s : ℕ) (b : Book) → lookup (is_at (nat_cmp s)) es ≡ Some b → IsBook members b
+
+-- the number has a book, with room for an offer more
+pub record HasRoom (es : List (ℕ × Book)) (s : ℕ) : Type 0 where
+  pub book : Book
+  pub there : lookup (is_at (nat_cmp s)) es ≡ Some book
+  pub room : vec_len book.offers < vec_capacity book.offers

@@ -3,10 +3,10 @@
 //! A count of the routers that are awaited says with each offer whether it decides, and the length that is
 //! kept then stays: no offer is looked at again to know it.
 
-ghost use Rattle.std.specs.Prelude.{◌≡◌, ◌++◌, [], ◌∷◌, ◌≤◌, false, length, map, OnOk, OnErr};
+ghost use Rattle.std.specs.Prelude.{◌≡◌, ◌++◌, [], ◌∷◌, ◌<◌, ◌≤◌, false, List, length, map, vec_len, vec_capacity, OnOk};
 ghost use Rattle.snap_collector.specs.Booking.{IsBook, awaited_of, missing, times};
 ghost use Rattle.snap_collector.specs.Collecting.{made_by, made_in, member_of};
-ghost use Rattle.snap_collector.specs.Verdicts.{any_lost};
+ghost use Rattle.snap_collector.specs.Verdicts.{Member as member, any_lost};
 
 use crate::members::Member;
 use crate::verdicts::has_part;
@@ -69,21 +69,29 @@ impl Book {
         }
     }
 
-    /// Puts an offer behind the others. Where a growth is refused they stay as they were.
-    pub(crate) fn push(&mut self, members: &[Member], offer: Offer) -> Result<(), AllocError>
-        requires { IsBook (map member_of members.now) self.old }
-        ensures ok { OnOk result (self.new.offers.items ≡ self.old.offers.items ++ offer ∷ []) }
-        ensures err { OnErr result (self.new.offers.items ≡ self.old.offers.items) }
+    /// Makes room for an offer more. Where a growth is refused the offers stay as they were.
+    pub(crate) fn make_room(&mut self) -> Result<(), AllocError>
+        ensures room { OnOk result (vec_len self.new.offers < vec_capacity self.new.offers) }
+        ensures items { self.new.offers.items ≡ self.old.offers.items }
+        ensures book { (members : List member) → IsBook members self.old → IsBook members self.new }
+    {
+        self.offers.reserve(1)
+    }
+
+    /// Puts an offer, for which there is room, behind the others.
+    pub(crate) fn put(&mut self, members: &[Member], offer: Offer)
+        requires book { IsBook (map member_of members.now) self.old }
+        requires room { vec_len self.old.offers < vec_capacity self.old.offers }
+        ensures items { self.new.offers.items ≡ self.old.offers.items ++ offer ∷ [] }
         ensures book { IsBook (map member_of members.now) self.new }
     {
         if self.awaited == 0 {
-            self.offers.push(offer)?;
-            return Ok(());
+            self.offers.push_reserved(offer);
+            return;
         }
         let awaited = awaited_with(members, self.offers.as_slice(), self.awaited, &offer);
-        self.offers.push(offer)?;
+        self.offers.push_reserved(offer);
         self.kept = self.offers.len();
         self.awaited = awaited;
-        Ok(())
     }
 }

@@ -1,9 +1,11 @@
 //! Who keeps the offers of the routers of a network.
 
-ghost use Rattle.std.specs.Prelude.{◌≡◌, ℕ, ◌<◌, ◌≤◌, ◌↔◌, length, [], ◌∷◌, map, take, vec_len, vec_capacity, IfOk, IfErr, OnOk, OnErr, option_copied};
+ghost use Rattle.std.specs.Prelude.{◌≡◌, ◌≢◌, ℕ, ◌<◌, ◌≤◌, ◌↔◌, length, [], ◌∷◌, map, take, vec_len, vec_capacity, IfSome, IfOk, IfErr, OnOk, OnErr, option_copied, slice_get};
 ghost use Rattle.std.specs.List.{AllPairs, Contains};
 ghost use mathlib.Core.Logic.{◌⊎◌};
-ghost use Rattle.snap_collector.specs.Booking.{AreBooks, entry_of};
+ghost use Rattle.snap_marker.specs.Parts.{AreOf, number_of, snapshots_of};
+ghost use Rattle.snap_marker.specs.Recordings.{without_first};
+ghost use Rattle.snap_collector.specs.Booking.{AreBooks, HasRoom, entry_of};
 ghost use Rattle.snap_collector.specs.Collecting.{made_by, member_of, outcome_of};
 ghost use Rattle.snap_collector.specs.Collector.{made_at, made_for, offers_at, with_offers, first_part, AreDecided, AreKept, AreMembers, IsPartOf, kept_of};
 ghost use Rattle.snap_collector.specs.Flights.{flight_of, in_flight_of};
@@ -17,7 +19,7 @@ use crate::members::{Member, is_member};
 use crate::outcome::Outcome;
 use crate::verdicts::{first_part, has_offered, verdict};
 use ranked_policy::{Asn, Network};
-use snap_marker::{Offer, Part};
+use snap_marker::{MarkState, Offer, Part};
 use std::alloc::{AllocError, Global};
 use std::collections::BTreeMap;
 use std::marker::Model;
@@ -80,32 +82,6 @@ fn has_decided(members: &[Member], offers: &BTreeMap<u32, Book>, number: u32) ->
     }
 }
 
-// Puts an offer behind those of its number.
-fn keep(
-    alloc: Global,
-    members: &[Member],
-    offers: &mut BTreeMap<u32, Book>,
-    offer: Offer,
-) -> Result<(), AllocError>
-    requires { AreBooks (map member_of members.now) offers.old.entries }
-    ensures ok { OnOk result (made_at (map entry_of offers.new.entries) ≡ with_offers (made_at (map entry_of offers.old.entries)) (made_by offer ∷ [])) }
-    ensures err { OnErr result (map entry_of offers.new.entries ≡ map entry_of offers.old.entries) }
-    ensures books { AreBooks (map member_of members.now) offers.new.entries }
-{
-    let number = offer.number();
-    match offers.get_mut(&number) {
-        Some(book) => {
-            book.push(members, offer)?;
-        }
-        None => {
-            let mut book = Book::new(alloc, members);
-            book.push(members, offer)?;
-            offers.insert(number, book)?;
-        }
-    }
-    Ok(())
-}
-
 // Puts a number to its place among rising ones, which have room for it; one that is there stays alone.
 fn note(numbers: &mut Vec<u32>, number: u32)
     requires room { vec_len numbers.old < vec_capacity numbers.old }
@@ -115,6 +91,66 @@ fn note(numbers: &mut Vec<u32>, number: u32)
 {
     if let Err(at) = numbers.binary_search(&number) {
         numbers.insert(at, number).unwrap();
+    }
+}
+
+// Makes room for an offer more of a number: in its book, which is there from then on, and among the numbers
+// that are decided. The caller puts the offer next. Where a growth is refused the offers stay as they were.
+fn make_room(
+    alloc: Global,
+    members: &[Member],
+    offers: &mut BTreeMap<u32, Book>,
+    decided: &mut Vec<u32>,
+    number: u32,
+) -> Result<(), AllocError>
+    requires { AreBooks (map member_of members.now) offers.old.entries }
+    ensures room { OnOk result (HasRoom offers.new.entries number) }
+    ensures noted { OnOk result (vec_len decided.new < vec_capacity decided.new) }
+    ensures made { OnOk result (made_at (map entry_of offers.new.entries) ≡ made_at (map entry_of offers.old.entries)) }
+    ensures err { OnErr result (map entry_of offers.new.entries ≡ map entry_of offers.old.entries) }
+    ensures decided { decided.new.items ≡ decided.old.items }
+    ensures books { AreBooks (map member_of members.now) offers.new.entries }
+{
+    decided.reserve(1)?;
+    match offers.get_mut(&number) {
+        Some(book) => {
+            book.make_room()?;
+        }
+        None => {
+            let mut book = Book::new(alloc, members);
+            book.make_room()?;
+            offers.insert(number, book)?;
+        }
+    }
+    Ok(())
+}
+
+// Puts an offer, for which there is room, behind those of its number.
+fn keep(members: &[Member], offers: &mut BTreeMap<u32, Book>, offer: Offer)
+    requires books { AreBooks (map member_of members.now) offers.old.entries }
+    requires room { HasRoom offers.old.entries (number_of offer) }
+    ensures made { made_at (map entry_of offers.new.entries) ≡ with_offers (made_at (map entry_of offers.old.entries)) (made_by offer ∷ []) }
+    ensures books { AreBooks (map member_of members.now) offers.new.entries }
+{
+    let number = offer.number();
+    let book = offers.get_mut(&number).unwrap();
+    book.put(members, offer);
+}
+
+// Keeps an offer, for which there is room, and notes its number where it is decided now.
+fn put(members: &[Member], offers: &mut BTreeMap<u32, Book>, decided: &mut Vec<u32>, offer: Offer)
+    requires books { AreBooks (map member_of members.now) offers.old.entries }
+    requires decided { AreDecided (record { members = members.now; offers = map entry_of offers.old.entries; decided = decided.old.items }) decided.old.items }
+    requires room { HasRoom offers.old.entries (number_of offer) }
+    requires noted { vec_len decided.old < vec_capacity decided.old }
+    ensures made { made_at (map entry_of offers.new.entries) ≡ with_offers (made_at (map entry_of offers.old.entries)) (made_by offer ∷ []) }
+    ensures decided { AreDecided (record { members = members.now; offers = map entry_of offers.new.entries; decided = decided.new.items }) decided.new.items }
+    ensures books { AreBooks (map member_of members.now) offers.new.entries }
+{
+    let number = offer.number();
+    keep(members, offers, offer);
+    if has_decided(members, offers, number) {
+        note(decided, number);
     }
 }
 
@@ -139,13 +175,37 @@ impl Collector {
         ensures err { OnErr result (self.new ≡ self.old) }
         ensures members { self.new.members ≡ self.old.members }
     {
-        let number = offer.number();
-        self.decided.reserve(1)?;
         let alloc = *self.members.allocator();
-        keep(alloc, self.members.as_slice(), &mut self.offers, offer)?;
-        if has_decided(self.members.as_slice(), &self.offers, number) {
-            note(&mut self.decided, number);
-        }
+        let members = self.members.as_slice();
+        make_room(
+            alloc,
+            members,
+            &mut self.offers,
+            &mut self.decided,
+            offer.number(),
+        )?;
+        put(members, &mut self.offers, &mut self.decided, offer);
+        Ok(())
+    }
+
+    /// Keeps the offer that waits in front of what a router has recorded, as [`Collector::record`] keeps one:
+    /// it moves here, and waits there no more. Where a growth is refused both stay as they were.
+    pub fn record_from(&mut self, marks: &mut MarkState) -> Result<(), AllocError>
+        requires waits { marks.old.queue ≢ [] }
+        ensures ok { OnOk result (IfSome (slice_get marks.old.queue 0) (λ offer. made_for self.new ≡ with_offers (made_for self.old) (made_by offer ∷ []))) }
+        ensures made { OnOk result (snapshots_of marks.new ≡ without_first (snapshots_of marks.old)) }
+        ensures err { OnErr result (self.new ≡ self.old) }
+        ensures waiting { OnErr result (marks.new ≡ marks.old) }
+        ensures members { self.new.members ≡ self.old.members }
+        ensures unfinished { marks.new.unfinished ≡ marks.old.unfinished }
+        ensures router { (u : ℕ) → AreOf u marks.old → AreOf u marks.new }
+    {
+        let number = marks.next_offer().unwrap().number();
+        let alloc = *self.members.allocator();
+        let members = self.members.as_slice();
+        make_room(alloc, members, &mut self.offers, &mut self.decided, number)?;
+        let offer = marks.take_offer().unwrap();
+        put(members, &mut self.offers, &mut self.decided, offer);
         Ok(())
     }
 
