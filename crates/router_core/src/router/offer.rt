@@ -1,6 +1,8 @@
 //! What a router offers of its recordings, and whether it has nothing to do alone.
 
-ghost use Rattle.std.specs.Prelude.{◌≡◌, ◌≤◌, ◌<◌, true, Ok, None, MatchOption};
+ghost use Rattle.std.specs.Prelude.{◌≡◌, ◌≤◌, ◌<◌, true, [], ◌∷◌, Ok, None, IfSome, OnOk, OnErr, MatchOption};
+ghost use Rattle.run_model.specs.Offers.{made_of};
+ghost use Rattle.snap_collector.specs.Collector.{made_for, with_offers};
 ghost use Rattle.router_model.specs.declared.refusal.Stepped.TheVariants.{Nothing};
 ghost use Rattle.router_model.specs.Step.{next_offer};
 ghost use Rattle.router_model.specs.Calls.{Decide, Advertise, offer_made};
@@ -9,7 +11,9 @@ ghost use Rattle.router_core.specs.Views.{plain_of, Answers, IsOffered, HasOffer
 
 use super::Router;
 use crate::choices::the_best_is_the_route;
+use snap_collector::Collector;
 use snap_marker::Offer;
+use std::alloc::AllocError;
 
 impl Router<'_> {
     /// The offer that waits in front, where one does.
@@ -41,5 +45,23 @@ impl Router<'_> {
     {
         self.marks.offer_made();
         self.stamp = stamp;
+    }
+
+    /// The offer in front is made to a collector, by an event with this stamp: it moves there. Where a growth
+    /// is refused the router and the collector stay as they were.
+    pub fn offer_to(&mut self, collector: &mut Collector, stamp: u64) -> Result<(), AllocError>
+        requires waits { HasOffer self.old }
+        requires later { self.old.stamp < stamp }
+        requires few { stamp ≤ GREATEST_STAMP }
+        ensures made { OnOk result (plain_of self.new ≡ offer_made (plain_of self.old) stamp) }
+        ensures kept { OnOk result (IfSome (next_offer (plain_of self.old).router) (λ offer. made_for collector.new ≡ with_offers (made_for collector.old) (made_of self.old.number offer ∷ []))) }
+        ensures err { OnErr result (self.new ≡ self.old) }
+        ensures unkept { OnErr result (collector.new ≡ collector.old) }
+        ensures members { collector.new.members ≡ collector.old.members }
+        ensures same { IsSame self.old self.new }
+    {
+        collector.record_from(&mut self.marks)?;
+        self.stamp = stamp;
+        Ok(())
     }
 }
