@@ -7,6 +7,7 @@ use steps::Step::{Begins, BeginsDown, Closes, HasLast, Hears, Makes, Marks, Offe
 use steps::{Step, tries};
 
 mod copies;
+mod moves;
 mod recorded;
 mod steps;
 

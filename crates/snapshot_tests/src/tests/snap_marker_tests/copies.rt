@@ -8,9 +8,9 @@ use std::alloc::{AllocError, Global};
 use std::process::Abort;
 use std::test::*;
 
-static ONE_UPDATE: [Step; 3] = [Begins(1, &[2], None), Hears(2, true), Marks(2, 1)];
+pub(super) static ONE_UPDATE: [Step; 3] = [Begins(1, &[2], None), Hears(2, true), Marks(2, 1)];
 
-fn is_recorded(part: &Part) -> bool {
+pub(super) fn is_recorded(part: &Part) -> bool {
     part.pending && have_updates(&part.channels, &[1]) && has_originated(part) && keeps_first(part)
 }
 
