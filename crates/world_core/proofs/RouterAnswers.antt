@@ -1,7 +1,8 @@
 -- What a router gave, as what a world gives.
-use Rattle.std.proofs.Common.{◌≡◌, ℕ, ◌+◌, ◌<◌, length, get_or, arith, Bool, true, false, List, [], ◌∷◌, ◌++◌, refl, ap, sym, ◌∙◌, subst, Option, None, Some}
-use Rattle.std.specs.Prelude.{Result, Ok, Err, IsOk, OnOk, nat_lt, max, slice_get}
-use Rattle.std.proofs.lemmas.Bool.{eq-eqb}
+use Rattle.std.proofs.Common.{◌≡◌, ℕ, ◌+◌, ◌<◌, length, get_or, arith, Bool, true, false, List, [], ◌∷◌, ◌++◌, refl, ap, sym, subst, Option, None, Some}
+use Rattle.std.specs.Prelude.{Result, Ok, Err, IsOk, OnOk, IfSome, is_some, nat_lt, max, slice_get}
+use Rattle.std.specs.Result.{IsErrAnd}
+use Rattle.std.proofs.lemmas.Bool.{eq-eqb, false≢true}
 use Rattle.run_model.specs.Network.{alone, puts, takes, offers}
 use Rattle.outbox.specs.declared.item.What.{What}
 use Rattle.outbox.specs.Items.{next_item}
@@ -10,6 +11,7 @@ use Rattle.snap_marker.specs.Recordings.{RouterOffer}
 use Rattle.snap_collector.specs.Collector.{CollectorView, made_for}
 use Rattle.outbox.specs.declared.item.Item.{Item}
 use Rattle.router_model.specs.declared.refusal.RouterError.{RouterError}
+use Rattle.router_model.specs.declared.refusal.Stepped.{Stepped}
 use Rattle.router_model.specs.declared.refusal.Stepped.TheVariants as stepped
 use Rattle.router_model.specs.Settings.{Setting}
 use Rattle.router_model.specs.Step.{RouterEvent, next_offer}
@@ -17,8 +19,10 @@ use Rattle.router_model.specs.Calls.{Stamped, Call, Put, Answer, Steps, Idle, Re
 use Rattle.run_model.specs.declared.stamps.TheConstants.{GREATEST_STAMP}
 use Rattle.router_core.specs.Views.{RouterView, plain_of, Shows}
 use Rattle.world_core.specs.declared.schedule.Event.{Event}
-use Rattle.world_core.specs.World.{piped, joined}
-use Rattle.world_core.specs.Views.{refusal, DoneOr, Entered, EntersOffer}
+use Rattle.world_core.specs.World.{of_offer, piped, joined}
+use Rattle.world_core.specs.declared.schedule.StepFault.{StepFault}
+use Rattle.world_core.specs.declared.schedule.StepFault.TheVariants.{Memory}
+use Rattle.world_core.specs.Views.{refusal, DoneOr, Entered, OffersTo, EntersOffer}
 
 -- ---- what was done, what was nothing, and what was refused
 
@@ -81,15 +85,26 @@ puts_in g u v stamp x y items items_after item R S h shows r is =
 
 -- ---- an offer
 
-pub makes_offer : (x y : RouterView) (run run_after : List Event) (kept kept_after : CollectorView) (board stamp : ℕ) (event : Event) (o : RouterOffer)
-    → next_offer (plain_of x).router ≡ Some o → stamp ≡ max x.stamp board + 1 → nat_lt GREATEST_STAMP stamp ≡ false → plain_of y ≡ offer_made (plain_of x) stamp
-    → run_after ≡ run ++ event ∷ [] → made_for kept_after ≡ joined (made_for kept) (record { router = x.number; offer = o } ∷ [])
-    → EntersOffer (Ok stepped.Did) x run kept board event y run_after kept_after stamp
-makes_offer x y run run_after kept kept_after board stamp event o is at late p q k =
-    rw (is, sym at, late) (refl, (p, q, k, refl))
+-- of a router with an offer in front, whose stamp fits
+module _ (x y : RouterView) (run run_after : List Event) (kept kept_after : CollectorView) (board stamp : ℕ) (event : Event) (at : stamp ≡ max x.stamp board + 1) (late : nat_lt GREATEST_STAMP stamp ≡ false) where
+  makes : (m : Option RouterOffer) → is_some m ≡ true → plain_of y ≡ offer_made (plain_of x) stamp → run_after ≡ run ++ event ∷ []
+      → IfSome m (λ o. made_for kept_after ≡ joined (made_for kept) (made_of x.number o ∷ [])) → OffersTo (Ok stepped.Did) x run kept board event y run_after kept_after stamp (of_offer x.number (max x.stamp board + 1) m)
+  makes None some p q k = absurd (false≢true some)
+  makes (Some o) some p q k = rw (sym at, late) (refl, (p, q, k, refl))
 
-pub same_offer : (u v w : ℕ) (o p : RouterOffer) → u ≡ v → v ≡ w → o ≡ p → made_of u o ≡ made_of w p
-same_offer u v w o p e f h = ap (λ (k : ℕ). made_of k o) (e ∙ f) ∙ ap (λ (q : RouterOffer). made_of w q) h
+  pub makes_offer : is_some (next_offer (plain_of x).router) ≡ true → plain_of y ≡ offer_made (plain_of x) stamp → run_after ≡ run ++ event ∷ []
+      → IfSome (next_offer (plain_of x).router) (λ o. made_for kept_after ≡ joined (made_for kept) (made_of x.number o ∷ [])) → EntersOffer (Ok stepped.Did) x run kept board event y run_after kept_after stamp
+  makes_offer = makes (next_offer (plain_of x).router)
+
+  wants : (m : Option RouterOffer) → is_some m ≡ true → y ≡ x → run_after ≡ run → kept_after ≡ kept → OffersTo (Err Memory) x run kept board event y run_after kept_after board (of_offer x.number (max x.stamp board + 1) m)
+  wants None some p q k = absurd (false≢true some)
+  wants (Some o) some p q k = rw (sym at, late) (refl, (ap plain_of p, q, ap made_for k, refl))
+
+  pub wants_memory : (r : Result Stepped StepFault) → IsErrAnd r (λ why. why ≡ Memory) → is_some (next_offer (plain_of x).router) ≡ true → y ≡ x → run_after ≡ run → kept_after ≡ kept
+      → EntersOffer r x run kept board event y run_after kept_after board
+  wants_memory (Ok s) h some p q k = absurd h
+  wants_memory (Err why) h some p q k =
+      subst (λ w. EntersOffer (Err w) x run kept board event y run_after kept_after board) (sym h) (wants (next_offer (plain_of x).router) some p q k)
 
 -- ---- a take
 

@@ -113,17 +113,15 @@ pub(crate) fn enter_offer(
     ensures members { collector.new.members ≡ collector.old.members }
     ensures same { IsSame router.old router.new }
 {
-    let Some(offer) = router.next_offer() else {
+    if router.next_offer().is_none() {
         return Ok(Stepped::Nothing);
-    };
+    }
     let stamp = router.stamp().max(*board).saturating_add(1);
     if stamp > GREATEST_STAMP {
         return Err(StepFault::Refused(RouterError::StampEnd));
     }
     run.reserve(1)?;
-    let offer = offer.copied(*run.allocator())?;
-    collector.record(offer)?;
-    router.offer_made(stamp);
+    router.offer_to(collector, stamp)?;
     *board = stamp;
     join(run, event);
     Ok(Stepped::Did)
