@@ -50,15 +50,8 @@ impl Actions {
         requires { length actions.now ≤ 4 }
         ensures { result ≡ actions.now }
     {
-        // Who reads a word right behind writes of parts of it waits for them, so each slot is written once.
-        let unused = Action::HangUp;
-        let slots = match actions {
-            [] => [unused; 4],
-            [first] => [*first, unused, unused, unused],
-            [first, second] => [*first, *second, unused, unused],
-            [first, second, third] => [*first, *second, *third, unused],
-            [first, second, third, fourth, ..] => [*first, *second, *third, *fourth],
-        };
+        let mut slots = [Action::HangUp; 4];
+        slots[..actions.len()].copy_from_slice(actions);
         Actions {
             slots,
             len: actions.len(),
