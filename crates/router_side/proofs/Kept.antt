@@ -1,7 +1,7 @@
 -- What is kept grows at its end, and is read from its front.
-use Rattle.std.proofs.Common.{◌≡◌, ℕ, ◌==◌, ◌≤◌, Bool, true, false, cond, List, [], ◌∷◌, ◌++◌, length, take, drop, append_assoc, refl, ap, sym, ◌∙◌, subst, arith}
+use Rattle.std.proofs.Common.{◌≡◌, ℕ, ◌==◌, ◌≤◌, ◌+◌, ◌-◌, Bool, true, false, cond, List, [], ◌∷◌, ◌++◌, length, take, drop, append_assoc, refl, ap, sym, ◌∙◌, subst, arith}
 use Rattle.std.proofs.Math.Path.{fun_ext}
-use Rattle.std.proofs.Math.Seq.{take-length, drop-length}
+use Rattle.std.proofs.Math.Seq.{take-length, drop-length, take-append_seam, drop-append_seam}
 use Rattle.std.proofs.lemmas.List.{length-append, append-nil, take-append-le, drop-append-le}
 use Rattle.std.specs.Prelude.{Result, Ok, Option, None, Some}
 use Rattle.bgp_values.specs.declared.width.Width.{Width}
@@ -16,7 +16,7 @@ use Rattle.router_model.specs.Sides.{with_update}
 use Rattle.router_side.specs.declared.block.Block.{Block}
 use Rattle.router_side.specs.declared.block.Place.{Place}
 use Rattle.router_side.specs.declared.history.Told.{Told}
-use Rattle.router_side.specs.Histories.{history, updates_read, dated, told_in, told_by_blocks, entries_in, octets_in, AreKept, AreAllKept}
+use Rattle.router_side.specs.Histories.{history, updates_read, dated, told_in, told_stored, told_by_blocks, entries_in, octets_in, spelt_by, spelt, spelt_in, stored_len, AreKept, IsStored, AreStored, AreAllStored, PutsBehind}
 use Rattle.router_side.specs.Sayings.{nobody, acted_where, IsSayable}
 
 under : (b c : Bool) (t u : Update) (us : List Update) → cond b (t ∷ cond c (us ++ u ∷ []) us) (cond c (us ++ u ∷ []) us) ≡ cond c (cond b (t ∷ us) us ++ u ∷ []) (cond b (t ∷ us) us)
@@ -84,30 +84,124 @@ history_grown width ps octets new p u kept read len =
 pub told_at : (width : Width) (octets : List ℕ) (t : Told) (epoch : ℕ) → t.epoch ≡ epoch → updates_read (reading (nobody width) octets) ≡ t.update ∷ [] → dated epoch (updates_read (reading (nobody width) octets)) ≡ t ∷ []
 told_at width octets t epoch e u = ap (λ (us : List Update). dated epoch us) u ∙ ap (λ (n : ℕ). record { epoch = n; update = t.update } ∷ []) (sym e)
 
+-- ---- octets that are stored of them
+
+pub spelt_length : (short : Bool) (len : ℕ) (os : List ℕ) → length (spelt_by short len os) ≡ cond short (29 + length os) (length os)
+spelt_length true len os = omega arith
+spelt_length false len os = refl
+
+stored_by : (short : Bool) (len : ℕ) (os : List ℕ) → len ≡ length (spelt_by short len os) → cond short (len - 29) len ≡ length os
+stored_by true len os e = let n = spelt_length true len os in omega (arith, e, n)
+stored_by false len os e = e
+
+stored_is : (p : Place) (os : List ℕ) → p.len ≡ length (spelt p os) → stored_len p ≡ length os
+stored_is p os e = stored_by p.short p.len os e
+
+pub one_stored : (p : Place) (os : List ℕ) → IsStored p os → AreStored (p ∷ []) os
+one_stored p os one =
+    let n = stored_is p os one.1 in
+    let whole = ap (λ (n : ℕ). take n os) n ∙ take-length os in
+    (omega (arith, n), subst (IsStored p) (sym whole) one, ap (λ (n : ℕ). drop n os) n ∙ drop-length os)
+
+one_spelt : (p : Place) (os : List ℕ) → IsStored p os → spelt_in (p ∷ []) os ≡ spelt p os
+one_spelt p os one =
+    let n = stored_is p os one.1 in
+    let whole = ap (λ (n : ℕ). take n os) n ∙ take-length os in
+    ap (λ (xs : List ℕ). spelt p xs ++ []) whole ∙ append-nil (spelt p os)
+
+pub stored_on : (ps : List Place) (os new : List ℕ) (p : Place) → AreStored ps os → AreStored (p ∷ []) new → AreStored (ps ++ p ∷ []) (os ++ new)
+stored_on [] os new p none one = subst (λ (xs : List ℕ). AreStored (p ∷ []) (xs ++ new)) (sym none) one
+stored_on (q ∷ ps) os new p (le, is, kept) one =
+    let front = take-append-le (stored_len q) os new le in
+    let behind = drop-append-le (stored_len q) os new le in
+    (longer le, subst (IsStored q) (sym front) is, subst (AreStored (ps ++ p ∷ [])) (sym behind) (stored_on ps (drop (stored_len q) os) new p kept one))
+  where
+    longer : stored_len q ≤ length os → stored_len q ≤ length (os ++ new)
+    longer le = omega (arith, le, length-append os new)
+
+spelt_on : (ps : List Place) (os new : List ℕ) (more : List Place) → AreStored ps os → spelt_in (ps ++ more) (os ++ new) ≡ spelt_in ps os ++ spelt_in more new
+spelt_on [] os new more none = ap (λ (xs : List ℕ). spelt_in more (xs ++ new)) none
+spelt_on (q ∷ ps) os new more (le, is, kept) =
+    let front = take-append-le (stored_len q) os new le in
+    let behind = drop-append-le (stored_len q) os new le in
+    let one = spelt q (take (stored_len q) os) in
+    ap (λ (xs : List ℕ). spelt q xs ++ spelt_in (ps ++ more) (drop (stored_len q) (os ++ new))) front
+    ∙ ap (λ (xs : List ℕ). one ++ spelt_in (ps ++ more) xs) behind
+    ∙ ap (λ (xs : List ℕ). one ++ xs) (spelt_on ps (drop (stored_len q) os) new more kept)
+    ∙ sym (append_assoc one (spelt_in ps (drop (stored_len q) os)) (spelt_in more new))
+
+-- what is spelt in front is a place's own
+kept_front : (q : Place) (ps : List Place) (a b : List ℕ) → IsFrame a → q.len ≡ length a → AreKept ps b → AreKept (q ∷ ps) (a ++ b)
+kept_front q ps a b is len kept =
+    let front = ap (λ (n : ℕ). take n (a ++ b)) len ∙ take-append_seam a b in
+    let behind = ap (λ (n : ℕ). drop n (a ++ b)) len ∙ drop-append_seam a b in
+    (omega (arith, len, length-append a b), subst IsFrame (sym front) is, subst (AreKept ps) (sym behind) kept)
+
+pub kept_of : (ps : List Place) (os : List ℕ) → AreStored ps os → AreKept ps (spelt_in ps os)
+kept_of [] os none = refl
+kept_of (q ∷ ps) os (le, is, rest) = kept_front q ps (spelt q (take (stored_len q) os)) (spelt_in ps (drop (stored_len q) os)) is.0 is.1 (kept_of ps (drop (stored_len q) os) rest)
+
+-- the UPDATE of the first place, and those behind it
+pub first_told : (width : Width) (q : Place) (ps : List Place) (os : List ℕ) → AreStored (q ∷ ps) os
+    → told_stored width (q ∷ ps) os ≡ dated q.epoch (updates_read (reading (nobody width) (spelt q (take (stored_len q) os)))) ++ told_stored width ps (drop (stored_len q) os)
+first_told width q ps os (le, is, rest) =
+    let a = spelt q (take (stored_len q) os) in
+    let b = spelt_in ps (drop (stored_len q) os) in
+    let front = ap (λ (n : ℕ). take n (a ++ b)) is.1 ∙ take-append_seam a b in
+    let behind = ap (λ (n : ℕ). drop n (a ++ b)) is.1 ∙ drop-append_seam a b in
+    let one = λ (xs : List ℕ). dated q.epoch (updates_read (reading (nobody width) xs)) in
+    ap (λ (xs : List ℕ). one xs ++ told_in width ps (drop q.len (a ++ b))) front ∙ ap (λ (xs : List ℕ). one a ++ told_in width ps xs) behind
+
+-- the histories of all incarnations with one more
+pub history_stored : (width : Width) (ps : List Place) (os new : List ℕ) (p : Place) (u : Update) → AreStored ps os → IsStored p new → reading (nobody width) (spelt p new) ≡ Ok (UpdateMsg u)
+    → history (told_stored width (ps ++ p ∷ []) (os ++ new)) ≡ with_update (history (told_stored width ps os)) p.epoch u
+history_stored width ps os new p u all one read =
+    ap (λ (xs : List ℕ). history (told_in width (ps ++ p ∷ []) xs)) (spelt_on ps os new (p ∷ []) all ∙ ap (λ (xs : List ℕ). spelt_in ps os ++ xs) (one_spelt p new one))
+    ∙ history_grown width ps (spelt_in ps os) (spelt p new) p u (kept_of ps os all) read one.1
+
+-- what was put behind a front, as it stands behind the old octets
+pub record Behind (front whole old new rest : List ℕ) : Type 0 where
+  pub is : new ≡ old ++ rest
+  pub spells : spelt_by true (29 + length rest) rest ≡ whole
+  pub joined : front ++ rest ≡ whole
+
+pub put_behind : (front whole old new rest : List ℕ) → PutsBehind front whole old new → rest ≡ drop (length old) new → Behind front whole old new rest
+put_behind front whole old new rest b e =
+    let same : rest ≡ b.rest = e ∙ ap (λ (xs : List ℕ). drop (length old) xs) b.appended ∙ drop-append_seam old b.rest in
+    let len : length whole ≡ 29 + length b.rest = sym (ap length b.spells) ∙ spelt_length true (length whole) b.rest in
+    record {
+      is = b.appended ∙ ap (λ (xs : List ℕ). old ++ xs) (sym same);
+      spells = ap (λ (xs : List ℕ). spelt_by true (29 + length xs) xs) same ∙ ap (λ (n : ℕ). spelt_by true n b.rest) (sym len) ∙ b.spells;
+      joined = ap (λ (xs : List ℕ). front ++ xs) same ∙ ap (λ (xs : List ℕ). xs ++ b.rest) b.front_is ∙ b.spells;
+    }
+
 -- ---- blocks one behind the other
 
 -- what blocks tell, and what is told behind them
-pub told_behind : (width : Width) (bs : List Block) (ps : List Place) (octets : List ℕ) → AreAllKept bs → told_in width (entries_in bs ++ ps) (octets_in bs ++ octets) ≡ told_by_blocks width bs ++ told_in width ps octets
+pub told_behind : (width : Width) (bs : List Block) (ps : List Place) (octets : List ℕ) → AreAllStored bs → told_in width (entries_in bs ++ ps) (octets_in bs ++ octets) ≡ told_by_blocks width bs ++ told_in width ps octets
 told_behind width [] ps octets kept = refl
 told_behind width (b ∷ bs) ps octets (one, kept) =
-    ap (λ (qs : List Place). told_in width qs ((b.octets.items ++ octets_in bs) ++ octets)) (append_assoc b.places.items (entries_in bs) ps)
-    ∙ ap (λ (os : List ℕ). told_in width (b.places.items ++ (entries_in bs ++ ps)) os) (append_assoc b.octets.items (octets_in bs) octets)
-    ∙ told_on width b.places.items b.octets.items (octets_in bs ++ octets) (entries_in bs ++ ps) one
-    ∙ ap (λ (ts : List Told). told_in width b.places.items b.octets.items ++ ts) (told_behind width bs ps octets kept)
-    ∙ sym (append_assoc (told_in width b.places.items b.octets.items) (told_by_blocks width bs) (told_in width ps octets))
+    let spelt = spelt_in b.places.items b.octets.items in
+    ap (λ (qs : List Place). told_in width qs ((spelt ++ octets_in bs) ++ octets)) (append_assoc b.places.items (entries_in bs) ps)
+    ∙ ap (λ (os : List ℕ). told_in width (b.places.items ++ (entries_in bs ++ ps)) os) (append_assoc spelt (octets_in bs) octets)
+    ∙ told_on width b.places.items spelt (octets_in bs ++ octets) (entries_in bs ++ ps) (kept_of b.places.items b.octets.items one)
+    ∙ ap (λ (ts : List Told). told_stored width b.places.items b.octets.items ++ ts) (told_behind width bs ps octets kept)
+    ∙ sym (append_assoc (told_stored width b.places.items b.octets.items) (told_by_blocks width bs) (told_in width ps octets))
 
 -- a block more
 pub entries_more : (bs : List Block) (b : Block) → entries_in (bs ++ b ∷ []) ≡ entries_in bs ++ b.places.items
 entries_more [] b = append-nil b.places.items
 entries_more (a ∷ bs) b = ap (λ (ps : List Place). a.places.items ++ ps) (entries_more bs b) ∙ sym (append_assoc a.places.items (entries_in bs) b.places.items)
 
-pub octets_more : (bs : List Block) (b : Block) → octets_in (bs ++ b ∷ []) ≡ octets_in bs ++ b.octets.items
-octets_more [] b = append-nil b.octets.items
-octets_more (a ∷ bs) b = ap (λ (os : List ℕ). a.octets.items ++ os) (octets_more bs b) ∙ sym (append_assoc a.octets.items (octets_in bs) b.octets.items)
+pub octets_more : (bs : List Block) (b : Block) → octets_in (bs ++ b ∷ []) ≡ octets_in bs ++ spelt_in b.places.items b.octets.items
+octets_more [] b = append-nil (spelt_in b.places.items b.octets.items)
+octets_more (a ∷ bs) b =
+    let spelt = spelt_in a.places.items a.octets.items in
+    ap (λ (os : List ℕ). spelt ++ os) (octets_more bs b) ∙ sym (append_assoc spelt (octets_in bs) (spelt_in b.places.items b.octets.items))
 
-pub all_kept_more : (bs : List Block) (b : Block) → AreAllKept bs → AreKept b.places.items b.octets.items → AreAllKept (bs ++ b ∷ [])
-all_kept_more [] b kept one = (one, kept)
-all_kept_more (a ∷ bs) b (first, kept) one = (first, all_kept_more bs b kept one)
+pub all_stored_more : (bs : List Block) (b : Block) → AreAllStored bs → AreStored b.places.items b.octets.items → AreAllStored (bs ++ b ∷ [])
+all_stored_more [] b kept one = (one, kept)
+all_stored_more (a ∷ bs) b (first, kept) one = (first, all_stored_more bs b kept one)
 
 -- the histories of what is told behind
 history_behind : (ts us : List Told) (n : ℕ) → history (ts ++ us) n ≡ history ts n ++ history us n

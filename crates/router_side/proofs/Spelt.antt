@@ -1,20 +1,24 @@
 -- The octets of what tells a path, put piece by piece.
-use Rattle.std.proofs.Common.{◌≡◌, ℕ, suc, ◌+◌, ◌*◌, ◌≤◌, Bool, false, List, [], ◌∷◌, ◌++◌, length, get_or, refl, sym, ap, ◌∙◌, append_assoc, length-append, arith}
-use Rattle.std.specs.Prelude.{nat_le}
-use Rattle.std.specs.List.{flat_map, AllByRecursion}
+use Rattle.std.proofs.Common.{◌≡◌, ℕ, suc, ◌+◌, ◌*◌, ◌≤◌, Bool, true, false, cond, List, [], ◌∷◌, ◌++◌, length, get_or, take, drop, refl, sym, ap, ◌∙◌, append_assoc, length-append, arith}
+use Rattle.std.specs.Prelude.{nat_le, not, Option, None, Some}
+use Rattle.std.specs.Cmp.Lexicographic.{same_text}
+use Rattle.std.specs.List.{flat_map, AllByRecursion, IsSplitAt}
 use Rattle.std.specs.Int.{w16, w32, to_be_bytes}
 use Rattle.std.proofs.lemmas.Bool.{lt-leb}
-use Rattle.std.proofs.lemmas.List.{append-nil, length-take-le}
+use Rattle.std.proofs.lemmas.List.{append-nil, length-take-le, take-append-drop, take-append-le}
 use Rattle.bgp_values.specs.declared.width.Width.{Width}
 use Rattle.bgp_values.specs.declared.width.Width.TheVariants.{Two, Four}
 use Rattle.marker_lanes.specs.Marker.{marker}
 use Rattle.prefix_lanes.specs.Bits.{PrefixView, IsCanonical}
+use Rattle.bgp_codec.specs.declared.fault.Fault.{Fault}
 use Rattle.bgp_codec.specs.declared.message.Message.TheVariants.{UpdateMsg}
+use Rattle.bgp_codec.specs.Header.{header_fault, begins_with_marker, fault_of, IsFrame}
 use Rattle.bgp_codec.specs.AsNumbers.{asn_size, asn_octets, AsnFits}
 use Rattle.bgp_codec.specs.Updates.{octet_count, attr_octets, raw_of}
 use Rattle.bgp_codec.specs.Spelling.{header_of, framed, written}
 use Rattle.router_model.specs.State.{withdrawal, announcement, telling}
-use Rattle.router_side.specs.Layout.{marked, address, withdrawal_front, announcement_front, announcement_hop}
+use Rattle.router_side.specs.Histories.{spelt_by, PutsBehind}
+use Rattle.router_side.specs.Layout.{marked, field, address, withdrawal_front, told_head, told_front, announcement_front, announcement_hop}
 use Rattle.router_side.specs.Sayings.{IsSayable}
 
 pub numbers_length : (w : Width) (ns : List ℕ) → length (flat_map (asn_octets w) ns) ≡ asn_size w * length ns
@@ -93,6 +97,38 @@ module _ (w : Width) (q : PrefixView) (canonical : IsCanonical q) where
   withdrawal_put old a b d ea eb ed =
       three old (withdrawal_front q.len (octet_count q.len)) (address q) (0 ∷ 0 ∷ []) a b d ea eb ed ∙ ap (λ (x : List ℕ). old ++ x) withdrawal_whole
 
+-- ---- the front of an announcement
+
+pub front_parts : (count m l : ℕ) → told_front (40 + m + l) (2 + m) ++ ((2 + m) ∷ 2 ∷ count ∷ []) ≡ announcement_front count m l
+front_parts count m l =
+    let more : 14 + (2 + m) ≡ 16 + m = omega arith in
+    ap (λ (n : ℕ). marked (field (40 + m + l) (2 ∷ 0 ∷ 0 ∷ field n (64 ∷ 1 ∷ 1 ∷ 0 ∷ 64 ∷ 2 ∷ (2 + m) ∷ 2 ∷ count ∷ [])))) more
+
+marked_is : (xs : List ℕ) → marked xs ≡ marker ++ xs
+unfolding marker
+marked_is xs = refl
+
+passes : (b : Bool) (f : Fault) (rest : Option Fault) → cond (not b) (Some f) rest ≡ None → b ≡ true
+passes true f rest e = refl
+passes false f rest e = absurd cc
+
+is_marked : (octets : List ℕ) → header_fault octets ≡ None → begins_with_marker octets ≡ true
+unfolding header_fault
+is_marked octets e = passes (begins_with_marker octets) (fault_of 1 1 []) _ e
+
+marker_in_front : (octets : List ℕ) → begins_with_marker octets ≡ true → take 16 octets ≡ marker
+unfolding begins_with_marker marker
+marker_in_front octets t = sym (same_text marker (take 16 octets) (sym t))
+
+-- a frame that has it is spelt without it
+pub frame_spelt : (frame front rest head : List ℕ) → IsFrame frame → IsSplitAt frame 29 front rest → head ≡ drop 16 front → head ≡ told_head (length frame) (get_or rest 0 0) → spelt_by true (length frame) rest ≡ frame
+frame_spelt frame front rest head is s h e =
+    let whole : front ++ rest ≡ frame = ap (λ (f : List ℕ). f ++ rest) s.1 ∙ ap (λ (b : List ℕ). take 29 frame ++ b) s.2 ∙ take-append-drop 29 frame in
+    let mark : take 16 front ≡ marker = sym (take-append-le 16 front rest (omega (arith, s.3))) ∙ ap (take 16) whole ∙ marker_in_front frame (is_marked frame is.good) in
+    ap (λ (xs : List ℕ). xs ++ rest)
+    (marked_is (told_head (length frame) (get_or rest 0 0)) ∙ ap (λ (xs : List ℕ). marker ++ xs) (sym e ∙ h) ∙ ap (λ (xs : List ℕ). xs ++ drop 16 front) (sym mark) ∙ take-append-drop 16 front)
+    ∙ whole
+
 -- ---- an announcement
 
 module _ (w : Width) (id : ℕ) (q : PrefixView) (ns : List ℕ) (canonical : IsCanonical q) (few : length ns ≤ 63) where
@@ -159,12 +195,27 @@ module _ (w : Width) (id : ℕ) (q : PrefixView) (ns : List ℕ) (canonical : Is
   pub announcement_whole : front ++ (numbers ++ (hop ++ address q)) ≡ written w (UpdateMsg (announcement id q ns))
   announcement_whole = header_is (21 + (size + octet_count q.len)) (40 + size + octet_count q.len) counted (omega arith) ∙ sym announcement_is
 
-  pub announcement_put : (old a b d e : List ℕ) → a ≡ old ++ front → b ≡ a ++ numbers → d ≡ b ++ hop → e ≡ d ++ address q → e ≡ old ++ written w (UpdateMsg (announcement id q ns))
-  announcement_put old a b d e ea eb ed ee =
-      ee ∙ ap (λ (x : List ℕ). x ++ address q) (three old front numbers hop a b d ea eb ed)
-      ∙ append_assoc old (front ++ (numbers ++ hop)) (address q)
-      ∙ ap (λ (x : List ℕ). old ++ x)
-      (append_assoc front (numbers ++ hop) (address q) ∙ ap (λ (x : List ℕ). front ++ x) (append_assoc numbers hop (address q)) ∙ announcement_whole)
+  abbrev tail : List ℕ
+  tail = numbers ++ (hop ++ address q)
+
+  abbrev segment : List ℕ
+  segment = (2 + size) ∷ 2 ∷ length ns ∷ []
+
+  pub announcement_put : (before old a b d e : List ℕ) → a ≡ old ++ segment → b ≡ a ++ numbers → d ≡ b ++ hop → e ≡ d ++ address q → before ≡ told_front (40 + size + octet_count q.len) (2 + size)
+      → PutsBehind before (written w (UpdateMsg (announcement id q ns))) old e
+  announcement_put before old a b d e ea eb ed ee is = record {
+    rest = segment ++ tail;
+    appended =
+        ee ∙ ap (λ (x : List ℕ). x ++ address q) (three old segment numbers hop a b d ea eb ed)
+        ∙ append_assoc old (segment ++ (numbers ++ hop)) (address q)
+        ∙ ap (λ (x : List ℕ). old ++ x) (append_assoc segment (numbers ++ hop) (address q) ∙ ap (λ (x : List ℕ). segment ++ x) (append_assoc numbers hop (address q)));
+    front_is = is ∙ ap (λ (n : ℕ). told_front n (2 + size)) announcement_length;
+    spells =
+        ap (λ (n : ℕ). told_front n (2 + size) ++ (segment ++ tail)) (sym announcement_length)
+        ∙ sym (append_assoc (told_front (40 + size + octet_count q.len) (2 + size)) segment tail)
+        ∙ ap (λ (x : List ℕ). x ++ tail) (front_parts (length ns) size (octet_count q.len))
+        ∙ announcement_whole;
+  }
 
 -- ---- what tells a path
 

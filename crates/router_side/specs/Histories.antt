@@ -1,5 +1,5 @@
 -- UPDATEs that were acted on or sent, in the octets that spell them.
-use Rattle.std.specs.Prelude.{ℕ, ◌≡◌, ◌≤◌, ◌==◌, cond, List, [], ◌∷◌, ◌++◌, length, take, drop, Result, Ok, Err}
+use Rattle.std.specs.Prelude.{ℕ, ◌≡◌, ◌≤◌, ◌-◌, ◌==◌, Bool, true, cond, List, [], ◌∷◌, ◌++◌, length, take, drop, get_or, Result, Ok, Err}
 use Rattle.std.specs.List.{AllByRecursion}
 use Rattle.bgp_values.specs.declared.width.Width.{Width}
 use Rattle.bgp_codec.specs.declared.fault.Fault.{Fault}
@@ -11,6 +11,7 @@ use Rattle.bgp_codec.specs.Faults.{reading}
 use Rattle.router_side.specs.declared.block.Block.{Block}
 use Rattle.router_side.specs.declared.block.Place.{Place}
 use Rattle.router_side.specs.declared.history.Told.{Told}
+use Rattle.router_side.specs.Layout.{told_front}
 use Rattle.router_side.specs.Sayings.{nobody}
 
 -- the UPDATEs of an incarnation
@@ -40,23 +41,59 @@ abbrev pub AreKept : List Place → List ℕ → Type 0
 AreKept [] octets = octets ≡ []
 AreKept (p ∷ ps) octets = (p.len ≤ length octets) × IsFrame (take p.len octets) × AreKept ps (drop p.len octets)
 
--- the places of blocks, and their octets
+-- what is spelt by an UPDATE's octets, which are all of its `len`, or those behind `told_front`
+abbrev pub spelt_by : Bool → ℕ → List ℕ → List ℕ
+spelt_by short len octets = cond short (told_front len (get_or octets 0 0) ++ octets) octets
+
+abbrev pub spelt : Place → List ℕ → List ℕ
+spelt p octets = spelt_by p.short p.len octets
+
+-- how many of its octets are stored
+abbrev pub stored_len : Place → ℕ
+stored_len p = cond p.short (p.len - 29) p.len
+
+-- what is spelt by stored octets, of which each place takes the next
+abbrev pub spelt_in : List Place → List ℕ → List ℕ
+spelt_in [] octets = []
+spelt_in (p ∷ ps) octets = spelt p (take (stored_len p) octets) ++ spelt_in ps (drop (stored_len p) octets)
+
+-- what is spelt at a place by its stored octets is a frame, of the length that it says
+abbrev pub IsStored : Place → List ℕ → Type 0
+IsStored p octets = IsFrame (spelt p octets) × (p.len ≡ length (spelt p octets))
+
+-- so it is at each place, and no other octets are there
+abbrev pub AreStored : List Place → List ℕ → Type 0
+AreStored [] octets = octets ≡ []
+AreStored (p ∷ ps) octets = (stored_len p ≤ length octets) × IsStored p (take (stored_len p) octets) × AreStored ps (drop (stored_len p) octets)
+
+-- octets are appended: of an UPDATE that announces a path those behind the front
+pub record PutsBehind (front whole old new : List ℕ) : Type 0 where
+  pub rest : List ℕ
+  pub appended : new ≡ old ++ rest
+  pub front_is : front ≡ told_front (length whole) (get_or rest 0 0)
+  pub spells : spelt_by true (length whole) rest ≡ whole
+
+-- what was told by stored octets
+abbrev pub told_stored : Width → List Place → List ℕ → List Told
+told_stored width ps octets = told_in width ps (spelt_in ps octets)
+
+-- the places of blocks, and what is spelt at them
 abbrev pub entries_in : List Block → List Place
 entries_in [] = []
 entries_in (b ∷ bs) = b.places.items ++ entries_in bs
 
 abbrev pub octets_in : List Block → List ℕ
 octets_in [] = []
-octets_in (b ∷ bs) = b.octets.items ++ octets_in bs
+octets_in (b ∷ bs) = spelt_in b.places.items b.octets.items ++ octets_in bs
 
 -- what was told in blocks
 abbrev pub told_by_blocks : Width → List Block → List Told
 told_by_blocks width [] = []
-told_by_blocks width (b ∷ bs) = told_in width b.places.items b.octets.items ++ told_by_blocks width bs
+told_by_blocks width (b ∷ bs) = told_stored width b.places.items b.octets.items ++ told_by_blocks width bs
 
--- the octets of each place of a block are a frame, and no others are there
-abbrev pub AreAllKept : List Block → Type 0
-AreAllKept bs = AllByRecursion (λ (b : Block). AreKept b.places.items b.octets.items) bs
+-- blocks whose octets are stored so
+abbrev pub AreAllStored : List Block → Type 0
+AreAllStored bs = AllByRecursion (λ (b : Block). AreStored b.places.items b.octets.items) bs
 
 -- the places, their octets, and the room for more
 pub record Past : Type 0 where

@@ -20,6 +20,14 @@ field n rest = get_or (to_be_bytes w16 n) 0 0 ∷ get_or (to_be_bytes w16 n) 1 0
 abbrev pub withdrawal_front : ℕ → ℕ → List ℕ
 withdrawal_front len count = marked (field (24 + count) (2 ∷ field (1 + count) (len ∷ [])))
 
+-- an announcement of `len` octets behind its Marker, up to the length of its AS_PATH, `path`, which comes next
+abbrev pub told_head : ℕ → ℕ → List ℕ
+told_head len path = field len (2 ∷ 0 ∷ 0 ∷ field (14 + path) (64 ∷ 1 ∷ 1 ∷ 0 ∷ 64 ∷ 2 ∷ []))
+
+-- the same from its Marker on
+abbrev pub told_front : ℕ → ℕ → List ℕ
+told_front len path = marked (told_head len path)
+
 -- an announcement up to the numbers of its path, which have `size` octets; those of its prefix are `count`
 abbrev pub announcement_front : ℕ → ℕ → ℕ → List ℕ
 announcement_front numbers size count = marked (field (40 + size + count) (2 ∷ 0 ∷ 0 ∷ field (16 + size) (64 ∷ 1 ∷ 1 ∷ 0 ∷ 64 ∷ 2 ∷ (2 + size) ∷ 2 ∷ numbers ∷ [])))

@@ -1,6 +1,7 @@
-//! UPDATEs one behind the other, in the octets that spell them, in room that never grows.
+//! UPDATEs one behind the other, in the octets that spell them, in room that never grows. One that announces a path
+//! is stored without its first octets, which its length and the next octet tell.
 
-ghost use Rattle.std.specs.Prelude.{◌≡◌, ◌+◌, ◌≤◌, ◌∷◌, ◌++◌, ◌↔◌, [], true, length, Ok, IfOk, OnOk, IsTrue, vec_len, vec_capacity};
+ghost use Rattle.std.specs.Prelude.{ℕ, List, ◌≡◌, ◌+◌, ◌≤◌, ◌∷◌, ◌++◌, ◌↔◌, [], true, length, get_or, Ok, IfOk, OnOk, IsTrue, vec_len, vec_capacity};
 ghost use Rattle.bgp_codec.specs.declared.message.Message.TheVariants.{UpdateMsg};
 ghost use Rattle.bgp_codec.specs.declared.update.Update as update;
 ghost use Rattle.bgp_codec.specs.Header.{IsFrame};
@@ -10,10 +11,10 @@ ghost use Rattle.bgp_codec.specs.Spelling.{written};
 ghost use Rattle.run_model.specs.Octets.{octets_of};
 ghost use Rattle.router_model.specs.Sides.{with_update};
 ghost use Rattle.router_side.specs.Sayings.{acted_where, nobody, update_in, IsSayable};
-ghost use Rattle.router_side.specs.Histories.{history, told_in, updates_read, AreKept};
+ghost use Rattle.router_side.specs.Histories.{history, spelt, spelt_by, stored_len, told_stored, updates_read, AreStored, IsStored};
 
 use crate::history::{Told, nobody};
-use crate::route::Route;
+use crate::route::{FRONT, Route, shortened, told_front};
 use bgp_codec::laws::{header_is_its_front, written_has_a_header, written_is_read};
 use bgp_codec::{Message, decode, put_message};
 use bgp_values::Width;
@@ -25,6 +26,8 @@ use std::alloc::{AllocError, Global};
 struct Place {
     epoch: u32,
     len: u16,
+    // Whether it is stored without the octets of `told_front`.
+    short: bool,
 }
 
 /// UPDATEs in their order, each once.
@@ -45,6 +48,55 @@ fn read(alloc: Global, width: Width, epoch: u32, octets: &[u8]) -> Result<Told, 
         Ok(Message::OpenMsg(_) | Message::NoticeMsg(_) | Message::AliveMsg) | Err(_) => {
             Err(AllocError)
         }
+    }
+}
+
+// How many octets of an UPDATE are stored.
+fn stored_len(place: &Place) -> usize
+    requires { (octets : List ℕ) × IsStored place.now octets }
+    ensures { result ≡ stored_len place.now }
+{
+    let len = place.len as usize;
+    if place.short { len - FRONT } else { len }
+}
+
+// The octet in front: 0 where there is none.
+fn first(octets: &[u8]) -> u8
+    ensures { result ≡ get_or octets.now 0 0 }
+{
+    match octets {
+        [first, ..] => *first,
+        [] => 0,
+    }
+}
+
+// The octets of an UPDATE of `len` octets that are stored without those of `told_front`. It is refused only where
+// memory was.
+fn with_front(alloc: Global, len: u16, octets: &[u8]) -> Result<Vec<u8>, AllocError>
+    ensures { IfOk result (λ whole. whole.items ≡ spelt_by true len octets.now) }
+{
+    let mut whole = Vec::with_capacity(alloc, len as usize)?;
+    whole.extend_from_slice(&told_front(len, first(octets)))?;
+    whole.extend_from_slice(octets)?;
+    Ok(whole)
+}
+
+// The UPDATE at a place, by its stored octets. It is refused only where memory was.
+fn read_stored(
+    alloc: Global,
+    width: Width,
+    place: &Place,
+    octets: &[u8],
+) -> Result<Told, AllocError>
+    requires { IsStored place.now octets.now }
+    ensures epoch { IfOk result (λ told. told.epoch ≡ place.now.epoch) }
+    ensures update { IfOk result (λ told. updates_read (reading (nobody width) (spelt place.now octets.now)) ≡ told.update ∷ []) }
+{
+    if place.short {
+        let whole = with_front(alloc, place.len, octets)?;
+        read(alloc, width, place.epoch, whole.as_slice())
+    } else {
+        read(alloc, width, place.epoch, octets)
     }
 }
 
@@ -106,13 +158,13 @@ impl Block {
         width: Width,
         all: &mut Vec<Told>,
     ) -> Result<(), AllocError>
-        requires { AreKept self.now.places.items self.now.octets.items }
-        ensures { OnOk result (all.new.items ≡ all.old.items ++ told_in width self.now.places.items self.now.octets.items) }
+        requires { AreStored self.now.places.items self.now.octets.items }
+        ensures { OnOk result (all.new.items ≡ all.old.items ++ told_stored width self.now.places.items self.now.octets.items) }
     {
         let mut rest = self.octets.as_slice();
         for place in self.places.as_slice() {
-            let (octets, behind) = rest.split_at(place.len as usize);
-            all.push(read(alloc, width, place.epoch, octets)?)?;
+            let (octets, behind) = rest.split_at(stored_len(place));
+            all.push(read_stored(alloc, width, place, octets)?)?;
             rest = behind;
         }
         Ok(())
@@ -120,29 +172,30 @@ impl Block {
 
     // Puts the UPDATE of a frame behind the others, for which there is room, whatever the width.
     pub(crate) fn keep_frame(&mut self, epoch: u32, frame: &[u8])
-        requires kept { AreKept self.old.places.items self.old.octets.items }
+        requires kept { AreStored self.old.places.items self.old.octets.items }
         requires frame { IsFrame frame.now }
         requires room { vec_len self.old.octets + length frame.now ≤ vec_capacity self.old.octets }
         requires place { vec_len self.old.places + 1 ≤ vec_capacity self.old.places }
-        ensures kept { AreKept self.new.places.items self.new.octets.items }
-        ensures told { (w : widths.Width) (u : update.Update) → reading (nobody w) frame.now ≡ Ok (UpdateMsg u) → history (told_in w self.new.places.items self.new.octets.items) ≡ with_update (history (told_in w self.old.places.items self.old.octets.items)) epoch u }
+        ensures kept { AreStored self.new.places.items self.new.octets.items }
+        ensures told { (w : widths.Width) (u : update.Update) → reading (nobody w) frame.now ≡ Ok (UpdateMsg u) → history (told_stored w self.new.places.items self.new.octets.items) ≡ with_update (history (told_stored w self.old.places.items self.old.octets.items)) epoch u }
     {
         header_is_its_front();
-        self.octets.extend_from_slice(frame).unwrap();
+        let (short, stored) = shortened(frame);
+        self.octets.extend_from_slice(stored).unwrap();
         let len = frame.len() as u16;
-        self.places.push_reserved(Place { epoch, len });
+        self.places.push_reserved(Place { epoch, len, short });
     }
 
     // Appends a message to what waits towards a peer, for which there is room; an UPDATE joins those that are here.
     pub(crate) fn keep(&mut self, width: Width, epoch: u32, message: &Message, outbox: &mut Outbox)
-        requires kept { AreKept self.old.places.items self.old.octets.items }
+        requires kept { AreStored self.old.places.items self.old.octets.items }
         requires sayable { IsSayable width message.now }
         requires room { vec_len self.old.octets + length (written width message.now) ≤ vec_capacity self.old.octets }
         requires place { vec_len self.old.places + 1 ≤ vec_capacity self.old.places }
         requires waiting { length (written width message.now) ≤ outbox.old.room }
         requires more { 1 ≤ outbox.old.places }
-        ensures kept { AreKept self.new.places.items self.new.octets.items }
-        ensures told { history (told_in width self.new.places.items self.new.octets.items) ≡ acted_where true (update_in message.now) epoch (history (told_in width self.old.places.items self.old.octets.items)) }
+        ensures kept { AreStored self.new.places.items self.new.octets.items }
+        ensures told { history (told_stored width self.new.places.items self.new.octets.items) ≡ acted_where true (update_in message.now) epoch (history (told_stored width self.old.places.items self.old.octets.items)) }
         ensures passing { outbox.new.passing ≡ outbox.old.passing ++ octets_of epoch (written width message.now) }
     {
         written_has_a_header();
@@ -155,7 +208,11 @@ impl Block {
                 let (_, put) = self.octets.split_at(before);
                 outbox.push_octets(epoch, put);
                 let len = (self.octets.len() - before) as u16;
-                self.places.push_reserved(Place { epoch, len });
+                self.places.push_reserved(Place {
+                    epoch,
+                    len,
+                    short: false,
+                });
             }
             Message::OpenMsg(_) | Message::NoticeMsg(_) | Message::AliveMsg => {
                 outbox.push_message(epoch, message, &nobody(width));
@@ -172,24 +229,41 @@ impl Block {
         route: &Route,
         outbox: &mut Outbox,
     )
-        requires kept { AreKept self.old.places.items self.old.octets.items }
+        requires kept { AreStored self.old.places.items self.old.octets.items }
         requires sayable { IsSayable width (UpdateMsg route.now) }
         requires room { vec_len self.old.octets + length (written width (UpdateMsg route.now)) ≤ vec_capacity self.old.octets }
         requires place { vec_len self.old.places + 1 ≤ vec_capacity self.old.places }
         requires waiting { length (written width (UpdateMsg route.now)) ≤ outbox.old.room }
         requires more { 1 ≤ outbox.old.places }
-        ensures kept { AreKept self.new.places.items self.new.octets.items }
-        ensures told { history (told_in width self.new.places.items self.new.octets.items) ≡ with_update (history (told_in width self.old.places.items self.old.octets.items)) epoch route.now }
+        ensures kept { AreStored self.new.places.items self.new.octets.items }
+        ensures told { history (told_stored width self.new.places.items self.new.octets.items) ≡ with_update (history (told_stored width self.old.places.items self.old.octets.items)) epoch route.now }
         ensures passing { outbox.new.passing ≡ outbox.old.passing ++ octets_of epoch (written width (UpdateMsg route.now)) }
     {
         written_has_a_header();
         written_is_read();
         header_is_its_front();
         let before = self.octets.len();
-        route.put(width, &mut self.octets);
-        let (_, put) = self.octets.split_at(before);
-        outbox.push_octets(epoch, put);
-        let len = (self.octets.len() - before) as u16;
-        self.places.push_reserved(Place { epoch, len });
+        match route.put(width, &mut self.octets) {
+            Some(front) => {
+                let (_, rest) = self.octets.split_at(before);
+                outbox.push_parts(epoch, &front, rest);
+                let len = (FRONT + rest.len()) as u16;
+                self.places.push_reserved(Place {
+                    epoch,
+                    len,
+                    short: true,
+                });
+            }
+            None => {
+                let (_, put) = self.octets.split_at(before);
+                outbox.push_octets(epoch, put);
+                let len = put.len() as u16;
+                self.places.push_reserved(Place {
+                    epoch,
+                    len,
+                    short: false,
+                });
+            }
+        }
     }
 }

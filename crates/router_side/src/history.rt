@@ -27,7 +27,7 @@ const LEAST_MORE: usize = 512;
 const MOST_MORE: usize = 65_536;
 
 // It has a place for each so many of those; most UPDATEs are longer.
-const OCTETS_A_PLACE: usize = 32;
+const OCTETS_A_PLACE: usize = 20;
 
 /// An UPDATE that was acted on or sent, with its incarnation.
 #[derive(Debug, Drop)]
@@ -50,18 +50,18 @@ pub struct History {
 
 impl Model for History {
     ghost use Rattle.std.specs.Prelude.{◌-◌, ◌++◌, vec_len, vec_capacity};
-    ghost use Rattle.router_side.specs.Histories.{Past, AreKept, AreAllKept, entries_in, octets_in};
+    ghost use Rattle.router_side.specs.Histories.{Past, AreStored, AreAllStored, entries_in, octets_in, spelt_in};
 
     ghost Value = { Past };
 
     ghost view = { λ h. record {
       entries = entries_in h.full.items ++ h.last.places.items;
-      octets = octets_in h.full.items ++ h.last.octets.items;
+      octets = octets_in h.full.items ++ spelt_in h.last.places.items h.last.octets.items;
       room = vec_capacity h.last.octets - vec_len h.last.octets;
       places = vec_capacity h.last.places - vec_len h.last.places;
     } };
 
-    ghost invariant = { λ h. AreAllKept h.full.items × AreKept h.last.places.items h.last.octets.items };
+    ghost invariant = { λ h. AreAllStored h.full.items × AreStored h.last.places.items h.last.octets.items };
 }
 
 // The rule that names nobody.

@@ -5,22 +5,24 @@
 //! behind them, are known by their counts. So its octets are put from the path, and no message is made
 //! and measured first.
 
-ghost use Rattle.std.specs.Prelude.{◌≡◌, ◌+◌, ◌≤◌, ◌*◌, ◌++◌, length, ℕ, true, IfOk, IfSome, IsOk, vec_len, vec_capacity};
+ghost use Rattle.std.specs.Prelude.{◌≡◌, ◌+◌, ◌≤◌, ◌*◌, ◌++◌, length, ℕ, true, IfOk, IfSome, IsOk, MatchOption, vec_len, vec_capacity};
 ghost use Rattle.std.specs.List.{AllByRecursion};
 ghost use Rattle.bgp_values.specs.declared.width.Width as widths;
 ghost use Rattle.bgp_codec.specs.declared.message.Message.TheVariants.{UpdateMsg};
 ghost use Rattle.bgp_codec.specs.AsNumbers.{asn_size, numbers_of, AsnFits};
 ghost use Rattle.bgp_codec.specs.Updates.{octet_count, begins_with};
+ghost use Rattle.bgp_codec.specs.Header.{IsFrame};
 ghost use Rattle.bgp_codec.specs.Spelling.{written};
 ghost use Rattle.prefix_lanes.specs.Bits.{IsCanonical};
 ghost use Rattle.router_model.specs.State.{withdrawal, announcement, telling};
-ghost use Rattle.router_side.specs.Layout.{address, announcement_front, announcement_hop, withdrawal_front, IsAnnouncement, IsWithdrawal};
+ghost use Rattle.router_side.specs.Histories.{spelt_by, PutsBehind};
+ghost use Rattle.router_side.specs.Layout.{address, announcement_hop, told_front, told_head, withdrawal_front, IsAnnouncement, IsWithdrawal};
 ghost use Rattle.router_side.specs.Acting.{IsToldBy};
 ghost use Rattle.router_side.specs.Sayings.{IsSayable};
 ghost use Rattle.router_side.specs.declared.route.TheConstants.{MOST_NUMBERS};
 
 use crate::laws::tellings_are_sayable;
-use bgp_codec::laws::a_peers_writing_is_read;
+use bgp_codec::laws::{a_peers_writing_is_read, header_is_its_front};
 use bgp_codec::{
     Asn, Attrs, Items, Numbers, Segment, SegmentKind, Update, asn_size, octet_count, put_numbers,
     read_numbers,
@@ -28,6 +30,7 @@ use bgp_codec::{
 use bgp_values::{
     AS_PATH, AS_SEQUENCE, HEADER_LEN, IGP, NEXT_HOP, ORIGIN, TRANSITIVE, UPDATE, Width, is_unicast,
 };
+use marker_lanes::MARKER_LEN;
 use prefix_lanes::Prefix;
 use std::alloc::{AllocError, Global};
 use std::marker::Model;
@@ -35,6 +38,9 @@ use std::marker::Model;
 /// So many numbers at most has a path that is told: then the length of AS_PATH has one octet, whatever
 /// the width of the numbers.
 pub const MOST_NUMBERS: usize = 63;
+
+// The octets of an announcement in front of the length of its AS_PATH.
+pub(crate) const FRONT: usize = 29;
 
 // The octets of an announcement but for its path and its prefix: ORIGIN, AS_PATH with its segment,
 // NEXT_HOP.
@@ -74,50 +80,45 @@ fn withdrawal_front(len: u8, count: usize) -> [u8; 22]
     ]
 }
 
-// The octets of an announcement before the numbers of its path, which have `size` octets; those of its
-// prefix are `count`.
-fn announcement_front(numbers: usize, size: usize, count: usize) -> [u8; 32]
-    requires numbers { numbers ≤ MOST_NUMBERS }
-    requires size { size ≤ 4 * MOST_NUMBERS }
-    requires count { count ≤ 4 }
-    ensures { result ≡ announcement_front numbers size count }
+// The octets of an announcement of `len` octets behind its Marker, up to the length of its AS_PATH, `path`, which
+// comes next.
+fn told_head(len: u16, path: u8) -> [u8; FRONT - MARKER_LEN]
+    ensures { result ≡ told_head len path }
 {
-    let [high, low] = ((HEADER_LEN + 5 + FIXED_ATTRS + size + count) as u16).to_be_bytes();
-    let [upper, lower] = ((FIXED_ATTRS + size) as u16).to_be_bytes();
+    let [high, low] = len.to_be_bytes();
+    let [upper, lower] = ((FIXED_ATTRS - 2 + path as usize) as u16).to_be_bytes();
     [
-        0xff,
-        0xff,
-        0xff,
-        0xff,
-        0xff,
-        0xff,
-        0xff,
-        0xff,
-        0xff,
-        0xff,
-        0xff,
-        0xff,
-        0xff,
-        0xff,
-        0xff,
-        0xff,
-        high,
-        low,
-        UPDATE,
-        0,
-        0,
-        upper,
-        lower,
-        TRANSITIVE,
-        ORIGIN,
-        1,
-        IGP,
-        TRANSITIVE,
-        AS_PATH,
-        (2 + size) as u8,
-        AS_SEQUENCE,
-        numbers as u8,
+        high, low, UPDATE, 0, 0, upper, lower, TRANSITIVE, ORIGIN, 1, IGP, TRANSITIVE, AS_PATH,
     ]
+}
+
+// The same from its Marker on.
+pub(crate) fn told_front(len: u16, path: u8) -> [u8; FRONT]
+    ensures { result ≡ told_front len path }
+{
+    let [a, b, c, d, e, f, g, h, i, j, k, l, m] = told_head(len, path);
+    [
+        0xff, 0xff, 0xff, 0xff, 0xff, 0xff, 0xff, 0xff, 0xff, 0xff, 0xff, 0xff, 0xff, 0xff, 0xff,
+        0xff, a, b, c, d, e, f, g, h, i, j, k, l, m,
+    ]
+}
+
+// Whether a frame begins as `told_front` has it, and what stands behind that: all of a frame that does not.
+pub(crate) fn shortened(frame: &[u8]) -> (bool, &[u8])
+    requires { IsFrame frame.now }
+    ensures spells { spelt_by result.0 (length frame.now) result.1.now ≡ frame.now }
+    ensures len { length result.1.now ≤ length frame.now }
+{
+    header_is_its_front();
+    if let Some((front, rest)) = frame.split_at_checked(FRONT) {
+        let (_, head) = front.split_at(MARKER_LEN);
+        if let [path, ..] = rest {
+            if are(head, &told_head(frame.len() as u16, *path)) {
+                return (true, rest);
+            }
+        }
+    }
+    (false, frame)
 }
 
 // Those behind the numbers, before those of its prefix.
@@ -141,21 +142,30 @@ fn put_withdrawal(out: &mut Vec<u8>, prefix: &Prefix)
     out.extend_from_slice(&[0, 0]).unwrap();
 }
 
-// Appends the UPDATE that announces a path, for which there is room.
-fn put_announcement(out: &mut Vec<u8>, width: Width, id: u32, prefix: &Prefix, path: &[Asn])
+// Appends the octets of the UPDATE that announces a path from the length of its AS_PATH on, for which there is room.
+// Answers what stands in front of them.
+fn put_announcement(
+    out: &mut Vec<u8>,
+    width: Width,
+    id: u32,
+    prefix: &Prefix,
+    path: &[Asn],
+) -> [u8; FRONT]
     requires fit { AllByRecursion (AsnFits width) path.now }
     requires few { length path.now ≤ MOST_NUMBERS }
     requires room { vec_len out.old + (40 + asn_size width * length path.now + octet_count prefix.now.len) ≤ vec_capacity out.old }
-    ensures { out.new.items ≡ out.old.items ++ written width (UpdateMsg (announcement id prefix.now path.now)) }
+    ensures { PutsBehind result (written width (UpdateMsg (announcement id prefix.now path.now))) out.old.items out.new.items }
 {
     let (len, address) = (prefix.len(), prefix.addr().to_be_bytes());
     let count = octet_count(len);
     let size = asn_size(width) * path.len();
-    out.extend_from_slice(&announcement_front(path.len(), size, count))
+    let length = (2 + size) as u8;
+    out.extend_from_slice(&[length, AS_SEQUENCE, path.len() as u8])
         .unwrap();
     put_numbers(out, width, path);
     out.extend_from_slice(&announcement_hop(id, len)).unwrap();
     out.extend_from_slice(&address[..count]).unwrap();
+    told_front((HEADER_LEN + 5 + FIXED_ATTRS + size + count) as u16, length)
 }
 
 // The prefix of so many bits whose octets these are.
@@ -229,8 +239,9 @@ struct Announcement<'a> {
 fn announced(width: Width, frame: &[u8]) -> Option<Announcement<'_>>
     ensures { IfSome result (λ told. IsCanonical told.prefix × IsAnnouncement width frame.now told.id told.prefix told.numbers.now) }
 {
-    let (front, rest) = frame.split_at_checked(32)?;
-    let count = front[31] as usize;
+    let (start, rest) = frame.split_at_checked(FRONT + 3)?;
+    let (front, segment) = start.split_at(FRONT);
+    let count = segment[2] as usize;
     let size = asn_size(width) * count;
     let (numbers, rest) = rest.split_at_checked(size)?;
     let (hop, address) = rest.split_at_checked(8)?;
@@ -239,7 +250,14 @@ fn announced(width: Width, frame: &[u8]) -> Option<Announcement<'_>>
     if 1 <= count
         && count <= MOST_NUMBERS
         && is_unicast(id)
-        && are(front, &announcement_front(count, size, address.len()))
+        && are(
+            front,
+            &told_front(
+                (HEADER_LEN + 5 + FIXED_ATTRS + size + address.len()) as u16,
+                (2 + size) as u8,
+            ),
+        )
+        && are(segment, &[(2 + size) as u8, AS_SEQUENCE, count as u8])
         && are(hop, &announcement_hop(id, prefix.len()))
     {
         Some(Announcement {
@@ -344,18 +362,19 @@ impl Route {
         }
     }
 
-    // Appends the octets of the UPDATE, for which there is room.
-    pub(crate) fn put(&self, width: Width, out: &mut Vec<u8>)
+    // Appends the octets of the UPDATE, for which there is room: of one that announces a path those behind the front
+    // that is answered.
+    pub(crate) fn put(&self, width: Width, out: &mut Vec<u8>) -> Option<[u8; FRONT]>
         requires sayable { IsSayable width (UpdateMsg self.now) }
         requires room { vec_len out.old + length (written width (UpdateMsg self.now)) ≤ vec_capacity out.old }
-        ensures { out.new.items ≡ out.old.items ++ written width (UpdateMsg self.now) }
+        ensures { MatchOption result (out.new.items ≡ out.old.items ++ written width (UpdateMsg self.now)) (λ front. PutsBehind front (written width (UpdateMsg self.now)) out.old.items out.new.items) }
     {
         let path = self.path.as_slice();
         let _len = self.prefix.len();
         if path.is_empty() {
             put_withdrawal(out, &self.prefix);
-        } else {
-            put_announcement(out, width, self.id, &self.prefix, path);
+            return None;
         }
+        Some(put_announcement(out, width, self.id, &self.prefix, path))
     }
 }

@@ -50,8 +50,9 @@ unwrap-requires-3 c =
 pub returns : goal.returns
 returns c =
     let w = c.args.width in
-    let head = rw (c.unwrap.ensures, c.announcement_front.ensures, c.octet_count-count.ensures, c.len-len.ensures.value, c.asn_size.ensures) at c.extend_from_slice.ensures.items in
+    let head = rw (c.unwrap.ensures, c.asn_size.ensures) at c.extend_from_slice.ensures.items in
     let hop = rw (c.unwrap-2.ensures, c.announcement_hop.ensures, c.len-len.ensures.value) at c.extend_from_slice-2.ensures.items in
     let body = rw (c.unwrap-3.ensures, c.octet_count-count.ensures, c.len-len.ensures.value, c.to_be_bytes-address.ensures, c.addr.ensures.value) at c.extend_from_slice-3.ensures.items in
-    announcement_put w c.args.id c.args.prefix.now c.args.path.now c.len-len.ensures.canonical c.requires.few c.args.out.now.items c.extend_from_slice.new.self.items
-    c.put_numbers.new.out.items c.extend_from_slice-2.new.self.items c.extend_from_slice-3.new.self.items head c.put_numbers.ensures.items hop body
+    let front = rw (c.asn_size.ensures, c.octet_count-count.ensures, c.len-len.ensures.value) at c.told_front.ensures in
+    announcement_put w c.args.id c.args.prefix.now c.args.path.now c.len-len.ensures.canonical c.requires.few c.told_front.result c.args.out.now.items c.extend_from_slice.new.self.items
+    c.put_numbers.new.out.items c.extend_from_slice-2.new.self.items c.extend_from_slice-3.new.self.items head c.put_numbers.ensures.items hop body front

@@ -1,8 +1,8 @@
-use Rattle.std.proofs.Common.{◌≡◌, ◌++◌, ◌∷◌, ◌∙◌, ℕ, List, [], ap}
+use Rattle.std.proofs.Common.{◌≡◌, ◌++◌, ◌∷◌, ◌∙◌, List, [], ap}
 use Rattle.std.proofs.lemmas.List.{append-nil}
 use Rattle.router_side.specs.declared.block.Block.{Block}
 use Rattle.router_side.specs.declared.block.Place.{Place}
-use Rattle.router_side.specs.Histories.{entries_in, octets_in}
+use Rattle.router_side.specs.Histories.{entries_in, octets_in, spelt_in}
 use Rattle.router_side.proofs.Kept.{entries_more, octets_more}
 use Rattle.router_side.proofs.history.History.begin_block.Goals as goal
 
@@ -26,9 +26,9 @@ returns-clause-octets c =
     let last = c.self.inside.last in
     let full : c.push_reserved.new.self.items ≡ bs ++ last ∷ [] =
     c.push_reserved.ensures.items ∙ ap (λ (xs : List Block). xs ++ c.replace.result ∷ []) c.in_ok-reserve.ensures.items ∙ ap (λ (b : Block). bs ++ b ∷ []) c.replace.ensures.value in
-    ap (λ (xs : List Block). octets_in xs ++ c.replace.new.dest.octets.items) full
-    ∙ ap (λ (b : Block). octets_in (bs ++ last ∷ []) ++ b.octets.items) c.replace.ensures.after
-    ∙ ap (λ (os : List ℕ). octets_in (bs ++ last ∷ []) ++ os) c.in_ok-next.ensures.octets
+    ap (λ (xs : List Block). octets_in xs ++ spelt_in c.replace.new.dest.places.items c.replace.new.dest.octets.items) full
+    ∙ ap (λ (b : Block). octets_in (bs ++ last ∷ []) ++ spelt_in b.places.items b.octets.items) c.replace.ensures.after
+    ∙ ap (λ (ps : List Place). octets_in (bs ++ last ∷ []) ++ spelt_in ps c.in_ok-next.next.octets.items) c.in_ok-next.ensures.places
     ∙ append-nil (octets_in (bs ++ last ∷ []))
     ∙ octets_more bs last
     ∙ ap (λ v. v.octets) c.self.view_is

@@ -3,6 +3,7 @@ use Rattle.std.proofs.lemmas.Bool.Decides.{nat_tests}
 use Rattle.bgp_codec.specs.declared.message.Message.TheVariants.{UpdateMsg}
 use Rattle.bgp_codec.specs.declared.update.Update.{Update}
 use Rattle.bgp_codec.specs.Spelling.{written}
+use Rattle.router_side.specs.Histories.{PutsBehind}
 use Rattle.router_side.specs.Sayings.{IsSayable}
 use Rattle.router_side.proofs.Spelt.{withdrawal_length, announcement_length, telling_none, telling_some, numbers_fit}
 use Rattle.router_side.proofs.route.Route.put.Goals as goal
@@ -36,9 +37,10 @@ returns-then-is_empty c =
     c.put_withdrawal.ensures c.args.width
     ∙ ap (λ (u : Update). c.args.out.now.items ++ written c.args.width (UpdateMsg u)) (sym (telling_none c.self.inside.id c.self.inside.prefix path none) ∙ c.self.view_is)
 
-pub returns-else-is_empty : goal.returns-else-is_empty
-returns-else-is_empty c =
+pub returns : goal.returns
+returns c =
     let path = c.self.inside.path in
     let some : 1 ≤ length path = grind (arith, nat_tests, c.is_empty.ensures, c.if-is_empty.false, c.as_slice-path.ensures) in
     let put = rw c.as_slice-path.ensures at c.put_announcement.ensures in
-    put ∙ ap (λ (u : Update). c.args.out.now.items ++ written c.args.width (UpdateMsg u)) (sym (telling_some c.self.inside.id c.self.inside.prefix path some) ∙ c.self.view_is)
+    subst (λ (u : Update). PutsBehind c.put_announcement.result (written c.args.width (UpdateMsg u)) c.args.out.now.items c.put_announcement.new.out.items)
+    (sym (telling_some c.self.inside.id c.self.inside.prefix path some) ∙ c.self.view_is) put
