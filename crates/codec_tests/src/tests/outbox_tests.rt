@@ -162,12 +162,31 @@ fn push_and_join(outbox: &mut Outbox) -> Result<(), AllocError> {
     Ok(())
 }
 
-fn joins(rt: &impl Abort, outbox: &mut Outbox, octets: &mut Vec<u8>) {
-    assert!(rt; push_and_join(outbox).is_ok());
+// Appends a KEEPALIVE, and the octets of another in two parts.
+fn push_and_join_parts(outbox: &mut Outbox) -> Result<(), AllocError> {
+    push_alive(outbox, 1)?;
+    outbox.reserve(19, 1)?;
+    let (front, rest) = ALIVE.split_at(16);
+    outbox.push_parts(1, front, rest);
+    Ok(())
+}
+
+// Two KEEPALIVEs wait, as one run of octets.
+fn are_joined(rt: &impl Abort, outbox: &mut Outbox, octets: &mut Vec<u8>) {
     assert!(rt; next_in_short(rt, outbox, 4096) == Some((1, 38)));
     assert!(rt; put_some(outbox, 3, octets).is_ok());
     assert!(rt; octets.as_slice().get(19..) == Some(ALIVE.as_slice()));
     assert!(rt; !outbox.has_item());
+}
+
+fn joins(rt: &impl Abort, outbox: &mut Outbox, octets: &mut Vec<u8>) {
+    assert!(rt; push_and_join(outbox).is_ok());
+    are_joined(rt, outbox, octets);
+}
+
+fn parts_join(rt: &impl Abort, outbox: &mut Outbox, octets: &mut Vec<u8>) {
+    assert!(rt; push_and_join_parts(outbox).is_ok());
+    are_joined(rt, outbox, octets);
 }
 
 // Octets that are appended join those of a message of the same incarnation.
@@ -176,6 +195,14 @@ fn octets_join_a_message(rt: HostRuntime) {
     let mut outbox = Outbox::new(rt.alloc());
     let mut octets = Vec::new(rt.alloc());
     joins(&rt, &mut outbox, &mut octets);
+}
+
+// So do octets in two parts.
+#[test]
+fn parts_join_a_message(rt: HostRuntime) {
+    let mut outbox = Outbox::new(rt.alloc());
+    let mut octets = Vec::new(rt.alloc());
+    parts_join(&rt, &mut outbox, &mut octets);
 }
 
 static PIECES: [(usize, bool); 4] = [(0, false), (1, true), (4096, true), (4097, false)];
