@@ -144,11 +144,18 @@ impl Block {
         self.places.is_empty()
     }
 
-    // How many octets they have.
+    // How many octets of them are stored.
     pub(crate) fn len(&self) -> usize
         ensures { result ≡ vec_len self.now.octets }
     {
         self.octets.len()
+    }
+
+    // How many UPDATEs are here.
+    pub(crate) fn count(&self) -> usize
+        ensures { result ≡ vec_len self.now.places }
+    {
+        self.places.len()
     }
 
     // Appends the UPDATEs, each with its incarnation. It is refused only where memory was.

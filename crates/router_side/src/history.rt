@@ -26,7 +26,7 @@ const LEAST_MORE: usize = 512;
 
 const MOST_MORE: usize = 65_536;
 
-// It has a place for each so many of those; most UPDATEs are longer.
+// It has a place for each so many of those; of most UPDATEs more are stored.
 const OCTETS_A_PLACE: usize = 20;
 
 /// An UPDATE that was acted on or sent, with its incarnation.
@@ -39,7 +39,7 @@ pub struct Told {
 }
 
 /// The UPDATEs that were acted on or sent, in their order, each once, in octets that spell them: some
-/// fifty for a route. They stand in blocks, so that none is moved for those that follow.
+/// twenty-five for a path that is told. They stand in blocks, so that none is moved for those that follow.
 #[derive(Debug, Drop)]
 pub struct History {
     // Those that had no room for the next, the oldest first.
@@ -111,7 +111,8 @@ impl History {
         self.begin_block(octets)
     }
 
-    // Begins a block with room for an UPDATE of so many octets, and within bounds for twice the octets of the last one.
+    // Begins a block with room for an UPDATE of so many octets, and within bounds for twice what the last one has,
+    // by its octets or by its places.
     // Where a growth is refused all stays.
     #[inline(never)]
     fn begin_block(&mut self, octets: usize) -> Result<(), AllocError>
@@ -121,7 +122,8 @@ impl History {
         ensures places { OnOk result (1 ≤ self.new.places) }
     {
         let alloc = *self.full.allocator();
-        let twice = self.last.len().saturating_mul(2);
+        let by_places = self.last.count().saturating_mul(OCTETS_A_PLACE);
+        let twice = self.last.len().max(by_places).saturating_mul(2);
         let more = twice.max(LEAST_MORE).min(MOST_MORE);
         let next = Block::with_room(
             alloc,

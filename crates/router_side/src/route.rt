@@ -80,23 +80,23 @@ fn withdrawal_front(len: u8, count: usize) -> [u8; 22]
     ]
 }
 
-// The octets of an announcement of `len` octets behind its Marker, up to the length of its AS_PATH, `path`, which
+// The octets of an announcement of `len` octets behind its Marker, up to the length of its AS_PATH, `path_len`, which
 // comes next.
-fn told_head(len: u16, path: u8) -> [u8; FRONT - MARKER_LEN]
-    ensures { result ≡ told_head len path }
+fn told_head(len: u16, path_len: u8) -> [u8; FRONT - MARKER_LEN]
+    ensures { result ≡ told_head len path_len }
 {
     let [high, low] = len.to_be_bytes();
-    let [upper, lower] = ((FIXED_ATTRS - 2 + path as usize) as u16).to_be_bytes();
+    let [upper, lower] = ((FIXED_ATTRS - 2 + path_len as usize) as u16).to_be_bytes();
     [
         high, low, UPDATE, 0, 0, upper, lower, TRANSITIVE, ORIGIN, 1, IGP, TRANSITIVE, AS_PATH,
     ]
 }
 
 // The same from its Marker on.
-pub(crate) fn told_front(len: u16, path: u8) -> [u8; FRONT]
-    ensures { result ≡ told_front len path }
+pub(crate) fn told_front(len: u16, path_len: u8) -> [u8; FRONT]
+    ensures { result ≡ told_front len path_len }
 {
-    let [a, b, c, d, e, f, g, h, i, j, k, l, m] = told_head(len, path);
+    let [a, b, c, d, e, f, g, h, i, j, k, l, m] = told_head(len, path_len);
     [
         0xff, 0xff, 0xff, 0xff, 0xff, 0xff, 0xff, 0xff, 0xff, 0xff, 0xff, 0xff, 0xff, 0xff, 0xff,
         0xff, a, b, c, d, e, f, g, h, i, j, k, l, m,
@@ -112,8 +112,8 @@ pub(crate) fn shortened(frame: &[u8]) -> (bool, &[u8])
     header_is_its_front();
     if let Some((front, rest)) = frame.split_at_checked(FRONT) {
         let (_, head) = front.split_at(MARKER_LEN);
-        if let [path, ..] = rest {
-            if are(head, &told_head(frame.len() as u16, *path)) {
+        if let [path_len, ..] = rest {
+            if are(head, &told_head(frame.len() as u16, *path_len)) {
                 return (true, rest);
             }
         }
@@ -159,13 +159,16 @@ fn put_announcement(
     let (len, address) = (prefix.len(), prefix.addr().to_be_bytes());
     let count = octet_count(len);
     let size = asn_size(width) * path.len();
-    let length = (2 + size) as u8;
-    out.extend_from_slice(&[length, AS_SEQUENCE, path.len() as u8])
+    let path_len = (2 + size) as u8;
+    out.extend_from_slice(&[path_len, AS_SEQUENCE, path.len() as u8])
         .unwrap();
     put_numbers(out, width, path);
     out.extend_from_slice(&announcement_hop(id, len)).unwrap();
     out.extend_from_slice(&address[..count]).unwrap();
-    told_front((HEADER_LEN + 5 + FIXED_ATTRS + size + count) as u16, length)
+    told_front(
+        (HEADER_LEN + 5 + FIXED_ATTRS + size + count) as u16,
+        path_len,
+    )
 }
 
 // The prefix of so many bits whose octets these are.
