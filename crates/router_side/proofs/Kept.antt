@@ -14,9 +14,9 @@ use Rattle.bgp_codec.specs.Faults.{reading, WrittenIsRead}
 use Rattle.bgp_codec.specs.Spelling.{written}
 use Rattle.router_model.specs.Sides.{with_update}
 use Rattle.router_side.specs.declared.block.Block.{Block}
-use Rattle.router_side.specs.declared.block.Place.{Place}
+use Rattle.router_side.specs.declared.block.Stored.{Stored}
 use Rattle.router_side.specs.declared.history.Told.{Told}
-use Rattle.router_side.specs.Histories.{history, updates_read, dated, told_in, told_stored, told_by_blocks, entries_in, octets_in, spelt_by, spelt, spelt_in, stored_len, AreKept, IsStored, AreStored, AreAllStored, PutsBehind}
+use Rattle.router_side.specs.Histories.{Place, history, updates_read, dated, told_in, told_stored, told_by_blocks, entries_in, octets_in, places_of, spelt_by, spelt, spelt_in, stored_len, AreKept, IsStored, AreStored, AreAllStored, PutsBehind}
 use Rattle.router_side.specs.Sayings.{nobody, acted_where, IsSayable}
 
 under : (b c : Bool) (t u : Update) (us : List Update) → cond b (t ∷ cond c (us ++ u ∷ []) us) (cond c (us ++ u ∷ []) us) ≡ cond c (cond b (t ∷ us) us ++ u ∷ []) (cond b (t ∷ us) us)
@@ -94,22 +94,22 @@ stored_by : (short : Bool) (len : ℕ) (os : List ℕ) → len ≡ length (spelt
 stored_by true len os e = let n = spelt_length true len os in omega (arith, e, n)
 stored_by false len os e = e
 
-stored_is : (p : Place) (os : List ℕ) → p.len ≡ length (spelt p os) → stored_len p ≡ length os
+stored_is : (p : Stored) (os : List ℕ) → p.len ≡ length (spelt p os) → stored_len p ≡ length os
 stored_is p os e = stored_by p.short p.len os e
 
-pub one_stored : (p : Place) (os : List ℕ) → IsStored p os → AreStored (p ∷ []) os
+pub one_stored : (p : Stored) (os : List ℕ) → IsStored p os → AreStored (p ∷ []) os
 one_stored p os one =
     let n = stored_is p os one.1 in
     let whole = ap (λ (n : ℕ). take n os) n ∙ take-length os in
     (omega (arith, n), subst (IsStored p) (sym whole) one, ap (λ (n : ℕ). drop n os) n ∙ drop-length os)
 
-one_spelt : (p : Place) (os : List ℕ) → IsStored p os → spelt_in (p ∷ []) os ≡ spelt p os
+one_spelt : (p : Stored) (os : List ℕ) → IsStored p os → spelt_in (p ∷ []) os ≡ spelt p os
 one_spelt p os one =
     let n = stored_is p os one.1 in
     let whole = ap (λ (n : ℕ). take n os) n ∙ take-length os in
     ap (λ (xs : List ℕ). spelt p xs ++ []) whole ∙ append-nil (spelt p os)
 
-pub stored_on : (ps : List Place) (os new : List ℕ) (p : Place) → AreStored ps os → AreStored (p ∷ []) new → AreStored (ps ++ p ∷ []) (os ++ new)
+pub stored_on : (ps : List Stored) (os new : List ℕ) (p : Stored) → AreStored ps os → AreStored (p ∷ []) new → AreStored (ps ++ p ∷ []) (os ++ new)
 stored_on [] os new p none one = subst (λ (xs : List ℕ). AreStored (p ∷ []) (xs ++ new)) (sym none) one
 stored_on (q ∷ ps) os new p (le, is, kept) one =
     let front = take-append-le (stored_len q) os new le in
@@ -119,7 +119,7 @@ stored_on (q ∷ ps) os new p (le, is, kept) one =
     longer : stored_len q ≤ length os → stored_len q ≤ length (os ++ new)
     longer le = omega (arith, le, length-append os new)
 
-spelt_on : (ps : List Place) (os new : List ℕ) (more : List Place) → AreStored ps os → spelt_in (ps ++ more) (os ++ new) ≡ spelt_in ps os ++ spelt_in more new
+spelt_on : (ps : List Stored) (os new : List ℕ) (more : List Stored) → AreStored ps os → spelt_in (ps ++ more) (os ++ new) ≡ spelt_in ps os ++ spelt_in more new
 spelt_on [] os new more none = ap (λ (xs : List ℕ). spelt_in more (xs ++ new)) none
 spelt_on (q ∷ ps) os new more (le, is, kept) =
     let front = take-append-le (stored_len q) os new le in
@@ -137,12 +137,12 @@ kept_front q ps a b is len kept =
     let behind = ap (λ (n : ℕ). drop n (a ++ b)) len ∙ drop-append_seam a b in
     (omega (arith, len, length-append a b), subst IsFrame (sym front) is, subst (AreKept ps) (sym behind) kept)
 
-pub kept_of : (ps : List Place) (os : List ℕ) → AreStored ps os → AreKept ps (spelt_in ps os)
+pub kept_of : (ps : List Stored) (os : List ℕ) → AreStored ps os → AreKept (places_of ps) (spelt_in ps os)
 kept_of [] os none = refl
-kept_of (q ∷ ps) os (le, is, rest) = kept_front q ps (spelt q (take (stored_len q) os)) (spelt_in ps (drop (stored_len q) os)) is.0 is.1 (kept_of ps (drop (stored_len q) os) rest)
+kept_of (q ∷ ps) os (le, is, rest) = kept_front (record { epoch = q.epoch; len = q.len }) (places_of ps) (spelt q (take (stored_len q) os)) (spelt_in ps (drop (stored_len q) os)) is.0 is.1 (kept_of ps (drop (stored_len q) os) rest)
 
 -- the UPDATE of the first place, and those behind it
-pub first_told : (width : Width) (q : Place) (ps : List Place) (os : List ℕ) → AreStored (q ∷ ps) os
+pub first_told : (width : Width) (q : Stored) (ps : List Stored) (os : List ℕ) → AreStored (q ∷ ps) os
     → told_stored width (q ∷ ps) os ≡ dated q.epoch (updates_read (reading (nobody width) (spelt q (take (stored_len q) os)))) ++ told_stored width ps (drop (stored_len q) os)
 first_told width q ps os (le, is, rest) =
     let a = spelt q (take (stored_len q) os) in
@@ -150,14 +150,20 @@ first_told width q ps os (le, is, rest) =
     let front = ap (λ (n : ℕ). take n (a ++ b)) is.1 ∙ take-append_seam a b in
     let behind = ap (λ (n : ℕ). drop n (a ++ b)) is.1 ∙ drop-append_seam a b in
     let one = λ (xs : List ℕ). dated q.epoch (updates_read (reading (nobody width) xs)) in
-    ap (λ (xs : List ℕ). one xs ++ told_in width ps (drop q.len (a ++ b))) front ∙ ap (λ (xs : List ℕ). one a ++ told_in width ps xs) behind
+    ap (λ (xs : List ℕ). one xs ++ told_in width (places_of ps) (drop q.len (a ++ b))) front ∙ ap (λ (xs : List ℕ). one a ++ told_in width (places_of ps) xs) behind
+
+-- the places of more
+places_more : (ps qs : List Stored) → places_of (ps ++ qs) ≡ places_of ps ++ places_of qs
+places_more [] qs = refl
+places_more (p ∷ ps) qs = ap (λ (xs : List Place). record { epoch = p.epoch; len = p.len } ∷ xs) (places_more ps qs)
 
 -- the histories of all incarnations with one more
-pub history_stored : (width : Width) (ps : List Place) (os new : List ℕ) (p : Place) (u : Update) → AreStored ps os → IsStored p new → reading (nobody width) (spelt p new) ≡ Ok (UpdateMsg u)
+pub history_stored : (width : Width) (ps : List Stored) (os new : List ℕ) (p : Stored) (u : Update) → AreStored ps os → IsStored p new → reading (nobody width) (spelt p new) ≡ Ok (UpdateMsg u)
     → history (told_stored width (ps ++ p ∷ []) (os ++ new)) ≡ with_update (history (told_stored width ps os)) p.epoch u
 history_stored width ps os new p u all one read =
-    ap (λ (xs : List ℕ). history (told_in width (ps ++ p ∷ []) xs)) (spelt_on ps os new (p ∷ []) all ∙ ap (λ (xs : List ℕ). spelt_in ps os ++ xs) (one_spelt p new one))
-    ∙ history_grown width ps (spelt_in ps os) (spelt p new) p u (kept_of ps os all) read one.1
+    ap (λ (qs : List Place). history (told_in width qs (spelt_in (ps ++ p ∷ []) (os ++ new)))) (places_more ps (p ∷ []))
+    ∙ ap (λ (xs : List ℕ). history (told_in width (places_of ps ++ places_of (p ∷ [])) xs)) (spelt_on ps os new (p ∷ []) all ∙ ap (λ (xs : List ℕ). spelt_in ps os ++ xs) (one_spelt p new one))
+    ∙ history_grown width (places_of ps) (spelt_in ps os) (spelt p new) (record { epoch = p.epoch; len = p.len }) u (kept_of ps os all) read one.1
 
 -- what was put behind a front, as it stands behind the old octets
 pub record Behind (front whole old new rest : List ℕ) : Type 0 where
@@ -182,16 +188,16 @@ pub told_behind : (width : Width) (bs : List Block) (ps : List Place) (octets : 
 told_behind width [] ps octets kept = refl
 told_behind width (b ∷ bs) ps octets (one, kept) =
     let spelt = spelt_in b.places.items b.octets.items in
-    ap (λ (qs : List Place). told_in width qs ((spelt ++ octets_in bs) ++ octets)) (append_assoc b.places.items (entries_in bs) ps)
-    ∙ ap (λ (os : List ℕ). told_in width (b.places.items ++ (entries_in bs ++ ps)) os) (append_assoc spelt (octets_in bs) octets)
-    ∙ told_on width b.places.items spelt (octets_in bs ++ octets) (entries_in bs ++ ps) (kept_of b.places.items b.octets.items one)
+    ap (λ (qs : List Place). told_in width qs ((spelt ++ octets_in bs) ++ octets)) (append_assoc (places_of b.places.items) (entries_in bs) ps)
+    ∙ ap (λ (os : List ℕ). told_in width (places_of b.places.items ++ (entries_in bs ++ ps)) os) (append_assoc spelt (octets_in bs) octets)
+    ∙ told_on width (places_of b.places.items) spelt (octets_in bs ++ octets) (entries_in bs ++ ps) (kept_of b.places.items b.octets.items one)
     ∙ ap (λ (ts : List Told). told_stored width b.places.items b.octets.items ++ ts) (told_behind width bs ps octets kept)
     ∙ sym (append_assoc (told_stored width b.places.items b.octets.items) (told_by_blocks width bs) (told_in width ps octets))
 
 -- a block more
-pub entries_more : (bs : List Block) (b : Block) → entries_in (bs ++ b ∷ []) ≡ entries_in bs ++ b.places.items
-entries_more [] b = append-nil b.places.items
-entries_more (a ∷ bs) b = ap (λ (ps : List Place). a.places.items ++ ps) (entries_more bs b) ∙ sym (append_assoc a.places.items (entries_in bs) b.places.items)
+pub entries_more : (bs : List Block) (b : Block) → entries_in (bs ++ b ∷ []) ≡ entries_in bs ++ places_of b.places.items
+entries_more [] b = append-nil (places_of b.places.items)
+entries_more (a ∷ bs) b = ap (λ (ps : List Place). places_of a.places.items ++ ps) (entries_more bs b) ∙ sym (append_assoc (places_of a.places.items) (entries_in bs) (places_of b.places.items))
 
 pub octets_more : (bs : List Block) (b : Block) → octets_in (bs ++ b ∷ []) ≡ octets_in bs ++ spelt_in b.places.items b.octets.items
 octets_more [] b = append-nil (spelt_in b.places.items b.octets.items)

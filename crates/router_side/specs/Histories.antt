@@ -9,7 +9,7 @@ use Rattle.bgp_codec.specs.declared.update.Update.{Update}
 use Rattle.bgp_codec.specs.Header.{IsFrame}
 use Rattle.bgp_codec.specs.Faults.{reading}
 use Rattle.router_side.specs.declared.block.Block.{Block}
-use Rattle.router_side.specs.declared.block.Place.{Place}
+use Rattle.router_side.specs.declared.block.Stored.{Stored}
 use Rattle.router_side.specs.declared.history.Told.{Told}
 use Rattle.router_side.specs.Layout.{told_front}
 use Rattle.router_side.specs.Sayings.{nobody}
@@ -31,6 +31,11 @@ abbrev pub dated : ℕ → List Update → List Told
 dated epoch [] = []
 dated epoch (u ∷ us) = record { epoch = epoch; update = u } ∷ dated epoch us
 
+-- the incarnation of an UPDATE, and how many octets it has
+pub record Place : Type 0 where
+  pub epoch : ℕ
+  pub len : ℕ
+
 -- each place takes the next octets
 abbrev pub told_in : Width → List Place → List ℕ → List Told
 told_in width [] octets = []
@@ -45,24 +50,24 @@ AreKept (p ∷ ps) octets = (p.len ≤ length octets) × IsFrame (take p.len oct
 abbrev pub spelt_by : Bool → ℕ → List ℕ → List ℕ
 spelt_by short len octets = cond short (told_front len (get_or octets 0 0) ++ octets) octets
 
-abbrev pub spelt : Place → List ℕ → List ℕ
+abbrev pub spelt : Stored → List ℕ → List ℕ
 spelt p octets = spelt_by p.short p.len octets
 
 -- how many of its octets are stored
-abbrev pub stored_len : Place → ℕ
+abbrev pub stored_len : Stored → ℕ
 stored_len p = cond p.short (p.len - 29) p.len
 
 -- what is spelt by stored octets, of which each place takes the next
-abbrev pub spelt_in : List Place → List ℕ → List ℕ
+abbrev pub spelt_in : List Stored → List ℕ → List ℕ
 spelt_in [] octets = []
 spelt_in (p ∷ ps) octets = spelt p (take (stored_len p) octets) ++ spelt_in ps (drop (stored_len p) octets)
 
 -- what is spelt at a place by its stored octets is a frame, of the length that it says
-abbrev pub IsStored : Place → List ℕ → Type 0
+abbrev pub IsStored : Stored → List ℕ → Type 0
 IsStored p octets = IsFrame (spelt p octets) × (p.len ≡ length (spelt p octets))
 
 -- so it is at each place, and no other octets are there
-abbrev pub AreStored : List Place → List ℕ → Type 0
+abbrev pub AreStored : List Stored → List ℕ → Type 0
 AreStored [] octets = octets ≡ []
 AreStored (p ∷ ps) octets = (stored_len p ≤ length octets) × IsStored p (take (stored_len p) octets) × AreStored ps (drop (stored_len p) octets)
 
@@ -73,12 +78,17 @@ pub record PutsBehind (front whole old new : List ℕ) : Type 0 where
   pub front_is : front ≡ told_front (length whole) (get_or rest 0 0)
   pub spells : spelt_by true (length whole) rest ≡ whole
 
+-- the places of UPDATEs that are stored
+abbrev pub places_of : List Stored → List Place
+places_of [] = []
+places_of (s ∷ ss) = record { epoch = s.epoch; len = s.len } ∷ places_of ss
+
 -- what was told by stored octets
-abbrev pub told_stored : Width → List Place → List ℕ → List Told
-told_stored width ps octets = told_in width ps (spelt_in ps octets)
+abbrev pub told_stored : Width → List Stored → List ℕ → List Told
+told_stored width ss octets = told_in width (places_of ss) (spelt_in ss octets)
 
 -- the places of blocks, and what is spelt at them
-abbrev pub entries_in : List Block → List Place
+abbrev pub entries_in : List Block → List Stored
 entries_in [] = []
 entries_in (b ∷ bs) = b.places.items ++ entries_in bs
 

@@ -21,9 +21,9 @@ use bgp_values::Width;
 use outbox::Outbox;
 use std::alloc::{AllocError, Global};
 
-// The incarnation of an UPDATE, and how many octets it has.
+// The incarnation of an UPDATE, how many octets it has, and how it is stored.
 #[derive(Clone, Copy, Debug)]
-struct Place {
+struct Stored {
     epoch: u32,
     len: u16,
     // Whether it is stored without the octets of `told_front`.
@@ -34,7 +34,7 @@ struct Place {
 #[derive(Debug, Drop)]
 pub(crate) struct Block {
     octets: Vec<u8>,
-    places: Vec<Place>,
+    places: Vec<Stored>,
 }
 
 // The UPDATE that some octets spell. It is refused only where memory was: what is kept is an UPDATE.
@@ -52,7 +52,7 @@ fn read(alloc: Global, width: Width, epoch: u32, octets: &[u8]) -> Result<Told, 
 }
 
 // How many octets of an UPDATE are stored.
-fn stored_len(place: &Place) -> usize
+fn stored_len(place: &Stored) -> usize
     requires { (octets : List ℕ) × IsStored place.now octets }
     ensures { result ≡ stored_len place.now }
 {
@@ -85,7 +85,7 @@ fn with_front(alloc: Global, len: u16, octets: &[u8]) -> Result<Vec<u8>, AllocEr
 fn read_stored(
     alloc: Global,
     width: Width,
-    place: &Place,
+    place: &Stored,
     octets: &[u8],
 ) -> Result<Told, AllocError>
     requires { IsStored place.now octets.now }
@@ -190,7 +190,7 @@ impl Block {
         let (short, stored) = shortened(frame);
         self.octets.extend_from_slice(stored).unwrap();
         let len = frame.len() as u16;
-        self.places.push_reserved(Place { epoch, len, short });
+        self.places.push_reserved(Stored { epoch, len, short });
     }
 
     // Appends a message to what waits towards a peer, for which there is room; an UPDATE joins those that are here.
@@ -215,7 +215,7 @@ impl Block {
                 let (_, put) = self.octets.split_at(before);
                 outbox.push_octets(epoch, put);
                 let len = (self.octets.len() - before) as u16;
-                self.places.push_reserved(Place {
+                self.places.push_reserved(Stored {
                     epoch,
                     len,
                     short: false,
@@ -255,7 +255,7 @@ impl Block {
                 let (_, rest) = self.octets.split_at(before);
                 outbox.push_parts(epoch, &front, rest);
                 let len = (FRONT + rest.len()) as u16;
-                self.places.push_reserved(Place {
+                self.places.push_reserved(Stored {
                     epoch,
                     len,
                     short: true,
@@ -265,7 +265,7 @@ impl Block {
                 let (_, put) = self.octets.split_at(before);
                 outbox.push_octets(epoch, put);
                 let len = put.len() as u16;
-                self.places.push_reserved(Place {
+                self.places.push_reserved(Stored {
                     epoch,
                     len,
                     short: false,

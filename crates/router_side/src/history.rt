@@ -50,12 +50,12 @@ pub struct History {
 
 impl Model for History {
     ghost use Rattle.std.specs.Prelude.{◌-◌, ◌++◌, vec_len, vec_capacity};
-    ghost use Rattle.router_side.specs.Histories.{Past, AreStored, AreAllStored, entries_in, octets_in, spelt_in};
+    ghost use Rattle.router_side.specs.Histories.{Past, AreStored, AreAllStored, entries_in, octets_in, places_of, spelt_in};
 
     ghost Value = { Past };
 
     ghost view = { λ h. record {
-      entries = entries_in h.full.items ++ h.last.places.items;
+      entries = entries_in h.full.items ++ places_of h.last.places.items;
       octets = octets_in h.full.items ++ spelt_in h.last.places.items h.last.octets.items;
       room = vec_capacity h.last.octets - vec_len h.last.octets;
       places = vec_capacity h.last.places - vec_len h.last.places;

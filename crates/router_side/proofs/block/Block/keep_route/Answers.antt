@@ -5,7 +5,7 @@ use Rattle.bgp_codec.specs.Header.{IsFrame}
 use Rattle.bgp_codec.specs.Faults.{reading}
 use Rattle.bgp_codec.specs.Spelling.{written}
 use Rattle.run_model.specs.Octets.{octets_of}
-use Rattle.router_side.specs.declared.block.Place.{Place}
+use Rattle.router_side.specs.declared.block.Stored.{Stored}
 use Rattle.router_side.specs.Histories.{history, told_stored, AreStored, IsStored}
 use Rattle.router_side.specs.Sayings.{nobody}
 use Rattle.router_side.proofs.Kept.{stored_on, one_stored, written_kept, history_stored, spelt_length, put_behind, Behind}
@@ -20,7 +20,7 @@ behind_front c =
     put_behind c.in-Some.front (written c.args.width (UpdateMsg c.args.route.now)) os c.put.new.out.items c.split_at.result.1.now c.in-Some.ensures
     (c.split_at.ensures.back ∙ ap (λ (xs : List ℕ). drop c.len-before.result xs) c.deref.ensures.value ∙ ap (λ (n : ℕ). drop n c.put.new.out.items) before)
 
-abbrev short_place : (c : goal.After-push_reserved) → Place
+abbrev short_place : (c : goal.After-push_reserved) → Stored
 short_place c = record { epoch = c.args.epoch; len = 29 + length c.split_at.result.1.now; short = true }
 
 short_stored : (c : goal.After-push_reserved) → IsStored (short_place c) c.split_at.result.1.now
@@ -33,7 +33,7 @@ pub returns-in-Some-clause-kept : goal.returns-in-Some-clause-kept
 returns-in-Some-clause-kept c =
     let ps = c.args.self.now.places.items in
     let all = stored_on ps c.args.self.now.octets.items c.split_at.result.1.now (short_place c) c.requires.kept (one_stored (short_place c) c.split_at.result.1.now (short_stored c)) in
-    subst (λ (xs : List Place). AreStored xs c.put.new.out.items) (sym c.push_reserved.ensures.items)
+    subst (λ (xs : List Stored). AreStored xs c.put.new.out.items) (sym c.push_reserved.ensures.items)
     (subst (λ (xs : List ℕ). AreStored (ps ++ short_place c ∷ []) xs) (sym (behind_front c).is) all)
 
 pub returns-in-Some-clause-told : goal.returns-in-Some-clause-told
@@ -42,7 +42,7 @@ returns-in-Some-clause-told c =
     let width = c.args.width in
     let ps = c.args.self.now.places.items in
     let w = written_kept width c.written_is_read.ensures (written width (UpdateMsg u)) u c.requires.sayable refl in
-    ap history (ap (λ (xs : List Place). told_stored width xs c.put.new.out.items) c.push_reserved.ensures.items
+    ap history (ap (λ (xs : List Stored). told_stored width xs c.put.new.out.items) c.push_reserved.ensures.items
     ∙ ap (λ (xs : List ℕ). told_stored width (ps ++ short_place c ∷ []) xs) (behind_front c).is)
     ∙ history_stored width ps c.args.self.now.octets.items c.split_at.result.1.now (short_place c) u c.requires.kept (short_stored c) (ap (reading (nobody width)) (behind_front c).spells ∙ w.1)
 
@@ -60,7 +60,7 @@ put_is c =
     c.split_at-in-None.ensures.back ∙ ap (λ (xs : List ℕ). drop c.len-before.result xs) c.deref-in-None.ensures.value ∙ ap (λ (n : ℕ). drop n c.put.new.out.items) before
     ∙ ap (λ (xs : List ℕ). drop (length os) xs) c.in-None.ensures ∙ drop-append_seam os new
 
-abbrev whole_place : (c : goal.After-push_reserved-in-None) → Place
+abbrev whole_place : (c : goal.After-push_reserved-in-None) → Stored
 whole_place c = record { epoch = c.args.epoch; len = length c.split_at-in-None.result.1.now; short = false }
 
 whole_stored : (c : goal.After-push_reserved-in-None) → IsStored (whole_place c) (written c.args.width (UpdateMsg c.args.route.now))
@@ -73,7 +73,7 @@ returns-in-None-clause-kept c =
     let new = written c.args.width (UpdateMsg c.args.route.now) in
     let ps = c.args.self.now.places.items in
     let all = stored_on ps c.args.self.now.octets.items new (whole_place c) c.requires.kept (one_stored (whole_place c) new (whole_stored c)) in
-    subst (λ (xs : List Place). AreStored xs c.put.new.out.items) (sym c.push_reserved-in-None.ensures.items)
+    subst (λ (xs : List Stored). AreStored xs c.put.new.out.items) (sym c.push_reserved-in-None.ensures.items)
     (subst (λ (xs : List ℕ). AreStored (ps ++ whole_place c ∷ []) xs) (sym c.in-None.ensures) all)
 
 pub returns-in-None-clause-told : goal.returns-in-None-clause-told
@@ -83,7 +83,7 @@ returns-in-None-clause-told c =
     let new = written width (UpdateMsg u) in
     let ps = c.args.self.now.places.items in
     let w = written_kept width c.written_is_read.ensures new u c.requires.sayable refl in
-    ap history (ap (λ (xs : List Place). told_stored width xs c.put.new.out.items) c.push_reserved-in-None.ensures.items
+    ap history (ap (λ (xs : List Stored). told_stored width xs c.put.new.out.items) c.push_reserved-in-None.ensures.items
     ∙ ap (λ (xs : List ℕ). told_stored width (ps ++ whole_place c ∷ []) xs) c.in-None.ensures)
     ∙ history_stored width ps c.args.self.now.octets.items new (whole_place c) u c.requires.kept (whole_stored c) w.1
 
