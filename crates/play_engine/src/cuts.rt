@@ -11,7 +11,6 @@ ghost use Rattle.text_engines.specs.Decoding.{output};
 ghost use Rattle.play_engine.specs.Playing.{Shows};
 ghost use Rattle.play_engine.specs.Cutting.{flights_text, recorded_text, IsCutReport};
 
-use crate::schedules::leave;
 use crate::snapshots::put_parts;
 use net_text::flight_line;
 use ranked_policy::Network;
@@ -108,7 +107,6 @@ pub(crate) fn cut_output(
     if is_whole(&world.collector().outcome(number)) {
         whole_output(alloc, network, world, number)
     } else {
-        leave(world);
         none_output(alloc, number)
     }
 }

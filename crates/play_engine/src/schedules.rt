@@ -15,13 +15,9 @@ use ranked_policy::{Asn, Network, Origin};
 use router_core::Router;
 use schedule_text::{ScheduledOrder, now_line, route_line, stop_line};
 use std::alloc::{AllocError, Global};
-use std::mem::forget;
 use text_engines::status::{DONE, REFUSED};
 use why_engine::why_output;
 use world_core::{StepFault, World};
-
-// A small world has so many rows at most: one for each router and each prefix of its network.
-const FEW_ROWS: usize = 256;
 
 /// An order that was refused.
 #[derive(Clone, Copy, PartialEq, Eq)]
@@ -30,19 +26,6 @@ pub struct Stop {
     pub line: usize,
     /// Why.
     pub why: StepFault,
-}
-
-/// Lets a world go that was played. A small one is dropped, so that a process that plays many holds one at a time. A
-/// larger one is left to the end of the process, which comes next: what it holds is many small blocks.
-pub fn leave(world: World<'_>) {
-    let network = world.network();
-    let rows = network
-        .routers()
-        .len()
-        .saturating_mul(network.origins().len());
-    if rows > FEW_ROWS {
-        forget(world);
-    }
 }
 
 // Appends the path that a router keeps for the prefix of each origin.
@@ -106,17 +89,9 @@ fn shown_output(
     ensures { IfOk result (λ printed. Shows (IsShown shown) world.entry (output printed.0.items printed.1)) }
 {
     match shown {
-        Shown::Report => {
-            let printed = report_output(alloc, network, &world);
-            leave(world);
-            printed
-        }
+        Shown::Report => report_output(alloc, network, &world),
         Shown::Cut(number) => cut_output(alloc, network, world, number),
-        Shown::Why(number) => {
-            let printed = why_output(alloc, network, &world, number);
-            leave(world);
-            printed
-        }
+        Shown::Why(number) => why_output(alloc, network, &world, number),
     }
 }
 
@@ -165,10 +140,7 @@ fn world_output(
 {
     match obey_all(&mut world, orders) {
         Ok(()) => shown_output(alloc, shown, network, world),
-        Err(stop) => {
-            leave(world);
-            stop_output(alloc, stop)
-        }
+        Err(stop) => stop_output(alloc, stop),
     }
 }
 

@@ -13,7 +13,7 @@ use crate::notes::Notes;
 use crate::rounds::trace_rounds;
 use crate::seconds::{second_of, trace_seconds};
 use crate::steps::trace_events;
-use play_engine::{Stop, leave};
+use play_engine::Stop;
 use ranked_policy::Network;
 use schedule_text::ScheduledOrder;
 use std::alloc::{AllocError, Global};
@@ -117,14 +117,8 @@ fn world_output(
 {
     let mut notes = Notes::new(alloc);
     match trace_all(alloc, &mut world, orders, &mut notes, &mut out) {
-        Ok(()) => {
-            leave(world);
-            end_output(out, DONE)
-        }
-        Err(stop) => {
-            leave(world);
-            stop_output(stop, out)
-        }
+        Ok(()) => end_output(out, DONE),
+        Err(stop) => stop_output(stop, out),
     }
 }
 
