@@ -27,13 +27,19 @@ fn place_from(octets: &[u8], from: usize, wanted: u8) -> usize
     at
 }
 
-// The first place of an octet, or the length. Sixteen octets are compared at a time, and the last
-// ones one by one.
+// The first place of an octet, or the length. The first two octets are looked at by themselves, since many lines end
+// there; then sixteen are compared at a time, and the last ones one by one.
 fn place_of(octets: &[u8], wanted: u8) -> usize
     ensures bound { result ≤ length octets.now }
     ensures before { (k : ℕ) → k < result → slice_index octets.now k ≢ wanted }
     ensures found { result < length octets.now → slice_index octets.now result ≡ wanted }
 {
+    if !octets.is_empty() && octets[0] == wanted {
+        return 0;
+    }
+    if octets.len() > 1 && octets[1] == wanted {
+        return 1;
+    }
     let mut at = 0usize;
     while octets.len() - at >= 16 {
         let marks = marks_of(u8x16::from_slice(&octets[at..]), wanted);
