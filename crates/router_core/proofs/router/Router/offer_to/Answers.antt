@@ -1,4 +1,4 @@
-use Rattle.std.proofs.Common.{ℕ, ◌≡◌, List, [], ◌∷◌, map, sym, subst}
+use Rattle.std.proofs.Common.{ℕ, ◌≡◌, List, [], ◌∷◌, map, sym, subst, arith}
 use Rattle.std.specs.Prelude.{IfSome, Option, slice_get}
 use Rattle.std.specs.List.{AllByRecursion}
 use Rattle.run_model.specs.Offers.{made_of}
@@ -24,7 +24,7 @@ invariant_of-self-2 c =
       over = subst (λ (u : Option Part). IsOver (peers r.net r.number) u) (sym c.record_from.ensures.unfinished) s.marked.over;
       own = c.record_from.ensures.router r.number (record { unfinished = s.marked.unfinished; queue = s.marked.queue });
     } in
-    stays_sound r r.peers m c.args.stamp (λ x. x) same_alike (same_become r.peers) s c.requires.few marks
+    stays_sound r r.peers m _ (λ x. x) same_alike (same_become r.peers) s (omega (arith, s.stamp, c.requires.few)) marks
 
 -- the first of a router's own offers, as that of the router
 by_router : (number : ℕ) (queue : List Offer) (P : MadeOffer → Type 0) → AllByRecursion (λ o. router_of o ≡ number) queue → IfSome (slice_get queue 0) (λ o. P (made_by o))
