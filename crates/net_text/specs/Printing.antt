@@ -128,8 +128,8 @@ numbers_text [] = codes "none"
 numbers_text (number ∷ numbers) = join_with_byte 45 (map decimal (number ∷ numbers))
 
 -- a word, a number, a prefix and a path
-unfoldable pub path_line : List ℕ → ℕ → PrefixView → List ℕ → List ℕ
-path_line word number prefix path = line (word ++ (decimal number ++ (prefix_text prefix ++ (codes " " ++ numbers_text path))))
+unfoldable pub routed_line : List ℕ → ℕ → PrefixView → List ℕ → List ℕ
+routed_line word number prefix path = line (word ++ (decimal number ++ (prefix_text prefix ++ (codes " " ++ numbers_text path))))
 
 -- the code of a refusal
 abbrev pub code_text : Code → List ℕ

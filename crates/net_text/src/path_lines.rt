@@ -1,7 +1,7 @@
 //! The line of a path, behind a word, the number of a router and a prefix.
 
 ghost use Rattle.std.specs.Prelude.{◌≡◌, ◌+◌, ◌*◌, ◌≤◌, ◌++◌, length, take, OnOk, OnErr};
-ghost use Rattle.net_text.specs.Printing.{path_line};
+ghost use Rattle.net_text.specs.Printing.{routed_line};
 
 use crate::decimals::{write_decimal, write_path};
 use crate::prefix_texts::write_prefix;
@@ -18,7 +18,7 @@ const HOP_ROOM: usize = 13;
 const LINE_ROOM: usize = 37;
 
 // Writes the line at a place, and answers the place behind it.
-#[tactic(auto, unfolding(crate::specs::Printing::path_line))]
+#[tactic(auto, unfolding(crate::specs::Printing::routed_line))]
 fn write_path_line(
     text: &mut [u8],
     at: usize,
@@ -28,7 +28,7 @@ fn write_path_line(
     path: &[Asn],
 ) -> usize
     requires { at + (length word.now + (HOP_ROOM * length path.now + LINE_ROOM)) ≤ length text.old }
-    ensures { take result text.new ≡ take at text.old ++ path_line word.now number prefix.now path.now }
+    ensures { take result text.new ≡ take at text.old ++ routed_line word.now number prefix.now path.now }
 {
     let at = write_text(text, at, word);
     let at = write_decimal(text, at, number);
@@ -48,7 +48,7 @@ pub fn path_line(
     path: &[Asn],
     out: &mut Vec<u8>,
 ) -> Result<(), AllocError>
-    ensures ok { OnOk result (out.new.items ≡ out.old.items ++ path_line word.now number prefix.now path.now) }
+    ensures ok { OnOk result (out.new.items ≡ out.old.items ++ routed_line word.now number prefix.now path.now) }
     ensures err { OnErr result (out.new.items ≡ out.old.items) }
 {
     let start = out.len();

@@ -31,6 +31,7 @@ pub(crate) fn telling(
     ensures sayable { IfOk result (λ route. IsSayable network.now.settings.width (UpdateMsg route)) }
 {
     tellings_are_sayable();
+    // a length that was read is known to be at most 32 bits
     let _len = prefix.len();
     let id = network.router(number).unwrap().id;
     Route::new(alloc, id, prefix, path)

@@ -111,9 +111,8 @@ impl History {
         self.begin_block(octets)
     }
 
-    // Begins a block with room for an UPDATE of so many octets, and within bounds for twice what the last one has,
-    // by its octets or by its places.
-    // Where a growth is refused all stays.
+    // Begins a block with room for an UPDATE of so many octets, and for more: twice what the last block has, by its
+    // octets or by its places, within bounds. Where a growth is refused all stays.
     #[inline(never)]
     fn begin_block(&mut self, octets: usize) -> Result<(), AllocError>
         ensures entries { self.new.entries ≡ self.old.entries }

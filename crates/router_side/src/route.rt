@@ -373,6 +373,7 @@ impl Route {
         ensures { MatchOption result (out.new.items ≡ out.old.items ++ written width (UpdateMsg self.now)) (λ front. PutsBehind front (written width (UpdateMsg self.now)) out.old.items out.new.items) }
     {
         let path = self.path.as_slice();
+        // a length that was read is known to be at most 32 bits
         let _len = self.prefix.len();
         if path.is_empty() {
             put_withdrawal(out, &self.prefix);

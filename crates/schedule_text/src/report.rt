@@ -130,7 +130,7 @@ pub fn snapshot_line(number: u32, outcome: &Outcome, out: &mut Vec<u8>) -> Resul
 
 /// Appends the path of a router for a prefix, `none` where it is empty. It is refused only where
 /// memory was, and then changes nothing.
-#[tactic(auto, unfolding(crate::specs::Reports::route_line, net_text::specs::Printing::path_line))]
+#[tactic(auto, unfolding(crate::specs::Reports::route_line, net_text::specs::Printing::routed_line))]
 pub fn route_line(
     router: Asn,
     prefix: &Prefix,

@@ -67,7 +67,7 @@ fn trace_exchange(
     answers_are_steps();
     let network = world.network();
     let _ = network.built();
-    if world.is_quiet_at(at, number, place, peer) {
+    if world.is_quiet_at(at, place, number, peer) {
         return Ok(());
     }
     trace_put(world, number, peer, marks, notes, out)?;

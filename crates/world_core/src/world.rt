@@ -109,7 +109,7 @@ impl<'a> World<'a> {
 
     /// Whether nothing is to be put, taken or handled between a router and a peer, where the router stands at that
     /// place of the network and the peer at that place among its peers.
-    pub fn is_quiet_at(&self, at: usize, number: Asn, place: usize, peer: Asn) -> bool
+    pub fn is_quiet_at(&self, at: usize, place: usize, number: Asn, peer: Asn) -> bool
         requires router { slice_get (numbers self.now.net.routers) at ≡ Some number }
         requires peer { slice_get (settings.peers self.now.net number) place ≡ Some peer }
         ensures { result ≡ true → IsQuiet self.now number peer }
