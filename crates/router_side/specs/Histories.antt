@@ -88,9 +88,9 @@ abbrev pub told_stored : Width → List Stored → List ℕ → List Told
 told_stored width ss octets = told_in width (places_of ss) (spelt_in ss octets)
 
 -- the places of blocks, and what is spelt at them
-abbrev pub entries_in : List Block → List Stored
+abbrev pub entries_in : List Block → List Place
 entries_in [] = []
-entries_in (b ∷ bs) = b.places.items ++ entries_in bs
+entries_in (b ∷ bs) = places_of b.places.items ++ entries_in bs
 
 abbrev pub octets_in : List Block → List ℕ
 octets_in [] = []

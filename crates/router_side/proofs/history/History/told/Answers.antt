@@ -2,7 +2,7 @@ use Rattle.std.proofs.Common.{◌≡◌, ◌++◌, ◌∙◌, List, sym, ap, sub
 use Rattle.std.proofs.lemmas.List.{append-nil, drop_all}
 use Rattle.router_side.specs.declared.block.Block.{Block}
 use Rattle.router_side.specs.declared.history.Told.{Told}
-use Rattle.router_side.specs.Histories.{told_stored, told_by_blocks, told_with, spelt_in, AreAllStored}
+use Rattle.router_side.specs.Histories.{told_stored, told_by_blocks, told_with, places_of, spelt_in, AreAllStored}
 use Rattle.router_side.proofs.Kept.{told_behind}
 use Rattle.router_side.proofs.history.History.told.Goals as goal
 
@@ -23,5 +23,5 @@ returns c =
     let full : all ≡ told_by_blocks width bs = sym (append-nil all) ∙ ap (λ (xs : List Block). all ++ told_by_blocks width xs) (sym none) ∙ c.loop-block.invariant.all in
     c.in_ok-put_told-2.ensures
     ∙ ap (λ (ts : List Told). ts ++ told_stored width last.places.items last.octets.items) (full ∙ ap (told_by_blocks width) c.as_slice-block-items.ensures.value)
-    ∙ sym (told_behind width c.self.inside.full.items last.places.items (spelt_in last.places.items last.octets.items) c.self.invariant.0)
+    ∙ sym (told_behind width c.self.inside.full.items (places_of last.places.items) (spelt_in last.places.items last.octets.items) c.self.invariant.0)
     ∙ ap (λ v. told_with width v) c.self.view_is
