@@ -24,4 +24,5 @@ pub mod ReadWritable
 pub mod JudgingLemmas
 pub mod JudgingAttrs
 pub mod GatherLemmas
+pub mod OrderLemmas
 pub mod DecodingLemmas

@@ -3,8 +3,10 @@
 ghost use Rattle.std.specs.Prelude.{◌≡◌, ◌++◌, ◌∷◌, [], IsTrue, IfOk, OnOk, OnErr};
 ghost use Rattle.std.specs.List.Sorted.{IsPermutation, IsNonDecreasingBy};
 ghost use Rattle.bgp_codec.specs.Lists.{items_in, IsBlock};
+ghost use Rattle.bgp_codec.specs.Gathering.{AreApart};
 
 use crate::attributes::Raw;
+use crate::ordering::order;
 use std::alloc::{AllocError, Global};
 use std::marker::Model;
 use std::{mem, slice};
@@ -128,14 +130,15 @@ impl<T: Drop> Items<T> {
 }
 
 impl Items<Raw> {
-    // Puts attributes in order of code.
+    // Puts attributes of different codes in order of code.
     pub(crate) fn order(&mut self)
+        requires { AreApart self.old }
         ensures permutation { IsPermutation self.old self.new }
         ensures order { IsNonDecreasingBy (λ r. r.code) self.new }
     {
         match &mut self.room {
-            Room::One(raws) => raws.sort_unstable_by_key(|raw| raw.code),
-            Room::Block(raws) => raws.sort_unstable_by_key(|raw| raw.code),
+            Room::One(raws) => order(raws.as_mut_slice()),
+            Room::Block(raws) => order(raws.as_mut_slice()),
         }
     }
 }

@@ -35,6 +35,7 @@ mod notice;
 mod numbers;
 mod octets;
 mod open;
+mod ordering;
 mod path;
 mod prefixes;
 mod reading;

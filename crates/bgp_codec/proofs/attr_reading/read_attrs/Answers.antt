@@ -4,7 +4,7 @@ use Rattle.bgp_codec.specs.UpdateReading.{attrs_reading}
 use Rattle.bgp_codec.specs.Gathering.{in_order}
 use Rattle.bgp_codec.proofs.EachLemmas.{some_left, none_left}
 use Rattle.bgp_codec.proofs.AttrSteps.{attrs_go_on, attrs_stop, attrs_broken, attr_shorter}
-use Rattle.bgp_codec.proofs.GatherLemmas.{gather_first, gather_end}
+use Rattle.bgp_codec.proofs.GatherLemmas.{gather_first, gather_apart, gather_end}
 use Rattle.bgp_codec.proofs.attr_reading.read_attrs.Goals as goal
 
 pub returns-in_err-attr : goal.returns-in_err-attr
@@ -29,6 +29,9 @@ attrs-preserved c = record {
       c.attrs.invariant.read;
   marks = c.in_ok-add_attr.ensures.marks;
 }
+
+pub order-requires : goal.order-requires
+order-requires c = gather_apart c.args.width c.args.octets.now c.attrs.attrs c.attrs.left.now (λ i. omega (arith, c.type_inv.octets i)) (none_left _ c.attrs-test.ensures) c.attrs.invariant.read
 
 pub returns : goal.returns
 returns c =
