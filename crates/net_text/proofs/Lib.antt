@@ -16,7 +16,6 @@ pub mod NetworkLemmas
 pub mod SectionLemmas
 pub mod EntryLemmas
 pub mod RepeatLemmas
-pub mod KeptLemmas
 pub mod PrintLemmas
 pub mod DecimalLemmas
 pub mod SpeltLemmas

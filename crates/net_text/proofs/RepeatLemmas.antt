@@ -1,118 +1,193 @@
--- Paths that came, each looked up among those before it.
-use Rattle.std.proofs.lemmas.Bool.Decides.{nat_tests}
-use Rattle.std.proofs.Common.{◌≡◌, ℕ, ◌&&◌, ◌||◌, Bool, true, false, cond, List, [], ◌∷◌, ◌++◌, refl, sym, ap, ◌∙◌, arith, append_assoc}
-use Rattle.std.proofs.lemmas.List.{append-nil}
+-- Paths in order, of which two that are one are neighbours.
+use Rattle.std.proofs.Common.{◌≡◌, ℕ, ◌+◌, ◌<◌, ◌≤◌, ◌&&◌, ◌||◌, Bool, true, false, cond, zero, suc, List, [], ◌∷◌, length, get_or, map, refl, sym, ap, subst, ◌∙◌, arith}
+use Rattle.std.proofs.lemmas.Bool.{and_parts, and_from, or_parts, or_from, not-true, eqb-true, eq-eqb, false_from_ne_true}
+use mathlib.Core.Bool.{true≢false}
+use Rattle.std.proofs.lemmas.List.Sums.{sum_by-cons}
+use Rattle.std.proofs.lemmas.List.Sorted.{IsPermutation-map, sum_by-IsPermutation, ranks_by, sorted_far}
+use Rattle.std.specs.Bool.{MatchBool}
 use Rattle.std.specs.Prelude.{◌==◌, not}
-use Rattle.std.specs.List.{list_any}
-use Rattle.std.specs.Ordering.{nat_cmp, is_eq}
+use Rattle.std.specs.List.{list_any, count_by, All, AllAdjacentBelow, IsAllAdjacentAnswer}
+use Rattle.std.specs.List.Sorted.{IsPermutation, IsSortedBy}
+use Rattle.std.specs.Ordering.{nat_cmp, ordering_reverse, is_eq, is_lt}
+use Rattle.std.specs.declared.cmp.Ordering.{Ordering}
+use Rattle.std.specs.declared.cmp.Ordering.TheVariants.{Less, Equal, Greater}
 use Rattle.std.specs.Cmp.{tied_then}
-use Rattle.std.specs.Cmp.Lexicographic.{slice_cmp}
-use Rattle.std.specs.BTreeSet.{BTreeSet, contains, Updates}
-use Rattle.net_text.specs.Lexing.{same}
+use Rattle.std.specs.Cmp.Lexicographic.{slice_cmp, nat_list_cmp_total}
+use denote.Ref.{Bor}
+use Rattle.net_text.specs.Lexing.{Text, same}
+use Rattle.net_text.specs.Words.{value_of}
 use Rattle.net_text.specs.Lines.{are_distinct}
-use Rattle.net_text.proofs.EntryLemmas.{same_number, any_on}
+use Rattle.net_text.specs.Repeating.{path_in, AreInOrder}
+use Rattle.net_text.specs.Taking.{parts_left}
+use Rattle.net_text.proofs.AddingLemmas.{same_true}
+use Rattle.net_text.proofs.EntryLemmas.{same_number}
+use Rattle.net_text.proofs.WordLemmas.{some_part}
+
+-- one of two paths has no number left
+pub order_end : (more others : Bool) (a b : Text) → (more && others) ≡ false
+    → slice_cmp nat_cmp (map value_of (parts_left more a)) (map value_of (parts_left others b)) ≡ cond more Greater (cond others Less Equal)
+order_end true true a b e = absurd cc
+order_end true false a b e = some_part (λ ps. slice_cmp nat_cmp (map value_of ps) [] ≡ Greater) 45 a (λ y ys. refl)
+order_end false true a b e = some_part (λ ps. slice_cmp nat_cmp [] (map value_of ps) ≡ Less) 45 b (λ y ys. refl)
+order_end false false a b e = refl
 
 -- lists of numbers that compare as equal are the same
-pub same_list : (xs ys : List ℕ) → is_eq (slice_cmp nat_cmp xs ys) ≡ same xs ys
+same_list : (xs ys : List ℕ) → is_eq (slice_cmp nat_cmp xs ys) ≡ same xs ys
 same_list [] [] = refl
 same_list [] (y ∷ ys) = refl
 same_list (x ∷ xs) [] = refl
 same_list (x ∷ xs) (y ∷ ys) = sym (tied_then (nat_cmp x y) (slice_cmp nat_cmp xs ys)) ∙ rw (same_number x y, same_list xs ys) refl
 
-pub same_back : (xs ys : List ℕ) → same xs ys ≡ same ys xs
-same_back [] [] = refl
-same_back [] (y ∷ ys) = refl
-same_back (x ∷ xs) [] = refl
-same_back (x ∷ xs) (y ∷ ys) = rw (swapped x y, same_back xs ys) refl
+same_self : (p : List ℕ) → same p p ≡ true
+same_self [] = refl
+same_self (x ∷ xs) =
+    let here = eq-eqb x x refl in
+    rw (here, same_self xs) refl
+
+-- ---- paths in another order
+
+counted_on : (p x : List ℕ) (xs : List (List ℕ)) → count_by (same p) (x ∷ xs) ≡ cond (same p x) 1 0 + count_by (same p) xs
+counted_on p x xs = sum_by-cons (λ y. cond (same p y) 1 0) x xs
+
+none_counted : (p : List ℕ) (xs : List (List ℕ)) → list_any (same p) xs ≡ false → count_by (same p) xs ≡ 0
+none_counted p [] e = refl
+none_counted p (x ∷ xs) e = by_case (none_counted p xs) (same p x) refl
   where
-    swapped : (m n : ℕ) → (m == n) ≡ (n == m)
-    swapped m n = grind (arith, nat_tests)
+    by_case : (list_any (same p) xs ≡ false → count_by (same p) xs ≡ 0) → (b : Bool) → same p x ≡ b → count_by (same p) (x ∷ xs) ≡ 0
+    by_case more true s = absurd (true≢false (rw s at e))
+    by_case more false s =
+        let here = counted_on p x xs ∙ ap (λ b. cond b 1 0 + count_by (same p) xs) s in
+        let rest = more (rw s at e) in
+        omega (arith, here, rest)
 
--- the paths that came are distinct, and each is found by its numbers
-pub record IsCame {K : Type 0} (items : K → List ℕ) (came : BTreeSet K) (left all : List (List ℕ)) : Type 0 where
-  pub seen : List (List ℕ)
-  pub whole : all ≡ seen ++ left
-  pub distinct : are_distinct seen ≡ true
-  pub has : (q : K) → contains (λ a b. slice_cmp nat_cmp (items a) (items b)) came q ≡ list_any (same (items q)) seen
-
--- one path more that is not among distinct ones
-pub distinct_on : (seen : List (List ℕ)) (p : List ℕ) → are_distinct seen ≡ true → list_any (same p) seen ≡ false → are_distinct (seen ++ p ∷ []) ≡ true
-distinct_on [] p d n = refl
-distinct_on (x ∷ xs) p d n =
-    let apart = and_parts (not (list_any (same x) xs)) (are_distinct xs) d in
-    let parts = or_parts (same p x) (list_any (same p) xs) n in
-    let here : list_any (same x) (xs ++ p ∷ []) ≡ false = any_on (same x) xs p ∙ ap (λ b. cond b true (list_any (same x) xs)) (same_back x p ∙ parts.0) ∙ not_true (list_any (same x) xs) apart.0 in
-    rw (here, distinct_on xs p apart.1 parts.1) refl
+some_counted : (p : List ℕ) (xs : List (List ℕ)) → list_any (same p) xs ≡ true → 1 ≤ count_by (same p) xs
+some_counted p [] e = absurd cc
+some_counted p (x ∷ xs) e = by_case (some_counted p xs) (same p x) refl
   where
-    and_parts : (a b : Bool) → (a && b) ≡ true → (a ≡ true) × (b ≡ true)
-    and_parts true b e = (refl, e)
-    and_parts false b e = absurd cc
+    by_case : (list_any (same p) xs ≡ true → 1 ≤ count_by (same p) xs) → (b : Bool) → same p x ≡ b → 1 ≤ count_by (same p) (x ∷ xs)
+    by_case more true s = let here = counted_on p x xs ∙ ap (λ b. cond b 1 0 + count_by (same p) xs) s in omega (arith, here)
+    by_case more false s =
+        let here = counted_on p x xs ∙ ap (λ b. cond b 1 0 + count_by (same p) xs) s in
+        let rest = more (rw s at e) in
+        omega (arith, here, rest)
 
-    or_parts : (a b : Bool) → (a || b) ≡ false → (a ≡ false) × (b ≡ false)
-    or_parts true b e = absurd cc
-    or_parts false b e = (refl, e)
-
-    not_true : (b : Bool) → not b ≡ true → b ≡ false
-    not_true true e = absurd cc
-    not_true false e = refl
-
--- a path that is among those before it comes twice
-twice_in : (seen : List (List ℕ)) (p : List ℕ) (left : List (List ℕ)) → list_any (same p) seen ≡ true → are_distinct (seen ++ p ∷ left) ≡ false
-twice_in [] p left h = absurd cc
-twice_in (x ∷ xs) p left h = by_case (twice_in xs p left) (same p x) refl
+-- of distinct paths each comes once at most
+once : (xs : List (List ℕ)) → are_distinct xs ≡ true → (p : List ℕ) → count_by (same p) xs ≤ 1
+once [] d p = omega arith
+once (x ∷ xs) d p =
+    let both = and_parts (not (list_any (same x) xs)) (are_distinct xs) d in
+    by_case both.0 (once xs both.1 p) (same p x) refl
   where
-    any_behind : (q : List ℕ) (ys zs : List (List ℕ)) → same q p ≡ true → list_any (same q) (ys ++ p ∷ zs) ≡ true
-    any_behind q [] zs e = rw e refl
-    any_behind q (y ∷ ys) zs e = rw (any_behind q ys zs e) (or_true (same q y))
-      where
-        or_true : (b : Bool) → (b || true) ≡ true
-        or_true true = refl
-        or_true false = refl
+    by_case : not (list_any (same x) xs) ≡ true → count_by (same p) xs ≤ 1 → (b : Bool) → same p x ≡ b → count_by (same p) (x ∷ xs) ≤ 1
+    by_case apart more true s =
+        let here = counted_on p x xs ∙ ap (λ b. cond b 1 0 + count_by (same p) xs) s in
+        let none = none_counted p xs (subst (λ (q : List ℕ). list_any (same q) xs ≡ false) (sym (same_true p x s)) (not-true (list_any (same x) xs) apart)) in
+        omega (arith, here, none)
+    by_case apart more false s =
+        let here = counted_on p x xs ∙ ap (λ b. cond b 1 0 + count_by (same p) xs) s in
+        omega (arith, here, more)
 
-    and_false : (b : Bool) → (b && false) ≡ false
-    and_false true = refl
-    and_false false = refl
+-- of others one comes twice
+twice : (xs : List (List ℕ)) → are_distinct xs ≡ false → (p : List ℕ) × (2 ≤ count_by (same p) xs)
+twice [] d = absurd cc
+twice (x ∷ xs) d = by_case (twice xs) (list_any (same x) xs) refl
+  where
+    by_case : (are_distinct xs ≡ false → (p : List ℕ) × (2 ≤ count_by (same p) xs)) → (b : Bool) → list_any (same x) xs ≡ b → (p : List ℕ) × (2 ≤ count_by (same p) (x ∷ xs))
+    by_case more true e =
+        let here = counted_on x x xs ∙ ap (λ b. cond b 1 0 + count_by (same x) xs) (same_self x) in
+        let rest = some_counted x xs e in
+        (x, omega (arith, here, rest))
+    by_case more false e =
+        let rest = more (rw e at d) in
+        let here = counted_on rest.0 x xs in
+        (rest.0, omega (arith, here, rest.1))
 
-    by_case : (list_any (same p) xs ≡ true → are_distinct (xs ++ p ∷ left) ≡ false) → (b : Bool) → same p x ≡ b → are_distinct (x ∷ xs ++ p ∷ left) ≡ false
-    by_case later true e = rw (any_behind x xs left (same_back x p ∙ e)) refl
-    by_case later false e = rw (later (sym (ap (λ b. b || list_any (same p) xs) e) ∙ h)) (and_false (not (list_any (same x) (xs ++ p ∷ left))))
+unalike : (xs ys : List (List ℕ)) → IsPermutation xs ys → (b c : Bool) → are_distinct xs ≡ b → are_distinct ys ≡ c → c ≡ b
+unalike xs ys p true true d e = refl
+unalike xs ys p false false d e = refl
+unalike xs ys p true false d e =
+    let two = twice ys e in
+    let one = once xs d two.0 in
+    let alike = sum_by-IsPermutation (λ y. cond (same two.0 y) 1 0) xs ys p in
+    absurd (omega (arith, two.1, one, alike))
+unalike xs ys p false true d e =
+    let two = twice xs d in
+    let one = once ys e two.0 in
+    let alike = sum_by-IsPermutation (λ y. cond (same two.0 y) 1 0) xs ys p in
+    absurd (omega (arith, two.1, one, alike))
 
--- at first none came
-pub none_came : {K : Type 0} (items : K → List ℕ) (came : BTreeSet K) (all : List (List ℕ)) → ((q : K) → contains (λ a b. slice_cmp nat_cmp (items a) (items b)) came q ≡ false) → IsCame items came all all
-none_came items came all empty = record { seen = []; whole = refl; distinct = refl; has = empty }
+pub distinct_moved : (xs ys : List (Bor Text)) → IsPermutation xs ys → are_distinct (map path_in ys) ≡ are_distinct (map path_in xs)
+distinct_moved xs ys p = unalike (map path_in xs) (map path_in ys) (IsPermutation-map path_in xs ys p) _ _ refl refl
 
--- one path more came
-pub came_on : {K : Type 0} (items : K → List ℕ) (old new : BTreeSet K) (k : K) (p : List ℕ) (left all : List (List ℕ)) → IsCame items old (p ∷ left) all → items k ≡ p
-    → contains (λ a b. slice_cmp nat_cmp (items a) (items b)) old k ≡ false → Updates (λ a b. slice_cmp nat_cmp (items a) (items b)) old new k true → IsCame items new left all
-came_on items old new k p left all h is absent updates = record {
-  seen = h.seen ++ p ∷ [];
-  whole = h.whole ∙ sym (append_assoc h.seen (p ∷ []) left);
-  distinct = distinct_on h.seen p h.distinct (sym (ap (λ (q : List ℕ). list_any (same q) h.seen) is) ∙ sym (h.has k) ∙ absent);
-  has = λ q.
-      updates.0 q
-      ∙ ap (λ b. cond b true (contains (λ a c. slice_cmp nat_cmp (items a) (items c)) old q)) (same_list (items k) (items q) ∙ same_back (items k) (items q) ∙ ap (same (items q)) is)
-      ∙ ap (λ b. cond (same (items q) p) true b) (h.has q)
-      ∙ sym (any_on (same (items q)) h.seen p);
-}
+-- ---- paths in order
 
--- a path that came before
-pub came_twice : {K : Type 0} (items : K → List ℕ) (came : BTreeSet K) (k : K) (p : List ℕ) (left all : List (List ℕ)) → IsCame items came (p ∷ left) all → items k ≡ p
-    → contains (λ a b. slice_cmp nat_cmp (items a) (items b)) came k ≡ true → are_distinct all ≡ false
-came_twice items came k p left all h is there =
-    ap are_distinct h.whole ∙ twice_in h.seen p left (sym (ap (λ (q : List ℕ). list_any (same q) h.seen) is) ∙ sym (h.has k) ∙ there)
+one_on : {X : Type 0} (x : X) (xs : List X) (k : ℕ) (d : X) → get_or (x ∷ xs) (suc k + 1) d ≡ get_or xs (k + 1) d
+one_on x xs k d =
+    let e : suc k + 1 ≡ suc (k + 1) = omega arith in
+    ap (λ n. get_or (x ∷ xs) n d) e
 
--- where all came, none came twice
-pub all_came : {K : Type 0} (items : K → List ℕ) (came : BTreeSet K) (all : List (List ℕ)) → IsCame items came [] all → are_distinct all ≡ true
-all_came items came all h = ap are_distinct (h.whole ∙ append-nil h.seen) ∙ h.distinct
+none_before : (p : List ℕ) (xs : List (Bor Text)) → All (λ y. is_lt (slice_cmp nat_cmp (path_in y) p) ≡ false) xs → list_any (λ q. is_lt (slice_cmp nat_cmp q p)) (map path_in xs) ≡ false
+none_before p [] h = refl
+none_before p (x ∷ xs) h = ap (λ b. b || list_any (λ q. is_lt (slice_cmp nat_cmp q p)) (map path_in xs)) (h 0 x (omega arith)) ∙ none_before p xs (λ k d l. h (suc k) d (omega arith))
 
--- what an insertion says of what was there
-pub was_absent : (added there : Bool) → added ≡ not there → added ≡ true → there ≡ false
-was_absent added true e t = absurd cc
-was_absent added false e t = refl
+not_itself : (p : List ℕ) → is_lt (slice_cmp nat_cmp p p) ≡ false
+not_itself p = by_order (slice_cmp nat_cmp p p) (same_list p p ∙ same_self p)
+  where
+    by_order : (o : Ordering) → is_eq o ≡ true → is_lt o ≡ false
+    by_order Less e = absurd cc
+    by_order Equal e = refl
+    by_order Greater e = refl
 
-pub was_there : (added there : Bool) → added ≡ not there → added ≡ false → there ≡ true
-was_there added true e f = refl
-was_there added false e f = absurd cc
+and_false : (a b : Bool) → b ≡ false → (a && b) ≡ false
+and_false true b e = e
+and_false false b e = refl
 
-pub repeats : (b : Bool) → b ≡ false → true ≡ not b
-repeats b e = sym (ap not e)
+-- what a sort leaves
+pub in_order : (xs : List (Bor Text)) → IsSortedBy (λ x y. is_lt (slice_cmp nat_cmp (path_in x) (path_in y))) xs → AreInOrder (map path_in xs)
+in_order [] s = tt
+in_order (x ∷ xs) s = (
+  none_before (path_in x) xs (λ k d l. sorted_far (λ a b. is_lt (slice_cmp nat_cmp (path_in a) (path_in b))) (ranks_by nat_list_cmp_total path_in) (x ∷ xs) s 0 (suc k) d (omega arith) (omega arith)),
+  in_order xs (λ k d low high.
+      subst (λ y. is_lt (slice_cmp nat_cmp (path_in y) (path_in (get_or xs k d))) ≡ false) (one_on x xs k d) (s (suc k) d (omega arith) (omega arith))),
+)
+
+-- a path before another is none of those that do not come before the other
+apart : (p q : List ℕ) (xs : List (List ℕ)) → is_lt (slice_cmp nat_cmp p q) ≡ true → list_any (λ r. is_lt (slice_cmp nat_cmp r q)) xs ≡ false → list_any (same p) xs ≡ false
+apart p q [] l n = refl
+apart p q (x ∷ xs) l n =
+    let both = or_parts (is_lt (slice_cmp nat_cmp x q)) (list_any (λ r. is_lt (slice_cmp nat_cmp r q)) xs) n in
+    or_from (same p x) (list_any (same p) xs)
+    (false_from_ne_true (same p x) (λ t. true≢false (sym l ∙ ap (λ r. is_lt (slice_cmp nat_cmp r q)) (same_true p x t) ∙ both.0)))
+    (apart p q xs l both.1)
+
+-- two paths of which neither comes before the other are one
+tied : (p q : List ℕ) (o : Ordering) → slice_cmp nat_cmp p q ≡ o → is_lt o ≡ false → is_lt (slice_cmp nat_cmp q p) ≡ false → same p q ≡ true
+tied p q Less e l b = absurd cc
+tied p q Equal e l b = sym (same_list p q) ∙ ap is_eq e
+tied p q Greater e l b = absurd (true≢false (sym (ap is_lt (nat_list_cmp_total.antisymm q p ∙ ap ordering_reverse e)) ∙ b))
+
+rising_apart : (xs : List (Bor Text)) → AreInOrder (map path_in xs) → AllAdjacentBelow (λ x y. true ≡ is_lt (slice_cmp nat_cmp (path_in x) (path_in y))) xs (length xs) → are_distinct (map path_in xs) ≡ true
+rising_apart [] o h = refl
+rising_apart (x ∷ []) o h = refl
+rising_apart (x ∷ y ∷ zs) o h =
+    let here = sym (h 0 x (omega arith)) in
+    let none = apart (path_in x) (path_in y) (map path_in (y ∷ zs)) here (or_from (is_lt (slice_cmp nat_cmp (path_in y) (path_in y))) _ (not_itself (path_in y)) o.1.0) in
+    and_from (not (list_any (same (path_in x)) (map path_in (y ∷ zs)))) (are_distinct (map path_in (y ∷ zs))) (ap not none)
+    (rising_apart (y ∷ zs) o.1 (λ k d l.
+    subst (λ z. true ≡ is_lt (slice_cmp nat_cmp (path_in (get_or (y ∷ zs) k d)) (path_in z))) (one_on x (y ∷ zs) k d) (h (suc k) d (omega arith))))
+
+tied_twice : (xs : List (Bor Text)) (k : ℕ) → AreInOrder (map path_in xs) → k + 1 < length xs → ((d : Bor Text) → false ≡ is_lt (slice_cmp nat_cmp (path_in (get_or xs k d)) (path_in (get_or xs (k + 1) d)))) → are_distinct (map path_in xs) ≡ false
+tied_twice [] k o l h = absurd (omega arith)
+tied_twice (x ∷ []) k o l h = absurd (omega (arith, l))
+tied_twice (x ∷ y ∷ zs) zero o l h =
+    let first = (or_parts (is_lt (slice_cmp nat_cmp (path_in y) (path_in x))) _ o.0).0 in
+    let one = tied (path_in x) (path_in y) _ refl (sym (h x)) first in
+    ap (λ b. not (b || list_any (same (path_in x)) (map path_in zs)) && are_distinct (map path_in (y ∷ zs))) one
+tied_twice (x ∷ y ∷ zs) (suc k) o l h =
+    and_false (not (list_any (same (path_in x)) (map path_in (y ∷ zs)))) (are_distinct (map path_in (y ∷ zs))) (tied_twice (y ∷ zs) k o.1 (omega (arith, l))
+    (λ d. subst (λ z. false ≡ is_lt (slice_cmp nat_cmp (path_in (get_or (y ∷ zs) k d)) (path_in z))) (one_on x (y ∷ zs) k d) (h d)))
+
+-- where each stands before the next, no two are one; else two neighbours are
+pub neighbours : (xs : List (Bor Text)) (r : Bool) → AreInOrder (map path_in xs) → IsAllAdjacentAnswer (λ x y b. b ≡ is_lt (slice_cmp nat_cmp (path_in x) (path_in y))) xs r → r ≡ are_distinct (map path_in xs)
+neighbours xs true o h = sym (rising_apart xs o h)
+neighbours xs false o h = sym (tied_twice xs h.0 o h.1 h.2)

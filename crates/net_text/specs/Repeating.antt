@@ -1,21 +1,27 @@
--- Paths that are kept in order while it is asked whether one comes twice.
-use Rattle.std.specs.Prelude.{ℕ, ◌≡◌, ◌≤◌, List, length}
-use Rattle.std.specs.List.Sorted.{IsNonDecreasingBy, IsPartitionPoint}
-use Rattle.std.specs.Ordering.{nat_cmp, ordering_index}
-use Rattle.std.specs.declared.cmp.Ordering.TheVariants.{Less, Greater}
+-- Paths in order, and room for those of a line.
+use Rattle.std.specs.Prelude.{ℕ, ◌≡◌, ◌<◌, ◌≤◌, Bool, true, false, List, [], ◌∷◌, length, codes}
+use Rattle.std.specs.List.{list_any}
+use Rattle.std.specs.Ordering.{nat_cmp, is_lt}
 use Rattle.std.specs.Cmp.Lexicographic.{slice_cmp}
 use denote.Ref.{Bor}
-use Rattle.net_text.specs.Lexing.{Text}
+use Rattle.net_text.specs.declared.repeats.TheConstants.{MOST_PAIRED}
+use Rattle.net_text.specs.Lexing.{Text, same, words_of}
 use Rattle.net_text.specs.Words.{path_of}
 
 abbrev pub path_in : Bor Text → List ℕ
 path_in word = path_of word.now
 
--- by their numbers: those that stand before a path come first, whatever path it is
-abbrev pub IsRising : List (Bor Text) → Type 0
-IsRising kept = (path : List ℕ) → IsNonDecreasingBy (λ w. ordering_index (slice_cmp nat_cmp (path_in w) path)) kept
+-- by their numbers: none comes before one that stands in front of it
+abbrev pub AreInOrder : List (List ℕ) → Type 0
+AreInOrder [] = Unit {0}
+AreInOrder (path ∷ paths) = (list_any (λ other. is_lt (slice_cmp nat_cmp other path)) paths ≡ false) × AreInOrder paths
 
--- a path that is none of those has its place behind those that come before it
-abbrev pub IsPlaceFor : List (Bor Text) → List ℕ → ℕ → Type 0
-IsPlaceFor kept path place =
-    IsRising kept → (place ≤ length kept) × IsPartitionPoint (λ w. slice_cmp nat_cmp (path_in w) path ≡ Less) (λ w. slice_cmp nat_cmp (path_in w) path ≡ Greater) kept place
+-- the words are those of a rule
+abbrev pub is_rule : List Text → Bool
+is_rule [] = false
+is_rule (name ∷ words) = same name (codes "rank")
+
+-- room for the paths of the next line, where it is one of a rule and long
+abbrev pub HasRoom : ℕ → List Text → Type 0
+HasRoom room [] = Unit {0}
+HasRoom room (line ∷ lines) = MOST_PAIRED < length line → is_rule (words_of line) ≡ true → length (words_of line) ≤ room

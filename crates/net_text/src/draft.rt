@@ -9,6 +9,7 @@ ghost use Rattle.net_text.specs.Networks.{empty_draft, SpellsNetwork, RefusesNet
 use crate::code::{Code, Refused};
 use crate::lexing::{is_skipped, next_line};
 use crate::network_lines::read_line;
+use crate::repeats::make_room;
 use crate::settings::{Named, settings_of};
 use prefix_lanes::Prefix;
 use ranked_policy::{Asn, NetBuilder, NetError, Network, Path};
@@ -159,14 +160,21 @@ pub fn read_network(alloc: Global, text: &[u8]) -> Result<Network, Refused>
     ensures reached { IfErr result (λ refused. refused.code ≡ Code.Memory → 1 ≤ refused.line) }
 {
     let mut draft = empty_draft(alloc, text);
+    let mut room = Vec::new(alloc);
     let (mut line, mut last) = (0usize, 0usize);
     let mut left = text;
     'lines: while !left.is_empty() {
         let (front, rest) = next_line(left);
         line += 1;
         last = last_said(front, line, last);
-        if let Err(code) = read_line(alloc, &mut draft, front) {
+        if let Err(code) = read_line(alloc, &mut draft, &mut room, front) {
             return Err(Refused { line, code });
+        }
+        if make_room(&mut room, rest).is_err() {
+            return Err(Refused {
+                line,
+                code: Code::Memory,
+            });
         }
         left = rest;
     }

@@ -109,18 +109,18 @@ fn is_full(routers: &[Router], asn: Asn) -> bool
 }
 
 // Judges that a rule does not repeat, and then its counts.
-fn judge_rule(
-    alloc: Global,
+fn judge_rule<'a>(
     routers: &[Router],
     asn: Asn,
     prefix: &Prefix,
-    words: &[u8],
+    words: &'a [u8],
     brief: &PathsBrief,
+    room: &mut Vec<&'a [u8]>,
 ) -> Result<(), Code>
     requires { AreBrief brief.now (words_of words.now) }
     ensures { result ≡ rule_fault routers.now asn prefix.now (words_of words.now) }
 {
-    if is_ruled(routers, asn, prefix) || !are_distinct(alloc, words, brief) {
+    if is_ruled(routers, asn, prefix) || !are_distinct(words, brief, room) {
         return Err(Code::Repeated);
     }
     if brief.count > MOST_PATHS || is_full(routers, asn) || !brief.are_short {
@@ -129,7 +129,12 @@ fn judge_rule(
     Ok(())
 }
 
-fn read_rule(alloc: Global, draft: &mut Draft, words: &[u8]) -> Result<(), Code>
+fn read_rule<'a>(
+    alloc: Global,
+    draft: &mut Draft,
+    room: &mut Vec<&'a [u8]>,
+    words: &'a [u8],
+) -> Result<(), Code>
     ensures { Steps result (rule_line draft.old (words_of words.now)) draft.new }
 {
     let Some((asn, words)) = next_word(words) else {
@@ -141,14 +146,19 @@ fn read_rule(alloc: Global, draft: &mut Draft, words: &[u8]) -> Result<(), Code>
     let asn = router_word(width_named(draft.named), draft.net.routers(), asn)?;
     let prefix = prefix_word(prefix)?;
     let brief = judge_rule_paths(width_named(draft.named), &draft.net, asn, words)?;
-    judge_rule(alloc, draft.net.routers(), asn, &prefix, words, &brief)?;
+    judge_rule(draft.net.routers(), asn, &prefix, words, &brief, room)?;
     match take_paths(alloc, words, brief.count) {
         Ok(paths) => draft.add_rule(asn, prefix, paths),
         Err(_) => Err(Code::Memory),
     }
 }
 
-fn read_words(alloc: Global, draft: &mut Draft, line: &[u8]) -> Result<(), Code>
+fn read_words<'a>(
+    alloc: Global,
+    draft: &mut Draft,
+    room: &mut Vec<&'a [u8]>,
+    line: &'a [u8],
+) -> Result<(), Code>
     ensures { Steps result (words_line draft.old (words_of line.now)) draft.new }
 {
     let Some((name, words)) = next_word(line) else {
@@ -161,7 +171,7 @@ fn read_words(alloc: Global, draft: &mut Draft, line: &[u8]) -> Result<(), Code>
     } else if same(name, b"origin") {
         read_origin(draft, words)
     } else if same(name, b"rank") {
-        read_rule(alloc, draft, words)
+        read_rule(alloc, draft, room, words)
     } else {
         match setting_of(name) {
             Some(setting) => read_setting(draft, setting, words),
@@ -170,8 +180,14 @@ fn read_words(alloc: Global, draft: &mut Draft, line: &[u8]) -> Result<(), Code>
     }
 }
 
-// What a line adds to the network. After an `Err` the draft is of no more use.
-pub(crate) fn read_line(alloc: Global, draft: &mut Draft, line: &[u8]) -> Result<(), Code>
+// What a line adds to the network. After an `Err` the draft is of no more use. The room is for the paths of a rule
+// (`make_room`).
+pub(crate) fn read_line<'a>(
+    alloc: Global,
+    draft: &mut Draft,
+    room: &mut Vec<&'a [u8]>,
+    line: &'a [u8],
+) -> Result<(), Code>
     ensures { Steps result (line_reading draft.old line.now) draft.new }
 {
     if is_skipped(line) {
@@ -180,5 +196,5 @@ pub(crate) fn read_line(alloc: Global, draft: &mut Draft, line: &[u8]) -> Result
     if !is_ascii(line) {
         return Err(Code::BadForm);
     }
-    read_words(alloc, draft, line)
+    read_words(alloc, draft, room, line)
 }

@@ -12,12 +12,11 @@ ghost use Rattle.net_text.specs.Taking.{parts_left, IsTakeable, IsBrief, AreBrie
 
 use crate::code::Code;
 use crate::lexing::{cut, next_word, same};
-use crate::repeats::come_twice;
+use crate::repeats::are_apart_in_order;
 use crate::words::{is_number, number_of, value_of};
 use bgp_values::{Width, is_asn};
 use ranked_policy::{Asn, LONGEST_PATH, MOST_PATHS, NetBuilder, Path};
 use std::alloc::{AllocError, Global};
-use std::collections::BTreeSet;
 
 /// What a first reading tells of a path.
 #[derive(Clone, Copy)]
@@ -408,15 +407,10 @@ fn has_path(words: &[u8], path: &[u8]) -> bool
     false
 }
 
-// Whether no path is there twice, each compared with those behind it where digests do not tell.
-fn are_apart(words: &[u8], brief: &PathsBrief) -> bool
-    requires few { length (words_of words.now) ≤ 32 }
-    requires brief { AreBrief brief.now (words_of words.now) }
+// Whether no path is there twice, each compared with those behind it.
+fn are_apart_in_pairs(words: &[u8]) -> bool
     ensures { result ≡ are_distinct (map path_of (words_of words.now)) }
 {
-    if are_single(&brief.digests[..brief.count]) {
-        return true;
-    }
     let mut left = words;
     'words: while let Some((word, rest)) = next_word(left) {
         if has_path(rest, word) {
@@ -427,49 +421,34 @@ fn are_apart(words: &[u8], brief: &PathsBrief) -> bool
     true
 }
 
-// The numbers of a path, which it is found by.
-fn numbers_of(alloc: Global, word: &[u8]) -> Result<Vec<u64>, AllocError>
-    ensures { IfOk result (λ numbers. numbers.items ≡ path_of word.now) }
+// Whether no path of a few is there twice: they are compared where digests do not tell.
+fn are_apart(words: &[u8], brief: &PathsBrief) -> bool
+    requires few { length (words_of words.now) ≤ 32 }
+    requires brief { AreBrief brief.now (words_of words.now) }
+    ensures { result ≡ are_distinct (map path_of (words_of words.now)) }
 {
-    let mut numbers = Vec::new(alloc);
-    let (mut left, mut more) = (word, true);
-    'parts: while more {
-        let (part, rest, on) = next_part(left);
-        numbers.push(value_of(part))?;
-        left = rest;
-        more = on;
+    if are_single(&brief.digests[..brief.count]) {
+        return true;
     }
-    Ok(numbers)
+    are_apart_in_pairs(words)
 }
 
-// Whether a path is there twice, each looked up among those before it.
-fn has_repeat(alloc: Global, words: &[u8]) -> Result<bool, AllocError>
-    ensures { IfOk result (λ repeats. repeats ≡ not (are_distinct (map path_of (words_of words.now)))) }
-{
-    let mut came: BTreeSet<Vec<u64>> = BTreeSet::new(alloc);
-    let mut left = words;
-    'words: while let Some((word, rest)) = next_word(left) {
-        let numbers = numbers_of(alloc, word)?;
-        if !came.insert(numbers)? {
-            return Ok(true);
-        }
-        left = rest;
-    }
-    Ok(false)
-}
-
-// Whether no path is there twice. More of them than a rule may have are looked up, since compared in
-// pairs they could take hours: all of them in memory, or some at a time where there is none.
-pub(crate) fn are_distinct(alloc: Global, words: &[u8], brief: &PathsBrief) -> bool
+// Whether no path is there twice. More of them than a rule may have are put in order, since compared in pairs they could
+// take hours. Where there is no memory for that they are compared in pairs: then they are few (`make_room`).
+pub(crate) fn are_distinct<'a>(
+    words: &'a [u8],
+    brief: &PathsBrief,
+    room: &mut Vec<&'a [u8]>,
+) -> bool
     requires { AreBrief brief.now (words_of words.now) }
     ensures { result ≡ are_distinct (map path_of (words_of words.now)) }
 {
     if brief.count <= MOST_PATHS {
         return are_apart(words, brief);
     }
-    match has_repeat(alloc, words) {
-        Ok(repeats) => !repeats,
-        Err(_) => !come_twice(words),
+    match are_apart_in_order(room, words) {
+        Ok(apart) => apart,
+        Err(_) => are_apart_in_pairs(words),
     }
 }
 

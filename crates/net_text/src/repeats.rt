@@ -1,23 +1,23 @@
-//! Whether a path comes twice among many, without memory: as many of them as there is place for are kept in
-//! order, and all behind them are looked up.
+//! Whether a path comes twice among many. Put in order two of them that are one are neighbours. The memory for that is
+//! asked for before their line is read: a rule of so many paths has a fault, whatever comes of them, and want of memory
+//! may not stand in its place.
 
-ghost use Rattle.std.specs.Prelude.{◌≡◌, false, not, length, map, IfOk, IfErr, IfSome, IfNone, true, ◌<◌};
-ghost use Rattle.std.specs.List.{list_any};
+ghost use Rattle.std.specs.Prelude.{◌≡◌, ◌≤◌, length, map, vec_capacity, IfOk, IsOk, OnOk};
 ghost use Rattle.std.specs.Ordering.{nat_cmp};
 ghost use Rattle.std.specs.Cmp.Lexicographic.{slice_cmp};
-ghost use Rattle.net_text.specs.Lexing.{same, words_of};
+ghost use Rattle.net_text.specs.Lexing.{lines_of, words_of};
 ghost use Rattle.net_text.specs.Words.{path_of};
 ghost use Rattle.net_text.specs.Lines.{are_distinct};
-ghost use Rattle.net_text.specs.Repeating.{path_in, IsPlaceFor};
+ghost use Rattle.net_text.specs.Repeating.{path_in, AreInOrder, is_rule, HasRoom};
 
-use crate::lexing::next_word;
+use crate::lexing::{next_line, next_word, same};
 use crate::paths::next_part;
 use crate::words::value_of;
-use arrayvec::ArrayVec;
+use std::alloc::AllocError;
 use std::cmp::Ordering;
 
-// How many paths are kept at a time.
-const MOST_KEPT: usize = 16_384;
+// The paths of a line of at most so many octets are few enough to be compared in pairs.
+const MOST_PAIRED: usize = 4096;
 
 // How two paths stand to each other, by the first numbers that differ.
 fn compare(word: &[u8], other: &[u8]) -> Ordering
@@ -45,51 +45,92 @@ fn compare(word: &[u8], other: &[u8]) -> Ordering
     Ordering::Equal
 }
 
-// The place of a path among others that stand in order, or the place that it would have.
-fn place_of(kept: &[&[u8]], word: &[u8]) -> Result<usize, usize>
-    ensures found { IfOk result (λ _. list_any (λ w. same (path_of word.now) (path_in w)) kept.now ≡ true) }
-    ensures missing { IfErr result (λ place. IsPlaceFor kept.now (path_of word.now) place) }
+// How many words a line has.
+fn count_words(line: &[u8]) -> usize
+    ensures { result ≡ length (words_of line.now) }
 {
-    kept.binary_search_by(|other| compare(other, word))
+    let mut count = 0usize;
+    let mut left = line;
+    'words: while let Some((_, rest)) = next_word(left) {
+        count += 1;
+        left = rest;
+    }
+    count
 }
 
-// What is left to be asked behind the paths that there is place for; nothing where one of these comes twice.
-#[inline(never)]
-fn ask_first(words: &[u8]) -> Option<&[u8]>
-    ensures twice { IfNone result (are_distinct (map path_of (words_of words.now)) ≡ false) }
-    ensures left { IfSome result (λ rest. are_distinct (map path_of (words_of words.now)) ≡ are_distinct (map path_of (words_of rest.now))) }
-    ensures shorter { IfSome result (λ rest. 0 < length words.now → length rest.now < length words.now) }
+// Whether a line is one of a rule.
+fn is_rule(line: &[u8]) -> bool
+    ensures { result ≡ is_rule (words_of line.now) }
 {
-    let mut kept: ArrayVec<&[u8], MOST_KEPT> = ArrayVec::new();
-    let (mut left, mut behind) = (words, words);
+    match next_word(line) {
+        Some((name, _)) => same(name, b"rank"),
+        None => false,
+    }
+}
+
+/// Makes room for the paths of the line that comes next, where it is one of a rule and long.
+pub(crate) fn make_room<'a>(room: &mut Vec<&'a [u8]>, text: &'a [u8]) -> Result<(), AllocError>
+    ensures { OnOk result (HasRoom (vec_capacity room.new) (lines_of text.now)) }
+{
+    if text.is_empty() {
+        return Ok(());
+    }
+    let (line, _) = next_line(text);
+    if line.len() <= MOST_PAIRED || !is_rule(line) {
+        return Ok(());
+    }
+    room.clear();
+    room.reserve(count_words(line))
+}
+
+// The paths, in the order of their line.
+fn gather<'a>(room: &mut Vec<&'a [u8]>, words: &'a [u8]) -> Result<(), AllocError>
+    ensures paths { OnOk result (map path_in room.new.items ≡ map path_of (words_of words.now)) }
+    ensures room { length (words_of words.now) ≤ vec_capacity room.old → IsOk result }
+{
+    room.clear();
+    let mut left = words;
     'words: while let Some((word, rest)) = next_word(left) {
-        match place_of(kept.as_slice(), word) {
-            Ok(_) => return None,
-            Err(place) => {
-                if !kept.is_full() {
-                    kept.insert(place, word);
-                    behind = rest;
-                }
+        room.push(word)?;
+        left = rest;
+    }
+    Ok(())
+}
+
+// Puts paths in order.
+fn put_in_order(room: &mut Vec<&[u8]>)
+    ensures order { AreInOrder (map path_in room.new.items) }
+    ensures same { are_distinct (map path_in room.new.items) ≡ are_distinct (map path_in room.old.items) }
+{
+    room.sort_unstable_by(|word, other| compare(word, other));
+}
+
+// Whether no two of the paths are one, where they stand in order.
+fn stand_apart(paths: &[&[u8]]) -> bool
+    requires { AreInOrder (map path_in paths.now) }
+    ensures { result ≡ are_distinct (map path_in paths.now) }
+{
+    let mut left = paths;
+    'paths: while let [word, rest @ ..] = left {
+        if let [next, ..] = rest {
+            if compare(word, next) == Ordering::Equal {
+                return false;
             }
         }
         left = rest;
     }
-    if kept.is_empty() {
-        return Some(&[]);
-    }
-    Some(behind)
+    true
 }
 
-// Whether a path is there twice. It takes no memory.
-pub(crate) fn come_twice(words: &[u8]) -> bool
-    ensures { result ≡ not (are_distinct (map path_of (words_of words.now))) }
+/// Whether no path is there twice. Where there is room for them it asks for no memory.
+pub(crate) fn are_apart_in_order<'a>(
+    room: &mut Vec<&'a [u8]>,
+    words: &'a [u8],
+) -> Result<bool, AllocError>
+    ensures apart { IfOk result (λ apart. apart ≡ are_distinct (map path_of (words_of words.now))) }
+    ensures room { length (words_of words.now) ≤ vec_capacity room.old → IsOk result }
 {
-    let mut left = words;
-    'words: while !left.is_empty() {
-        match ask_first(left) {
-            None => return true,
-            Some(rest) => left = rest,
-        }
-    }
-    false
+    gather(room, words)?;
+    put_in_order(room);
+    Ok(stand_apart(room.as_slice()))
 }

@@ -1,6 +1,6 @@
 use Rattle.std.proofs.Common.{◌≡◌, ◌&&◌, false, sym, ◌∙◌}
 use Rattle.std.proofs.lemmas.Bool.{and_left, and_right}
-use Rattle.net_text.proofs.KeptLemmas.{order_end}
+use Rattle.net_text.proofs.RepeatLemmas.{order_end}
 use Rattle.net_text.proofs.repeats.compare.Goals as goal
 use Rattle.net_text.proofs.repeats.compare.Goals.{then-parts-test+else-more_others, else-parts-test}
 
