@@ -79,7 +79,8 @@ pub struct Segment {
 
 // The numbers of two octets each.
 fn read_of_two(alloc: Global, octets: &[u8]) -> Result<Numbers, AllocError>
-    ensures { IfOk result (λ numbers. numbers ≡ numbers_of Two octets.now) }
+    ensures numbers { IfOk result (λ numbers. numbers ≡ numbers_of Two octets.now) }
+    ensures short { length octets.now ≤ 16 → IsOk result }
 {
     let mut numbers = SmallVec::new(alloc);
     numbers.reserve(octets.len() / 2)?;
@@ -93,7 +94,8 @@ fn read_of_two(alloc: Global, octets: &[u8]) -> Result<Numbers, AllocError>
 
 // The numbers of four octets each.
 fn read_of_four(alloc: Global, octets: &[u8]) -> Result<Numbers, AllocError>
-    ensures { IfOk result (λ numbers. numbers ≡ numbers_of Four octets.now) }
+    ensures numbers { IfOk result (λ numbers. numbers ≡ numbers_of Four octets.now) }
+    ensures short { length octets.now ≤ 32 → IsOk result }
 {
     let mut numbers = SmallVec::new(alloc);
     numbers.reserve(octets.len() / 4)?;
@@ -106,8 +108,9 @@ fn read_of_four(alloc: Global, octets: &[u8]) -> Result<Numbers, AllocError>
 }
 
 /// The AS numbers that octets are, each of so many octets: where these are whole numbers, as
-/// [`put_numbers`] appends them. It is refused only where memory was.
+/// [`put_numbers`] appends them. It is refused only where memory was, and never for eight numbers or fewer.
 pub fn read_numbers(alloc: Global, width: Width, octets: &[u8]) -> Result<Numbers, AllocError>
+    ensures short { length octets.now ≤ asn_size width * 8 → IsOk result }
     ensures numbers { IfOk result (λ numbers. numbers ≡ numbers_of width octets.now) }
     ensures whole { (count : ℕ) → length octets.now ≡ asn_size width * count → AreNumbers width count octets.now }
 {
