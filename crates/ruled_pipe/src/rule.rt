@@ -1,9 +1,9 @@
 //! The rule of a pipe, and the kinds of step that keep it.
 //!
-//! Six kinds of step touch the queue: a push that succeeds, a pop that gives an item, a push that
-//! finds the queue full and a pop that finds it empty (both change nothing), the split of the first
-//! seat in two as the pipe is made, and the join of the two seats as it is closed. The join also asks
-//! how many items are held.
+//! Seven kinds of step touch the queue: a push that succeeds, a pop that gives an item, a push that
+//! finds the queue full, a pop that finds it empty, and the question whether it is full (these three
+//! change nothing), the split of the first seat in two as the pipe is made, and the join of the two
+//! seats as it is closed. The join also asks how many items are held.
 
 ghost use Rattle.std.specs.Prelude.{◌≡◌, true, false, List, [], ◌∷◌, ◌++◌, ⊤};
 ghost use Rattle.ruled_pipe.specs.Rule.{log, Carried, StartsWith};
