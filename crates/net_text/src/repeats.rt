@@ -105,21 +105,12 @@ fn put_in_order(room: &mut Vec<&[u8]>)
     room.sort_unstable_by(|word, other| compare(word, other));
 }
 
-// Whether no two of the paths are one, where they stand in order.
+// Whether no two of the paths are one, where they stand in order: whether each stands before the next.
 fn stand_apart(paths: &[&[u8]]) -> bool
     requires { AreInOrder (map path_in paths.now) }
     ensures { result ≡ are_distinct (map path_in paths.now) }
 {
-    let mut left = paths;
-    'paths: while let [word, rest @ ..] = left {
-        if let [next, ..] = rest {
-            if compare(word, next) == Ordering::Equal {
-                return false;
-            }
-        }
-        left = rest;
-    }
-    true
+    paths.is_sorted_by(|word, other| compare(word, other).is_lt())
 }
 
 /// Whether no path is there twice. Where there is room for them it asks for no memory.

@@ -1,4 +1,6 @@
-use Rattle.std.proofs.Common.{◌+◌, ap, sym, ◌∙◌, arith}
+use Rattle.std.proofs.Common.{◌+◌, ap, refl, sym, subst, ◌∙◌, arith}
+use Rattle.std.specs.Prelude.{IsOk}
+use Rattle.net_text.specs.declared.code.Code.TheVariants.{Memory}
 use Rattle.net_text.specs.Lexing.{lines_of}
 use Rattle.net_text.specs.Lines.{line_reading}
 use Rattle.net_text.specs.Networks.{empty_draft, last_behind}
@@ -9,6 +11,11 @@ use Rattle.net_text.proofs.draft.read_network.Goals as goal
 pub returns-in-Err-clause-err : goal.returns-in-Err-clause-err
 returns-in-Err-clause-err c =
     refuses_network (lines_of c.args.text.now) _ _ c.lines.line c.lines.draft c.next_line.result.0.now c.in-Err.code c.next_line.ensures.lines c.lines.invariant.reached c.in-Err.ensures
+
+pub returns-then-is_err-clause-err : goal.returns-then-is_err-clause-err
+returns-then-is_err-clause-err c =
+    refuses_network (lines_of c.args.text.now) _ _ c.lines.line c.lines.draft c.next_line.result.0.now Memory c.next_line.ensures.lines c.lines.invariant.reached
+    (subst IsOk (sym c.in_default.ensures) refl)
 
 pub lines-preserved : goal.lines-preserved
 lines-preserved c = record {
