@@ -1,6 +1,6 @@
 -- What a network text's reader answers.
 use Rattle.std.proofs.Common.{◌≡◌, ℕ, ◌+◌, ◌==◌, true, false, ◌<◌, List, [], ◌∷◌, length, Result, Ok, Err, refl, sym, ap, subst, ◌∙◌, inl, inr, arith}
-use Rattle.std.proofs.lemmas.Bool.{eqb-true, eqb-false}
+use Rattle.std.proofs.lemmas.Bool.{eqb-true, eqb-false, true≢false}
 use Rattle.std.specs.Prelude.{IfOk, IfErr}
 use Rattle.ranked_policy.specs.Plans.{Plan, IsNetwork}
 use Rattle.net_text.specs.declared.code.Code.{Code}
@@ -64,6 +64,10 @@ refuses_assignment net before lines left rest line made next codes.BadPrefix l h
 refuses_assignment net before lines left rest line made next codes.NotPermitted l h e = reached_fault (entry_reading net) before [] made lines left rest line next codes.NotPermitted l h e
 
 -- ---- the end of a text
+
+pub some_lines : (text : Text) → false ≡ (length text == 0) → 0 < length text
+some_lines [] e = absurd (true≢false (sym e))
+some_lines (x ∷ xs) e = omega arith
 
 pub no_lines : (text : Text) → true ≡ (length text == 0) → lines_of text ≡ []
 no_lines [] e = refl

@@ -1,6 +1,6 @@
 //! A network text, line by line.
 
-ghost use Rattle.std.specs.Prelude.{◌≡◌, ◌≢◌, ◌≤◌, IfOk, IfErr, if◌then◌else◌};
+ghost use Rattle.std.specs.Prelude.{◌≡◌, ◌≢◌, ◌<◌, ◌≤◌, ◌∷◌, length, IfOk, IfErr, if◌then◌else◌};
 ghost use Rattle.ranked_policy.specs.Plans.{IsNetwork};
 ghost use Rattle.net_text.specs.Lexing.{lines_of, is_skipped};
 ghost use Rattle.net_text.specs.Steps.{link_code};
@@ -148,6 +148,17 @@ fn last_said(text: &[u8], line: usize, last: usize) -> usize
     if is_skipped(text) { last } else { line }
 }
 
+// The first line of a text, and the lines behind it; of none an empty line.
+fn line_ahead(text: &[u8]) -> (&[u8], &[u8])
+    ensures lines { 0 < length text.now → lines_of text.now ≡ result.0.now ∷ lines_of result.1.now }
+    ensures shorter { 0 < length text.now → length result.1.now < length text.now }
+{
+    if text.is_empty() {
+        return (text, text);
+    }
+    next_line(text)
+}
+
 /// The network that a text spells.
 ///
 /// It is refused for its first faulty line; where all lines are good, for the last line that is not
@@ -163,20 +174,23 @@ pub fn read_network(alloc: Global, text: &[u8]) -> Result<Network, Refused>
     let mut room = Vec::new(alloc);
     let (mut line, mut last) = (0usize, 0usize);
     let mut left = text;
+    let (mut front, mut rest) = line_ahead(text);
     'lines: while !left.is_empty() {
-        let (front, rest) = next_line(left);
         line += 1;
         last = last_said(front, line, last);
         if let Err(code) = read_line(alloc, &mut draft, &mut room, front) {
             return Err(Refused { line, code });
         }
-        if make_room(&mut room, rest).is_err() {
+        let (next, behind) = line_ahead(rest);
+        if make_room(&mut room, next).is_err() {
             return Err(Refused {
                 line,
                 code: Code::Memory,
             });
         }
         left = rest;
+        front = next;
+        rest = behind;
     }
     finish(draft, last)
 }

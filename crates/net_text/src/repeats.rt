@@ -5,12 +5,12 @@
 ghost use Rattle.std.specs.Prelude.{◌≡◌, ◌≤◌, length, map, vec_capacity, IfOk, IsOk, OnOk};
 ghost use Rattle.std.specs.Ordering.{nat_cmp};
 ghost use Rattle.std.specs.Cmp.Lexicographic.{slice_cmp};
-ghost use Rattle.net_text.specs.Lexing.{lines_of, words_of};
+ghost use Rattle.net_text.specs.Lexing.{words_of};
 ghost use Rattle.net_text.specs.Words.{path_of};
 ghost use Rattle.net_text.specs.Lines.{are_distinct};
 ghost use Rattle.net_text.specs.Repeating.{path_in, AreInOrder, is_rule, HasRoom};
 
-use crate::lexing::{next_line, next_word, same};
+use crate::lexing::{next_word, same};
 use crate::paths::next_part;
 use crate::words::value_of;
 use std::alloc::AllocError;
@@ -68,14 +68,10 @@ fn is_rule(line: &[u8]) -> bool
     }
 }
 
-/// Makes room for the paths of the line that comes next, where it is one of a rule and long.
-pub(crate) fn make_room<'a>(room: &mut Vec<&'a [u8]>, text: &'a [u8]) -> Result<(), AllocError>
-    ensures { OnOk result (HasRoom (vec_capacity room.new) (lines_of text.now)) }
+/// Makes room for the paths of a line that comes next, where it is one of a rule and long.
+pub(crate) fn make_room<'a>(room: &mut Vec<&'a [u8]>, line: &'a [u8]) -> Result<(), AllocError>
+    ensures { OnOk result (HasRoom (vec_capacity room.new) line.now) }
 {
-    if text.is_empty() {
-        return Ok(());
-    }
-    let (line, _) = next_line(text);
     if line.len() <= MOST_PAIRED || !is_rule(line) {
         return Ok(());
     }

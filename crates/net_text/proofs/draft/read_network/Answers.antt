@@ -5,25 +5,29 @@ use Rattle.net_text.specs.Lexing.{lines_of}
 use Rattle.net_text.specs.Lines.{line_reading}
 use Rattle.net_text.specs.Networks.{empty_draft, last_behind}
 use Rattle.net_text.proofs.TextLemmas.{reached_on, reached_end}
-use Rattle.net_text.proofs.NetworkLemmas.{refuses_network, spells_network, fails_network, no_lines, both_ok, both_err}
+use Rattle.net_text.proofs.NetworkLemmas.{refuses_network, spells_network, fails_network, some_lines, no_lines, both_ok, both_err}
 use Rattle.net_text.proofs.draft.read_network.Goals as goal
 
 pub returns-in-Err-clause-err : goal.returns-in-Err-clause-err
 returns-in-Err-clause-err c =
-    refuses_network (lines_of c.args.text.now) _ _ c.lines.line c.lines.draft c.next_line.result.0.now c.in-Err.code c.next_line.ensures.lines c.lines.invariant.reached c.in-Err.ensures
+    refuses_network (lines_of c.args.text.now) _ _ c.lines.line c.lines.draft c.lines.front.now c.in-Err.code (c.lines.invariant.ahead (some_lines c.lines.left.now c.lines-test.ensures)) c.lines.invariant.reached c.in-Err.ensures
 
 pub returns-then-is_err-clause-err : goal.returns-then-is_err-clause-err
 returns-then-is_err-clause-err c =
-    refuses_network (lines_of c.args.text.now) _ _ c.lines.line c.lines.draft c.next_line.result.0.now Memory c.next_line.ensures.lines c.lines.invariant.reached
+    refuses_network (lines_of c.args.text.now) _ _ c.lines.line c.lines.draft c.lines.front.now Memory (c.lines.invariant.ahead (some_lines c.lines.left.now c.lines-test.ensures)) c.lines.invariant.reached
     (subst IsOk (sym c.in_default.ensures) refl)
 
 pub lines-preserved : goal.lines-preserved
-lines-preserved c = record {
-  reached = reached_on (λ line d words. line_reading d words) 0 (empty_draft (lines_of c.args.text.now)) c.lines.draft c.read_line.new.draft _ _ _ c.lines.line c.next_line.result.0.now c.next_line.ensures.lines c.lines.invariant.reached c.in_default.ensures;
-  last = c.lines.invariant.last ∙ ap (last_behind c.lines.last c.lines.line) c.next_line.ensures.lines
-      ∙ ap (λ n. last_behind n (c.lines.line + 1) (lines_of c.next_line.result.1.now)) (sym c.last_said-last.ensures);
-  inside = omega (arith, c.lines.invariant.inside, c.next_line.ensures.shorter);
-}
+lines-preserved c =
+    let some = some_lines c.lines.left.now c.lines-test.ensures in
+    let lines = c.lines.invariant.ahead some in
+    record {
+      reached = reached_on (λ line d words. line_reading d words) 0 (empty_draft (lines_of c.args.text.now)) c.lines.draft c.read_line.new.draft _ _ _ c.lines.line c.lines.front.now lines c.lines.invariant.reached c.in_default.ensures;
+      last = c.lines.invariant.last ∙ ap (last_behind c.lines.last c.lines.line) lines ∙ ap (λ n. last_behind n (c.lines.line + 1) (lines_of c.lines.rest.now)) (sym c.last_said-last.ensures);
+      ahead = c.line_ahead-next.ensures.lines;
+      shorter = c.line_ahead-next.ensures.shorter;
+      inside = omega (arith, c.lines.invariant.inside, c.lines.invariant.shorter some);
+    }
 
 pub returns-clause-ok : goal.returns-clause-ok
 returns-clause-ok c =
