@@ -21,10 +21,11 @@ NEEDED = [
     "run_model",
     "outbox",
     "snap_marker",
+    "snap_collector",
     "stable_paths",
     "router_model",
     "router_side",
     "router_core",
 ]
 
-run("router", "router_bench", NEEDED, "outbox prefix_lanes ranked_policy router_core router_model anyhow")
+run("router", "router_bench", NEEDED, "bgp_values outbox prefix_lanes ranked_policy router_core router_model anyhow")

@@ -9,4 +9,4 @@ from beside import run
 
 NEEDED = ["bgp_values", "marker_lanes", "prefix_lanes", "ranked_policy", "bgp_codec", "rib_tables"]
 
-run("tables", "tables_bench", NEEDED, "bgp_codec prefix_lanes ranked_policy rib_tables anyhow")
+run("tables", "tables_bench", NEEDED, "bgp_codec bgp_values prefix_lanes ranked_policy rib_tables anyhow")
