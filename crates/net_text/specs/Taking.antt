@@ -1,4 +1,4 @@
--- What is left of a word, and which words can be taken into memory as a path.
+-- What is left of a word, which words can be taken into memory as a path, and what a first reading tells of paths.
 use Rattle.std.specs.Prelude.{◌≡◌, ◌≤◌, ℕ, ◌+◌, ◌*◌, ◌^◌, ◌%◌, ◌&&◌, not, nat_le, Bool, true, false, List, [], ◌∷◌, length, map, take, Result, Ok, Err, if◌then◌else◌}
 use Rattle.std.specs.List.{list_all}
 use Rattle.bgp_values.specs.declared.width.Width.{Width}

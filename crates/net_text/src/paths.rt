@@ -1,5 +1,5 @@
-//! Words that are paths. They are judged as they stand in the text, and taken into memory only once
-//! their whole line is good.
+//! Words that are paths. The numbers of one that has no more than it may are read once to be judged, those of
+//! another as often as something is asked of it. Paths are taken into memory only once their whole line is good.
 
 ghost use Rattle.std.specs.Prelude.{◌≡◌, ◌<◌, ◌≤◌, ◌==◌, ◌∷◌, [], true, false, not, nat_le, length, map, take, Ok, Err, IfOk, IfErr, IfSome, if◌then◌else◌};
 ghost use Rattle.std.specs.List.{list_all, list_any, All};

@@ -6,8 +6,8 @@
 //! a growth was refused or the caller has no room (`specs/Calling`), after every other refusal.
 //!
 //! Each draft is made by value, judged, given room, and then carried out by appends alone
-//! (`router_side`). A second in which no timer runs out, and an UPDATE that tells a path, are done
-//! without one.
+//! (`router_side`). A second in which no timer runs out, and a path that is told, have none; nor has a
+//! path that is heard in Established while no snapshot is recorded.
 #![tactic(auto)]
 
 mod choices;

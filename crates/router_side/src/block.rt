@@ -1,5 +1,6 @@
-//! UPDATEs one behind the other, in the octets that spell them, in room that never grows. One that announces a path
-//! is stored without its first octets, which its length and the next octet tell.
+//! UPDATEs one behind the other, in octets that tell which they are, in room that never grows. An announcement as a
+//! router tells it, where it is heard or told as a [`Route`], is stored without its first octets, which its length and
+//! the next octet tell (`told_front`). All others are stored whole, also an announcement that is told as a message.
 
 ghost use Rattle.std.specs.Prelude.{ℕ, List, ◌≡◌, ◌+◌, ◌≤◌, ◌∷◌, ◌++◌, ◌↔◌, [], true, length, get_or, Ok, IfOk, OnOk, IsTrue, vec_len, vec_capacity};
 ghost use Rattle.bgp_codec.specs.declared.message.Message.TheVariants.{UpdateMsg};

@@ -1,4 +1,4 @@
-//! The UPDATEs of a side, by incarnation, in the octets that spell them.
+//! The UPDATEs of a side, by incarnation, in octets that tell which they are.
 
 ghost use Rattle.std.specs.Prelude.{◌≡◌, ◌≤◌, ◌++◌, [], true, length, Ok, IfOk, OnOk};
 ghost use Rattle.bgp_codec.specs.declared.message.Message.TheVariants.{UpdateMsg};

@@ -12,9 +12,9 @@
 //! its octets ([`SideEnd::tell_route`], [`read_frame`], [`SideEnd::route_in_front`], [`SideEnd::act`];
 //! `specs/Layout`, `specs/Acting`).
 //!
-//! What a draft says is kept in short (`specs/Sayings`): a message is encoded once, in the outbox.
-//! Each UPDATE that is acted on or sent is kept in its octets, behind the others of the side
-//! ([`History`]), and read again where it is asked for.
+//! What a draft says is kept in short (`specs/Sayings`): a message is encoded once. Each UPDATE that is
+//! acted on or sent is kept in octets that tell which it is, behind the others of the side ([`History`]),
+//! and read again where it is asked for.
 //!
 //! Left out: which peers there are, stamps, tables, and what a router records.
 #![tactic(auto)]

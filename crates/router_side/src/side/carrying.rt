@@ -147,7 +147,7 @@ fn telling(given: Given) -> Option<Message>
     }
 }
 
-// The UPDATE in front joins those acted on, in the octets of its frame. It takes no memory.
+// The UPDATE in front joins those acted on, by the octets of its frame. It takes no memory.
 pub(super) fn keep_front(acted: &mut History, framer: &Framer, epoch: u32)
     requires waits { is_waiting framer.now.octets ≡ true }
     requires front { (w : widths.Width) × (u : updates.Update) × IsInFront w framer.now.octets (HasUpdate u) }
@@ -165,7 +165,7 @@ pub(super) fn keep_front(acted: &mut History, framer: &Framer, epoch: u32)
     }
 }
 
-// The UPDATE at hand, which stands in front, joins those acted on where it is one of them, in the octets of
+// The UPDATE at hand, which stands in front, joins those acted on where it is one of them, by the octets of
 // its frame. It takes no memory.
 fn count_front(acted: &mut History, framer: &Framer, acts: bool, given: &Given, epoch: u32)
     requires waits { is_waiting framer.now.octets ≡ true }
