@@ -14,7 +14,7 @@ here = os.path.dirname(os.path.abspath(__file__))
 top = os.path.dirname(here)
 program = os.path.join(top, "crates/bgpnet/out/bgpnet")
 
-TIME, MEMORY = 2.0, 1.5
+TIME, MEMORY = 2.2, 1.75
 EARLY = 40
 
 def run(words, text, out):
