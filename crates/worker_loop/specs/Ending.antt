@@ -1,5 +1,5 @@
 -- Why a worker ended before its last chore, by what it is in the end: the call that ended it left its router as it was.
-use Rattle.std.specs.Prelude.{ℕ, ◌≡◌, ◌≤◌, ◌<◌, ◌⊎◌, List, [], ◌∷◌, ◌++◌, length, Option, None, Some}
+use Rattle.std.specs.Prelude.{ℕ, ◌≡◌, ◌≤◌, ◌<◌, ◌⊎◌, List, [], ◌∷◌, ◌++◌, length, vec_capacity, Option, None, Some}
 use Rattle.std.specs.List.{Contains}
 use Rattle.std.specs.Result.{result_err}
 use Rattle.outbox.specs.declared.item.Item.{Item}
@@ -35,11 +35,13 @@ lost (error.Held v) = fault.Refused
 lost error.StampEnd = fault.Refused
 lost error.EpochEnd = fault.Refused
 
--- memory was wanting to write down the next of so many chores
-abbrev pub EndsBetween : ℕ → List Chore → WorkerFault → Type 0
-EndsBetween turns given why = (why ≡ fault.Memory) × (length given < turns)
-
 module _ {L D G : Type 0} where
+  -- memory was wanting to write down the next of so many chores: some are left, and the list of those given has no room for one more
+  pub record EndsBetween (turns : ℕ) (given : List Chore) (w : Worker L D G) (why : WorkerFault) : Type 0 where
+    pub memory : why ≡ fault.Memory
+    pub left : length given < turns
+    pub full : vec_capacity w.journal.chores ≤ length given
+
   -- a call of its router ends it so, in every setting of the network
   abbrev pub EndsCall : Worker L D G → Call → WorkerFault → Type 0
   EndsCall w call why = (g : Setting) → g.net ≡ w.router.net → IsSetting g → ending (answer g w.router.number (plain_of w.router) call) ≡ Some why
@@ -87,4 +89,4 @@ module _ {L D G : Type 0} where
   pub record EndsFor (taken_from : L → ℕ → List Item) (turns : ℕ) (given : List Chore) (w : Worker L D G) (why : WorkerFault) : Type 0 where
     pub chores : w.journal.chores.items ≡ given
     pub few : length given ≤ turns
-    pub ends : EndsBetween turns given why ⊎ EndsLast taken_from given w why
+    pub ends : EndsBetween turns given w why ⊎ EndsLast taken_from given w why

@@ -25,7 +25,7 @@ impl<'a, L: Lines, D: Desk, G: Gate> Worker<'a, L, D, G> {
     ghost use Rattle.router_model.specs.Calls as calls;
     ghost use Rattle.worker_loop.specs.Whole.{seen_of, IsSameWorker, IsSameBut};
     ghost use Rattle.worker_loop.specs.Ending.{EndsCall, EndsMeet, EndsMeeting, EndsTurn, EndsChore};
-    ghost use Rattle.std.specs.Prelude.{length, [], ◌∷◌, ◌++◌};
+    ghost use Rattle.std.specs.Prelude.{◌≤◌, length, vec_capacity, [], ◌∷◌, ◌++◌};
 
     // The next chore, written down.
     pub(super) fn next_chore<R: Wait>(&mut self, rt: &R, turn: u32) -> Result<Chore, WorkerFault>
@@ -37,6 +37,7 @@ impl<'a, L: Lines, D: Desk, G: Gate> Worker<'a, L, D, G> {
         ensures why { IfErr result (λ why. why ≡ WorkerFault.Memory) }
         ensures none { OnErr result (G.given self.new.gate ≡ G.given self.old.gate) }
         ensures as_they_were { OnErr result (self.new.journal.chores.items ≡ self.old.journal.chores.items) }
+        ensures full { OnErr result (vec_capacity self.new.journal.chores ≤ length self.new.journal.chores.items) }
     {
         self.journal.chores.reserve(1)?;
         let chore = self.gate.next(rt, self.router.number(), turn);

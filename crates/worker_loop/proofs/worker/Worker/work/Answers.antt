@@ -1,4 +1,5 @@
-use Rattle.std.proofs.Common.{◌≢◌, inl, inr, length, subst, ◌∙◌, ap, sym, ◌++◌, ◌∷◌, []}
+use Rattle.std.proofs.Common.{◌≢◌, ◌≤◌, List, vec_capacity, inl, inr, length, subst, ◌∙◌, ap, sym, ◌++◌, ◌∷◌, []}
+use Rattle.worker_loop.specs.declared.chore.Chore.{Chore}
 use Rattle.worker_loop.specs.declared.chore.Chore.TheVariants.{Stop}
 use Rattle.worker_loop.specs.Following.{Obeys}
 use Rattle.worker_loop.specs.Ending.{EndsChore}
@@ -43,10 +44,11 @@ returns-in_err-chore-clause-ended g c =
     let i = c.loop-turn.invariant in
     let n = c.in_err-chore.ensures in
     let few = few_given (g.G.Gate.given c.loop-turn.self.gate) (g.G.Gate.given c.next_chore.new.self.gate) c.loop-turn.turn c.args.turns n.none i.counted c.loop-turn-test.true in
+    let chores = n.as_they_were ∙ i.chores ∙ sym n.none in
     if_err c.from_residual.result _ _ (λ ends is. record {
-      chores = n.as_they_were ∙ i.chores ∙ sym n.none;
+      chores = chores;
       few = few_is_most (length (g.G.Gate.given c.next_chore.new.self.gate)) c.args.turns few;
-      ends = inl (is ∙ n.why, few);
+      ends = inl (record { memory = is ∙ n.why; left = few; full = subst (λ (cs : List Chore). vec_capacity c.next_chore.new.self.journal.chores ≤ length cs) chores n.full });
     }) c.from_residual.ensures.1
 
 pub returns-in_err-obey-clause-ended : goal.returns-in_err-obey-clause-ended
