@@ -1,18 +1,32 @@
 -- How the workers ended, and why there is no record.
-use Rattle.std.proofs.Common.{◌≡◌, ℕ, suc, ◌<◌, arith, List, [], ◌∷◌, length, map, refl, ◌∙◌, Option, None, Some}
-use Rattle.std.specs.Prelude.{IfSome, slice_index_or}
+use Rattle.std.proofs.Common.{◌≡◌, ℕ, suc, ◌<◌, arith, List, [], ◌∷◌, length, map, refl, ap, ◌∙◌, inl, inr, Option, None, Some}
+use Rattle.std.specs.Prelude.{IfNone, IfSome, IfOk, IfErr, IsErrAnd, Result, Ok, Err, slice_index_or}
 use Rattle.std.specs.List.{AllByRecursion}
-use Rattle.ranked_policy.specs.Plans.{Plan, numbers}
+use Rattle.ranked_policy.specs.Plans.{Plan, IsNetwork, numbers}
 use Rattle.worker_loop.specs.declared.chore.Chore.{Chore}
 use Rattle.worker_loop.specs.declared.worker.WorkerFault.{WorkerFault}
 use Rattle.worker_loop.specs.declared.worker.WorkerFault.TheVariants as worker
 use Rattle.worker_loop.specs.Whole.{IsLaterWorker}
 use Rattle.net_workers.specs.declared.record.RunFault.{RunFault}
 use Rattle.net_workers.specs.declared.record.RunFault.TheVariants as fault
+use Rattle.net_workers.specs.declared.record.Worked.{Worked}
 use Rattle.net_workers.specs.declared.running.Ended.{Ended}
 use Rattle.net_workers.specs.Lanes.{wires_of}
-use Rattle.net_workers.specs.Ran.{IsFresh, Ceased, HaveEnded, FaultOf, fault_of, or_else, first_fault}
+use Rattle.net_workers.specs.Dealt.{AreDealt}
+use Rattle.net_workers.specs.Ran.{IsFresh, Ran, Ceased, worked_of, lines_of, fault_of, or_else, first_fault}
+use Rattle.net_workers.specs.Faults.{HaveEnded, IsFaultOf, FaultOf}
 use Rattle.net_workers.proofs.Records.{all_by}
+
+-- ---- a fault of a worker
+
+not_limits_by : (u : ℕ) (f : Option WorkerFault) (rest : Option RunFault) → (rest ≡ Some fault.BadLimits → ⊥) → or_else (fault_of u f) rest ≡ Some fault.BadLimits → ⊥
+not_limits_by u None rest other h = other h
+not_limits_by u (Some worker.Memory) rest other h = cc
+not_limits_by u (Some worker.Refused) rest other h = cc
+
+not_limits : {G : Type 0} → (ends : List (Ended G)) → first_fault ends ≡ Some fault.BadLimits → ⊥
+not_limits [] h = cc
+not_limits (e ∷ es) h = not_limits_by e.worker.router.number e.fault (first_fault es) (not_limits es) h
 
 never_differs_by : (u : ℕ) (f : Option WorkerFault) (rest : Option RunFault) → (rest ≡ Some fault.BoardDiffers → ⊥) → or_else (fault_of u f) rest ≡ Some fault.BoardDiffers → ⊥
 never_differs_by u None rest other h = other h
@@ -22,6 +36,35 @@ never_differs_by u (Some worker.Refused) rest other h = cc
 never_differs : {G : Type 0} → (ends : List (Ended G)) → first_fault ends ≡ Some fault.BoardDiffers → ⊥
 never_differs [] h = cc
 never_differs (e ∷ es) h = never_differs_by e.worker.router.number e.fault (first_fault es) (never_differs es) h
+
+-- ---- results
+
+pub ok_so : {A E : Type 0} → (r : Result A E) (P Q : A → Type 0) → ((x : A) → P x → Q x) → IfOk r P → IfOk r Q
+ok_so (Ok x) P Q f h = f x h
+ok_so (Err e) P Q f h = tt
+
+pub err_so : {A E : Type 0} → (r : Result A E) (P Q : E → Type 0) → ((e : E) → P e → Q e) → IfErr r P → IfErr r Q
+err_so (Ok x) P Q f h = tt
+err_so (Err e) P Q f h = f e h
+
+-- memory was wanting where no worker has a fault
+pub wants_memory : {A G : Type 0} → (r : Result A RunFault) (ends : List (Ended G)) → first_fault ends ≡ None → IsErrAnd r (λ why. why ≡ fault.Memory) → IfErr r (IsFaultOf ends)
+wants_memory (Ok x) ends quiet h = tt
+wants_memory (Err why) ends quiet h = inr (quiet, inl h)
+
+-- no fault of workers is one of limits
+pub is_inside : {G : Type 0} → (ends : List (Ended G)) (why : RunFault) → IsFaultOf ends why → why ≡ fault.BadLimits → ⊥
+is_inside ends fault.BadLimits (inl first) is = not_limits ends first
+is_inside ends fault.BadLimits (inr (quiet, inl wants)) is = cc
+is_inside ends fault.BadLimits (inr (quiet, inr differs)) is = cc
+is_inside ends fault.Memory h is = cc
+is_inside ends (fault.WorkerRefused u) h is = cc
+is_inside ends fault.BoardDiffers h is = cc
+
+-- what the gates of workers were told, in their record too
+pub worked_told : {G T : Type 0} → (told : G → T) (ends : List (Ended G)) → map (λ (w : Worked G). told w.gate) (map worked_of ends) ≡ map (λ (e : Ended G). told e.worker.gate) ends
+worked_told told [] = refl
+worked_told told (e ∷ es) = ap (λ ts. told e.worker.gate ∷ ts) (worked_told told es)
 
 module _ {G : Type 0} (given : G → List Chore) (plan : Plan) (turns : ℕ) where
   abbrev Later : List (Ended G) → List (Ended G) → Type 0
@@ -50,15 +93,23 @@ module _ {G : Type 0} (given : G → List Chore) (plan : Plan) (turns : ℕ) whe
   pub have_ended : (before after : List (Ended G)) → length after ≡ length before
       → ((i : ℕ) (d : Ended G) → i < length before → IsLaterWorker wires_of (slice_index_or before i d).worker (slice_index_or after i d).worker)
       → ((i : ℕ) (d : Ended G) → i < length before → IfSome (slice_index_or after i d).fault (Ceased given turns (slice_index_or after i d).worker))
-      → map (λ e. e.worker.router.number) before ≡ numbers plan.routers → AllByRecursion (λ e. IsFresh given plan e.worker) before → HaveEnded given plan turns after
-  have_ended before after many later ended routers fresh = record {
+      → ((i : ℕ) (d : Ended G) → i < length before → IfNone (slice_index_or after i d).fault (Ran given turns (slice_index_or before i d).worker (slice_index_or after i d).worker))
+      → IsNetwork plan → map (λ e. e.worker.router.number) before ≡ numbers plan.routers → AllByRecursion (λ e. IsFresh given plan e.worker) before → AreDealt plan plan.links (map lines_of before)
+      → HaveEnded given plan turns after
+  have_ended before after many later ended ran network routers fresh dealt = record {
     routers = numbers_stay before after many later ∙ routers;
     nets = nets_stay before after many later fresh;
     faults = all_by (λ e. IfSome e.fault (Ceased given turns e.worker)) after (λ i d below. ended i d (omega (arith, many, below)));
+    ran = record { network = network; before = before; routers = routers; fresh = fresh; dealt = dealt; many = many; ran = ran };
   }
 
-  pub fault_is : (ends : List (Ended G)) (why : RunFault) → HaveEnded given plan turns ends → first_fault ends ≡ Some why → FaultOf given plan turns why
-  fault_is ends fault.Memory h is = tt
-  fault_is ends fault.BadLimits h is = tt
-  fault_is ends (fault.WorkerRefused u) h is = (ends, h, is)
-  fault_is ends fault.BoardDiffers h is = absurd (never_differs ends is)
+  pub fault_is : {T : Type 0} → (told : G → T) (tellings : List T) (ends : List (Ended G)) (why : RunFault) → HaveEnded given plan turns ends
+      → map (λ e. told e.worker.gate) ends ≡ tellings → IsFaultOf ends why → FaultOf given told plan turns tellings why
+  fault_is told tellings ends fault.Memory h same is = tt
+  fault_is told tellings ends fault.BadLimits h same is = tt
+  fault_is told tellings ends (fault.WorkerRefused u) h same (inl first) = (ends, h, same, first)
+  fault_is told tellings ends (fault.WorkerRefused u) h same (inr (quiet, inl wants)) = absurd cc
+  fault_is told tellings ends (fault.WorkerRefused u) h same (inr (quiet, inr differs)) = absurd cc
+  fault_is told tellings ends fault.BoardDiffers h same (inl first) = absurd (never_differs ends first)
+  fault_is told tellings ends fault.BoardDiffers h same (inr (quiet, inl wants)) = absurd cc
+  fault_is told tellings ends fault.BoardDiffers h same (inr (quiet, inr differs)) = (ends, h, same, quiet)

@@ -225,7 +225,7 @@ only plan (o ∷ os) u absent all =
 module _ {G T : Type 0} (told : G → T) where
   same_told : (before after : List (Ended G)) → length after ≡ length before
       → ((i : ℕ) (d : Ended G) → i < length before → told (slice_index_or after i d).worker.gate ≡ told (slice_index_or before i d).worker.gate)
-      → map (λ (w : Worked G). told w.gate) (map worked_of after) ≡ map told (map (λ (e : Ended G). e.worker.gate) before)
+      → map (λ (e : Ended G). told e.worker.gate) after ≡ map told (map (λ (e : Ended G). e.worker.gate) before)
   same_told [] [] many kept = refl
   same_told [] (a ∷ ends) many kept = absurd (omega (arith, many))
   same_told (b ∷ bs) [] many kept = absurd (omega (arith, many))
@@ -235,11 +235,10 @@ module _ {G T : Type 0} (told : G → T) where
       λ i. here i ∷ rest i
 
   -- router by router those that were given
-  pub gates_are : (before after : List (Ended G)) (done : List (Worked G)) (gates : List G) → length after ≡ length before
+  pub gates_are : (before after : List (Ended G)) (gates : List G) → length after ≡ length before
       → ((i : ℕ) (d : Ended G) → i < length before → told (slice_index_or after i d).worker.gate ≡ told (slice_index_or before i d).worker.gate)
-      → done ≡ map worked_of after → map (λ (e : Ended G). e.worker.gate) before ≡ gates → map (λ (w : Worked G). told w.gate) done ≡ map told gates
-  gates_are before after done gates many kept is given =
-      ap (map (λ (w : Worked G). told w.gate)) is ∙ same_told before after many kept ∙ ap (map told) given
+      → map (λ (e : Ended G). e.worker.gate) before ≡ gates → map (λ (e : Ended G). told e.worker.gate) after ≡ map told gates
+  gates_are before after gates many kept given = same_told before after many kept ∙ ap (map told) given
 
 -- ---- the record
 

@@ -5,3 +5,5 @@ pub mod Runs
 pub mod Ways
 pub mod Dealt
 pub mod Called
+pub mod Faults
+pub mod Offering

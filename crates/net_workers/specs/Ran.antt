@@ -1,5 +1,5 @@
 -- What each worker did from its first chore to its last.
-use Rattle.std.specs.Prelude.{ℕ, ◌≡◌, ◌≤◌, ◌<◌, ◌==◌, true, cond, List, [], ◌∷◌, length, map, filter, Option, None, Some, IfSome}
+use Rattle.std.specs.Prelude.{ℕ, ◌≡◌, ◌≤◌, ◌<◌, ◌==◌, true, cond, List, [], ◌∷◌, length, map, filter, Option, None, Some}
 use Rattle.std.specs.List.{AllByRecursion}
 use Rattle.ranked_policy.specs.Plans.{IsRouter, numbers}
 use Rattle.snap_marker.specs.Recordings.{MadeOffer}
@@ -123,20 +123,6 @@ first_fault (e ∷ es) = or_else (fault_of e.worker.router.number e.fault) (firs
 -- why a worker ended before its last chore
 abbrev pub Ceased : {G : Type 0} → (G → List Chore) → ℕ → Worker Ends Place G → WorkerFault → Type 0
 Ceased given turns w why = EndsFor (λ e. taken_of e.lanes.items) turns (given w.gate) w why
-
--- every worker of the network has ended, by rising router, each that has a fault for it
-pub record HaveEnded {G : Type 0} (given : G → List Chore) (plan : Plan) (turns : ℕ) (ends : List (Ended G)) : Type 0 where
-  pub routers : map (λ e. e.worker.router.number) ends ≡ numbers plan.routers
-  pub nets : AllByRecursion (λ e. e.worker.router.net ≡ plan) ends
-  pub faults : AllByRecursion (λ e. IfSome e.fault (Ceased given turns e.worker)) ends
-
--- why there is no record: the worker of the least router that has a fault was refused; or none has a fault, and the board differs.
--- Want of memory is a worker's or that of what is done around them
-abbrev pub FaultOf : {G : Type 0} → (G → List Chore) → Plan → ℕ → RunFault → Type 0
-FaultOf given plan turns fault.Memory = Unit {0}
-FaultOf given plan turns fault.BadLimits = Unit {0}
-FaultOf {G} given plan turns (fault.WorkerRefused u) = (ends : List (Ended G)) × HaveEnded given plan turns ends × (first_fault ends ≡ Some (fault.WorkerRefused u))
-FaultOf {G} given plan turns fault.BoardDiffers = (ends : List (Ended G)) × HaveEnded given plan turns ends × (first_fault ends ≡ None)
 
 -- the offers of a list that a router made are those of its journal
 abbrev pub OffersOf : {G : Type 0} → List Made → Ended G → Type 0

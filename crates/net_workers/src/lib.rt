@@ -18,8 +18,9 @@ mod record;
 mod running;
 
 pub use ends::{Ends, Lane};
-pub use net::run_net;
+pub use net::{record_of, run_net};
 pub use offer_board::Made;
 pub use place::{Board, Place};
 pub use record::{Journal, Limits, MOST_TURNS, Record, RunFault, Worked};
+pub use running::Ended;
 pub use worker_loop::{Chore, Entry, Gate, ScriptGate};

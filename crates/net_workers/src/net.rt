@@ -6,7 +6,9 @@ ghost use Rattle.ranked_policy.specs.Plans.{IsRouter};
 ghost use Rattle.snap_marker.specs.Parts.{router_of};
 ghost use Rattle.snap_collector.specs.Collector.{AreMembers, made_for, with_offers};
 ghost use Rattle.offer_board.specs.Boards.{offers_in};
-ghost use Rattle.net_workers.specs.Ran.{first_fault, FaultOf, worked_of, lines_of, OffersOf, AreLimits, IsRecord};
+ghost use Rattle.net_workers.specs.Faults.{HaveEnded, IsFaultOf, FaultOf};
+ghost use Rattle.net_workers.specs.Gathered.{all_events, IsSorted};
+ghost use Rattle.net_workers.specs.Ran.{first_fault, worked_of, lines_of, passed_by, OffersOf, AreLimits, IsRecord};
 ghost use Rattle.net_workers.specs.Runs.{RunKeepsPromises};
 ghost use Rattle.net_workers.specs.Ways.{AreWays, passed_in};
 
@@ -116,6 +118,80 @@ fn are_limits(network: &Network, turns: u32, gates: usize) -> bool
     turns > 0 && turns <= MOST_TURNS && gates == network.routers().len()
 }
 
+// The workers of a network, each run in a thread of its own to its end.
+fn ended_workers<'a, R, G>(
+    rt: &R,
+    alloc: Global,
+    network: &'a Network,
+    gates: Vec<G>,
+    turns: u32,
+    board: &Board,
+) -> Result<Vec<Ended<'a, G>>, AllocError>
+where
+    R: Threads + Wait + Sync,
+    G: Gate + Send + Drop,
+    requires fresh { AllByRecursion (λ gate. G.given gate ≡ []) gates.items }
+    requires many { length gates.items ≡ length network.now.routers }
+    ensures ended { IfOk result (λ workers. HaveEnded G.given network.now turns workers.items) }
+    ensures told { IfOk result (λ workers. map (λ e. G.told e.worker.gate) workers.items ≡ map G.told gates.items) }
+{
+    let mut workers = new_workers(alloc, network, gates)?;
+    run_all(rt, board, turns, &mut workers);
+    Ok(workers)
+}
+
+/// The record of workers that have ended, or why there is none.
+///
+/// Refused with the fault of the least router that has one. Where none has, refused
+/// [`RunFault::BoardDiffers`] where the offers of the board are not those of the journals, and
+/// [`RunFault::Memory`] where a growth was refused. Nothing is handed back then.
+///
+/// Premise: the workers are those of the network, each begun as one that did nothing and run to its end.
+pub fn record_of<'a, R, G>(
+    rt: &R,
+    alloc: Global,
+    network: &'a Network,
+    board: BoardState,
+    workers: Vec<Ended<'a, G>>,
+) -> Result<Record<'a, G>, RunFault>
+where
+    R: Wait,
+    G: Gate + Drop,
+    requires ended { (turns : ℕ) × HaveEnded G.given network.now turns workers.items }
+    // The first fault is answered; memory is wanting, or the board differs, only where there is none.
+    ensures fault { IfErr result (IsFaultOf workers.entry.items) }
+    ensures none { OnOk result (first_fault workers.entry.items ≡ None) }
+    // The record is that of these workers, and its collector has the offers of this board.
+    ensures worked { IfOk result (λ r. r.workers.items ≡ map worked_of workers.entry.items) }
+    ensures passed { IfOk result (λ r. passed_by workers.entry.items ≡ passed_in r.ways.items) }
+    ensures sorted { IfOk result (λ r. IsSorted (all_events r.workers.items) r.gathered.items) }
+    ensures collected { IfOk result (λ r. made_for r.collector ≡ with_offers (λ s. []) (offers_in board.offers)) }
+    ensures ways { IfOk result (λ r. AreWays network.now r.ways.items) }
+    ensures recorded { (turns : ℕ) → HaveEnded G.given network.now turns workers.entry.items
+        → IfOk result (λ r. IsRecord G.given network.now turns (passed_in r.ways.items) r.workers.items r.collector r.gathered.items) }
+    ensures promises { IfOk result (λ r. RunKeepsPromises network.now (passed_in r.ways.items) r.workers.items r.collector r.gathered.items) }
+{
+    what_follows_is_done();
+    records_are_runs::<G>();
+    match first_fault(workers.as_slice()) {
+        Some(fault) => return Err(fault),
+        None => {}
+    }
+    if !are_known(network, board.offers()) || !agrees(&board, workers.as_slice()) {
+        return Err(RunFault::BoardDiffers);
+    }
+    let (workers, ends) = parted(alloc, workers)?;
+    let ways = close_all(rt, alloc, network, ends)?;
+    let gathered = gather(alloc, workers.as_slice())?;
+    let collector = collect(alloc, network, board.into_offers())?;
+    Ok(Record {
+        workers,
+        ways,
+        collector,
+        gathered,
+    })
+}
+
 // Runs a network within its limits.
 fn run_within<'a, R, G>(
     rt: &R,
@@ -130,35 +206,15 @@ where
     requires fresh { AllByRecursion (λ gate. G.given gate ≡ []) gates.items }
     requires limits { AreLimits network.now turns (length gates.items) }
     ensures other { IfErr result (λ why. why ≢ RunFault.BadLimits) }
-    ensures fault { IfErr result (FaultOf G.given network.now turns) }
+    ensures fault { IfErr result (FaultOf G.given G.told network.now turns (map G.told gates.items)) }
     ensures told { IfOk result (λ r. map (λ w. G.told w.gate) r.workers.items ≡ map G.told gates.items) }
     ensures ways { IfOk result (λ r. AreWays network.now r.ways.items) }
     ensures recorded { IfOk result (λ r. IsRecord G.given network.now turns (passed_in r.ways.items) r.workers.items r.collector r.gathered.items) }
     ensures promises { IfOk result (λ r. RunKeepsPromises network.now (passed_in r.ways.items) r.workers.items r.collector r.gathered.items) }
 {
-    what_follows_is_done();
-    records_are_runs::<G>();
     let board: Board = Mutex::new(BoardState::new(alloc, network)?);
-    let mut workers = new_workers(alloc, network, gates)?;
-    run_all(rt, &board, turns, &mut workers);
-    match first_fault(workers.as_slice()) {
-        Some(fault) => return Err(fault),
-        None => {}
-    }
-    let board = board.into_inner();
-    if !are_known(network, board.offers()) || !agrees(&board, workers.as_slice()) {
-        return Err(RunFault::BoardDiffers);
-    }
-    let (workers, ends) = parted(alloc, workers)?;
-    let ways = close_all(rt, alloc, network, ends)?;
-    let gathered = gather(alloc, workers.as_slice())?;
-    let collector = collect(alloc, network, board.into_offers())?;
-    Ok(Record {
-        workers,
-        ways,
-        collector,
-        gathered,
-    })
+    let workers = ended_workers(rt, alloc, network, gates, turns, &board)?;
+    record_of(rt, alloc, network, board.into_inner(), workers)
 }
 
 /// Runs a network: each router in a thread of its own, at the word of its gate, and ends as all
@@ -185,8 +241,8 @@ where
     requires fresh { AllByRecursion (λ gate. G.given gate ≡ []) gates.items }
     ensures limits { OnOk result (AreLimits network.now limits.turns (length gates.items)) }
     ensures refused { IfErr result (λ why. why ≡ RunFault.BadLimits ↔ (AreLimits network.now limits.turns (length gates.items) → ⊥)) }
-    // The fault of a worker is that of the least router that has one, and it ended for it.
-    ensures fault { IfErr result (FaultOf G.given network.now limits.turns) }
+    // The fault of a worker is that of the least router that has one, and it ended for it; those before it did their chores.
+    ensures fault { IfErr result (FaultOf G.given G.told network.now limits.turns (map G.told gates.items)) }
     // Router by router, what the gate that comes back was told is what the one given was told.
     ensures told { IfOk result (λ r. map (λ w. G.told w.gate) r.workers.items ≡ map G.told gates.items) }
     ensures ways { IfOk result (λ r. AreWays network.now r.ways.items) }

@@ -1,7 +1,12 @@
 //! A worker's place at the board.
 
-ghost use Rattle.std.specs.Prelude.{◌≡◌, ◌<◌, vec_len, vec_capacity, IfOk, OnOk, OnErr, IsErr};
+ghost use Rattle.std.specs.Prelude.{◌≡◌, ◌<◌, ◌≤◌, vec_len, vec_capacity, IfOk, OnOk, OnErr, IsErr};
+ghost use Rattle.run_model.specs.declared.stamps.TheConstants.{GREATEST_STAMP};
+ghost use Rattle.snap_collector.specs.Collecting.{made_by};
 ghost use Rattle.snap_marker.specs.Parts.{offer_of, router_of};
+ghost use Rattle.offer_board.specs.Boards.{collected_in};
+ghost use Rattle.worker_loop.specs.Acts.{with_offer};
+ghost use Rattle.net_workers.specs.Offering.{ended_by, OffersAt};
 
 use offer_board::{BoardState, CollectError, Made};
 use snap_marker::Offer;
@@ -20,7 +25,9 @@ pub struct Place {
 }
 
 // Why a worker ends whose offer was refused.
-fn ended_by(error: CollectError) -> WorkerFault {
+fn ended_by(error: CollectError) -> WorkerFault
+    ensures { result ≡ ended_by error }
+{
     match error {
         CollectError::Memory => WorkerFault::Memory,
         CollectError::Stranger { .. } | CollectError::Twice { .. } | CollectError::StampEnd => {
@@ -43,11 +50,42 @@ impl Place {
         self.made.reserve(1)?;
         offer.copied(*self.made.allocator())
     }
+
+    /// Makes an offer at a board, of a router whose last event has the given stamp, and answers that of the offer.
+    ///
+    /// Refused [`WorkerFault::Memory`] where the board refuses for want of memory, and [`WorkerFault::Refused`] where
+    /// it does for another reason, which comes first. `room`: as for [`Desk::offer`]; and where no copy can be made
+    /// for the worker, the board is asked as if there were none. A refusal leaves the board.
+    pub fn offer_at(
+        &mut self,
+        board: &mut BoardState,
+        stamp: u64,
+        offer: &Offer,
+        room: Result<(), AllocError>,
+    ) -> Result<u64, WorkerFault>
+        ensures offers { OffersAt board.old board.new stamp offer.now result }
+        ensures made { IfOk result (λ at. collected_in self.new.made.items ≡ with_offer (collected_in self.old.made.items) at (made_by offer.now)) }
+        ensures later { IfOk result (λ at. stamp < at) }
+        ensures few { IfOk result (λ at. at ≤ GREATEST_STAMP) }
+        ensures full { OnErr room (IsErr result) }
+    {
+        let own = self.prepared(offer, room);
+        let room = match &own {
+            Ok(_) => Ok(()),
+            Err(error) => Err(*error),
+        };
+        match board.offer(stamp, offer, room) {
+            Ok((_taken, stamp)) => {
+                let Ok(offer) = own else { unreachable!() };
+                self.made.push_reserved(Made { stamp, offer });
+                Ok(stamp)
+            }
+            Err(error) => Err(ended_by(error)),
+        }
+    }
 }
 
 impl Desk for Place {
-    ghost use Rattle.offer_board.specs.Boards.{collected_in};
-
     type Board = Board;
 
     ghost made = { λ d. collected_in d.made.items };
@@ -60,18 +98,7 @@ impl Desk for Place {
         offer: &Offer,
         room: Result<(), AllocError>,
     ) -> Result<u64, WorkerFault> {
-        let own = self.prepared(offer, room);
-        let room = match &own {
-            Ok(_) => Ok(()),
-            Err(error) => Err(*error),
-        };
-        match board.lock(rt).offer(stamp, offer, room) {
-            Ok((_taken, stamp)) => {
-                let Ok(offer) = own else { unreachable!() };
-                self.made.push_reserved(Made { stamp, offer });
-                Ok(stamp)
-            }
-            Err(error) => Err(ended_by(error)),
-        }
+        let mut board = board.lock(rt);
+        self.offer_at(&mut board, stamp, offer, room)
     }
 }

@@ -21,10 +21,12 @@ use std::thread::Threads;
 use worker_loop::{Desk, Gate, Lines, Worker, WorkerFault};
 use world_core::new_router;
 
-/// A worker, and how it ended.
+/// A worker that has ended, and its fault where it ended before its last chore.
 #[derive(Drop)]
-pub(crate) struct Ended<'a, G> {
+pub struct Ended<'a, G> {
+    /// The worker.
     pub worker: Worker<'a, Ends, Place, G>,
+    /// Its fault.
     pub fault: Option<WorkerFault>,
 }
 
