@@ -38,7 +38,7 @@ use Rattle.trace_engine.proofs.LineLemmas.{order_of, as_orders, Says, one_lines}
 use Rattle.run_engine.specs.declared.chores.RunOptions.{RunOptions}
 use Rattle.run_engine.specs.declared.gates.RunGate.{RunGate}
 use Rattle.run_engine.specs.Gates.{HasRoom, spacing_of}
-use Rattle.run_engine.specs.Running.{RunRecord, IsRefusedInside}
+use Rattle.run_engine.specs.Running.{RunRecord, RunRefused}
 use Rattle.record_engine.specs.Recording.{events_of, events_text, record_text, RecordGives, PrintsRecord, Records}
 use Rattle.record_engine.specs.Laws.{EndsAsRecorded, PlaysAsRecorded, RecordsPlayBack}
 use Rattle.record_engine.proofs.ChoreLemmas.{few_snapshots, numbers_low}
@@ -52,14 +52,14 @@ pub record IsRecorded (options : RunOptions) (input text : List ℕ) : Type 0 wh
   pub room : HasRoom net options
   pub prints : PrintsRecord options (lines_of input) net (output text DONE)
 
-not_inside : (text : List ℕ) → IsRefusedInside (output text DONE) → ⊥
-not_inside text (inl w) = not_done text _ refl w.1
-not_inside text (inr board) = not_done text _ refl board
+not_inside : (options : RunOptions) (net : Plan) (text : List ℕ) → RunRefused options net (output text DONE) → ⊥
+not_inside options net text (inl w) = not_done text _ refl w.2
+not_inside options net text (inr board) = not_done text _ refl board.1
 
 recorded_by : (options : RunOptions) (input text : List ℕ) (net : Plan) → SpellsNetwork (lines_of input) net → RecordGives options (lines_of input) net (output text DONE) → IsRecorded options input text
 recorded_by options input text net spells (inl bad) = absurd (not_done text _ refl bad.1)
 recorded_by options input text net spells (inr good) = elim good.1 [
-  | inl refused ↦ absurd (not_inside text refused)
+  | inl refused ↦ absurd (not_inside options net text refused)
   | inr prints ↦ record { net = net; spells = spells; room = good.0; prints = prints }
 ]
 

@@ -15,7 +15,7 @@ use Rattle.text_engines.specs.Decoding.{Output, output, refused, memory_output}
 use Rattle.trace_engine.specs.Tracing.{head_of_trace}
 use Rattle.run_engine.specs.declared.chores.RunOptions.{RunOptions}
 use Rattle.run_engine.specs.Gates.{HasRoom}
-use Rattle.run_engine.specs.Running.{RunRecord, IsRefusedInside, faulty, LinesPrint}
+use Rattle.run_engine.specs.Running.{RunRecord, RunRefused, faulty, LinesPrint}
 
 -- ---- the text of a record
 
@@ -46,7 +46,7 @@ pub record PrintsRecord (options : RunOptions) (lines : List Text) (net : Plan) 
 abbrev pub RecordGives : RunOptions → List Text → Plan → Output → Type 0
 RecordGives options lines net out =
     ((HasRoom net options → ⊥) × (out ≡ faulty fault.BadLimits))
-    ⊎ (HasRoom net options × (IsRefusedInside out ⊎ PrintsRecord options lines net out))
+    ⊎ (HasRoom net options × (RunRefused options net out ⊎ PrintsRecord options lines net out))
 
 abbrev pub LinesRecord : RunOptions → List Text → Output → Type 0
 LinesRecord options lines out = LinesPrint (RecordGives options lines) lines out

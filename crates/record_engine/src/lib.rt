@@ -3,7 +3,7 @@
 //! order of their stamps.
 //!
 //! The contract of `bgpnet record` is that of [`record_stream`]: what is written is the text of a record of threads
-//! of what was read. [`laws`] says that `play` leads where the threads ended. The definitions stand in `specs/`:
+//! of what was read; [`record_output`] makes that text of a record. [`laws`] says that `play` leads where the threads ended. The definitions stand in `specs/`:
 //! `Recording` (the text of a record, and that of an input) and `Laws`.
 #![tactic(auto)]
 
@@ -11,5 +11,5 @@ pub mod laws;
 mod record;
 mod text;
 
-pub use record::record_stream;
+pub use record::{record_output, record_stream};
 pub use text::record_text;

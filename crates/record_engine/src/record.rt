@@ -8,7 +8,7 @@ ghost use Rattle.record_engine.specs.Recording.{events_of, record_output, Record
 
 use crate::text::record_text;
 use net_text::{Code, read_network};
-use net_workers::Entry;
+use net_workers::Record;
 use ranked_policy::Network;
 use run_engine::{RunOptions, fault_output, run_network};
 use std::alloc::{AllocError, Global};
@@ -20,15 +20,18 @@ use text_engines::{
     want_of_memory, write_out,
 };
 
-// What is printed of these entries, and the status.
-fn entries_output(
+/// What is printed of a record, and the status: the lines of its network, the line `schedule`, and each event of the
+/// record as an order, as they stand there.
+///
+/// It answers an error where memory is refused.
+pub fn record_output<G>(
     alloc: Global,
     lines: &[u8],
-    entries: &[Entry],
+    made: &Record<'_, G>,
 ) -> Result<(Vec<u8>, u8), AllocError>
-    ensures { IfOk result (λ printed. output printed.0.items printed.1 ≡ record_output (lines_of lines.now) (events_of entries.now)) }
+    ensures { IfOk result (λ printed. output printed.0.items printed.1 ≡ record_output (lines_of lines.now) (events_of made.now.gathered.items)) }
 {
-    Ok((record_text(alloc, lines, entries)?, DONE))
+    Ok((record_text(alloc, lines, made.gathered.as_slice())?, DONE))
 }
 
 // What is printed for a network of these lines, and the status.
@@ -44,7 +47,7 @@ where
     ensures { IfOk result (λ printed. RecordGives options.now (lines_of lines.now) network.now (output printed.0.items printed.1)) }
 {
     match run_network(rt, alloc, options, network) {
-        Ok(record) => entries_output(alloc, lines, record.gathered.as_slice()),
+        Ok(record) => record_output(alloc, lines, &record),
         Err(fault) => fault_output(alloc, fault),
     }
 }

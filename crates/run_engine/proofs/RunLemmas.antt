@@ -26,6 +26,7 @@ use Rattle.net_workers.specs.declared.record.RunFault.{RunFault}
 use Rattle.net_workers.specs.declared.record.RunFault.TheVariants as fault
 use Rattle.net_workers.specs.declared.record.TheConstants.{MOST_TURNS}
 use Rattle.net_workers.specs.Ran.{AreLimits}
+use Rattle.net_workers.specs.Faults.{FaultOf}
 use Rattle.net_workers.specs.Ways.{passed_in}
 use Rattle.net_workers.specs.Runs.{KeepsPromises}
 use Rattle.run_engine.specs.declared.chores.RunOptions.{RunOptions}
@@ -35,8 +36,8 @@ use Rattle.text_engines.specs.declared.status.TheConstants.{DONE}
 use Rattle.text_engines.specs.Decoding.{Output, output}
 use Rattle.text_engines.specs.Checking.{at_prefix}
 use Rattle.play_engine.specs.Reporting.{recorded, part_text, parts_text, router_text}
-use Rattle.run_engine.specs.Running.{HasSetting, ThreadsRecord, Meets, IsPassedOver, SettlesOn, SettlesOnNone, PrintsRoutes, PrintsUnsettled, PrintsStableRoutes, SnapshotsGive, is_settled, decided_by, says, all_originate, meets, is_wanted, IsFirstWanted, CollectorGives, IsRefusedInside, ThreadsGive, IsFaultOfRun, RunGives, faulty}
-use Rattle.run_engine.specs.Gates.{HasRoom, Told, given_by, told_of, told_each, spacing_of}
+use Rattle.run_engine.specs.Running.{HasSetting, ThreadsRecord, Meets, IsPassedOver, SettlesOn, SettlesOnNone, PrintsRoutes, PrintsUnsettled, PrintsStableRoutes, SnapshotsGive, is_settled, decided_by, says, all_originate, meets, is_wanted, IsFirstWanted, CollectorGives, IsRefusedInside, ThreadsGive, IsFaultOfRun, run_tellings, RunGives, faulty}
+use Rattle.run_engine.specs.Gates.{HasRoom, Told, given_by, told_of}
 use Rattle.play_engine.proofs.SettledLemmas.{AreOffersOf, parts_in, the_part, printed_is, have_made}
 
 -- ---- the text of parts that were recorded
@@ -264,14 +265,15 @@ are_limits_or net turns gates =
     ]
 
 module _ {G T : Type 0} (given : G → List Chore) (told : G → T) (net : Plan) (turns : ℕ) (gates : List G) (last : ℕ) (out : Output) where
-  inside : (why : RunFault) → (why ≡ fault.BadLimits → ⊥) → (why ≡ fault.BadLimits ↔ (AreLimits net turns (length gates) → ⊥)) → IsRefusedInside out → ThreadsGive given told net turns gates last out
+  inside : (why : RunFault) → (why ≡ fault.BadLimits → ⊥) → (why ≡ fault.BadLimits ↔ (AreLimits net turns (length gates) → ⊥)) → IsRefusedInside given told net turns (map told gates) out → ThreadsGive given told net turns gates last out
   inside why other exact is = elim (are_limits_or net turns (length gates)) [ inl good ↦ inr (good, inl is) | inr bad ↦ absurd (other (exact.1 bad)) ]
 
-  pub fault_gives : (why : RunFault) → why ≢ fault.Memory → (why ≡ fault.BadLimits ↔ (AreLimits net turns (length gates) → ⊥)) → out ≡ faulty why → ThreadsGive given told net turns gates last out
-  fault_gives fault.Memory kind exact is = absurd (kind refl)
-  fault_gives (fault.WorkerRefused u) kind exact is = inside (fault.WorkerRefused u) (λ e. absurd cc) exact (inl (u, is))
-  fault_gives fault.BadLimits kind exact is = inl (exact.0 refl, is)
-  fault_gives fault.BoardDiffers kind exact is = inside fault.BoardDiffers (λ e. absurd cc) exact (inr is)
+  pub fault_gives : (why : RunFault) → why ≢ fault.Memory → (why ≡ fault.BadLimits ↔ (AreLimits net turns (length gates) → ⊥)) → FaultOf given told net turns (map told gates) why → out ≡ faulty why
+      → ThreadsGive given told net turns gates last out
+  fault_gives fault.Memory kind exact ended is = absurd (kind refl)
+  fault_gives (fault.WorkerRefused u) kind exact ended is = inside (fault.WorkerRefused u) (λ e. absurd cc) exact (inl (u, ended, is))
+  fault_gives fault.BadLimits kind exact ended is = inl (exact.0 refl, is)
+  fault_gives fault.BoardDiffers kind exact ended is = inside fault.BoardDiffers (λ e. absurd cc) exact (inr (ended, is))
 
 -- ---- a run of a network
 
@@ -286,17 +288,15 @@ module _ (options : RunOptions) (net : Plan) (set : HasSetting net) (out : Outpu
     elim gives.1 [ inl routes ↦ inl (stable_routes net set options.turns tellings gives.0 options.snapshots out routes) | inr unsettled ↦ inr unsettled ],
   )
 
-  abbrev tellings_of : List Told
-  tellings_of = told_each net (spacing_of net options) options.snapshots net.routers
+  pub run_gives : HasRoom net options → SnapshotsGive given_by told_of EveryOrigin net options.turns (run_tellings options net) options.snapshots out → RunGives options net out
+  run_gives room gives = inr (room, inr (of_record (run_tellings options net) gives))
 
-  pub run_gives : HasRoom net options → SnapshotsGive given_by told_of EveryOrigin net options.turns tellings_of options.snapshots out → RunGives options net out
-  run_gives room gives = inr (room, inr (of_record tellings_of gives))
-
-  pub run_fails : (why : RunFault) → why ≢ fault.Memory → IsFaultOfRun options net why → out ≡ faulty why → RunGives options net out
-  run_fails fault.Memory kind of is = absurd (kind refl)
-  run_fails (fault.WorkerRefused u) kind (inl bad) is = absurd (let e = bad.0 in cc)
-  run_fails (fault.WorkerRefused u) kind (inr good) is = inr (good.1, inl (inl (u, is)))
-  run_fails fault.BadLimits kind (inl bad) is = inl (bad.1, is)
-  run_fails fault.BadLimits kind (inr good) is = absurd (good.0 refl)
-  run_fails fault.BoardDiffers kind (inl bad) is = absurd (let e = bad.0 in cc)
-  run_fails fault.BoardDiffers kind (inr good) is = inr (good.1, inl (inr is))
+  pub run_fails : (why : RunFault) → why ≢ fault.Memory → IsFaultOfRun options net why → FaultOf given_by told_of net options.turns (run_tellings options net) why → out ≡ faulty why
+      → RunGives options net out
+  run_fails fault.Memory kind of ended is = absurd (kind refl)
+  run_fails (fault.WorkerRefused u) kind (inl bad) ended is = absurd (let e = bad.0 in cc)
+  run_fails (fault.WorkerRefused u) kind (inr good) ended is = inr (good.1, inl (inl (u, ended, is)))
+  run_fails fault.BadLimits kind (inl bad) ended is = inl (bad.1, is)
+  run_fails fault.BadLimits kind (inr good) ended is = absurd (good.0 refl)
+  run_fails fault.BoardDiffers kind (inl bad) ended is = absurd (let e = bad.0 in cc)
+  run_fails fault.BoardDiffers kind (inr good) ended is = inr (good.1, inl (inr (ended, is)))

@@ -26,6 +26,7 @@ use Rattle.worker_loop.specs.declared.journal.Entry.{Entry}
 use Rattle.net_workers.specs.declared.record.Worked.{Worked}
 use Rattle.net_workers.specs.declared.record.Way.{Way}
 use Rattle.net_workers.specs.Ran.{AreLimits, IsRecord}
+use Rattle.net_workers.specs.Faults.{FaultOf}
 use Rattle.net_workers.specs.Runs.{IsRunOfThreads, RunKeepsPromises}
 use Rattle.net_workers.specs.Ways.{AreWays, passed_in}
 use Rattle.run_engine.specs.declared.chores.RunOptions.{RunOptions}
@@ -36,7 +37,7 @@ use Rattle.text_engines.specs.Decoding.{Output, output, refused, memory_output}
 use Rattle.text_engines.specs.declared.transfer.TheConstants.{INPUT_LIMIT}
 use Rattle.text_engines.specs.Checking.{at_prefix}
 use Rattle.play_engine.specs.Reporting.{router_text, recorded, parts_text}
-use Rattle.run_engine.specs.Gates.{HasRoom, given_by, told_of, told_each, spacing_of}
+use Rattle.run_engine.specs.Gates.{HasRoom, Told, given_by, told_of, told_each, spacing_of}
 
 -- what is printed where no snapshot is wanted
 abbrev pub unsettled_output : Output
@@ -132,15 +133,18 @@ faulty fault.BadLimits = refused 0 (codes "G3")
 faulty fault.BoardDiffers = refused 0 (codes "G4")
 faulty fault.Memory = memory_output
 
--- a worker was refused, or the board and the journals differ
-abbrev pub IsRefusedInside : Output → Type 0
-IsRefusedInside out = ((u : ℕ) × (out ≡ faulty (fault.WorkerRefused u))) ⊎ (out ≡ faulty fault.BoardDiffers)
+-- for routers that were told this: a worker was refused, that of the least router that has a fault; or none has one, and the board
+-- and the journals differ
+abbrev pub IsRefusedInside : {G T : Type 0} → (G → List Chore) → (G → T) → Plan → (turns : ℕ) → List T → Output → Type 0
+IsRefusedInside given told net turns tellings out =
+    ((u : ℕ) × FaultOf given told net turns tellings (fault.WorkerRefused u) × (out ≡ faulty (fault.WorkerRefused u)))
+    ⊎ (FaultOf given told net turns tellings fault.BoardDiffers × (out ≡ faulty fault.BoardDiffers))
 
 -- for so many chores of each worker, at the word of these gates
 abbrev pub ThreadsGive : {G T : Type 0} → (G → List Chore) → (G → T) → Plan → (turns : ℕ) → List G → (last : ℕ) → Output → Type 0
 ThreadsGive given told net turns gates last out =
     ((AreLimits net turns (length gates) → ⊥) × (out ≡ faulty fault.BadLimits))
-    ⊎ (AreLimits net turns (length gates) × (IsRefusedInside out ⊎ SnapshotsGive given told AsRecorded net turns (map told gates) last out))
+    ⊎ (AreLimits net turns (length gates) × (IsRefusedInside given told net turns (map told gates) out ⊎ SnapshotsGive given told AsRecorded net turns (map told gates) last out))
 
 -- what a run at the word of any gates prints: that, or that memory ran out
 abbrev pub Gated : {G T : Type 0} → (G → List Chore) → (G → T) → Plan → (turns : ℕ) → List G → (last : ℕ) → Output → Type 0
@@ -152,10 +156,18 @@ Gated given told net turns gates last out = ThreadsGive given told net turns gat
 abbrev pub HasSetting : Plan → Type 0
 HasSetting net = (g : Setting) × (g.net ≡ net) × IsSetting g
 
+-- what each router is told: to start its sessions, originate its prefixes and go on in turns; and the least to take the snapshots
+abbrev pub run_tellings : RunOptions → Plan → List Told
+run_tellings options net = told_each net (spacing_of net options) options.snapshots net.routers
+
 -- a record of threads in which each router started its sessions, originated its prefixes and went on in turns, and the least took
 -- the snapshots
 abbrev pub RunRecord : RunOptions → Plan → Type 0
-RunRecord options net = ThreadsRecord given_by told_of net options.turns (told_each net (spacing_of net options) options.snapshots net.routers)
+RunRecord options net = ThreadsRecord given_by told_of net options.turns (run_tellings options net)
+
+-- some threads that were told so have no record
+abbrev pub RunRefused : RunOptions → Plan → Output → Type 0
+RunRefused options net out = IsRefusedInside given_by told_of net options.turns (run_tellings options net) out
 
 -- why it does not run: the chores have no room, or another fault
 abbrev pub IsFaultOfRun : RunOptions → Plan → RunFault → Type 0
@@ -165,7 +177,7 @@ abbrev pub RunGives : RunOptions → Plan → Output → Type 0
 RunGives options net out =
     ((HasRoom net options → ⊥) × (out ≡ faulty fault.BadLimits))
     ⊎ (HasRoom net options
-    × (IsRefusedInside out ⊎ ((r : RunRecord options net) × (PrintsStableRoutes r options.snapshots out ⊎ PrintsUnsettled r EveryOrigin options.snapshots out))))
+    × (RunRefused options net out ⊎ ((r : RunRecord options net) × (PrintsStableRoutes r options.snapshots out ⊎ PrintsUnsettled r EveryOrigin options.snapshots out))))
 
 -- for its lines, where this says what is printed for the network that they spell
 abbrev pub LinesPrint : (Plan → Output → Type 0) → List Text → Output → Type 0

@@ -4,8 +4,9 @@ ghost use Rattle.std.specs.Prelude.{◌≡◌, map, IfOk, IfErr, OnOk};
 ghost use Rattle.net_workers.specs.Ran.{IsRecord};
 ghost use Rattle.net_workers.specs.Runs.{RunKeepsPromises};
 ghost use Rattle.net_workers.specs.Ways.{AreWays, passed_in};
-ghost use Rattle.run_engine.specs.Gates.{HasRoom, given_by, told_of, told_each, spacing_of};
-ghost use Rattle.run_engine.specs.Running.{IsFaultOfRun};
+ghost use Rattle.net_workers.specs.Faults.{FaultOf};
+ghost use Rattle.run_engine.specs.Gates.{HasRoom, given_by, told_of};
+ghost use Rattle.run_engine.specs.Running.{IsFaultOfRun, run_tellings};
 
 use crate::chores::{RunOptions, new_gates, spacing};
 use crate::gates::RunGate;
@@ -30,8 +31,10 @@ where
     R: Threads + Wait + Sync,
     ensures room { OnOk result (HasRoom network.now options.now) }
     ensures refused { IfErr result (IsFaultOfRun options.now network.now) }
+    // The fault of a worker is that of the least router that has one, of routers that were told this.
+    ensures fault { IfErr result (FaultOf given_by told_of network.now options.now.turns (run_tellings options.now network.now)) }
     // Router by router, each was told its opening and its turns, and the least its snapshots.
-    ensures told { IfOk result (λ r. map (λ w. told_of w.gate) r.workers.items ≡ told_each network.now (spacing_of network.now options.now) options.now.snapshots network.now.routers) }
+    ensures told { IfOk result (λ r. map (λ w. told_of w.gate) r.workers.items ≡ run_tellings options.now network.now) }
     ensures ways { IfOk result (λ r. AreWays network.now r.ways.items) }
     ensures recorded { IfOk result (λ r. IsRecord given_by network.now options.now.turns (passed_in r.ways.items) r.workers.items r.collector r.gathered.items) }
     // The record is one of a run of the network, in which UPDATEs passed in order and whose snapshots can be believed.

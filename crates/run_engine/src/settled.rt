@@ -85,8 +85,10 @@ fn first_wanted(network: &Network, collector: &Collector, last: u32, demand: Dem
     None
 }
 
-/// What is printed of the snapshots from 1 to the last, and the status: the routes of the first that
-/// came out settled and whose parts are as they are demanded, or `unsettled`.
+/// What is printed of the snapshots from 1 to the last, by the collector of a record, and the status: the routes of
+/// the first that came out settled and whose parts are as they are demanded, or `unsettled`.
+///
+/// It answers an error where memory is refused.
 pub fn settled_output(
     alloc: Global,
     network: &Network,

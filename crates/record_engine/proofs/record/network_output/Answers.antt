@@ -8,7 +8,7 @@ use Rattle.record_engine.proofs.record.network_output.Goals as goal
 pub returns-in-Ok : goal.returns-in-Ok
 returns-in-Ok g c =
     let r = c.in-Ok.record in
-    if_ok _ _ c.entries_output.result
+    if_ok _ _ c.record_output.result
     (λ printed is. inr (
       c.in-Ok.ensures.room,
       inr (record {
@@ -22,13 +22,13 @@ returns-in-Ok g c =
           gates = c.in-Ok.ensures.told;
           promises = c.in-Ok.ensures.promises;
         };
-        printed = rw c.as_slice.ensures.value at is;
+        printed = is;
       }),
     ))
-    c.entries_output.ensures
+    c.record_output.ensures
 
 pub returns-in-Err : goal.returns-in-Err
 returns-in-Err g c =
     both_ok _ _ _ c.fault_output.result
-    (λ printed kind is. record_fails c.args.options.now (lines_of c.args.lines.now) c.args.network.now (output printed.0.items printed.1) c.in-Err.fault kind c.in-Err.ensures.refused is)
+    (λ printed kind is. record_fails c.args.options.now (lines_of c.args.lines.now) c.args.network.now (output printed.0.items printed.1) c.in-Err.fault kind c.in-Err.ensures.refused c.in-Err.ensures.fault is)
     c.fault_output.ensures.kind c.fault_output.ensures.output

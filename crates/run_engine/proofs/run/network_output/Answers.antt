@@ -28,5 +28,5 @@ returns-in-Ok g c =
 pub returns-in-Err : goal.returns-in-Err
 returns-in-Err g c =
     both_ok _ _ _ c.fault_output.result
-    (λ printed kind is. run_fails c.args.options.now c.args.network.now c.has_setting.ensures (output printed.0.items printed.1) c.in-Err.fault kind c.in-Err.ensures.refused is)
+    (λ printed kind is. run_fails c.args.options.now c.args.network.now c.has_setting.ensures (output printed.0.items printed.1) c.in-Err.fault kind c.in-Err.ensures.refused c.in-Err.ensures.fault is)
     c.fault_output.ensures.kind c.fault_output.ensures.output
