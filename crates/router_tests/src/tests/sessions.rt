@@ -4,7 +4,7 @@ use super::answers::{DID, NOTHING};
 use super::beginnings::{ESTABLISHED, FRESH, FRESH_AT_18, JOINED};
 use super::items::Sent::{Dial, Octets, Says, Shut};
 use super::steps::Asked::{Handle, Reset, Start, Stop};
-use super::steps::Step::{Does, Hears, IsDrained, Puts, PutsAt, Takes};
+use super::steps::Step::{ActedOnNothing, Does, Hears, IsDrained, IsIdle, Puts, PutsAt, Takes};
 use super::steps::{ALIVE, OPEN_OF_ONE, OPEN_OF_TWO};
 use super::*;
 use router_core::RouterError;
@@ -52,7 +52,7 @@ const OPEN_OF_ANOTHER: &[u8] = &[
     0x00, 0x1d, 0x01, 0x04, 0x00, 0x03, 0x00, 0x5a, 0x0a, 0x00, 0x00, 0x02, 0x00,
 ];
 
-// NOTIFICATION 2/2.
+// NOTIFICATION 2/2. Then the session is Idle, where a start dials the next incarnation.
 #[test]
 fn an_open_of_another_router_closes(rt: HostRuntime) -> Result<(), Fail> {
     static SCRIPT: &[Step<'static>] = &[
@@ -60,6 +60,11 @@ fn an_open_of_another_router_closes(rt: HostRuntime) -> Result<(), Fail> {
         Puts(2, Dial(1)),
         Puts(2, Says(1, &[OPEN_OF_ONE, &[0x00, 0x15, 0x03, 0x02, 0x02]])),
         Puts(2, Shut(1)),
+        IsDrained(2),
+        IsIdle(2),
+        ActedOnNothing(2),
+        Does(Start(2), DID),
+        Puts(2, Dial(2)),
     ];
     asks(&rt, rt.alloc(), &JOINED, SCRIPT)
 }
@@ -89,13 +94,18 @@ const UPDATE_OF_ANOTHER: &[u8] = &[
     0x00, 0x01, 0x40, 0x03, 0x04, 0x0a, 0x00, 0x00, 0x01, 0x10, 0x0a, 0x01,
 ];
 
-// NOTIFICATION 3/11.
+// NOTIFICATION 3/11. The UPDATE is not acted on, and the session is Idle, where a start dials the next incarnation.
 #[test]
 fn an_update_of_another_router_closes(rt: HostRuntime) -> Result<(), Fail> {
     static SCRIPT: &[Step<'static>] = &[
         Hears(2, Says(1, &[UPDATE_OF_ANOTHER])),
         Puts(2, Says(1, &[&[0x00, 0x15, 0x03, 0x03, 0x0b]])),
         Puts(2, Shut(1)),
+        IsDrained(2),
+        IsIdle(2),
+        ActedOnNothing(2),
+        Does(Start(2), DID),
+        Puts(2, Dial(2)),
     ];
     asks(&rt, rt.alloc(), &ESTABLISHED, SCRIPT)
 }

@@ -7,7 +7,9 @@ use super::offers::{Offered, offers, records_now};
 use prefix_lanes::Prefix;
 use ranked_policy::Asn;
 use router_core::{Call, Command, Router};
+use session_fsm::State;
 use std::alloc::Global;
+use std::mem::forget;
 
 // A prefix that the network names.
 #[derive(Clone, Copy)]
@@ -72,6 +74,10 @@ pub(super) enum Step<'a> {
     Keeps(Named, &'a [Asn]),
     // So many seconds pass.
     Seconds(u32),
+    // The session with a peer is Idle.
+    IsIdle(Asn),
+    // No UPDATE of a peer was acted on.
+    ActedOnNothing(Asn),
 }
 
 pub(super) fn prefix(named: Named) -> Option<Prefix> {
@@ -144,6 +150,24 @@ fn has_path(one: &Router<'_>, named: Named, path: &[Asn]) -> bool {
     }
 }
 
+fn is_idle(one: &Router<'_>, peer: Asn) -> bool {
+    match one.state(peer) {
+        Some(state) => state == State::Idle,
+        None => false,
+    }
+}
+
+fn acted_on_nothing(alloc: Global, one: &Router<'_>, peer: Asn) -> bool {
+    match one.acted(alloc, peer) {
+        Some(Ok(told)) => {
+            let nothing = told.is_empty();
+            forget(told);
+            nothing
+        }
+        Some(Err(_)) | None => false,
+    }
+}
+
 // Whether a step goes as it says.
 fn goes(alloc: Global, one: &mut Router<'_>, step: &Step<'_>) -> bool {
     match step {
@@ -167,6 +191,8 @@ fn goes(alloc: Global, one: &mut Router<'_>, step: &Step<'_>) -> bool {
         Step::RecordsNow(named) => would_record(one, *named),
         Step::Keeps(named, path) => has_path(one, *named, path),
         Step::Seconds(n) => seconds(one, *n),
+        Step::IsIdle(peer) => is_idle(one, *peer),
+        Step::ActedOnNothing(peer) => acted_on_nothing(alloc, one, *peer),
     }
 }
 
