@@ -2,7 +2,7 @@
 //!
 //! A refused call here may leave a part of its text, but what stood in front stays.
 
-ghost use Rattle.std.specs.Prelude.{◌≡◌, ◌++◌, OnOk};
+ghost use Rattle.std.specs.Prelude.{◌≡◌, ◌++◌, OnOk, OnErr};
 ghost use Rattle.net_text.specs.Printing.{numbers_text, refused_line, unstable_line};
 
 use crate::tail::Tail;
@@ -10,9 +10,10 @@ use ranked_policy::Asn;
 use std::alloc::AllocError;
 
 /// Appends a path: its numbers with a dash between them, or that there is none. It is refused only
-/// where memory was.
+/// where memory was, and then nothing of it stands there.
 pub fn put_path(out: &mut Tail, numbers: &[Asn]) -> Result<(), AllocError>
     ensures text { OnOk result (out.new.text ≡ out.old.text ++ numbers_text numbers.now) }
+    ensures err { OnErr result (out.new.text ≡ out.old.text) }
     ensures front { out.new.front ≡ out.old.front }
 {
     out.put_path(numbers)

@@ -1,6 +1,6 @@
 //! The end of a buffer, where a line is being written.
 
-ghost use Rattle.std.specs.Prelude.{◌≡◌, ◌++◌, [], ◌∷◌, ◌≤◌, take, drop, map, decimal, vec_len, is_ok, if◌then◌else◌, OnOk};
+ghost use Rattle.std.specs.Prelude.{◌≡◌, ◌++◌, [], ◌∷◌, ◌≤◌, take, drop, map, decimal, vec_len, is_ok, if◌then◌else◌, OnOk, OnErr};
 ghost use Rattle.std.specs.List.{join_with_byte};
 ghost use Rattle.hex.specs.Hex.{encode_lower};
 ghost use Rattle.net_text.specs.Printing.{hex_or_dash, address_text, numbers_text, prefixes_text};
@@ -64,9 +64,10 @@ impl Tail {
         self.octets.extend_from_slice(octets)
     }
 
-    /// Writes a number in decimal digits.
+    /// Writes a number in decimal digits, or nothing where memory is refused.
     pub fn put_decimal(&mut self, number: u32) -> Result<(), AllocError>
         ensures text { OnOk result (self.new.text ≡ self.old.text ++ decimal number) }
+        ensures err { OnErr result (self.new.text ≡ self.old.text) }
         ensures front { self.new.front ≡ self.old.front }
     {
         put_decimal(&mut self.octets, number)
@@ -88,17 +89,19 @@ impl Tail {
         put_joined(&mut self.octets, numbers, mark)
     }
 
-    /// Writes a path.
+    /// Writes a path, or nothing where memory is refused.
     pub(crate) fn put_path(&mut self, numbers: &[Asn]) -> Result<(), AllocError>
         ensures text { OnOk result (self.new.text ≡ self.old.text ++ numbers_text numbers.now) }
+        ensures err { OnErr result (self.new.text ≡ self.old.text) }
         ensures front { self.new.front ≡ self.old.front }
     {
         put_path(&mut self.octets, numbers)
     }
 
-    /// Writes a count in decimal digits.
+    /// Writes a count in decimal digits, or nothing where memory is refused.
     pub fn put_len(&mut self, len: usize) -> Result<(), AllocError>
         ensures text { OnOk result (self.new.text ≡ self.old.text ++ decimal len) }
+        ensures err { OnErr result (self.new.text ≡ self.old.text) }
         ensures front { self.new.front ≡ self.old.front }
     {
         put_len(&mut self.octets, len)
@@ -128,9 +131,10 @@ impl Tail {
         put_hex_or_dash(&mut self.octets, octets)
     }
 
-    /// Writes prefixes, a space before each.
+    /// Writes prefixes, a space before each, or nothing where memory is refused.
     pub fn put_prefixes(&mut self, prefixes: &[Prefix]) -> Result<(), AllocError>
         ensures text { OnOk result (self.new.text ≡ self.old.text ++ prefixes_text prefixes.now) }
+        ensures err { OnErr result (self.new.text ≡ self.old.text) }
         ensures front { self.new.front ≡ self.old.front }
     {
         put_prefixes(&mut self.octets, prefixes)

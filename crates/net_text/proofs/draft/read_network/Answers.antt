@@ -24,8 +24,8 @@ lines-preserved c =
     record {
       reached = reached_on (λ line d words. line_reading d words) 0 (empty_draft (lines_of c.args.text.now)) c.lines.draft c.read_line.new.draft _ _ _ c.lines.line c.lines.front.now lines c.lines.invariant.reached c.in_default.ensures;
       last = c.lines.invariant.last ∙ ap (last_behind c.lines.last c.lines.line) lines ∙ ap (λ n. last_behind n (c.lines.line + 1) (lines_of c.lines.rest.now)) (sym c.last_said-last.ensures);
-      ahead = c.line_ahead-next.ensures.lines;
-      shorter = c.line_ahead-next.ensures.shorter;
+      ahead = c.line_ahead-in-lines.ensures.lines;
+      shorter = c.line_ahead-in-lines.ensures.shorter;
       inside = omega (arith, c.lines.invariant.inside, c.lines.invariant.shorter some);
     }
 
