@@ -1,0 +1,276 @@
+"""The commands that are read, refused by name, or taken without effect, block by block.
+
+Each is a line of a table: how it is taken, then the syntax. `ignored` has no effect on which routes a router uses;
+`warned` has none as long as what the warning says holds; `refused` can't be said as ranked paths, or is none of IPv4
+unicast between routers that are each an AS of their own. Any other word is the method of the reader that obeys it."""
+from configs.syntax import Command, Commands
+
+PEER = "neighbor WORD"
+
+REFUSED = {
+    "ibgp": "iBGP: every router is an AS of its own",
+    "reflector": "a route reflector: every router is an AS of its own",
+    "confederation": "a confederation: every router is an AS of its own",
+    "aggregate": "an aggregate: its path is no way that a route took",
+    "ipv6": "IPv6: prefixes are IPv4",
+    "family": "an address family that is not IPv4 unicast",
+    "allowas": "allowas-in: a way may pass a router twice",
+    "default": "default-originate: the route passes the filters by, and the router itself has none",
+    "conditional": "conditional advertisement: what is told depends on other routes",
+    "role": "local-role: what is told depends on the role that the peer says",
+    "unchanged": "attribute-unchanged: an attribute passes on that the policy does not see",
+    "server": "route-server-client: the path does not name the router",
+    "addpath": "addpath: more than one path of a peer",
+    "as-set": "multipath-relax as-set: the path is a set of several ways",
+    "local-as": "local-as: a router with two numbers",
+    "private": "remove-private-AS: the path is not the way",
+    "override": "as-override: the path is not the way",
+    "listen": "dynamic neighbors: no line names them",
+    "interface": "an unnumbered neighbor: it has no address of IPv4",
+    "dampening": "dampening: preference depends on time",
+    "redistribute": "redistribute: routes of another protocol",
+    "limit": "a limit on prefixes told: which of them depends on time",
+    "shutdown": "shutdown of the whole router: leave its file out",
+    "graceful": "graceful-shutdown of the whole router",
+    "max-med": "max-med: the metric depends on time",
+    "orf": "outbound route filtering: the peer filters what is told",
+    "nexthop": "a next hop of its own: whether it is reached is not known here",
+    "match": "this match is not read",
+    "set": "this set is not read",
+    "vrf": "a VRF: one instance of BGP is read",
+    "view": "a list of this family is not read",
+    "undone": "a line that takes back others: leave those out",
+    "port": "a port of its own: whether the other end listens there is not known here",
+    "capability": "no capabilities: the session may not come up",
+    "soo": "a site of origin: routes of the same site are denied",
+    "unsuppress": "unsuppress-map: there are no aggregates",
+    "backdoor": "a backdoor or labelled network",
+    "alias": "names of communities of one's own",
+    "extcommunity": "extended communities are not read",
+}
+
+# What other parts of a configuration begin with: their blocks are passed over.
+CONFIG = """
+ignored    hostname WORD
+ignored    domainname WORD
+ignored    <log|password|enable|service|banner|debug|dump|agentx> REST...
+ignored    no <log|password|enable|service|banner|debug|agentx|hostname> REST...
+ignored    allow-reserved-ranges
+ignored    bgp <no-rib|session-dscp (0-63)|update-delay (0-3600) [(1-3600)]|route-map delay-timer (0-600)>
+ignored    bgp <suppress-fib-pending|send-extra-data zebra>
+ignored    [no] route-map WORD optimization
+ignored    no bgp graceful-shutdown
+ignored    <ip|ipv6> <forwarding|multicast-routing|nht REST...>
+ignored    no <ip|ipv6> <forwarding|multicast-routing|nht REST...>
+ignored    zebra nexthop-group keep (1-3600)
+warned     <ip|ipv6> <route|router-id|import-table|protocol> REST...
+foreign    <line|key|nexthop-group|pseudowire|mpls|segment-routing|bfd|l2vpn|rpki|vni> [REST...]
+foreign    router <ospf|ospf6|isis|rip|ripng|eigrp|babel|openfabric|pim> [REST...]
+version    frr version WORD
+profile    frr defaults WORD
+interface  interface REST...
+bgp        router bgp (1-4294967295)
+vrf        router bgp (1-4294967295) <view|vrf> WORD
+cut        router bgp
+vrf        vrf WORD
+route_map  route-map WORD <permit|deny> (1-65535)
+access     access-list WORD <permit|deny> REST...
+access     access-list WORD seq (1-4294967295) <permit|deny> REST...
+remark     access-list WORD remark REST...
+prefixes   ip prefix-list WORD <permit|deny> REST...
+prefixes   ip prefix-list WORD seq (1-4294967295) <permit|deny> REST...
+remark     ip prefix-list WORD description REST...
+paths      bgp as-path access-list WORD <permit|deny> REST...
+paths      bgp as-path access-list WORD seq (0-4294967295) <permit|deny> REST...
+communities bgp community-list <(1-99)|standard WORD> <permit|deny> AA:NN...
+communities bgp community-list <(1-99)|standard WORD> seq (0-4294967295) <permit|deny> AA:NN...
+communities bgp community-list <(100-500)|expanded WORD> <permit|deny> AA:NN...
+communities bgp community-list <(100-500)|expanded WORD> seq (0-4294967295) <permit|deny> AA:NN...
+communities bgp large-community-list <(1-99)|standard WORD> <permit|deny> AA:BB:CC...
+communities bgp large-community-list <(1-99)|standard WORD> seq (0-4294967295) <permit|deny> AA:BB:CC...
+communities bgp large-community-list <(100-500)|expanded WORD> <permit|deny> AA:BB:CC...
+communities bgp large-community-list <(100-500)|expanded WORD> seq (0-4294967295) <permit|deny> AA:BB:CC...
+old        ip <community-list|large-community-list|extcommunity-list|as-path> REST...
+graceful   bgp graceful-shutdown
+alias      bgp community alias WORD WORD
+extcommunity bgp extcommunity-list REST...
+view       ipv6 <prefix-list|access-list> REST...
+view       mac access-list REST...
+undone     no <router|route-map|access-list|ip|bgp|ipv6|interface|vrf> REST...
+"""
+
+# What stands below `router bgp`.
+BGP = """
+router_id  bgp router-id A.B.C.D
+option     [no] bgp <always-compare-med|deterministic-med|ebgp-requires-policy>
+option     [no] bgp network import-check
+option     [no] bgp bestpath <compare-routerid|as-path ignore>
+med        [no] bgp bestpath med <missing-as-worst|missing-as-worst confed|confed missing-as-worst>
+default_preference bgp default local-preference (0-4294967295)
+default_preference no bgp default local-preference [(0-4294967295)]
+default_family [no] bgp default ipv4-unicast
+ignored    [no] bgp default <show-hostname|show-nexthop-hostname>
+ignored    [no] bgp default <ipv4-multicast|ipv4-vpn|ipv4-labeled-unicast|ipv4-flowspec>
+ignored    no bgp default <ipv6-unicast|ipv6-multicast|ipv6-vpn|ipv6-labeled-unicast|ipv6-flowspec|l2vpn-evpn>
+ignored    bgp default subgroup-pkt-queue-max (20-100)
+ignored    [no] bgp bestpath as-path <confed|multipath-relax|multipath-relax no-as-set>
+as-set     bgp bestpath as-path multipath-relax as-set
+ignored    no bgp bestpath as-path multipath-relax as-set
+ignored    [no] bgp bestpath <med confed|peer-type multipath-relax>
+ignored    bgp bestpath bandwidth <ignore|skip-missing|default-weight-for-missing>
+ignored    [no] bgp <log-neighbor-changes|suppress-duplicates|reject-as-sets|fast-external-failover>
+ignored    [no] bgp <fast-convergence|suppress-fib-pending|allow-martian-nexthop|hard-administrative-reset>
+ignored    [no] bgp <disable-ebgp-connected-route-check|graceful-restart|graceful-restart-disable>
+ignored    [no] bgp <client-to-client reflection|route-reflector allow-outbound-policy>
+ignored    [no] bgp graceful-restart REST...
+ignored    bgp <cluster-id WORD|minimum-holdtime (1-65535)|route-map delay-timer (0-600)|listen limit (1-65535)>
+ignored    bgp <long-lived-graceful-restart stale-time (1-4294967295)|conditional-advertisement timer (5-240)>
+ignored    no bgp <cluster-id [WORD]|minimum-holdtime [REST...]|route-map delay-timer [REST...]|listen limit [REST...]>
+ignored    <update-delay|write-quanta|read-quanta|coalesce-time|timers> REST...
+ignored    no <update-delay|write-quanta|read-quanta|coalesce-time|timers|auto-summary|synchronization> [REST...]
+ignored    no bgp <graceful-shutdown|shutdown>
+confederation bgp confederation REST...
+max-med    bgp max-med REST...
+graceful   bgp graceful-shutdown
+listen     bgp listen range REST...
+shutdown   bgp shutdown [REST...]
+shutdown   bgp default shutdown
+ignored    no bgp default shutdown
+family     bgp default REST...
+dampening  bgp dampening [REST...]
+family_ipv4 address-family ipv4
+family_ipv4 address-family ipv4 unicast
+family     address-family ipv4 <multicast|vpn|labeled-unicast|flowspec>
+ipv6       address-family ipv6 [<unicast|multicast|vpn|labeled-unicast|flowspec>]
+family     address-family l2vpn evpn
+family     <segment-routing|vnc|vrf-policy|rfp> REST...
+"""
+
+# What is said of a neighbor below `router bgp` alone.
+NEIGHBOR = """
+remote_as  PEER remote-as <(1-4294967295)|external|internal>
+group      PEER peer-group
+member     PEER peer-group WORD
+shutdown_neighbor [no] PEER shutdown
+shutdown_neighbor PEER shutdown message REST...
+source     PEER update-source WORD
+password   PEER password REST...
+passive    [no] PEER passive
+loop_detection [no] PEER sender-as-path-loop-detection
+ignored    PEER description REST...
+ignored    [no] PEER <capability dynamic|capability extended-nexthop|strict-capability-match|override-capability>
+ignored    [no] PEER <disable-connected-check|enforce-multihop|solo|enforce-first-as|extended-optional-parameters>
+ignored    [no] PEER <graceful-restart|graceful-restart-disable|graceful-restart-helper|disable-link-bw-encoding-ieee>
+ignored    PEER <ebgp-multihop [(1-255)]|ttl-security hops (1-254)|tcp-mss (1-65535)|advertisement-interval (0-600)>
+ignored    PEER timers <(0-65535) (0-65535)|connect (1-65535)|delayopen (1-240)>
+ignored    no PEER <description|ebgp-multihop|ttl-security|tcp-mss|advertisement-interval|timers|update-source> [REST...]
+ignored    no PEER <password|local-as|port|maximum-prefix|maximum-prefix-out|local-role> [REST...]
+warned     PEER bfd [REST...]
+ignored    no PEER bfd [REST...]
+role       PEER local-role REST...
+local-as   PEER local-as REST...
+interface  PEER interface [REST...]
+port       PEER port (0-65535)
+capability PEER dont-capability-negotiate
+ignored    no PEER dont-capability-negotiate
+shutdown_by_time PEER shutdown rtt REST...
+undone     no PEER <remote-as REST...|peer-group [WORD]>
+undone     no PEER
+"""
+
+# What stands below `address-family ipv4 unicast`, and is taken directly below `router bgp` too.
+FAMILY = """
+network    network A.B.C.D/M [route-map WORD]
+network    network A.B.C.D [mask A.B.C.D] [route-map WORD]
+backdoor   network <A.B.C.D/M|A.B.C.D [mask A.B.C.D]> <backdoor|label-index REST...>
+undone     no <network|aggregate-address|redistribute> REST...
+activate   [no] PEER activate
+weight     PEER weight (0-65535)
+weight     no PEER weight [(0-65535)]
+policy     [no] PEER <distribute-list|prefix-list|filter-list|route-map> WORD <in|out>
+send       [no] PEER send-community [<both|all|extended|standard|large>]
+ignored    [no] PEER <soft-reconfiguration inbound|next-hop-self|next-hop-self force|disable-addpath-rx>
+warned     PEER maximum-prefix REST...
+reflector  PEER route-reflector-client
+server     PEER route-server-client
+unchanged  PEER attribute-unchanged [REST...]
+override   PEER as-override
+private    PEER remove-private-AS [REST...]
+addpath    PEER <addpath-tx-all-paths|addpath-tx-bestpath-per-AS>
+orf        PEER capability orf REST...
+default    PEER default-originate [REST...]
+conditional PEER advertise-map REST...
+unsuppress PEER unsuppress-map WORD
+limit      PEER maximum-prefix-out (1-4294967295)
+allowas    PEER allowas-in [REST...]
+soo        PEER soo REST...
+ignored    no PEER <route-reflector-client|route-server-client|as-override|addpath-tx-all-paths>
+ignored    no PEER <addpath-tx-bestpath-per-AS|default-originate|allowas-in> [REST...]
+ignored    no PEER <attribute-unchanged|remove-private-AS|advertise-map|unsuppress-map|soo> [REST...]
+ignored    no PEER capability orf REST...
+aggregate  aggregate-address REST...
+redistribute redistribute REST...
+ignored    [no] <distance|table-map> REST...
+ignored    [no] maximum-paths REST...
+dampening  bgp dampening [REST...]
+ignored    no bgp dampening [REST...]
+family     <import|export|rd|label|nexthop|rt|route-target|sid|route-map> <vpn|vrf> REST...
+"""
+
+# What stands below `route-map`.
+ROUTE_MAP = """
+ignored    description REST...
+undone     no <call|on-match|continue|match|set> [REST...]
+ignored    no description [REST...]
+next       on-match next
+goto       on-match goto (1-65535)
+goto       continue (1-65535)
+cut        continue
+call       call WORD
+match_list match ip address WORD
+match_list match ip address prefix-list WORD
+match_list match as-path WORD
+match_list match community WORD [exact-match]
+match_list match large-community WORD [exact-match]
+match_value match metric (0-4294967295)
+match_value match local-preference (0-4294967295)
+match_value match origin <igp|egp|incomplete>
+match      match <interface|tag|mac|evpn|source-vrf|alias|probability|peer|rpki|rpki-extcommunity> REST...
+match      match ip <next-hop|route-source> REST...
+extcommunity match extcommunity REST...
+ipv6       match ipv6 REST...
+set_metric set metric WORD
+set_preference set local-preference WORD
+set_weight set weight (0-4294967295)
+set_prepend set as-path prepend (1-4294967295)...
+set_last   set as-path prepend last-as (1-10)
+set_exclude set as-path exclude (1-4294967295)...
+set        set as-path replace WORD
+set_origin set origin <igp|egp|incomplete>
+set_communities set community AA:NN...
+set_communities set large-community AA:BB:CC...
+set_delete set <comm-list|large-comm-list> WORD delete
+warned     set <tag|distance|table|label-index|atomic-aggregate|aggregator> [REST...]
+warned     set extcommunity REST...
+nexthop    set ip next-hop REST...
+set        set <originator-id|sr-te|evpn|ipv4|l3vpn> REST...
+ipv6       set ipv6 REST...
+"""
+
+
+def table(text):
+    """The commands of a table."""
+    found = []
+    for line in text.strip().splitlines():
+        action, syntax = line.split(None, 1)
+        found.append(Command(syntax.strip().replace("PEER", PEER), action, REFUSED.get(action)))
+    return found
+
+
+EXITS = table("leave <exit|quit>\nfinish end")
+TABLES = {
+    "config": Commands(table(CONFIG) + EXITS),
+    "bgp": Commands(table(BGP) + table(NEIGHBOR) + table(FAMILY) + EXITS),
+    "family": Commands(table(FAMILY) + EXITS + table("leave exit-address-family")),
+    "route-map": Commands(table(ROUTE_MAP) + EXITS),
+}

@@ -1,0 +1,176 @@
+"""Runs real `bgpd` processes of FRR on a set of configurations, in a network namespace of its own.
+
+Each router has the addresses by which its neighbors name it, on `lo`; a copy of its configuration says from which of
+them it opens its sessions, and that changed route-maps act after a second. No service is started, and every process is
+ended by its number."""
+import json
+import os
+import pathlib
+import re
+import shutil
+import socket
+import subprocess
+import time
+
+from configs.sessions import dotted
+from program import Refusal
+
+LIBRARIES = ("usr/lib/x86_64-linux-gnu/frr", "usr/lib/x86_64-linux-gnu", "lib/x86_64-linux-gnu", "usr/lib/aarch64-linux-gnu/frr",
+             "usr/lib/aarch64-linux-gnu", "lib/aarch64-linux-gnu")
+# Seconds: between two looks, before the first that may count, without a session, and until a set changes for ever.
+LOOK, LEAST, NO_SESSION, FOR_EVER = 0.5, 4.0, 20.0, 25.0
+ALIKE = 5
+
+
+def daemon(tree):
+    """The path of `bgpd` in a tree of unpacked packages, or None."""
+    path = pathlib.Path(tree, "usr/lib/frr/bgpd")
+    return path if os.access(path, os.X_OK) else None
+
+
+class Table:
+    """What a router has for a prefix: of each peer's address (None is its own) the attributes, and which is best."""
+
+    def __init__(self, said):
+        self.routes, self.best, self.ids = {}, None, {}
+        for path in said.get("paths", []):
+            peer = path.get("peer", {})
+            key = None if path.get("sourced") or peer.get("peerId") in (None, "0.0.0.0") else peer["peerId"]
+            self.routes[key] = self.attributes(path)
+            if path.get("bestpath", {}).get("overall"):
+                self.best = key
+        self.has_best = any(path.get("bestpath", {}).get("overall") for path in said.get("paths", []))
+
+    @staticmethod
+    def attributes(path):
+        words = path.get("aspath", {}).get("string", "").split()
+        numbers = tuple(int(word) for word in words) if all(word.isdigit() for word in words) else ()
+        communities = path.get("community", {}).get("string", "").split()
+        large = path.get("largeCommunity", {}).get("string", "").split()
+        return {"path": numbers, "origin": path.get("origin", "").lower(), "med": path.get("metric"),
+                "local-pref": path.get("locPrf", path.get("localpref")), "weight": path.get("weight", 0),
+                "communities": sorted(communities), "large": sorted(large)}
+
+
+class Lab:
+    """The processes of a set of routers."""
+
+    def __init__(self, tree, routers, texts, folder):
+        self.tree, self.set, self.folder = tree, routers, pathlib.Path(folder)
+        self.texts, self.processes, self.refused = texts, {}, []
+
+    def copy_of(self, asn):
+        """The configuration of a router, with what its place here needs."""
+        lines = ["bgp route-map delay-timer 1"] + self.texts[asn].split("\n") + [f"router bgp {asn}"]
+        for peer, end in self.set.ends[asn].items():
+            if not end.neighbor.line("source"):
+                own = self.set.ends[peer][asn].neighbor.key
+                lines.append(f" neighbor {end.neighbor.key} update-source {own}")
+        return "\n".join(lines + ["exit", ""])
+
+    def addresses(self, asn):
+        """The addresses by which the neighbors of a router name it."""
+        return sorted({self.set.ends[peer][asn].neighbor.key for peer in self.set.ends[asn]}) or ["127.0.0.1"]
+
+    def start(self):
+        subprocess.run(["ip", "link", "set", "lo", "up"], check=True)
+        environment = dict(os.environ, LD_LIBRARY_PATH=":".join(f"{self.tree}/{one}" for one in LIBRARIES))
+        for asn in self.set.routers:
+            place = self.folder / str(asn)
+            shutil.rmtree(place, ignore_errors=True)
+            place.mkdir(parents=True)
+            (place / "conf").write_text(self.copy_of(asn), encoding="latin-1")
+            addresses = self.addresses(asn)
+            for address in addresses:
+                subprocess.run(["ip", "addr", "add", f"{address}/32", "dev", "lo"], check=True, capture_output=True)
+            words = [daemon(self.tree), "-Z", "-S", "-n", "-p", "179", "-f", place / "conf", "-i", place / "pid",
+                     "--vty_socket", place, "--log", "stdout", "--log-level", "warnings"]
+            for address in addresses:
+                words += ["-l", address]
+            with open(place / "log", "w") as log:
+                self.processes[asn] = subprocess.Popen(list(map(str, words)), env=environment, stdout=log,
+                                                       stderr=subprocess.STDOUT, stdin=subprocess.DEVNULL)
+
+    def stop(self):
+        for process in self.processes.values():
+            process.terminate()
+        for process in self.processes.values():
+            try:
+                process.wait(5)
+            except subprocess.TimeoutExpired:
+                process.kill()
+                process.wait()
+
+    def ask(self, asn, command):
+        """What a process answers to a command, read as JSON."""
+        with socket.socket(socket.AF_UNIX) as channel:
+            channel.settimeout(10)
+            channel.connect(str(self.folder / str(asn) / "bgpd.vty"))
+            channel.sendall(command.encode() + b"\0")
+            said = b""
+            while not (len(said) >= 4 and said[-4:-1] == b"\0\0\0"):
+                more = channel.recv(65536)
+                if not more:
+                    break
+                said += more
+        text = said[:-4].decode()
+        return json.loads(text) if text.strip() else {}
+
+    def refusals(self):
+        """The lines that FRR refuses, as router, number and text, without those of other daemons."""
+        found = []
+        for asn in self.set.routers:
+            for line in (self.folder / str(asn) / "log").read_text().splitlines():
+                said = re.search(r"\] (.*) on config line (\d+): ?(.*)", line)
+                if said and int(said.group(2)) - 1 not in self.set.routers[asn].foreign:
+                    found.append((asn, int(said.group(2)) - 1, said.group(3).strip(), said.group(1)))
+        return found
+
+    def are_up(self):
+        """Whether the sessions that carry routes are up."""
+        for asn in self.set.routers:
+            peers = self.ask(asn, "show bgp ipv4 unicast summary json").get("peers", {})
+            up = {address for address, peer in peers.items() if peer.get("state") == "Established"}
+            if not up >= {self.set.ends[asn][peer].neighbor.key for peer in self.set.up[asn]}:
+                return False
+        return True
+
+    def look(self):
+        """What the processes have selected and heard: their tables as texts."""
+        found = []
+        for asn in self.set.routers:
+            said = self.ask(asn, "show bgp ipv4 unicast json")
+            found.append((said.get("tableVersion"), json.dumps(said.get("routes", {}), sort_keys=True)))
+        return found
+
+    def wait(self):
+        """Waits until the set is quiet: `quiet`, `changing`, or `down` where sessions do not come up."""
+        began, looks = time.monotonic(), []
+        while True:
+            time.sleep(LOOK)
+            passed = time.monotonic() - began
+            try:
+                if not self.are_up():
+                    looks = []
+                    if passed > NO_SESSION:
+                        return "down"
+                    continue
+                looks = (looks + [self.look()])[-ALIKE:]
+            except (OSError, ValueError):
+                if any(process.poll() is not None for process in self.processes.values()) or passed > FOR_EVER:
+                    raise Refusal("a bgpd ended, or did not answer")
+                looks = []
+                continue
+            if len(looks) == ALIKE and passed > LEAST and all(look == looks[0] for look in looks):
+                return "quiet"
+            if passed > FOR_EVER:
+                return "changing"
+
+    def tables(self, prefixes):
+        """What each router has for each prefix."""
+        return {(asn, prefix): Table(self.ask(asn, f"show bgp ipv4 unicast {prefix} json"))
+                for asn in self.set.routers for prefix in prefixes}
+
+
+def address_text(address):
+    return dotted(address)

@@ -1,0 +1,203 @@
+"""The rank lines of a set of configurations, and its network as a text."""
+from configs.order import Order
+from configs.places import refusal
+from configs.sessions import dotted
+from configs.ways import Follower
+from network import (GREATEST_OF_TWO_OCTETS, MOST_PATHS, MOST_PREFIXES, MOST_RULES, LONGEST_PATH, Network, Prefix,
+                     originations, path_text, starts)
+from program import Refusal
+
+ROUNDS, LATER = 1000, 100
+SHOWN = 8
+
+
+class Ranks:
+    """The order of each router's ways for each prefix.
+
+    `orders` has for each prefix the orders by router, `origins` the origin of each prefix that is announced."""
+
+    def __init__(self, routers, chosen=None, with_notes=False):
+        self.set, self.orders, self.origins, self.notes = routers, {}, {}, []
+        self.follower = Follower(routers, with_notes)
+        known = {}
+        for prefix, (router, network) in routers.origins().items():
+            if chosen and prefix not in chosen:
+                continue
+            ways = self.follower.ways(prefix, router, network)
+            if not ways[router.asn]:
+                self.notes.append((network.place, f"{prefix} is not announced: its route-map denies it"))
+                continue
+            self.origins[prefix] = router.asn
+            if id(ways) not in known:
+                known[id(ways)] = {asn: Order(routers, prefix, asn, found) for asn, found in ways.items()}
+            self.orders[prefix] = known[id(ways)]
+        for prefix in chosen or ():
+            if prefix not in self.origins and prefix not in routers.origins():
+                raise Refusal(f"no router announces {prefix}")
+        if len(self.origins) > MOST_PREFIXES:
+            raise refusal(next(iter(routers.routers.values())).place,
+                          f"{len(self.origins)} prefixes, and a network has at most {MOST_PREFIXES}: --prefix takes some")
+
+    def ties(self):
+        """Each class of ways that FRR tells apart by what was selected first: the router, the prefix, and the ways."""
+        for prefix, orders in self.orders.items():
+            for asn, order in orders.items():
+                for tied in order.ties:
+                    yield asn, prefix, tied
+
+    def tie_notes(self):
+        found = {}
+        for asn, prefix, tied in self.ties():
+            found.setdefault((asn, tuple(way.path for way in tied)), []).append(prefix)
+        for (asn, paths), prefixes in found.items():
+            router = self.set.routers[asn]
+            words = ", ".join(map(path_text, paths[:SHOWN])) + (f" and {len(paths) - SHOWN} more" if len(paths) > SHOWN else "")
+            yield router.place, (f"{asn} {', '.join(map(str, prefixes))}: tie: {words}: FRR keeps the one that it selected "
+                                 "first, and here they stand by router id (without 'bgp bestpath compare-routerid')")
+
+    def paths(self, prefix):
+        """The permitted paths of each router for a prefix, best first."""
+        return {asn: [way.path for way in order.ways] for asn, order in self.orders[prefix].items()}
+
+
+# ---- fewer paths
+
+def lasting(paths, origin):
+    """The paths without those that can't last, by router.
+
+    A router whose best path leads over routers that are fixed to the rest of it is fixed to it; what goes through a
+    fixed router on another path never lasts."""
+    fixed, left = {origin: (origin,)}, {asn: list(own) for asn, own in paths.items()}
+    left[origin], is_new = [(origin,)], True
+    while is_new:
+        is_new = False
+        for asn in [asn for asn in left if asn not in fixed]:
+            left[asn] = [path for path in left[asn]
+                         if all(fixed.get(path[at], path[at:]) == path[at:] for at in range(1, len(path)))]
+            if not left[asn] or fixed.get(left[asn][0][1]) == left[asn][0][1:]:
+                left[asn] = left[asn][:1]
+                fixed[asn], is_new = left[asn][0] if left[asn] else (), True
+    return left
+
+
+def best_paths(paths, prefix, origin, most):
+    """At most so many paths of each router, and what is to be said of those that are left out."""
+    longer = [asn for asn, own in paths.items() if len(own) > most]
+    if not longer:
+        return paths, []
+    left = lasting(paths, origin)
+    said = [f"{prefix}: {sum(map(len, paths.values())) - sum(map(len, left.values()))} paths that can't last are left out "
+            f"({', '.join(map(str, longer))} had more than {most}): the ends are the same, the way there may differ"]
+    for asn, own in left.items():
+        if len(own) > most:
+            omitted = own[most:]
+            words = ", ".join(map(path_text, omitted[:SHOWN]))
+            more = f" and {len(omitted) - SHOWN} more" if len(omitted) > SHOWN else ""
+            said.append(f"{prefix}: {asn} has the best {most} of {len(own)} paths; left out: {words}{more}: let --verify "
+                        "judge the end")
+            left[asn] = own[:most]
+    return left, said
+
+
+# ---- rules
+
+def covering(prefixes):
+    """The least prefix that covers some."""
+    first, last = min(prefix.address for prefix in prefixes), max(prefix.address for prefix in prefixes)
+    length = min(prefix.length for prefix in prefixes)
+    while first >> 32 - length != last >> 32 - length:
+        length -= 1
+    return Prefix(first >> 32 - length << 32 - length, length)
+
+
+class Rules:
+    """The rules of one router: the paths for each prefix, by origin, where one rule may stand for several prefixes."""
+
+    def __init__(self, wanted, origins):
+        self.origins, self.found = origins, []
+        rest = self.gather(sorted(wanted), wanted, 0)
+        if rest:
+            self.put(rest)
+
+    def put(self, part):
+        """Makes a rule of prefixes that go by one."""
+        prefixes, rule = part
+        self.found.append((covering(prefixes), [path for own in rule.values() for path in own]))
+
+    @staticmethod
+    def joined(one, other):
+        """Two parts as one, or None where a rule can't have both."""
+        rule = dict(one[1])
+        for origin, paths in other[1].items():
+            if rule.setdefault(origin, paths) != paths:
+                return None
+        if sum(map(len, rule.values())) > MOST_PATHS:
+            return None
+        return one[0] + other[0], rule
+
+    def gather(self, prefixes, wanted, length):
+        """What prefixes under one of a length need: parts of them that go otherwise than the rest get their rules, and
+        the rest is answered."""
+        if not prefixes:
+            return None
+        own = [prefix for prefix in prefixes if prefix.length == length]
+        parts = [(own, {self.origins[own[0]]: wanted[own[0]]})] if own else []
+        if length < 32:
+            bit = 31 - length
+            below = [prefix for prefix in prefixes if prefix.length > length]
+            for side in (0, 1):
+                part = self.gather([prefix for prefix in below if prefix.address >> bit & 1 == side], wanted, length + 1)
+                parts += [part] if part else []
+        rest = parts[0]
+        for part in parts[1:]:
+            joined = self.joined(rest, part)
+            if joined is None:
+                if not own and len(part[0]) > len(rest[0]):
+                    rest, part = part, rest
+                self.put(part)
+            rest = joined or rest
+        return rest
+
+
+def rules_of(wanted, origins):
+    """The rules of a router, each a prefix and its paths: one a prefix, or fewer where there would be too many."""
+    if len(wanted) <= MOST_RULES:
+        return list(wanted.items())
+    return sorted(Rules(wanted, origins).found)
+
+
+# ---- the text
+
+def network_lines(ranks, most=None):
+    """The lines of the network, and what is to be said of paths that are left out."""
+    routers, said = ranks.set.routers, []
+    lines = ["asn 4"] if max(routers) > GREATEST_OF_TWO_OCTETS else []
+    lines += [f"router {asn} {dotted(router.router_id.name)}" for asn, router in routers.items()]
+    lines += [f"link {asn} {peer}" for asn, ends in ranks.set.ends.items() for peer in sorted(ends) if asn < peer]
+    lines += [f"origin {asn} {prefix}" for prefix, asn in ranks.origins.items()]
+    wanted = {asn: {} for asn in routers}
+    for prefix, origin in ranks.origins.items():
+        paths = ranks.paths(prefix)
+        if most:
+            paths, more = best_paths(paths, prefix, origin, most)
+            said += more
+        for asn, own in paths.items():
+            if asn != origin:
+                if len(own) > MOST_PATHS:
+                    raise refusal(routers[asn].place, f"{asn} permits {len(own)} paths for {prefix}, and a rule has at most "
+                                                      f"{MOST_PATHS}: --best {MOST_PATHS} leaves some out")
+                wanted[asn][prefix] = own
+    for asn, own in wanted.items():
+        rules = rules_of(own, ranks.origins)
+        if len(rules) > MOST_RULES:
+            raise refusal(routers[asn].place, f"{asn} needs {len(rules)} rules, and a router has at most {MOST_RULES}: "
+                                              "--prefix takes some prefixes")
+        lines += [" ".join([f"rank {asn} {prefix}", *map(path_text, paths)]) for prefix, paths in rules]
+    return lines, said
+
+
+def schedule_lines(lines):
+    """A schedule for a network: the sessions come up, every prefix is originated, then rounds and a snapshot."""
+    network = Network(lines)
+    return ["schedule", *starts(network), *originations(network), f"rounds {ROUNDS}", f"snapshot {network.routers[0]} 1",
+            f"rounds {LATER}"]

@@ -1,0 +1,582 @@
+"""Reads the configuration of a router line by line, as FRR obeys it."""
+import re
+
+from configs import commands
+from configs.communities import read_community, read_large, sorted_set
+from configs.lists import Block, CommunityList, Entry, List, mask_of
+from configs.places import Place, refusal
+from configs.regular import BadExpression, expression, path_expression
+from configs.route import MOST, ORIGINS, RouteMap
+from configs.router import SENT, Line, Neighbor, Network, Router
+from configs.syntax import Unreadable, address_of, prefix_of
+from network import GREATEST_ASN, Prefix
+
+NOT_TAKEN = "FRR 8.4 does not take this line"
+LARGE_WORDS = {"large-community": read_large, "community": read_community}
+MOST_CALLS = 10
+
+
+def cut_lines(text):
+    """The lines of a text, each with its number, without a CR at its end."""
+    return [(number, line.rstrip("\r")) for number, line in enumerate(text.split("\n"), 1)]
+
+
+class Reader:
+    """Obeys the lines of one file."""
+
+    def __init__(self, text, name):
+        self.router, self.block, self.place = Router(name), "config", Place(name, 0)
+        self.entry, self.foreign = None, None
+        for number, line in cut_lines(text):
+            self.place = Place(name, number)
+            if not self.obey(line):
+                break
+
+    # ---- lines and blocks
+
+    def refuse(self, why):
+        raise refusal(self.place, why)
+
+    def obey(self, line):
+        """Obeys a line, and says whether there are more to read."""
+        words = line.split()
+        if not words or words[0][0] in "!#":
+            return True
+        if not line.isascii() and not line.strip().startswith(("description", "neighbor", "hostname", "banner")):
+            self.refuse("an octet past ASCII")
+        if self.foreign and self.is_foreign(line, words):
+            self.router.foreign.add(self.place.line)
+            return True
+        self.foreign = None
+        match = self.find(words)
+        if match.command.action == "finish":
+            return False
+        self.act(match, line)
+        return True
+
+    def is_foreign(self, line, words):
+        """Whether a line stands in a block that is passed over; the addresses of an interface are kept."""
+        if self.foreign == "interface" and words[:2] == ["ip", "address"] and len(words) > 2:
+            address = prefix_of(words[2])
+            if address is None:
+                self.refuse(f"'{words[2]}' is no address with a length")
+            self.router.addresses.setdefault(address[0], self.place)
+            return True
+        if words[0] in ("exit", "quit") or words[0].startswith("exit-"):
+            self.foreign = "closed"
+            return True
+        return self.foreign != "closed" and line[:1] in (" ", "\t")
+
+    def find(self, words):
+        """The command of a line, in its block or in one round it, which then is the block."""
+        blocks = {"family": ("family", "bgp", "config"), "bgp": ("bgp", "config"),
+                  "route-map": ("route-map", "config"), "config": ("config",)}[self.block]
+        for block in blocks:
+            try:
+                match = commands.TABLES[block].find(words)
+            except Unreadable as why:
+                self.refuse(f"'{' '.join(words)}': {why}")
+            if match:
+                if match.command.action not in ("leave", "finish"):
+                    self.block = block
+                return match
+        return self.refuse(f"'{' '.join(words)}' is no line that is known here")
+
+    def act(self, match, line):
+        action, words = match.command.action, match.words
+        if action in ("foreign", "interface", "warned", "ignored") and self.block == "config":
+            self.router.foreign.add(self.place.line)
+        if match.command.why:
+            self.refuse(f"'{line.strip()}': {match.command.why}")
+        if action == "ignored":
+            self.named_neighbor(words)
+        elif action == "warned":
+            self.named_neighbor(words)
+            self.router.warn(self.place, f"'{line.strip()}' is not read")
+        else:
+            getattr(self, "do_" + action)(words, line)
+
+    def named_neighbor(self, words):
+        """The neighbor that a line names has to be there."""
+        words = words[1:] if words[0] == "no" else words
+        if words[0] == "neighbor" and words[1:]:
+            self.neighbor(words[1])
+
+    def do_leave(self, words, line):
+        if self.block == "config":
+            self.refuse(f"'{line.strip()}' leaves the configuration: FRR refuses what follows")
+        self.block = "bgp" if self.block == "family" else "config"
+
+    def do_cut(self, words, line):
+        self.refuse(f"'{line.strip()}': the command is cut short")
+
+    def do_old(self, words, line):
+        self.refuse(f"'{line.strip()}': {NOT_TAKEN}: it is 'bgp {' '.join(words[1:3])} ..'")
+
+    def do_foreign(self, words, line):
+        self.foreign = "other"
+
+    def do_interface(self, words, line):
+        self.foreign = "interface"
+
+    def do_version(self, words, line):
+        found = re.match(r"(\d+)(?:\.(\d+))?", words[2])
+        if not found:
+            self.refuse(f"'{words[2]}' is no version")
+        self.router.version = int(found.group(1)), int(found.group(2) or 0)
+
+    def do_profile(self, words, line):
+        if words[2] not in ("traditional", "datacenter"):
+            self.refuse(f"'{words[2]}' is no profile: traditional or datacenter")
+        self.router.profile = words[2]
+
+    # ---- router bgp
+
+    def do_bgp(self, words, line):
+        router, asn = self.router, int(words[2])
+        if router.asn not in (None, asn):
+            self.refuse(f"a second AS: {router.place} has {router.asn}")
+        if router.asn is None:
+            router.asn, router.place = asn, self.place
+            is_new = router.version >= (7, 4)
+            defaults = {"bgp ebgp-requires-policy": is_new and router.profile != "datacenter",
+                        "bgp network import-check": is_new,
+                        "bgp deterministic-med": router.profile == "datacenter"}
+            router.options.update((name, Line(value, self.place)) for name, value in defaults.items())
+        self.block = "bgp"
+
+    def do_router_id(self, words, line):
+        address = address_of(words[2])
+        if not 1 <= address >> 24 <= 223:
+            self.refuse(f"the router id {words[2]}: its first octet has to be 1 to 223")
+        self.router.router_id = Line(address, self.place)
+
+    def do_option(self, words, line):
+        is_set = words[0] != "no"
+        self.router.options[" ".join(words if is_set else words[1:])] = Line(is_set, self.place)
+
+    def do_med(self, words, line):
+        self.router.options["bgp bestpath med missing-as-worst"] = Line(words[0] != "no", self.place)
+
+    def do_default_preference(self, words, line):
+        self.router.default_preference = 100 if words[0] == "no" else int(words[3])
+
+    def do_default_family(self, words, line):
+        self.router.activates = words[0] != "no"
+
+    def do_family_ipv4(self, words, line):
+        self.block = "family"
+
+    def do_network(self, words, line):
+        written = prefix_of(words[1])
+        rest = words[2:]
+        if written is None:
+            address = address_of(words[1])
+            if rest[:1] == ["mask"]:
+                written, rest = (address, self.length_of(rest[1])), rest[2:]
+            else:
+                first = address >> 24
+                written = address, 8 if first < 128 else 16 if first < 192 else 24
+        prefix = Prefix(written[0] & mask_of(written[1]), written[1])
+        self.router.networks[prefix] = Network(prefix, rest[1] if rest else None, self.place)
+
+    def length_of(self, mask):
+        """The length of a netmask."""
+        value = address_of(mask)
+        length = bin(value).count("1")
+        if mask_of(length) != value:
+            self.refuse(f"'{mask}' is no netmask")
+        return length
+
+    # ---- neighbors
+
+    def neighbor(self, key):
+        """The neighbor, or the group, of an address or a name."""
+        address = address_of(key)
+        found = self.router.groups.get(key) if address is None else self.router.neighbors.get(address)
+        if found is None:
+            self.refuse(f"neighbor {key}: {NOT_TAKEN}: no line above says its AS, or that it is a group")
+        return found
+
+    def do_remote_as(self, words, line):
+        router, key, asn = self.router, words[1], words[3]
+        if asn == "internal" or asn.isdigit() and int(asn) == router.asn:
+            self.refuse(f"neighbor {key} remote-as {asn}: {commands.REFUSED['ibgp']}")
+        if ":" in key:
+            self.refuse(f"neighbor {key}: {commands.REFUSED['ipv6']}")
+        remote, address = Line(asn if asn == "external" else int(asn), self.place), address_of(key)
+        if address is None:
+            if key not in router.groups:
+                self.refuse(f"neighbor {key}: {NOT_TAKEN}: no line above says that it is a group")
+            router.groups[key].remote = remote
+            return
+        found = router.neighbors.get(address)
+        if found is None:
+            found = router.neighbors[address] = Neighbor(key, address, self.place, router.activates)
+        elif found.group and found.group.remote:
+            self.refuse(f"neighbor {key} remote-as {asn}: {NOT_TAKEN}: its group says {found.group.remote.name}")
+        found.remote, found.place = remote, self.place
+
+    def do_group(self, words, line):
+        if address_of(words[1]) is not None:
+            self.refuse(f"'{line.strip()}': {NOT_TAKEN}: an address is no name of a group")
+        if words[1] not in self.router.groups:
+            self.router.groups[words[1]] = Neighbor(words[1], None, self.place, self.router.activates)
+
+    def do_member(self, words, line):
+        router, address = self.router, address_of(words[1])
+        group = router.groups.get(words[3])
+        if group is None:
+            self.refuse(f"'{line.strip()}': {NOT_TAKEN}: no line above makes the group")
+        if address is None:
+            self.refuse(f"'{line.strip()}': {NOT_TAKEN}: '{words[1]}' is no address")
+        found = router.neighbors.get(address)
+        if found is None:
+            if group.remote is None:
+                self.refuse(f"'{line.strip()}': {NOT_TAKEN}: no line above says the neighbor's AS, or the group's")
+            found = router.neighbors[address] = Neighbor(words[1], address, self.place, group.is_active)
+        elif found.group not in (None, group):
+            self.refuse(f"'{line.strip()}': {NOT_TAKEN}: it is in the group {found.group.key}")
+        found.group, found.is_active = group, group.is_active
+
+    def say(self, key, kind, value):
+        self.neighbor(key).said[kind] = Line(value, self.place)
+
+    def do_shutdown_neighbor(self, words, line):
+        self.say(words[2] if words[0] == "no" else words[1], "shutdown", words[0] != "no")
+
+    def do_source(self, words, line):
+        address = address_of(words[3])
+        self.say(words[1], "source", address if address is not None else words[3])
+
+    def do_password(self, words, line):
+        self.say(words[1], "password", " ".join(words[3:]))
+
+    def do_passive(self, words, line):
+        self.say(words[2] if words[0] == "no" else words[1], "passive", words[0] != "no")
+
+    def do_loop_detection(self, words, line):
+        self.say(words[2] if words[0] == "no" else words[1], "loop detection", words[0] != "no")
+
+    def do_weight(self, words, line):
+        self.say(words[2] if words[0] == "no" else words[1], "weight", 0 if words[0] == "no" else int(words[3]))
+
+    def do_shutdown_by_time(self, words, line):
+        self.refuse(f"'{line.strip()}': whether the session stays depends on time")
+
+    def do_activate(self, words, line):
+        is_active = words[0] != "no"
+        found = self.neighbor(words[1 + (not is_active)])
+        found.is_active = is_active
+        if found.address is None:
+            for member in self.router.neighbors.values():
+                if member.group is found:
+                    member.is_active = is_active
+
+    def do_policy(self, words, line):
+        is_set = words[0] != "no"
+        key, kind, name, direction = words[1:5] if is_set else words[2:6]
+        found = self.neighbor(key)
+        if not is_set:
+            found.policies.pop((kind, direction), None)
+            return
+        other = {"distribute-list": "prefix-list", "prefix-list": "distribute-list"}.get(kind)
+        if other and found.policy(other, direction):
+            self.refuse(f"'{line.strip()}': {NOT_TAKEN}: {found.policy(other, direction).place} has a {other}")
+        found.policies[kind, direction] = Line(name, self.place)
+
+    def do_send(self, words, line):
+        is_set = words[0] != "no"
+        words = words if is_set else words[1:]
+        for kind in SENT.get(words[3], (words[3],)) if words[3:] else ("standard",):
+            self.say(words[1], ("send", kind), is_set)
+
+    # ---- lists
+
+    def list_of(self, kind, name, maker=List):
+        return self.router.lists[kind].setdefault(name, maker(kind, name, self.place))
+
+    def numbered(self, words, at):
+        """Whether an entry permits, its number or None, and the words behind."""
+        number = None
+        if words[at] == "seq":
+            number, at = int(words[at + 1]), at + 2
+        return words[at] == "permit", number, words[at + 1:]
+
+    def do_remark(self, words, line):
+        pass
+
+    def do_access(self, words, line):
+        permits, number, rest = self.numbered(words, 2)
+        block, text = self.block_of(rest, line)
+        found = self.list_of("access-list", words[1])
+        entry = Entry(permits, block, text, self.place)
+        doubles = [other for other, one in found.entries.items() if one.permits == permits and other != number
+                   and (one.text == text or one.text == text + " exact-match")]
+        if not doubles:
+            found.add(found.next_number() if number is None else number, entry)
+        else:
+            self.router.warn(self.place, f"'{line.strip()}': FRR takes it for a double of "
+                                         f"{found.entries[doubles[0]].place}, and drops it")
+
+    def block_of(self, rest, line):
+        """What an entry of an access-list looks for, and the text that tells doubles."""
+        everything = Block(0, 0, 0, 32)
+        if rest == ["any"]:
+            return everything, "any"
+        prefix = prefix_of(rest[0])
+        if prefix and rest[1:] in ([], ["exact-match"]):
+            address, length = prefix
+            address &= mask_of(length)
+            most = length if rest[1:] else 32
+            return Block(address, mask_of(length), length, most), " ".join([f"{address}/{length}", *rest[1:]])
+        rest = rest[1:] if rest[0] == "host" else rest
+        numbers = [address_of(word) for word in rest]
+        if rest and rest[0] != "ip" and len(rest) <= 2 and None not in numbers:
+            wildcard = numbers[1] if len(numbers) == 2 else 0
+            return Block(numbers[0], MOST & ~wildcard, 0, 32), " ".join(map(str, numbers))
+        if rest[:1] == ["ip"]:
+            self.refuse(f"'{line.strip()}': access-lists of sources and destinations are not read")
+        return self.refuse(f"'{line.strip()}': {NOT_TAKEN}")
+
+    def do_prefixes(self, words, line):
+        permits, number, rest = self.numbered(words, 3)
+        block = self.span_of(rest, line)
+        found = self.list_of("prefix-list", words[2])
+        entry = Entry(permits, block, block, self.place)
+        other = found.double(entry)
+        if other is None or other == number:
+            found.add(found.next_number() if number is None else number, entry)
+        elif number is None:
+            self.refuse(f"'{line.strip()}': {NOT_TAKEN}: {found.entries[other].place} says the same")
+
+    def span_of(self, rest, line):
+        """The prefixes that an entry of a prefix-list has."""
+        if rest == ["any"]:
+            return Block(0, 0, 0, 32)
+        prefix, bounds = prefix_of(rest[0]), dict(zip(rest[1::2], rest[2::2]))
+        is_whole = len(rest) % 2 == 1 and len(bounds) == len(rest) // 2 and set(bounds) <= {"ge", "le"}
+        if prefix is None or not is_whole or not all(word.isdigit() and int(word) <= 32 for word in bounds.values()):
+            self.refuse(f"'{line.strip()}': {NOT_TAKEN}")
+        address, length = prefix
+        least = int(bounds.get("ge", length))
+        most = int(bounds.get("le", 32 if "ge" in bounds else length))
+        if not length <= least <= most:
+            self.refuse(f"'{line.strip()}': {NOT_TAKEN}: it has to be length <= ge <= le")
+        return Block(address & mask_of(length), mask_of(length), least, most)
+
+    def expression(self, text, make, line):
+        try:
+            return make(text)
+        except BadExpression as why:
+            return self.refuse(f"'{line.strip()}': the expression has {why}")
+
+    def do_paths(self, words, line):
+        permits, number, _ = self.numbered(words, 4)
+        text = self.rest_of(line, 5 if number is None else 7)
+        found = self.list_of("as-path", words[3])
+        self.add_once(found, number, Entry(permits, self.expression(text, path_expression, line), text, self.place))
+
+    def add_once(self, found, number, entry):
+        """Adds an entry, unless one says the same: FRR drops it in silence."""
+        if found.double(entry) is None:
+            found.add(found.next_number() if number is None else number, entry)
+
+    @staticmethod
+    def rest_of(line, count):
+        """What stands behind so many words of a line, its words one blank apart."""
+        return " ".join(line.split()[count:])
+
+    def do_communities(self, words, line):
+        kind = words[1][:-len("-list")]
+        at = 3 if words[2].isdigit() else 4
+        name, is_standard = words[at - 1], words[2] == "standard" or words[2].isdigit() and int(words[2]) < 100
+        permits, number, rest = self.numbered(words, at)
+        if at == 4 and name.isdigit() and (int(name) < 100) != is_standard and int(name) <= 500 or \
+                kind == "large-community" and at == 4 and name.isdigit():
+            self.refuse(f"'{line.strip()}': {NOT_TAKEN}: a number is no name here")
+        found = self.list_of(kind, name, CommunityList)
+        if found.entries and any(callable(entry.value) == is_standard for entry in found.entries.values()):
+            self.refuse(f"'{line.strip()}': {NOT_TAKEN}: {found.place} is a list of the other kind")
+        if is_standard:
+            value = sorted_set(self.communities(rest, LARGE_WORDS[kind], line))
+            text = value
+        else:
+            text = " ".join(rest)
+            value = self.expression(text, expression, line)
+        self.add_once(found, number, Entry(permits, value, text, self.place))
+
+    def communities(self, words, read, line):
+        found = []
+        for word in words:
+            one = read(word)
+            if one is None:
+                self.refuse(f"'{line.strip()}': {NOT_TAKEN}: '{word}' is no community")
+            found.append(one)
+        return tuple(found)
+
+    # ---- route-maps
+
+    def do_route_map(self, words, line):
+        found = self.router.maps.setdefault(words[1], RouteMap(words[1], self.place))
+        self.entry = found.entry(int(words[3]), words[2] == "permit", self.place)
+        self.block = "route-map"
+
+    def do_next(self, words, line):
+        self.check_permits(line)
+        self.entry.next = 0
+
+    def check_permits(self, line):
+        if not self.entry.permits:
+            self.refuse(f"'{line.strip()}': {NOT_TAKEN} in an entry that denies")
+
+    def do_goto(self, words, line):
+        self.check_permits(line)
+        number = int(words[-1])
+        if number <= self.entry.number:
+            self.refuse(f"'{line.strip()}': {NOT_TAKEN}: it goes back")
+        self.entry.next = number
+
+    def do_call(self, words, line):
+        if words[1] == self.entry.map_name:
+            self.refuse(f"'{line.strip()}': {NOT_TAKEN}: the map calls itself")
+        self.entry.call = Line(words[1], self.place)
+
+    def do_match_list(self, words, line):
+        if words[1:3] == ["ip", "address"]:
+            kind = "prefix-list" if len(words) == 5 else "access-list"
+            value = words[-1]
+        else:
+            kind = words[1]
+            value = words[2] if kind == "as-path" else (words[2], len(words) == 4)
+        self.entry.matches[kind] = value, self.place
+
+    def do_match_value(self, words, line):
+        if words[1] == "metric" and int(words[2]) == 0:
+            self.refuse(f"'{line.strip()}': {NOT_TAKEN}, and the entry then fits everything")
+        value = ORIGINS.index(words[2]) if words[1] == "origin" else int(words[2])
+        self.entry.matches[words[1]] = value, self.place
+
+    def changed(self, word, line, takes_nothing):
+        """The sign and the number of a word that sets or changes a number."""
+        sign = word[0] if word[0] in "+-" else ""
+        digits = word[len(sign):]
+        if not (digits.isascii() and digits.isdigit()) or int(digits) > MOST:
+            self.refuse(f"'{line.strip()}': {NOT_TAKEN}: '{word}' is no number from 0 to {MOST}")
+        if sign and not int(digits) and not takes_nothing:
+            self.refuse(f"'{line.strip()}': {NOT_TAKEN}: nothing is added")
+        return sign, int(digits)
+
+    def set(self, kind, value, line, form=0):
+        if not self.entry.set(kind, form, value, self.place):
+            self.router.warn(self.place, f"'{line.strip()}': behind another form of it FRR drops both")
+
+    def do_set_metric(self, words, line):
+        if words[2].lstrip("+-") == "rtt":
+            self.refuse(f"'{line.strip()}': the metric depends on time")
+        sign, number = self.changed(words[2], line, False)
+        self.set("metric", (sign, number), line, ("", "+", "-").index(sign))
+
+    def do_set_preference(self, words, line):
+        self.set("local-preference", self.changed(words[2], line, True), line)
+
+    def do_set_weight(self, words, line):
+        self.set("weight", int(words[2]), line)
+
+    def numbers(self, words, line):
+        if not all(word.isascii() and word.isdigit() and 1 <= int(word) <= GREATEST_ASN for word in words):
+            self.refuse(f"'{line.strip()}': {NOT_TAKEN}: AS numbers are 1 to {GREATEST_ASN}")
+        return tuple(map(int, words))
+
+    def do_set_prepend(self, words, line):
+        self.set("prepend", self.numbers(words[3:], line), line)
+
+    def do_set_last(self, words, line):
+        self.set("prepend", int(words[4]), line, 1)
+
+    def do_set_exclude(self, words, line):
+        self.set("exclude", self.numbers(words[3:], line), line)
+
+    def do_set_origin(self, words, line):
+        self.set("origin", ORIGINS.index(words[2]), line)
+
+    def do_set_communities(self, words, line):
+        kind, rest = words[1], words[2:]
+        if rest == ["none"]:
+            self.set(kind, ((), False), line)
+            return
+        is_large = kind == "large-community"
+        adds = [word for word in rest if word and "additive".startswith(word)]
+        numbers = [self.full(word, is_large) for word in rest if word not in adds]
+        if not numbers or is_large and adds and (rest[-1] != "additive" or len(adds) > 1):
+            self.refuse(f"'{line.strip()}': {NOT_TAKEN}, or it is not read: 'additive' stands behind communities")
+        self.set(kind, (sorted_set(self.communities(numbers, LARGE_WORDS[kind], line)), bool(adds)), line, 1)
+
+    @staticmethod
+    def full(word, is_large):
+        """A community's name in full, as `set community` takes it shortened."""
+        if not is_large and word[:1].isalpha():
+            for name, least in (("internet", 1), ("local-AS", 1), ("no-advertise", 4), ("no-export", 4),
+                                ("graceful-shutdown", 1), ("blackhole", 1)):
+                if len(word) >= least and name.startswith(word):
+                    return name
+        return word
+
+    def do_set_delete(self, words, line):
+        self.set(words[1], words[2], line)
+
+
+def check_calls(router):
+    """Refuses route-maps that call one another in a circle, or too deep."""
+    def depth(name, above):
+        if name in above:
+            raise refusal(router.maps[name].place, f"route-map {name} is called by a map that it calls")
+        calls = [entry.call for entry in router.maps[name].ordered() if entry.call and entry.call.name in router.maps]
+        return max((1 + depth(call.name, above + [name]) for call in calls), default=0)
+
+    for name in router.maps:
+        if depth(name, []) > MOST_CALLS:
+            raise refusal(router.maps[name].place, f"route-map {name}: more than {MOST_CALLS} calls in one another")
+
+
+def undefined(router):
+    """A warning for each name that is nowhere: what it then is to FRR."""
+    def lacks(kind, name, place, what, effect):
+        if name not in router.lists.get(kind, router.maps):
+            router.warn(place, f"there is no {what} {name}: {effect}")
+
+    lists = {"distribute-list": "access-list", "prefix-list": "prefix-list", "filter-list": "as-path"}
+    for neighbor in [*router.groups.values(), *router.neighbors.values()]:
+        for (kind, direction), line in neighbor.policies.items():
+            what = lists.get(kind, kind)
+            lacks(what, line.name, line.place, what, f"it denies everything {direction}")
+    for network in router.networks.values():
+        if network.map_name:
+            lacks("route-map", network.map_name, network.place, "route-map", "the network is not announced")
+    for entry in (entry for one in router.maps.values() for entry in one.ordered()):
+        for kind, (value, place) in entry.matches.items():
+            if kind in router.lists:
+                lacks(kind, value[0] if isinstance(value, tuple) else value, place, f"{kind} list", "it fits nothing")
+        for kind, of in (("comm-list", "community"), ("large-comm-list", "large-community")):
+            if kind in entry.sets:
+                value, place = entry.sets[kind]
+                lacks(of, value, place, f"{of} list", "nothing is deleted")
+        if entry.call:
+            lacks("route-map", entry.call.name, entry.call.place, "route-map", "the call does nothing")
+
+
+def read_router(text, name):
+    """The router that a file is the configuration of."""
+    router = Reader(text, name).router
+    if router.asn is None:
+        raise refusal(Place(name, 1), "no configuration of a router: there is no line 'router bgp'")
+    if router.router_id is None:
+        raise refusal(router.place, "no line 'bgp router-id': which address FRR takes is not known here")
+    for network in router.networks.values():
+        if router.option("bgp network import-check"):
+            router.warn(network.place, "network: taken as announced; with import-check FRR announces it where the route "
+                                       "is in its table")
+            break
+    check_calls(router)
+    undefined(router)
+    return router

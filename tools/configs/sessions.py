@@ -1,0 +1,215 @@
+"""Which neighbors of which routers are sessions: both ends name each other."""
+from collections import namedtuple
+
+from configs.places import refusal
+from network import MOST_LINKS, MOST_ROUTERS
+from program import Refusal
+
+# An end of a session: the router and its neighbor.
+End = namedtuple("End", "router neighbor")
+
+
+def dotted(address):
+    return ".".join(str(address >> shift & 255) for shift in (24, 16, 8, 0))
+
+
+def check_set(routers):
+    """Refuses routers that can't stand in one network."""
+    if not routers:
+        raise Refusal("no configurations")
+    if len(routers) > MOST_ROUTERS:
+        raise refusal(routers[MOST_ROUTERS].place, f"{len(routers)} routers, and a network has at most {MOST_ROUTERS}")
+    by_asn, by_id = {}, {}
+    for router in routers:
+        other = by_asn.setdefault(router.asn, router)
+        if other is not router:
+            raise refusal(router.place, f"AS {router.asn} is that of {other.place} too: every router is an AS of its own")
+        other = by_id.setdefault(router.router_id.name, router)
+        if other is not router:
+            raise refusal(router.router_id.place, f"the router id {dotted(router.router_id.name)} is that of "
+                                                  f"{other.router_id.place} too")
+
+
+class Set:
+    """The routers of a set of configurations, and their sessions.
+
+    `ends` has for each router's number its end of each session, by the number of the peer; `up` those of sessions that
+    carry routes."""
+
+    def __init__(self, routers):
+        check_set(routers)
+        self.routers = {router.asn: router for router in sorted(routers, key=lambda one: one.asn)}
+        self.owners = self.find_owners()
+        self.find_external()
+        self.ends = {asn: {} for asn in self.routers}
+        self.find_sessions()
+        self.up = {asn: [peer for peer in sorted(ends) if self.carries(asn, peer)] for asn, ends in self.ends.items()}
+        self.check_connected()
+
+    # ---- whose an address is
+
+    def find_owners(self):
+        """The router of each address that lines say something of: interfaces and sources say whose their own are, and
+        neighbors with a number whose the other end's is."""
+        owners = {}
+
+        def claim(address, router, place):
+            other = owners.setdefault(address, (router, place))
+            if other[0] is not router:
+                raise refusal(place, f"{dotted(address)} is an address of {router.asn} here, and of {other[0].asn} at "
+                                     f"{other[1]}")
+
+        for router in self.routers.values():
+            for address, place in router.addresses.items():
+                claim(address, router, place)
+            for neighbor in router.neighbors.values():
+                source = neighbor.line("source")
+                if source and isinstance(source.name, int):
+                    claim(source.name, router, source.place)
+        for router in self.routers.values():
+            for neighbor in router.neighbors.values():
+                if neighbor.asn is None:
+                    raise refusal(neighbor.place, f"neighbor {neighbor.key}: no line says its AS")
+                if neighbor.asn.name in self.routers:
+                    claim(neighbor.address, self.routers[neighbor.asn.name], neighbor.asn.place)
+        ids = {router.router_id.name: router for router in self.routers.values()}
+        for router in self.routers.values():
+            for neighbor in router.neighbors.values():
+                if neighbor.asn.name == "external" and neighbor.address in ids:
+                    owners.setdefault(neighbor.address, (ids[neighbor.address], ids[neighbor.address].router_id.place))
+        return owners
+
+    def peer_of(self, router, neighbor):
+        """The router that a neighbor is, or None where it is none of the set."""
+        if neighbor.asn.name != "external":
+            return self.routers.get(neighbor.asn.name)
+        owner = self.owners.get(neighbor.address)
+        if owner is None:
+            raise refusal(neighbor.place, f"neighbor {neighbor.key}: which router has this address no line says: give "
+                                          "its AS number, or the addresses of interfaces")
+        return owner[0]
+
+    def find_external(self):
+        """The routers of neighbors without a number whose address no line says: the only one left that names the router
+        and is none of its other neighbors, as long as such are found."""
+        left = [(router, neighbor) for router in self.routers.values() for neighbor in router.neighbors.values()
+                if neighbor.asn.name == "external" and neighbor.address not in self.owners]
+        is_new = True
+        while left and is_new:
+            is_new = False
+            for router, neighbor in list(left):
+                known = {self.owners[one.address][0] for one in router.neighbors.values() if one.address in self.owners}
+                naming = [other for other in self.routers.values() if other is not router and other not in known
+                          and any(one.asn.name == router.asn or one.address in self.owners
+                                  and self.owners[one.address][0] is router for one in other.neighbors.values())]
+                if len(naming) == 1:
+                    self.owners[neighbor.address] = naming[0], neighbor.place
+                    left.remove((router, neighbor))
+                    is_new = True
+
+    # ---- sessions
+
+    def find_sessions(self):
+        named = {}
+        for router in self.routers.values():
+            for neighbor in router.neighbors.values():
+                peer = self.peer_of(router, neighbor)
+                if peer is router:
+                    raise refusal(neighbor.place, f"neighbor {neighbor.key} is the router itself")
+                if peer is None:
+                    router.warn(neighbor.place, f"neighbor {neighbor.key}: no configuration of AS {neighbor.asn.name} is "
+                                                "among these, so there is no session")
+                    continue
+                other = named.setdefault((router.asn, peer.asn), neighbor)
+                if other is not neighbor:
+                    raise refusal(neighbor.place, f"neighbor {neighbor.key} is a second session with {peer.asn}: the first "
+                                                  f"is at {other.place}")
+        for (asn, peer), neighbor in named.items():
+            router, other = self.routers[asn], named.get((peer, asn))
+            if other is None:
+                router.warn(neighbor.place, f"neighbor {neighbor.key} is {peer}, and {self.routers[peer].place} names no "
+                                            f"neighbor {asn}: there is no session")
+            elif asn < peer:
+                self.join(End(router, neighbor), End(self.routers[peer], other))
+        for asn, ends in self.ends.items():
+            if len(ends) > MOST_LINKS:
+                router = self.routers[asn]
+                raise refusal(router.place, f"{asn} has {len(ends)} sessions, and a router has at most {MOST_LINKS}")
+
+    def join(self, one, other):
+        """Makes a session of two ends, unless one is shut."""
+        for end in (one, other):
+            if end.neighbor.is_shut:
+                end.router.warn(end.neighbor.line("shutdown").place, f"neighbor {end.neighbor.key} is shut: there is no "
+                                                                     "session")
+                return
+        if not (one.neighbor.is_active or other.neighbor.is_active):
+            one.router.warn(one.neighbor.place, f"neighbor {one.neighbor.key} is not activated, nor is the other end, "
+                                                f"{other.neighbor.place}: there is no session")
+            return
+        for end, far in ((one, other), (other, one)):
+            if far.router.addresses and end.neighbor.address not in far.router.addresses and \
+                    self.owners.get(end.neighbor.address, (None,))[0] is not far.router:
+                raise refusal(end.neighbor.place, f"neighbor {end.neighbor.key} is no address of {far.router.name}")
+            self.check_source(end, far)
+        secrets = [end.neighbor.line("password") for end in (one, other)]
+        if (secrets[0] and secrets[0].name) != (secrets[1] and secrets[1].name):
+            said = secrets[0] or secrets[1]
+            end = other if secrets[0] else one
+            raise refusal(said.place, f"the password is not that of the other end, {end.neighbor.place}")
+        if all(end.neighbor.value("passive", False) for end in (one, other)):
+            raise refusal(one.neighbor.line("passive").place, f"both ends are passive: the other at "
+                                                              f"{other.neighbor.line('passive').place}")
+        one.neighbor.peer_asn, other.neighbor.peer_asn = other.router.asn, one.router.asn
+        self.ends[one.router.asn][other.router.asn] = one
+        self.ends[other.router.asn][one.router.asn] = other
+        for end in (one, other):
+            if not end.neighbor.is_active:
+                end.router.warn(end.neighbor.place, f"neighbor {end.neighbor.key} is not activated: the session carries "
+                                                    "no routes")
+
+    @staticmethod
+    def check_source(end, far):
+        """Refuses a source that the other end does not name."""
+        source = end.neighbor.line("source")
+        if source and isinstance(source.name, int) and source.name != far.neighbor.address:
+            raise refusal(source.place, f"the source is {dotted(source.name)}, and {far.neighbor.place} names "
+                                        f"{far.neighbor.key}")
+
+    def carries(self, asn, peer):
+        return self.ends[asn][peer].neighbor.is_active and self.ends[peer][asn].neighbor.is_active
+
+    def check_connected(self):
+        first = next(iter(self.routers))
+        reached = {first}
+        for asn in (queue := [first]):
+            new = [peer for peer in self.ends[asn] if peer not in reached]
+            reached.update(new)
+            queue += new
+        apart = [router for asn, router in self.routers.items() if asn not in reached]
+        if apart:
+            raise refusal(apart[0].place, f"no sessions lead from {first} to {apart[0].asn}: the network isn't connected")
+
+    # ---- what is asked of the set
+
+    def notes(self):
+        """The warnings, each with its place; of networks that are taken as announced the first alone."""
+        found, is_said = [], False
+        for router in self.routers.values():
+            for place, said in router.notes:
+                if said.startswith("network: "):
+                    if is_said:
+                        continue
+                    is_said = True
+                found.append((place, said))
+        return found
+
+    def origins(self):
+        """The router of each prefix that a line announces, and the network."""
+        found = {}
+        for router in self.routers.values():
+            for prefix, network in router.networks.items():
+                other = found.setdefault(prefix, (router, network))
+                if other[0] is not router:
+                    raise refusal(network.place, f"{prefix} has another origin at {other[1].place}: a prefix has one")
+        return {prefix: found[prefix] for prefix in sorted(found)}

@@ -1,0 +1,243 @@
+"""What is said of a set of configurations beside its network: why a path stands where it does, what a change does, and
+what ends there are."""
+import itertools
+import os
+import random
+
+from configs.communities import community_text, large_text
+from configs.ends import Judge
+from configs.ranks import Ranks, network_lines, schedule_lines
+from configs.route import ORIGINS, Denial
+from configs.sessions import dotted
+from network import path_text, routes_of
+from program import Refusal
+
+# Orders of ties that are played for a prefix, at most.
+MOST_ORDERS = 64
+
+
+class Names:
+    """Short names of files, as long as they tell them apart."""
+
+    def __init__(self, names):
+        short = [os.path.basename(name) for name in names]
+        self.short = {} if len(set(short)) < len(short) else dict(zip(names, short))
+
+    def of(self, text):
+        """A text that begins with a place, with the short name."""
+        text = str(text)
+        name, colon, rest = text.partition(":")
+        return self.short.get(name, name) + colon + rest
+
+
+def attributes_of(router, way, names):
+    """The attributes of a way that policy gave, or that are compared, each a text and the line that it comes by."""
+    route, found = way.route, []
+    preference = route.preference if route.has_preference else router.default_preference
+    if route.weight:
+        found.append(("weight", f"weight {route.weight}"))
+    found.append(("local-pref", f"local-pref {preference}"))
+    found.append(("path", f"length {len(route.path) + 1}"))
+    if route.origin:
+        found.append(("origin", f"origin {ORIGINS[route.origin]}"))
+    if route.has_med and (len(way.path) > 1 or route.med):
+        found.append(("med", f"med {route.med}"))
+    if route.communities:
+        found.append(("communities", "community " + " ".join(map(community_text, route.communities))))
+    if route.large:
+        found.append(("large", "large-community " + " ".join(map(large_text, route.large))))
+    notes = route.notes or {}
+    return [(name, said + (f" ({names.of(notes[name])})" if notes.get(name) else "")) for name, said in found]
+
+
+def columns(rows):
+    """Rows of cells as lines, cells of a column under one another."""
+    widths = {}
+    for row in rows:
+        for at, cell in enumerate(row[:-1]):
+            widths[at] = max(widths.get(at, 0), len(cell))
+    return ["  ".join([cell.ljust(widths.get(at, 0)) for at, cell in enumerate(row[:-1])] + row[-1:]).rstrip() for row in rows]
+
+
+def explain(ranks, asn, prefix, names):
+    """The lines that say of a router and a prefix which paths it permits, by which lines, and which it does not."""
+    if asn not in ranks.set.routers:
+        raise Refusal(f"there is no router {asn}")
+    order, router = ranks.orders[prefix][asn], ranks.set.routers[asn]
+    tied = {way.path: place for place, tie in enumerate(order.ties, 1) for way in tie}
+    rows = []
+    for place, way in enumerate(order.ways, 1):
+        said = attributes_of(router, way, names)
+        at = next(at for at, (name, _) in enumerate(said) if name == "path")
+        before, rest = "  ".join(text for _, text in said[:at]), [text for _, text in said[at + 1:]]
+        if way.path in tied:
+            peer = ranks.set.routers[way.path[1]]
+            rest.append(f"tie {tied[way.path]}: router id {dotted(peer.router_id.name)}")
+        rows.append([str(place), path_text(way.path), before, "  ".join([said[at][1], *rest])])
+    lines = columns(rows)
+    denied = [one for one in ranks.follower.denied if one.path[0] == asn and asn not in one.path[1:]]
+    rows = [["denied", path_text(one.path), f"{names.of(one.denial.place)} {one.denial.why}"] for one in denied]
+    return lines + columns(rows) or ["nothing comes here"]
+
+
+# ---- ends
+
+def play(program, ranks, most=None, lines=None):
+    """Whether the program settles, and the routes in which it ends, by router and prefix."""
+    lines = lines or network_lines(ranks, most)[0]
+    said = program.answer(["play"], "".join(line + "\n" for line in lines + schedule_lines(lines)), "the network")
+    return said[0].endswith("settled"), routes_of(said[said.index("now") + 1:])
+
+
+def verify(routers, routes, chosen=None):
+    """A line for each router that has not the best of what its peers offer, by the configurations."""
+    for prefix, (router, network) in routers.origins().items():
+        if chosen and prefix not in chosen:
+            continue
+        judge = Judge(routers, prefix, router, network)
+        paths = {asn: routes.get((asn, prefix), ()) for asn in routers.routers}
+        for asn, path in paths.items():
+            if judge.may_keep(asn, path, paths):
+                continue
+            best, why = judge.best(asn, paths), ""
+            route = judge.route(path) if path else None
+            if path and (path[0] != asn or len(path) > 1 and paths.get(path[1]) != path[1:]):
+                why = ": no peer has the rest of it"
+            elif isinstance(route, Denial):
+                why = f": denied by {route.place} {route.why}"
+            yield f"unstable {asn} {prefix} has {path_text(path)} best {path_text(best)}{why}"
+
+
+def orders_of(classes, draw):
+    """Orders of classes of ways, as tuples of tuples: all of them, or some where there are too many; and how many there
+    are."""
+    choices = [list(itertools.permutations(paths)) for paths in classes]
+    number = 1
+    for choice in choices:
+        number *= len(choice)
+    if number <= MOST_ORDERS:
+        return list(itertools.product(*choices)), number
+    first = tuple(choice[0] for choice in choices)
+    found = {first: None}
+    for at, choice in enumerate(choices):
+        for other in choice[1:]:
+            found.setdefault(first[:at] + (other,) + first[at + 1:])
+    while len(found) < MOST_ORDERS:
+        found.setdefault(tuple(choice[int(draw.random() * len(choice))] for choice in choices))
+    return list(found)[:MOST_ORDERS], number
+
+
+def reordered(paths, classes, order):
+    """A router's paths with those of each class in another order, on the places of the class."""
+    paths = list(paths)
+    for tied, others in zip(classes, order):
+        for place, path in zip([at for at, path in enumerate(paths) if path in tied], others):
+            paths[place] = path
+    return paths
+
+
+def tie_ends(program, ranks, prefix, most=None):
+    """The lines that say in which ends a prefix ends by the orders of its ties."""
+    orders, origin = ranks.orders[prefix], ranks.origins[prefix]
+    places = [(asn, tuple(way.path for way in tie)) for asn, order in orders.items() for tie in order.ties
+              if len(tie) <= 6]
+    tried, number = orders_of([paths for _, paths in places], random.Random(1))
+    ends = {}
+    for order in tried:
+        one = Reordered(ranks, prefix, places, order)
+        is_settled, routes = play(program, one, most)
+        key = " ".join(["settled" if is_settled else "moving", *(path_text(routes[asn, prefix]) for asn in orders)])
+        ends[key] = ends.get(key, 0) + 1
+    yield f"prefix {prefix} of {origin}"
+    of = f"{len(tried)} of {number}" if number > len(tried) else str(number)
+    yield f"  {len(places)} ties, played {of} orders of them"
+    for said, count in sorted(ends.items(), key=lambda end: -end[1]):
+        yield f"  {count:3}  {said}"
+
+
+class Reordered:
+    """Ranks of one prefix, with ties in another order."""
+
+    def __init__(self, ranks, prefix, places, order):
+        self.set, self.origins, self.ranks = ranks.set, {prefix: ranks.origins[prefix]}, ranks
+        self.places, self.order = places, order
+
+    def paths(self, prefix):
+        paths = self.ranks.paths(prefix)
+        for asn in paths:
+            own = [at for at, (router, _) in enumerate(self.places) if router == asn]
+            paths[asn] = reordered(paths[asn], [self.places[at][1] for at in own], [self.order[at] for at in own])
+        return paths
+
+
+# ---- what a change does
+
+class Change:
+    """Two sets of configurations, and what is other in the second."""
+
+    def __init__(self, program, old, new, most=None):
+        self.sides = [Ranks(routers, with_notes=True) for routers in (old, new)]
+        self.names = [Names([router.name for router in routers.routers.values()]) for routers in (old, new)]
+        for at in (0, 1):
+            self.names[at].short = {}
+        self.ends = [play(program, ranks, most) for ranks in self.sides]
+
+    def lines(self):
+        """What changes, line by line."""
+        found = []
+        old, new = self.sides
+        for asn in sorted(set(old.set.routers) ^ set(new.set.routers)):
+            found.append(f"{asn} is {'gone' if asn in old.set.routers else 'new'}")
+        for prefix in sorted(set(old.origins) | set(new.origins)):
+            ends = [ranks.origins.get(prefix) for ranks in self.sides]
+            if ends[0] != ends[1]:
+                found.append(f"{prefix} is announced by {ends[1] or 'none'}, was by {ends[0] or 'none'}")
+            for asn in sorted(set(old.set.routers) & set(new.set.routers)):
+                more = self.router_lines(asn, prefix)
+                if more:
+                    found += [f"{asn} {prefix}"] + more
+        return found + self.end_lines()
+
+    def ways(self, at, asn, prefix):
+        orders = self.sides[at].orders.get(prefix)
+        return {way.path: (place, way) for place, way in enumerate(orders[asn].ways, 1)} if orders else {}
+
+    def why(self, at, path):
+        """Why a side has not a path."""
+        denied = next((one for one in self.sides[at].follower.denied if one.path == path), None)
+        return f": {denied.denial.place} {denied.denial.why}" if denied else ": it does not come here"
+
+    def router_lines(self, asn, prefix):
+        old, new = self.ways(0, asn, prefix), self.ways(1, asn, prefix)
+        found = []
+        for path, (place, way) in new.items():
+            if path not in old:
+                said = ", ".join(text for _, text in attributes_of(self.sides[1].set.routers[asn], way, self.names[1]))
+                found.append(f"  + {place} {path_text(path)}  {said}; before{self.why(0, path)}")
+        for path, (place, way) in old.items():
+            if path not in new:
+                found.append(f"  - {place} {path_text(path)}{self.why(1, path)}")
+        kept = [[path for path in side if path in old and path in new] for side in (old, new)]
+        for path in kept[1]:
+            said = [dict(attributes_of(self.sides[at].set.routers[asn], side[path][1], self.names[at]))
+                    for at, side in ((0, old), (1, new))]
+            values = [[text.split(" (")[0] for text in one.values()] for one in said]
+            is_moved = kept[0].index(path) != kept[1].index(path)
+            if values[0] != values[1]:
+                what = [f"{said[1].get(name, 'no ' + name)}, was {said[0].get(name, 'none')}" for name in {**said[0], **said[1]}
+                        if said[0].get(name, "").split(" (")[0] != said[1].get(name, "").split(" (")[0]]
+                found.append(f"  = {new[path][0]} (was {old[path][0]}) {path_text(path)}  {'; '.join(what)}")
+            elif is_moved:
+                found.append(f"  = {new[path][0]} (was {old[path][0]}) {path_text(path)}")
+        return found
+
+    def end_lines(self):
+        (was_settled, before), (is_settled, after) = self.ends
+        found = []
+        if was_settled != is_settled:
+            found.append("the network settles no more" if was_settled else "the network settles now")
+        for key in sorted(set(before) | set(after), key=lambda key: (key[1], key[0])):
+            if before.get(key) != after.get(key):
+                asn, prefix = key
+                found.append(f"end {asn} {prefix} {path_text(after.get(key, ()))}, was {path_text(before.get(key, ()))}")
+        return found

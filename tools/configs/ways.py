@@ -1,0 +1,96 @@
+"""Follows every way from an origin, through the policy of each router on it."""
+from collections import namedtuple
+
+from configs.places import refusal
+from configs.route import Denial, heard, own_route, told
+from network import LONGEST_PATH, path_text
+
+# How many times a route is told and judged for all prefixes of a set.
+MOST_STEPS = 500_000
+
+# A way that a route took, from the router that has it to the origin, with its attributes there.
+Way = namedtuple("Way", "path route")
+# A way that ends in a denial: of the last router on it, or of the one that would tell it.
+Denied = namedtuple("Denied", "path denial")
+
+
+class Follower:
+    """Follows the ways of the prefixes of a set; those that go alike are followed once.
+
+    `with_notes` asks for the line of each attribute, and for the denials."""
+
+    def __init__(self, routers, with_notes=False):
+        self.set, self.with_notes, self.steps, self.known = routers, with_notes, 0, {}
+        self.denied = []
+        self.blocks = sorted({entry.value for router in routers.routers.values() for kind in ("access-list", "prefix-list")
+                              for one in router.lists[kind].values() for entry in one.entries.values()})
+
+    def alike(self, prefix, router, network):
+        """What tells prefixes apart: the origin's line, and which entries of lists have them."""
+        has = tuple(block.least <= prefix.length <= block.most and prefix.address & block.mask == block.address
+                    for block in self.blocks)
+        return router.asn, network.map_name, has
+
+    def ways(self, prefix, router, network):
+        """The ways of each router for a prefix of an origin; none at all where the origin does not announce it."""
+        key = self.alike(prefix, router, network)
+        if key not in self.known:
+            self.known[key] = self.follow(prefix, router, network)
+        return self.known[key]
+
+    def follow(self, prefix, origin, network):
+        found = {asn: [] for asn in self.set.routers}
+        own = own_route(origin, network, {} if self.with_notes else None)
+        if isinstance(own, Denial):
+            if self.with_notes:
+                self.denied.append(Denied((origin.asn,), own))
+            return found
+        found[origin.asn].append(Way((origin.asn,), own))
+        ways = [found[origin.asn][0]]
+        for way in ways:
+            for peer in self.set.up[way.path[0]]:
+                more = self.step(prefix, way, peer, own)
+                if more is not None:
+                    ways.append(more)
+                    found[peer].append(more)
+        return found
+
+    def step(self, prefix, way, peer, own):
+        """The way on to a peer, or None where it is denied."""
+        self.steps += 1
+        teller, listener = self.set.ends[way.path[0]][peer], self.set.ends[peer][way.path[0]]
+        if self.steps > MOST_STEPS:
+            raise refusal(teller.router.place, f"more than {MOST_STEPS} steps of ways were followed, and there are more: "
+                                               "--prefix takes some prefixes, and filters make ways fewer")
+        route = told(teller.router, teller.neighbor, prefix, way.route, len(way.path) == 1)
+        if not isinstance(route, Denial):
+            route = heard(listener.router, listener.neighbor, prefix, route)
+        if isinstance(route, Denial):
+            if self.with_notes:
+                self.denied.append(Denied((peer,) + way.path, route))
+            return None
+        if peer in way.path:
+            self.check_return(prefix, (peer,) + way.path, route, own, listener)
+            return None
+        if len(way.path) == LONGEST_PATH:
+            raise refusal(listener.neighbor.place, f"{prefix}: {path_text((peer,) + way.path)} is permitted, and a path "
+                                                   f"has at most {LONGEST_PATH} routers")
+        return Way((peer,) + way.path, route)
+
+    def check_return(self, prefix, path, route, own, listener):
+        """Refuses a way that comes back to a router; at the origin it is nothing as long as the own route is better."""
+        line = next((entry.sets["exclude"][1] for router in self.on_way(path) for one in router.maps.values()
+                     for entry in one.ordered() if "exclude" in entry.sets), listener.neighbor.place)
+        if path[0] != path[-1]:
+            raise refusal(line, f"{prefix}: {path_text(path)} is permitted, and passes {path[0]} twice: its AS is "
+                                "excluded from the path, so that the way is not seen to be a loop")
+        better = own.weight, self.preference(path[0], own), 1
+        if (route.weight, self.preference(path[0], route), 0) > better:
+            raise refusal(listener.neighbor.place, f"{prefix}: the origin {path[0]} likes {path_text(path)} better than "
+                                                   f"its own route (weight {route.weight} against {own.weight})")
+
+    def on_way(self, path):
+        return [self.set.routers[asn] for asn in dict.fromkeys(path)]
+
+    def preference(self, asn, route):
+        return route.preference if route.has_preference else self.set.routers[asn].default_preference
