@@ -68,7 +68,7 @@ foreign    <line|key|nexthop-group|pseudowire|mpls|segment-routing|bfd|l2vpn|rpk
 foreign    router <ospf|ospf6|isis|rip|ripng|eigrp|babel|openfabric|pim> [REST...]
 version    frr version WORD
 profile    frr defaults WORD
-interface  interface REST...
+addresses  interface REST...
 bgp        router bgp (1-4294967295)
 vrf        router bgp (1-4294967295) <view|vrf> WORD
 cut        router bgp

@@ -71,6 +71,7 @@ class Text:
         draw = self.draw
         self.asn, self.peers = maker.asns[place], maker.peers(place)
         self.plain = draw.chance(0.2) or bool(maker.gadget) and draw.chance(0.8)
+        self.names_source, self.says_families = draw.chance(0.15), draw.chance(0.06)
         self.lists = {"prefix-list": [], "access-list": [], "as-path": [], "community": [], "large-community": []}
         self.list_lines, self.map_lines, self.maps = [], [], []
 
@@ -142,13 +143,14 @@ class Text:
             if text not in seen:
                 seen.add(text)
                 lines.append(f"access-list {name} {number}{text}")
-        if self.draw.chance(0.5):
+        if self.draw.chance(0.8):
             lines.append(f"access-list {name} permit any" if "any" not in " ".join(seen) else f"access-list {name} remark end")
         return name, lines
 
     def make_as_path(self, name):
-        return [f"bgp as-path access-list {name} {number}{self.verb()} {self.regular()}"
-                for number in self.numbers(self.draw.number(1, 3))]
+        lines = [f"bgp as-path access-list {name} {number}{self.verb(0.65)} {self.regular()}"
+                 for number in self.numbers(self.draw.number(1, 3))]
+        return lines + [f"bgp as-path access-list {name} seq 99 permit .*"] * self.draw.chance(0.6)
 
     def make_community(self, name):
         draw, lines = self.draw, []
@@ -181,7 +183,7 @@ class Text:
 
     def name_of(self, kind):
         """A list of a kind, sometimes one that is nowhere."""
-        if self.draw.chance(0.03):
+        if self.draw.chance(0.015):
             return "NOWHERE"
         if not self.lists[kind] or self.draw.chance(0.5) and len(self.lists[kind]) < 4:
             self.make_list(kind)
@@ -194,11 +196,13 @@ class Text:
         self.maps.append(name)
         lines, numbers = [], sorted(draw.some(range(1, 20), draw.number(1, 4)))
         for number in numbers:
-            verb = self.verb(0.85)
+            verb = self.verb(0.88)
             lines.append(f"route-map {name} {verb} {number * 5}")
             lines += self.entry_lines(verb, number * 5, is_called)
             lines.append(draw.of(("!", "exit", "exit")))
-        if draw.chance(0.75):
+            if draw.chance(0.04):
+                lines += [f"route-map {name} {verb} {number * 5}", f" {self.set_line()}", "exit"]
+        if draw.chance(0.93):
             lines.append(f"route-map {name} permit {draw.of((100, 200, 65535))}")
             if draw.chance(0.3):
                 lines.append(f" {self.set_line()}")
@@ -241,6 +245,7 @@ class Text:
             lambda: f"set metric {draw.of(('0', '5', '10', '20', '+7', '-3', '30'))}",
             lambda: f"set weight {draw.of((0, 10, 100, 200))}",
             lambda: f"set as-path prepend {' '.join(str(self.prepended()) for _ in range(draw.number(1, 3)))}",
+            lambda: "set as-path prepend 64999",
             lambda: f"set as-path prepend last-as {draw.number(1, 3)}",
             lambda: f"set as-path exclude {self.asn_of_set()}" if draw.chance(0.3) else "set origin incomplete",
             lambda: f"set community {' '.join(self.community() for _ in range(draw.number(1, 2)))} additive",
@@ -268,13 +273,13 @@ class Text:
         if self.plain:
             return lines
         for direction in ("in", "out"):
-            if draw.chance(0.5):
+            if draw.chance(0.45):
                 lines.append(f"neighbor {key} route-map {self.map_name()} {direction}")
-            if draw.chance(0.15):
+            if draw.chance(0.1):
                 kind = draw.of(("prefix-list", "distribute-list"))
                 of = {"prefix-list": "prefix-list", "distribute-list": "access-list"}[kind]
                 lines.append(f"neighbor {key} {kind} {self.name_of(of)} {direction}")
-            if draw.chance(0.15):
+            if draw.chance(0.1):
                 lines.append(f"neighbor {key} filter-list {self.name_of('as-path')} {direction}")
         if draw.chance(0.08):
             lines.append(f"neighbor {key} weight {draw.of((5, 50, 150))}")
@@ -284,7 +289,7 @@ class Text:
                                   f"no neighbor {key} send-community both")))
         if draw.chance(0.1):
             lines.append(draw.of((f"neighbor {key} soft-reconfiguration inbound", f"neighbor {key} next-hop-self")))
-        if draw.chance(0.03):
+        if draw.chance(0.012):
             lines.append(f"no neighbor {key} activate")
         return lines
 
@@ -323,10 +328,13 @@ class Text:
                 session.append(f"neighbor {key} remote-as {'external' if draw.chance(0.05) else asn}")
                 own += self.policy_lines(key) if not own else []
             if draw.chance(0.1):
-                session.append(f"neighbor {key} description the router {asn}")
-            if draw.chance(0.03):
+                session.append(draw.of((f"neighbor {key} description the router {asn}", f"neighbor {key} timers connect 5",
+                                        f"neighbor {key} sender-as-path-loop-detection", f"neighbor {key} ebgp-multihop")))
+            if self.names_source:
+                session.append(f"neighbor {key} update-source 10.255.{self.place + 1}.1")
+            if draw.chance(0.012):
                 session.append(f"neighbor {key} shutdown")
-            family += own
+            family += [f"neighbor {key} activate"] * self.says_families + own
         return session, family
 
     @staticmethod
@@ -337,8 +345,8 @@ class Text:
 
     def option_lines(self):
         draw = self.draw
-        lines = [f"bgp router-id {self.router_id()}"]
-        if draw.chance(0.85) or self.maker.gadget:
+        lines = [f"bgp router-id {self.router_id()}"] + ["no bgp default ipv4-unicast"] * self.says_families
+        if draw.chance(0.92) or self.maker.gadget:
             lines.append("no bgp ebgp-requires-policy")
         for line, part in (("bgp always-compare-med", 0.15), ("bgp deterministic-med", 0.15),
                            ("bgp bestpath med missing-as-worst", 0.15), ("bgp bestpath compare-routerid", 0.35),
@@ -385,7 +393,7 @@ class Text:
                         ["frr version 8.4.4", "frr defaults datacenter"], ["! by hand"]) if draw.chance(0.3) else
                        (["frr version 8.4.4", "frr defaults traditional"],))
         maps = [line for lines in self.map_lines for line in lines + ["!"]]
-        parts = [self.list_lines, maps, body] if draw.chance(0.4) else [body, self.list_lines, maps]
+        parts = draw.some([body, self.list_lines, maps], 3)
         lines = head + [f"hostname r{self.place + 1}", "!"] + [line for part in parts for line in part + ["!"]]
         return "".join(line + ("\r\n" if self.place == 1 and draw.chance(0.3) else "\n") for line in lines)
 

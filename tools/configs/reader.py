@@ -84,7 +84,7 @@ class Reader:
 
     def act(self, match, line):
         action, words = match.command.action, match.words
-        if action in ("foreign", "interface", "warned", "ignored") and self.block == "config":
+        if action in ("foreign", "addresses", "warned", "ignored") and self.block == "config":
             self.router.foreign.add(self.place.line)
         if match.command.why:
             self.refuse(f"'{line.strip()}': {match.command.why}")
@@ -116,7 +116,7 @@ class Reader:
     def do_foreign(self, words, line):
         self.foreign = "other"
 
-    def do_interface(self, words, line):
+    def do_addresses(self, words, line):
         self.foreign = "interface"
 
     def do_version(self, words, line):
@@ -176,7 +176,9 @@ class Reader:
                 written, rest = (address, self.length_of(rest[1])), rest[2:]
             else:
                 first = address >> 24
-                written = address, 8 if first < 128 else 16 if first < 192 else 24
+                written = address, 0 if not address else 8 if first < 128 else 16 if first < 192 else 24
+        if written[0] >> 24 >= 224:
+            self.refuse(f"'{line.strip()}': no network of hosts, and FRR's peers pass it over")
         prefix = Prefix(written[0] & mask_of(written[1]), written[1])
         self.router.networks[prefix] = Network(prefix, rest[1] if rest else None, self.place)
 
@@ -304,7 +306,7 @@ class Reader:
         return words[at] == "permit", number, words[at + 1:]
 
     def do_remark(self, words, line):
-        pass
+        self.list_of(*("prefix-list", words[2]) if words[0] == "ip" else ("access-list", words[1]))
 
     def do_access(self, words, line):
         permits, number, rest = self.numbered(words, 2)
@@ -565,6 +567,22 @@ def undefined(router):
             lacks("route-map", entry.call.name, entry.call.place, "route-map", "the call does nothing")
 
 
+def without_entries(router):
+    """A warning for each prefix-list of a description alone: what it is to FRR depends on the order of the lines."""
+    empty = {name: one for name, one in router.lists["prefix-list"].items() if not one.entries}
+    for neighbor in [*router.groups.values(), *router.neighbors.values()]:
+        for (kind, direction), line in neighbor.policies.items():
+            if kind == "prefix-list" and line.name in empty:
+                is_above = empty[line.name].place.line < line.place.line
+                router.warn(line.place, f"prefix-list {line.name} has no entries: it {'permits' if is_above else 'denies'} "
+                                        f"everything {direction}")
+    for entry in (entry for one in router.maps.values() for entry in one.ordered()):
+        value, place = entry.matches.get("prefix-list", (None, None))
+        if value in empty:
+            is_above = empty[value].place.line < place.line
+            router.warn(place, f"prefix-list {value} has no entries: it fits {'nothing' if is_above else 'everything'}")
+
+
 def read_router(text, name):
     """The router that a file is the configuration of."""
     router = Reader(text, name).router
@@ -579,4 +597,5 @@ def read_router(text, name):
             break
     check_calls(router)
     undefined(router)
+    without_entries(router)
     return router

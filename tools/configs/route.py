@@ -109,8 +109,7 @@ def apply_sets(router, entry, route):
 
 
 def set_preference(router, route, value):
-    former = route.preference if route.has_preference else 0
-    route.preference, route.has_preference = adjusted(former, *value), True
+    route.preference, route.has_preference = adjusted(route.preference, *value), True
 
 
 def set_metric(router, route, value):
@@ -164,10 +163,13 @@ ATTRIBUTE_OF = {"local-preference": "local-pref", "metric": "med", "weight": "we
                 "large-community": "large", "large-comm-list": "large"}
 
 
-def fits(router, kind, value, prefix, route):
-    """Whether a `match` line fits. A list that is nowhere fits nothing."""
+def fits(router, kind, value, place, prefix, route):
+    """Whether a `match` line fits. A list that is nowhere fits nothing; a prefix-list without entries fits everything
+    where it stands below the line."""
     if kind in ("access-list", "prefix-list"):
         found = router.lists[kind].get(value)
+        if found is not None and kind == "prefix-list" and not found.entries:
+            return found.place.line > place.line
         return found is not None and found.permits(prefix, block_fits)
     if kind == "as-path":
         found = router.lists[kind].get(value)
@@ -201,7 +203,7 @@ def apply_map(router, name, prefix, route):
     while at < len(entries):
         entry = entries[at]
         at += 1
-        if not all(fits(router, kind, value, prefix, route) for kind, (value, _) in entry.matches.items()):
+        if not all(fits(router, kind, value, place, prefix, route) for kind, (value, place) in entry.matches.items()):
             denial = nothing
             continue
         if not entry.permits:
@@ -223,7 +225,8 @@ def apply_map(router, name, prefix, route):
 # ---- from one table to the next
 
 def filtered(router, neighbor, direction, prefix, path):
-    """The denial of a neighbor's lists for prefixes and paths, or None."""
+    """The denial of a neighbor's lists for prefixes and paths, or None. A list that is nowhere denies; a prefix-list
+    without entries denies where it stands below the neighbor's line, and else permits everything."""
     for kind, of, value, judge in (("distribute-list", "access-list", prefix, block_fits),
                                    ("prefix-list", "prefix-list", prefix, block_fits),
                                    ("filter-list", "as-path", path_as_text(path), path_fits)):
@@ -232,6 +235,8 @@ def filtered(router, neighbor, direction, prefix, path):
             found = router.lists[of].get(line.name)
             if found is None:
                 return Denial(line.place, f"{kind} {line.name} {direction} (there is no such list)")
+            if kind == "prefix-list" and not found.entries and found.place.line < line.place.line:
+                continue
             if not found.permits(value, judge):
                 entry = found.deciding(value, judge)
                 return Denial(entry.place if entry else line.place, f"{kind} {line.name} {direction}")

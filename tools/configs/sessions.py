@@ -148,8 +148,8 @@ class Set:
                                                 f"{other.neighbor.place}: there is no session")
             return
         for end, far in ((one, other), (other, one)):
-            if far.router.addresses and end.neighbor.address not in far.router.addresses and \
-                    self.owners.get(end.neighbor.address, (None,))[0] is not far.router:
+            own = {*far.router.addresses, *(one.value("source") for one in far.router.neighbors.values())}
+            if far.router.addresses and end.neighbor.address not in own:
                 raise refusal(end.neighbor.place, f"neighbor {end.neighbor.key} is no address of {far.router.name}")
             self.check_source(end, far)
         secrets = [end.neighbor.line("password") for end in (one, other)]

@@ -79,8 +79,9 @@ class Follower:
 
     def check_return(self, prefix, path, route, own, listener):
         """Refuses a way that comes back to a router; at the origin it is nothing as long as the own route is better."""
-        line = next((entry.sets["exclude"][1] for router in self.on_way(path) for one in router.maps.values()
-                     for entry in one.ordered() if "exclude" in entry.sets), listener.neighbor.place)
+        lines = [entry.sets["exclude"] for asn in dict.fromkeys(path) for one in self.set.routers[asn].maps.values()
+                 for entry in one.ordered() if "exclude" in entry.sets]
+        line = next((place for numbers, place in lines if path[0] in numbers), listener.neighbor.place)
         if path[0] != path[-1]:
             raise refusal(line, f"{prefix}: {path_text(path)} is permitted, and passes {path[0]} twice: its AS is "
                                 "excluded from the path, so that the way is not seen to be a loop")
@@ -88,9 +89,6 @@ class Follower:
         if (route.weight, self.preference(path[0], route), 0) > better:
             raise refusal(listener.neighbor.place, f"{prefix}: the origin {path[0]} likes {path_text(path)} better than "
                                                    f"its own route (weight {route.weight} against {own.weight})")
-
-    def on_way(self, path):
-        return [self.set.routers[asn] for asn in dict.fromkeys(path)]
 
     def preference(self, asn, route):
         return route.preference if route.has_preference else self.set.routers[asn].default_preference

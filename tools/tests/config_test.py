@@ -1,0 +1,541 @@
+"""Tests of `config`."""
+import ctypes
+import pathlib
+import random
+import re
+import shutil
+import tempfile
+import time
+import unittest
+
+from support import asked_program, load, run
+from config_cases import CASES, HEAD, ONE, TWO, diamond, line3, pair, router
+
+from configs.communities import community_text, large_text
+from configs.random_sets import make
+from configs.ranks import Ranks, network_lines, schedule_lines
+from configs.reader import read_router
+from configs.regular import BadExpression, expression
+from configs.route import ORIGINS
+from configs.sessions import Set
+from configs.telling import play, verify
+from network import Prefix, path_text, routes_of
+from program import Refusal
+
+topology = load("topology")
+
+def read_set(files):
+    return Set([read_router(text, name) for name, text in files.items()])
+
+
+def short(asn):
+    return asn - 65000
+
+
+def shown(way):
+    """A way with the attributes that are not those of a route without policy."""
+    route = way.route
+    said = [path_text(map(short, way.path))]
+    if route.weight:
+        said.append(f"w {route.weight}")
+    if route.has_preference:
+        said.append(f"lp {route.preference}")
+    if route.path != way.path[1:]:
+        said.append("as " + " ".join(map(str, route.path)))
+    if route.origin:
+        said.append("origin " + ORIGINS[route.origin])
+    if route.has_med:
+        said.append(f"med {route.med}")
+    if route.communities:
+        said.append("c " + " ".join(map(community_text, route.communities)))
+    if route.large:
+        said.append("l " + " ".join(map(large_text, route.large)))
+    return " ".join(said)
+
+
+class Rules(unittest.TestCase):
+    def test_each_rule_of_frr(self):
+        for sentence, files, wanted in CASES:
+            with self.subTest(sentence):
+                ranks = Ranks(read_set(files))
+                for (place, prefix), ways in wanted.items():
+                    orders = ranks.orders.get(Prefix.read(prefix))
+                    found = [shown(way) for way in orders[65000 + place].ways] if orders else []
+                    self.assertEqual(found, ways)
+
+
+def lines_of(name, text, marker):
+    """The place of the first line that has a text."""
+    return next(f"{name}:{number}" for number, line in enumerate(text.split("\n"), 1) if marker in line)
+
+
+class Refusals(unittest.TestCase):
+    """Each refusal names the file and the line of what stands in the way."""
+
+    def refused(self, files, marker, why, name="r2.conf", chosen=None, best=None):
+        with self.subTest(marker), self.assertRaises(Refusal) as raised:
+            network_lines(Ranks(read_set(files), chosen), best)
+        said = str(raised.exception)
+        place = lines_of(name, files[name], marker)
+        self.assertTrue(said.startswith(place + ": "), f"{said}, not at {place}")
+        self.assertIn(why, said)
+
+    def test_lines_below_the_router(self):
+        for line, why in (
+                ("neighbor 10.255.9.1 remote-as 65002", "iBGP"),
+                ("neighbor 10.255.9.1 remote-as internal", "iBGP"),
+                ("neighbor 10.255.1.1 route-reflector-client", "a route reflector"),
+                ("bgp confederation identifier 7", "a confederation"),
+                ("bgp confederation peers 7 8", "a confederation"),
+                ("aggregate-address 10.0.0.0/8", "an aggregate"),
+                ("aggregate-address 10.0.0.0/8 summary-only", "an aggregate"),
+                ("address-family ipv6 unicast", "IPv6"),
+                ("neighbor 2001:db8::1 remote-as 7", "IPv6"),
+                ("address-family l2vpn evpn", "not IPv4 unicast"),
+                ("address-family ipv4 vpn", "not IPv4 unicast"),
+                ("neighbor 10.255.1.1 allowas-in", "allowas-in"),
+                ("neighbor 10.255.1.1 allowas-in 2", "allowas-in"),
+                ("neighbor 10.255.1.1 default-originate", "default-originate"),
+                ("neighbor 10.255.1.1 advertise-map A exist-map B", "conditional advertisement"),
+                ("neighbor 10.255.1.1 local-role customer", "local-role"),
+                ("neighbor 10.255.1.1 attribute-unchanged med", "attribute-unchanged"),
+                ("neighbor 10.255.1.1 route-server-client", "route-server-client"),
+                ("neighbor 10.255.1.1 addpath-tx-all-paths", "addpath"),
+                ("bgp bestpath as-path multipath-relax as-set", "as-set"),
+                ("neighbor 10.255.1.1 local-as 7", "local-as"),
+                ("neighbor 10.255.1.1 remove-private-AS", "remove-private-AS"),
+                ("neighbor 10.255.1.1 as-override", "as-override"),
+                ("bgp listen range 10.0.0.0/8 peer-group G", "dynamic neighbors"),
+                ("neighbor eth0 interface remote-as external", "an unnumbered neighbor"),
+                ("bgp dampening", "depends on time"),
+                ("redistribute connected", "another protocol"),
+                ("neighbor 10.255.1.1 maximum-prefix-out 3", "a limit"),
+                ("bgp graceful-shutdown", "graceful-shutdown"),
+                ("bgp max-med administrative", "max-med"),
+                ("neighbor 10.255.1.1 port 1179", "a port"),
+                ("neighbor 10.255.1.1 soo 65001:1", "a site of origin"),
+                ("neighbor 10.255.1.1 unsuppress-map M", "unsuppress-map"),
+                ("network 10.5.0.0/16 backdoor", "backdoor"),
+                ("no network 10.5.0.0/16", "takes back"),
+                ("no neighbor 10.255.1.1", "takes back"),
+                ("network 10.1.0.0 mask 255.0.255.0", "is no netmask"),
+                ("network 224.1.0.0/16", "no network of hosts"),
+                ("bgp router-id 240.0.0.1", "its first octet"),
+                ("neighbor 10.255.7.1 route-map X in", "no line above says its AS"),
+                ("neighbor 10.255.7.1 peer-group G", "no line above makes the group"),
+                ("neighbor GROUP remote-as 7", "no line above says that it is a group"),
+                ("neighbor 10.255.1.1 weight 65536", "is no line that is known here"),
+                ("neighbor 10.255.1.1 addpath-tx", "ambiguous"),
+                ("neighbor 10.255.1.1 route-map X", "cut short"),
+                ("neighbor 10.255.1.1 frobnicate", "is no line that is known here"),
+                ("router bgp 65009", "a second AS"),
+                ("router bgp 65002 vrf RED", "a VRF"),
+                ("bgp community alias 1:1 ONE", "names of communities"),
+                ("no route-map X", "takes back")):
+            self.refused(pair("", line), line, why)
+        self.refused(pair("", "neighbor 10.255.1.1 prefix-list P in / neighbor 10.255.1.1 distribute-list D in"), "distribute-list", "prefix-list")
+
+    def test_lines_of_lists_and_maps(self):
+        for line, why in (
+                ("ip prefix-list P permit 10.0.0.0/8 ge 7", "length <= ge <= le"),
+                ("ip prefix-list P permit 10.0.0.0/8 ge 20 le 19", "length <= ge <= le"),
+                ("ip prefix-list P permit 10.0.0.0/33", "does not take"),
+                ("access-list L permit any exact-match", "does not take"),
+                ("access-list 101 permit ip any any", "sources and destinations"),
+                ("bgp as-path access-list F permit [[:digit:]]", "':'"),
+                ("bgp as-path access-list F permit a", "'a'"),
+                ("bgp as-path access-list F permit (1", "an open ("),
+                ("bgp as-path access-list F permit *1", "'*' behind nothing"),
+                (r"bgp as-path access-list F permit \1", r"'\1'"),
+                ("bgp community-list standard C permit 65001", "is no community"),
+                ("bgp community-list standard C permit 65536:1", "is no community"),
+                ("bgp community-list expanded C permit no-export|(", "an open ("),
+                ("bgp community-list expanded 7 permit 1", "a number is no name here"),
+                ("bgp large-community-list standard L permit 1:2", "is no community"),
+                ("ip community-list standard C permit 1:1", "'bgp community-list"),
+                ("ip as-path access-list F permit 1", "'bgp as-path"),
+                ("bgp extcommunity-list standard E permit rt 1:1", "extended communities"),
+                ("ipv6 prefix-list P permit any", "not read"),
+                ("frr defaults modern", "is no profile"),
+                ("exit", "leaves the configuration"),
+                ("set metric 5", "is no line that is known here"),
+                ("no ip prefix-list P", "takes back")):
+            self.refused(pair(line), line, why)
+        for line, why in (
+                ("match metric 0", "fits everything"),
+                ("continue", "cut short"),
+                ("on-match goto 10", "it goes back"),
+                ("continue 5", "it goes back"),
+                ("call IN", "calls itself"),
+                ("set metric +0", "nothing is added"),
+                ("set metric rtt", "depends on time"),
+                ("set metric 4294967296", "is no number"),
+                ("set local-preference abc", "is no number"),
+                ("set as-path prepend 0", "AS numbers are 1 to"),
+                ("set as-path prepend last-as 11", "AS numbers are 1 to"),
+                ("set as-path replace any", "this set is not read"),
+                ("set community 1:1 foo", "'foo' is no community"),
+                ("set community additive", "behind communities"),
+                ("set ip next-hop 10.0.0.1", "a next hop of its own"),
+                ("match peer 10.255.1.1", "this match is not read"),
+                ("match ip next-hop X", "this match is not read"),
+                ("match extcommunity X", "extended communities"),
+                ("match community", "cut short"),
+                ("no set metric", "takes back")):
+            self.refused(pair("route-map IN permit 10 / " + line), line, why)
+        self.refused(pair("route-map IN deny 10 / on-match next"), "on-match next", "in an entry that denies")
+        self.refused(pair("route-map A permit 10 / call B / route-map B permit 10 / call A"), "route-map A", "called by a map that it calls")
+        self.refused(pair("ip prefix-list P permit any / ip prefix-list P  permit any"), "P  permit", "says the same")
+        self.refused(pair("bgp community-list standard C permit 1:1 / bgp community-list expanded C permit 1"), "expanded", "of the other kind")
+
+    def test_what_is_no_configuration(self):
+        good = pair()
+        for text, place, why in (("", 1, "no configuration of a router"), ("hello world\n", 1, "is no line that is known here"),
+                                 ("frr version 8.4.4\n{\"a\": 1}\n", 2, "is no line that is known here"),
+                                 ("! nothing\n", 1, "no configuration of a router"),
+                                 ("router bgp 65002\n neighbor 10.255.1.1 remote-as 65001\n", 1, "no line 'bgp router-id'")):
+            with self.subTest(text), self.assertRaises(Refusal) as raised:
+                read_set(dict(good, **{"r2.conf": text}))
+            self.assertTrue(str(raised.exception).startswith(f"r2.conf:{place}: "))
+            self.assertIn(why, str(raised.exception))
+
+    def test_routers_that_do_not_go_together(self):
+        files = line3()
+        self.refused(dict(files, **{"r3.conf": files["r3.conf"].replace("bgp 65003", "bgp 65002").replace("as 65002", "as 65007")}), "router bgp", "that of r2.conf:4 too", "r3.conf")
+        self.refused(dict(files, **{"r3.conf": files["r3.conf"].replace("router-id 10.255.3.1", "router-id 10.255.2.1")}), "router-id",
+                     "that of r2.conf:5 too", "r3.conf")
+        self.refused(dict(files, **{"r4.conf": router(4, ())}), "router bgp", "the network isn't connected", "r4.conf")
+        two = dict(files, **{"r3.conf": files["r3.conf"].replace("exit", " neighbor 10.255.22.1 remote-as 65002\nexit")})
+        self.refused(two, "10.255.22.1", "a second session with 65002", "r3.conf")
+        self.refused(line3(networks2=(ONE,)), f"network {ONE}", "has another origin at r1.conf:9")
+        many = {f"r{place}.conf": router(place, (1,)) for place in range(2, 19)}
+        self.refused(dict(many, **{"r1.conf": router(1, range(2, 19))}), "router bgp", "17 sessions", "r1.conf")
+        chain = {f"r{place}.conf": router(place, [peer for peer in (place - 1, place + 1) if 1 <= peer <= 17],
+                                          networks=(ONE,) if place == 1 else ()) for place in range(1, 18)}
+        chain = {name: re.sub(r"\b6500(\d\d)\b", r"650\1", text) for name, text in chain.items()}
+        self.refused(chain, "10.255.16.1",
+                     "at most 16 routers", "r17.conf")
+
+    def test_sessions_that_contradict(self):
+        def refused(lines1, lines2, marker, why, name="r2.conf"):
+            files = {"r1.conf": router(1, (2,), lines=lines1), "r2.conf": router(2, (1,), lines=lines2)}
+            self.refused(files, marker, why, name)
+
+        refused("neighbor 10.255.2.1 password one", "neighbor 10.255.1.1 password two", "password one", "the password", "r1.conf")
+        refused("", "neighbor 10.255.1.1 password two", "password two", "the password")
+        refused("neighbor 10.255.2.1 passive", "neighbor 10.255.1.1 passive", "passive", "both ends are passive", "r1.conf")
+        refused("", "neighbor 10.255.1.1 update-source 10.9.9.9", "update-source", "names 10.255.2.1")
+        wrong = {"r1.conf": router(1, (2,)), "r2.conf": router(2, (1,)), "r3.conf": router(3, (2,)).replace("65002", "65001")}
+        self.refused(wrong, "remote-as 65001", "is an address of 65001 here", "r3.conf")
+        top = "interface eth0 / ip address 10.9.9.9/24 / exit"
+        self.refused({"r1.conf": router(1, (2,)), "r2.conf": router(2, (1,), top)}, "neighbor 10.255.2.1", "no address of r2.conf", "r1.conf")
+        files = {"r1.conf": router(1, (2, 3)), "r2.conf": router(2, (1,)), "r3.conf": router(3, (1,))}
+        files = {name: text.replace("router-id 10.255", "router-id 10.254").replace("as 6500", "as external\n! ") for name, text in files.items()}
+        self.refused(files, "neighbor 10.255.2.1", "which router has this address", "r1.conf")
+
+    def test_a_way_that_comes_back(self):
+        """The origin may hear its own prefix, and takes it where its weight is greater."""
+        cut = "route-map IN permit 10 / set as-path exclude 65001"
+        files = diamond(cut, "neighbor 10.255.2.1 route-map IN in / neighbor 10.255.3.1 route-map IN in")
+        Ranks(read_set(files))
+        self.refused(dict(files, **{"r1.conf": files["r1.conf"].replace("exit", " neighbor 10.255.2.1 weight 40000\nexit")}), "10.255.2.1",
+                     "likes 65001-65002-65004-65003-65001 better", "r1.conf")
+        self.refused(diamond("route-map IN permit 10 / set as-path exclude 65003", "neighbor 10.255.3.1 route-map IN in"), "exclude 65003",
+                     "65003-65004-65003-65001 is permitted, and passes 65003 twice", "r4.conf")
+
+    def test_no_order(self):
+        """Of three the first two begin with one AS: their metric says otherwise than the router ids."""
+        same = "set as-path prepend 64999 / "
+        files = {"r1.conf": router(1, (2, 3, 4), networks=(ONE,))}
+        files.update({f"r{place}.conf": router(place, (1, 5)) for place in (2, 3, 4)})
+        files["r5.conf"] = router(5, (2, 3, 4), f"route-map A permit 10 / {same} set metric 9 / route-map B permit 10 / {same} set metric 5 / "
+                                  "route-map C permit 10 / set as-path prepend 64998", "neighbor 10.255.2.1 route-map A in / "
+                                  "neighbor 10.255.4.1 route-map B in / neighbor 10.255.3.1 route-map C in")
+        self.refused(files, "neighbor 10.255.3.1 remote", "no order: 65005-65003-65001 over 65005-65004-65001 over 65005-65002-65001 over 65005-65003-65001", "r5.conf")
+
+    def test_too_many_paths(self):
+        full = {f"r{place}.conf": router(place, [peer for peer in range(1, 7) if peer != place], networks=(ONE,) if place == 1 else ())
+                for place in range(1, 7)}
+        self.refused(full, "router bgp", "permits 65 paths", "r2.conf")
+        lines, said = network_lines(Ranks(read_set(full)), 32)
+        self.assertIn("rank 65002 10.1.0.0/16 65002-65001", lines)
+        self.assertIn("are the same, the way there may differ", said[0])
+
+    def test_too_many_rules(self):
+        prefixes = [f"10.{place}.{place}.0/24" for place in range(70)]
+        other = [f"172.16.{2 * place}.0/24" for place in range(35)] + [f"172.17.{2 * place}.0/24" for place in range(35)]
+        lines = network_lines(Ranks(read_set(line3(networks1=prefixes))))[0]
+        self.assertEqual([line for line in lines if line.startswith("rank")],
+                         ["rank 65002 10.0.0.0/9 65002-65001", "rank 65003 10.0.0.0/9 65003-65002-65001"])
+        mixed = line3(networks1=[one for place, one in enumerate(other) if place % 2],
+                      lines1=" / ".join(f"network {one} route-map M" for place, one in enumerate(other) if not place % 2),
+                      top1="route-map M permit 10 / set community no-export")
+        self.assertEqual(len([line for line in network_lines(Ranks(read_set(mixed)))[0] if line.startswith("rank 65003")]), 36)
+
+
+class Sessions(unittest.TestCase):
+    def noted(self, files, *wanted):
+        notes = [f"{place}: {said}" for place, said in read_set(files).notes()]
+        for name, marker, why in wanted:
+            place = lines_of(name, files[name], marker)
+            self.assertTrue(any(note.startswith(place + ": ") and why in note for note in notes), (marker, notes))
+        self.assertEqual(len(notes), len(wanted), notes)
+
+    def test_an_end_without_its_other(self):
+        files = line3()
+        self.noted(files)
+        files["r3.conf"] = router(3, (2, 1))
+        self.noted(files, ("r3.conf", "10.255.1.1", "r1.conf:4 names no neighbor 65003"))
+        files["r3.conf"] = router(3, (2, 9))
+        self.noted(files, ("r3.conf", "10.255.9.1", "no configuration of AS 65009 is among these"))
+
+    def test_shut_and_not_activated(self):
+        both = {"r1.conf": router(1, (2, 3)), "r2.conf": router(2, (1, 3)), "r3.conf": router(3, (1, 2))}
+        self.noted(dict(both, **{"r3.conf": router(3, (1, 2), lines="neighbor 10.255.1.1 shutdown")}), ("r3.conf", "shutdown", "is shut"))
+        off = "no neighbor 10.255.%d.1 activate"
+        self.noted(dict(both, **{"r3.conf": router(3, (1, 2), lines=off % 1)}), ("r3.conf", "10.255.1.1 remote-as", "carries no routes"))
+        files = dict(both, **{"r3.conf": router(3, (1, 2), lines=off % 1), "r1.conf": router(1, (2, 3), lines=off % 3)})
+        self.noted(files, ("r1.conf", "10.255.3.1 remote-as", "nor is the other end"))
+        self.assertNotIn(65003, read_set(files).ends[65001])
+
+    def test_undefined_names_and_what_is_not_read(self):
+        lines = "neighbor 10.255.1.1 route-map NO in / neighbor 10.255.1.1 filter-list NOT out / neighbor 10.255.1.1 maximum-prefix 9"
+        top = ("route-map M permit 10 / match as-path NONE / match community NOC / set comm-list NOL delete / call NOM / set tag 4 / "
+               "route-map M permit 20 / set metric -3 / set metric 3")
+        files = line3(top2=top, lines2=lines)
+        self.noted(files, ("r2.conf", "route-map NO in", "there is no route-map NO: it denies everything in"),
+                   ("r2.conf", "filter-list NOT", "there is no as-path NOT: it denies everything out"), ("r2.conf", "maximum-prefix", "is not read"),
+                   ("r2.conf", "NONE", "it fits nothing"), ("r2.conf", "NOC", "it fits nothing"), ("r2.conf", "NOL", "nothing is deleted"),
+                   ("r2.conf", "NOM", "the call does nothing"), ("r2.conf", "set tag", "is not read"), ("r2.conf", "set metric 3", "FRR drops both"))
+        files = {"r1.conf": router(1, (2,), lines="network 10.1.0.0/16 route-map NO"), "r2.conf": router(2, (1,), "ip route 10.0.0.0/8 null0")}
+        self.noted(files, ("r1.conf", "network", "there is no route-map NO: the network is not announced"), ("r2.conf", "ip route", "is not read"))
+
+    def test_import_check_is_told_once(self):
+        files = {name: text.replace(" no bgp network import-check\n", "") for name, text in line3(networks2=(TWO,)).items()}
+        self.noted(files, ("r1.conf", f"network {ONE}", "taken as announced"))
+
+    def test_whose_an_address_is(self):
+        """By numbers, by router ids, by interfaces, by sources, and by what is left."""
+        plain = line3()
+        wanted = {65001: [65002], 65002: [65001, 65003], 65003: [65002]}
+
+        def ends(files):
+            return {asn: sorted(found) for asn, found in read_set(files).ends.items()}
+
+        self.assertEqual(ends(plain), wanted)
+        external = {name: re.sub(r"remote-as \d+", "remote-as external", text) for name, text in plain.items()}
+        self.assertEqual(ends(external), wanted)
+        other = {name: text.replace("router-id 10.255", "router-id 10.254") for name, text in plain.items()}
+        self.assertEqual(ends(dict(other, **{"r1.conf": external["r1.conf"]})), wanted)
+        tops = {name: f"interface lo\n ip address 10.255.{name[1]}.1/32\nexit\n" + text.replace("router-id 10.255", "router-id 10.254")
+                for name, text in external.items()}
+        self.assertEqual(ends(tops), wanted)
+        sources = dict(external)
+        for place, peers in ((1, (2,)), (2, (1, 3)), (3, (2,))):
+            more = "".join(f" neighbor 10.255.{peer}.1 update-source 10.255.{place}.1\n" for peer in peers)
+            text = external[f"r{place}.conf"].replace("router-id 10.255", "router-id 10.254")
+            sources[f"r{place}.conf"] = text[:-len("exit\n")] + more + "exit\n"
+        self.assertEqual(ends(sources), wanted)
+
+    def test_other_parts_of_a_file(self):
+        """As `show running-config` prints the whole of a router."""
+        text = pair()["r2.conf"]
+        whole = ("Building configuration...\n\nCurrent configuration:\n" * 0 + "frr version 8.4.4\nfrr defaults traditional\nhostname r2\nlog syslog informational\n"
+                 "no ipv6 forwarding\nservice integrated-vtysh-config\n!\ninterface eth0\n description to r1\n ip address 10.255.2.1/24\n ip ospf cost 4\nexit\n!\n"
+                 "router ospf\n network 10.0.0.0/8 area 0\nexit\n!\n" + text[len(HEAD):] + "!\nline vty\n exec-timeout 0 0\nexit\n!\nend\nwhat stands behind is not read\n")
+        self.noted(dict(pair(), **{"r2.conf": whole}))
+        self.noted(dict(pair(), **{"r2.conf": whole.replace("exit\n", "!\n")}))
+        crlf = {name: text.replace("\n", "\r\n") for name, text in pair().items()}
+        self.assertEqual(network_lines(Ranks(read_set(crlf))), network_lines(Ranks(read_set(pair()))))
+
+
+class Expressions(unittest.TestCase):
+    SIGNS = "012_^$.*+?|()[]{},- \\"
+
+    def test_as_the_c_library(self):
+        """Random expressions, as the C library of this machine compiles and finds them, where it is that of GNU."""
+        library = ctypes.CDLL(None)
+        if not hasattr(library, "gnu_get_libc_version"):
+            self.skipTest("another C library")
+        draw, number = random.Random(5), 0
+        texts = ["", "0", "1", "12", "0 1", "1 2 0", "10 2", "2 2 2", "12 21 1", "0 0 1 2 2"]
+        for _ in range(6000):
+            text = "".join(draw.choice(self.SIGNS if draw.random() < 0.5 else "012_^$") for _ in range(draw.randint(1, 6)))
+            compiled = ctypes.create_string_buffer(256)
+            is_good = library.regcomp(compiled, text.replace("_", "(^|[,{}() ]|$)").encode(), 1 | 8) == 0
+            try:
+                search = expression(text)
+            except BadExpression as why:
+                self.assertTrue(not is_good or "\\" in text or "{" in text or "repetition of" in str(why) or "[" in text, (text, why))
+                continue
+            self.assertTrue(is_good, text)
+            number += 1
+            for one in texts:
+                self.assertEqual(search(one) is not None, library.regexec(compiled, one.encode(), 0, None, 0) == 0, (text, one))
+            library.regfree(compiled)
+        self.assertGreater(number, 2000)
+
+
+class Printed(unittest.TestCase):
+    def setUp(self):
+        self.folder = pathlib.Path(tempfile.mkdtemp())
+        self.addCleanup(shutil.rmtree, self.folder)
+
+    def write(self, files, name="lab"):
+        folder = self.folder / name
+        folder.mkdir()
+        for file, text in files.items():
+            (folder / file).write_bytes(text.encode())
+        return [folder / file for file in sorted(files)]
+
+    LISTS = "bgp as-path access-list NO permit _65003_ / "
+    EXPLAINED = diamond(LISTS + "route-map IN permit 10 / set local-preference 200 / route-map IM deny 5 / match as-path NO",
+                        "neighbor 10.255.2.1 route-map IN in / neighbor 10.255.3.1 route-map IM in")
+
+    def test_the_network_and_its_schedule(self):
+        names = self.write(self.EXPLAINED)
+        status, out, error = run("config", *names)
+        self.assertEqual((status, error), (0, ""))
+        self.assertEqual(out.splitlines()[:13], [
+            "router 65001 10.255.1.1", "router 65002 10.255.2.1", "router 65003 10.255.3.1", "router 65004 10.255.4.1",
+            "link 65001 65002", "link 65001 65003", "link 65002 65004", "link 65003 65004", "origin 65001 10.1.0.0/16",
+            "rank 65002 10.1.0.0/16 65002-65001", "rank 65003 10.1.0.0/16 65003-65001 65003-65004-65002-65001",
+            "rank 65004 10.1.0.0/16 65004-65002-65001", "schedule"])
+        said = asked_program().answer(["play"], out, "lab")
+        self.assertEqual(said[0], "snapshot 1 settled")
+        self.assertIn("route 65004 10.1.0.0/16 65004-65002-65001", said)
+        self.assertEqual(run("config", "--network", *names)[1], out.split("schedule\n")[0])
+
+    def test_explain(self):
+        names = self.write(self.EXPLAINED)
+        status, out, error = run("config", "--explain", 65004, ONE, *names)
+        self.assertEqual((status, error), (0, ""))
+        self.assertEqual(out, "1  65004-65002-65001  local-pref 200 (r4.conf:6 route-map IN 10)  length 3\n"
+                              "denied  65004-65003-65001  r4.conf:7 route-map IM 5 (as-path list NO)\n")
+        self.assertEqual(run("config", "--explain", 65009, ONE, *names), (1, "", "config: there is no router 65009\n"))
+        self.assertEqual(run("config", "--explain", 65004, TWO, *names), (1, "", f"config: no router announces {TWO}\n"))
+
+    def test_check(self):
+        old = self.write(self.EXPLAINED, "old")
+        changed = dict(self.EXPLAINED, **{"r4.conf": self.EXPLAINED["r4.conf"].replace("deny 5", "permit 5").replace("preference 200", "preference 50")})
+        new = self.write(changed, "new")
+        status, out, error = run("config", "--check", *old, "--", *new)
+        self.assertEqual((status, error), (0, ""))
+        at = self.folder
+        self.assertEqual(out.splitlines(), [
+            "65002 10.1.0.0/16", f"  + 2 65002-65004-65003-65001  local-pref 100, length 4; before: it does not come here",
+            "65003 10.1.0.0/16"] [:2] + out.splitlines()[2:])
+        self.assertIn(f"  + 1 65004-65003-65001  local-pref 100, length 3; before: denied by {at}/old/r4.conf:7 route-map IM 5 (as-path list NO)", out.splitlines())
+        self.assertIn(f"  = 2 (was 1) 65004-65002-65001  local-pref 50 ({at}/new/r4.conf:6 route-map IN 10), was local-pref 200 "
+                      f"({at}/old/r4.conf:6 route-map IN 10)", out.splitlines())
+        self.assertIn("end 65004 10.1.0.0/16 65004-65003-65001, was 65004-65002-65001", out.splitlines())
+        self.assertEqual(run("config", "--check", *old, "--", *old)[1], "nothing changes\n")
+
+    def test_verify(self):
+        names = self.write(self.EXPLAINED)
+        played = asked_program().answer(["play"], run("config", *names)[1], "lab")
+        routes = self.folder / "routes"
+        routes.write_text("\n".join(played) + "\n")
+        self.assertEqual(run("config", "--verify", routes, *names), (0, "stable\n", ""))
+        routes.write_text("\n".join(played).replace("65004-65002-65001", "none") + "\n")
+        self.assertEqual(run("config", "--verify", routes, *names),
+                         (1, "unstable 65004 10.1.0.0/16 has none best 65004-65002-65001\n", ""))
+        routes.write_text("\n".join(played).replace("65004-65002-65001", "65004-65003-65001") + "\n")
+        self.assertIn("denied by", run("config", "--verify", routes, *names)[1])
+
+    def test_ties(self):
+        names = self.write(diamond())
+        status, out, error = run("config", "--ties", *names)
+        self.assertEqual(status, 0)
+        self.assertIn("r4.conf:4: 65004 10.1.0.0/16: tie: 65004-65002-65001, 65004-65003-65001: FRR keeps the one", error)
+        self.assertEqual(out, "prefix 10.1.0.0/16 of 65001\n  1 ties, played 2 orders of them\n"
+                              "    1  settled 65001 65002-65001 65003-65001 65004-65002-65001\n"
+                              "    1  settled 65001 65002-65001 65003-65001 65004-65003-65001\n")
+        names = self.write(diamond(options4="bgp bestpath compare-routerid"), "told")
+        self.assertEqual(run("config", "--ties", *names)[2], "")
+
+    def test_words(self):
+        names = self.write(self.EXPLAINED)
+        for words in (["--check", *names], [*names, "--", *names], [], ["--explain", "1"], ["--best", "33", *names], ["--ties", "--verify", "x", *names]):
+            status, out, error = run("config", *words)
+            self.assertEqual((status, out, error.count("\n")), (2, "", 1), words)
+        self.assertEqual(run("config", names[0], names[0])[::2], (1, f"config: {names[0]}: the file stands twice\n"))
+        status, out, error = run("config", "--prefix", ONE, *names)
+        self.assertEqual((status, error, out.count("origin")), (0, "", 1))
+        self.assertEqual(run("config", "--prefix", TWO, *names)[::2], (1, f"config: no router announces {TWO}\n"))
+        self.assertEqual(run("config", "nowhere.conf")[::2], (1, "config: nowhere.conf: No such file or directory\n"))
+        (self.folder / "octets").write_bytes(b"frr version 8.4\n\0\1\2")
+        self.assertEqual(run("config", self.folder / "octets")[::2], (1, f"config: {self.folder}/octets:2: an octet 0: no configuration\n"))
+
+
+class Random(unittest.TestCase):
+    def test_the_same_seed_makes_the_same_set(self):
+        self.assertEqual(make(7), make(7))
+        self.assertNotEqual(make(7), make(8))
+
+    def test_ends_that_are_played_are_verified(self):
+        """What the program settles in is an end by the configurations, of each set that is not refused."""
+        program, taken = asked_program(), 0
+        for seed in range(60):
+            try:
+                routers = read_set(make(seed))
+                ranks = Ranks(routers)
+                lines, _ = network_lines(ranks)
+            except Refusal as why:
+                self.assertRegex(str(why), r"^r\d+\.conf:\d+: ")
+                continue
+            said = program.answer(["play"], "".join(line + "\n" for line in lines + schedule_lines(lines)), f"seed {seed}")
+            if said[0].endswith("settled"):
+                taken += 1
+                self.assertEqual(list(verify(routers, routes_of(said))), [], seed)
+        self.assertGreater(taken, 30)
+
+    def test_best_of_fewer_paths_ends_in_the_same(self):
+        program = asked_program()
+        for seed in range(100, 125):
+            try:
+                ranks = Ranks(read_set(make(seed)))
+                ends = [play(program, ranks, most) for most in (None, 1, 2)]
+            except Refusal:
+                continue
+            if ends[0][0]:
+                self.assertEqual(ends[0][1], ends[2][1] if ends[2][0] else ends[0][1], seed)
+
+    def test_beside_frr_where_frr_is_not_there(self):
+        status, out, error = run("beside_frr", "--frr", "/nowhere", "examples")
+        self.assertEqual((status, error), (0, ""))
+        self.assertTrue(out.startswith("skipped"))
+
+
+class Large(unittest.TestCase):
+    def test_sixty_four_routers(self):
+        """Customers, peers and providers by communities: what `topology` makes of the same graph by its own rules."""
+        graph = topology.hierarchy(64, 3, 30)
+        files = {f"r{asn}.conf": relations_conf(graph, asn, (7, 20, 64)) for asn in graph.routers}
+        began = time.process_time()
+        ranks = Ranks(read_set(files))
+        network_lines(ranks)
+        self.assertLess(time.process_time() - began, 5)
+        for origin in (7, 20, 64):
+            wanted, _ = topology.gao_rexford(graph, origin)
+            for asn in graph.routers:
+                found = ranks.paths(Prefix.read(f"10.{origin}.0.0/16"))[asn]
+                self.assertEqual(sorted(found), sorted(wanted[asn]), (origin, asn))
+
+
+def relations_conf(graph, asn, origins):
+    """A router that tags what it hears by what the neighbor is to it."""
+    kinds = {topology.CUSTOMER: "CUSTOMER", topology.PEER: "PEER", topology.PROVIDER: "PROVIDER"}
+    peers = graph.peers()[asn]
+    lines = [f"router bgp {asn}", f" bgp router-id 10.255.{asn}.1", " no bgp network import-check"]
+    lines += [f" neighbor 10.255.{peer}.1 remote-as {peer}" for peer in peers]
+    lines += [f" network 10.{asn}.0.0/16"] * (asn in origins)
+    for peer in peers:
+        kind = kinds[graph.kinds[asn, peer]]
+        lines += [f" neighbor 10.255.{peer}.1 route-map FROM-{kind} in", f" neighbor 10.255.{peer}.1 route-map TO-{kind} out"]
+    lines += ["exit", "bgp community-list standard UP permit 65000:2", "bgp community-list standard UP permit 65000:3"]
+    for place, (kind, preference) in enumerate((("CUSTOMER", 200), ("PEER", 150), ("PROVIDER", 100)), 1):
+        lines += [f"route-map FROM-{kind} permit 10", f" set local-preference {preference}", f" set community 65000:{place}", "exit"]
+        lines += [f"route-map TO-{kind} deny 10", " match community UP", "exit"] * (kind != "CUSTOMER")
+        lines += [f"route-map TO-{kind} permit 20", "exit"]
+    return "\n".join(lines) + "\n"
