@@ -12,7 +12,6 @@ import socket
 import subprocess
 import time
 
-from configs.sessions import dotted
 from program import Refusal
 
 LIBRARIES = ("usr/lib/x86_64-linux-gnu/frr", "usr/lib/x86_64-linux-gnu", "lib/x86_64-linux-gnu", "usr/lib/aarch64-linux-gnu/frr",
@@ -170,7 +169,3 @@ class Lab:
         """What each router has for each prefix."""
         return {(asn, prefix): Table(self.ask(asn, f"show bgp ipv4 unicast {prefix} json"))
                 for asn in self.set.routers for prefix in prefixes}
-
-
-def address_text(address):
-    return dotted(address)

@@ -1,5 +1,4 @@
 """The order of a router's ways: the decision process of FRR."""
-from configs.communities import community_text
 from configs.places import refusal
 from configs.route import MOST
 from network import path_text
@@ -139,19 +138,3 @@ class Order:
 
     def rank(self, path):
         return next(place for place, way in enumerate(self.ways) if way.path == path)
-
-
-def attribute_words(way):
-    """What of a way's attributes is not as it comes without policy, in words."""
-    route, found = way.route, []
-    if route.weight:
-        found.append(("weight", f"weight {route.weight}"))
-    if route.has_med:
-        found.append(("med", f"med {route.med}"))
-    if route.origin:
-        found.append(("origin", f"origin {('igp', 'egp', 'incomplete')[route.origin]}"))
-    if route.communities:
-        found.append(("communities", "community " + " ".join(map(community_text, route.communities))))
-    if route.large:
-        found.append(("large", "large-community " + " ".join(":".join(map(str, one)) for one in route.large)))
-    return found

@@ -3,8 +3,8 @@ from configs.order import Order
 from configs.places import refusal
 from configs.sessions import dotted
 from configs.ways import Follower
-from network import (GREATEST_OF_TWO_OCTETS, MOST_PATHS, MOST_PREFIXES, MOST_RULES, LONGEST_PATH, Network, Prefix,
-                     originations, path_text, starts)
+from network import (GREATEST_OF_TWO_OCTETS, MOST_PATHS, MOST_PREFIXES, MOST_RULES, Network, Prefix, originations,
+                     path_text, starts)
 from program import Refusal
 
 ROUNDS, LATER = 1000, 100
@@ -17,22 +17,19 @@ class Ranks:
     `orders` has for each prefix the orders by router, `origins` the origin of each prefix that is announced."""
 
     def __init__(self, routers, chosen=None, with_notes=False):
-        self.set, self.orders, self.origins, self.notes = routers, {}, {}, []
+        self.set, self.orders, self.origins = routers, {}, {}
         self.follower = Follower(routers, with_notes)
         known = {}
         for prefix, (router, network) in routers.origins().items():
             if chosen and prefix not in chosen:
                 continue
             ways = self.follower.ways(prefix, router, network)
-            if not ways[router.asn]:
-                self.notes.append((network.place, f"{prefix} is not announced: its route-map denies it"))
-                continue
             self.origins[prefix] = router.asn
             if id(ways) not in known:
                 known[id(ways)] = {asn: Order(routers, prefix, asn, found) for asn, found in ways.items()}
             self.orders[prefix] = known[id(ways)]
         for prefix in chosen or ():
-            if prefix not in self.origins and prefix not in routers.origins():
+            if prefix not in self.origins:
                 raise Refusal(f"no router announces {prefix}")
         if len(self.origins) > MOST_PREFIXES:
             raise refusal(next(iter(routers.routers.values())).place,

@@ -317,6 +317,8 @@ class Reader:
                    and (one.text == text or one.text == text + " exact-match")]
         if not doubles:
             found.add(found.next_number() if number is None else number, entry)
+        elif prefix_of(rest[0]) and prefix_of(rest[0])[0] != block.address:
+            self.refuse(f"'{line.strip()}': {NOT_TAKEN}: {found.entries[doubles[0]].place} says the same")
         else:
             self.router.warn(self.place, f"'{line.strip()}': FRR takes it for a double of "
                                          f"{found.entries[doubles[0]].place}, and drops it")
@@ -343,29 +345,31 @@ class Reader:
 
     def do_prefixes(self, words, line):
         permits, number, rest = self.numbered(words, 3)
-        block = self.span_of(rest, line)
+        block, text, has_hosts = self.span_of(rest, line)
         found = self.list_of("prefix-list", words[2])
-        entry = Entry(permits, block, block, self.place)
+        entry = Entry(permits, block, text, self.place)
         other = found.double(entry)
         if other is None or other == number:
             found.add(found.next_number() if number is None else number, entry)
-        elif number is None:
+        elif has_hosts:
             self.refuse(f"'{line.strip()}': {NOT_TAKEN}: {found.entries[other].place} says the same")
 
     def span_of(self, rest, line):
-        """The prefixes that an entry of a prefix-list has."""
+        """The prefixes that an entry of a prefix-list has, the text that tells doubles, and whether bits of hosts are
+        set."""
         if rest == ["any"]:
-            return Block(0, 0, 0, 32)
+            return Block(0, 0, 0, 32), "any", False
         prefix, bounds = prefix_of(rest[0]), dict(zip(rest[1::2], rest[2::2]))
         is_whole = len(rest) % 2 == 1 and len(bounds) == len(rest) // 2 and set(bounds) <= {"ge", "le"}
-        if prefix is None or not is_whole or not all(word.isdigit() and int(word) <= 32 for word in bounds.values()):
-            self.refuse(f"'{line.strip()}': {NOT_TAKEN}")
+        if prefix is None or not is_whole or not all(word.isdigit() and 1 <= int(word) <= 32 for word in bounds.values()):
+            self.refuse(f"'{line.strip()}': {NOT_TAKEN}, or it is not read: bounds are 1 to 32")
         address, length = prefix
         least = int(bounds.get("ge", length))
         most = int(bounds.get("le", 32 if "ge" in bounds else length))
         if not length <= least <= most:
             self.refuse(f"'{line.strip()}': {NOT_TAKEN}: it has to be length <= ge <= le")
-        return Block(address & mask_of(length), mask_of(length), least, most)
+        block = Block(address & mask_of(length), mask_of(length), least, most)
+        return block, (block.address, length, bounds.get("ge"), bounds.get("le")), block.address != address
 
     def expression(self, text, make, line):
         try:

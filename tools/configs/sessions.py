@@ -2,6 +2,7 @@
 from collections import namedtuple
 
 from configs.places import refusal
+from configs.route import Denial, own_route
 from network import MOST_LINKS, MOST_ROUTERS
 from program import Refusal
 
@@ -61,7 +62,8 @@ class Set:
 
         for router in self.routers.values():
             for address, place in router.addresses.items():
-                claim(address, router, place)
+                if address >> 24 != 127:
+                    claim(address, router, place)
             for neighbor in router.neighbors.values():
                 source = neighbor.line("source")
                 if source and isinstance(source.name, int):
@@ -205,11 +207,21 @@ class Set:
         return found
 
     def origins(self):
-        """The router of each prefix that a line announces, and the network."""
+        """The router of each prefix that it announces, and the network."""
         found = {}
-        for router in self.routers.values():
-            for prefix, network in router.networks.items():
+        for router, prefix, network in self.networks():
+            if not isinstance(own_route(router, network), Denial):
                 other = found.setdefault(prefix, (router, network))
                 if other[0] is not router:
                     raise refusal(network.place, f"{prefix} has another origin at {other[1].place}: a prefix has one")
         return {prefix: found[prefix] for prefix in sorted(found)}
+
+    def networks(self):
+        """Each line that announces a prefix."""
+        return [(router, prefix, network) for router in self.routers.values() for prefix, network in router.networks.items()]
+
+    def silent(self):
+        """A warning for each line whose route-map denies its prefix."""
+        return [(network.place, f"{prefix} is not announced: {denial.place} {denial.why}")
+                for router, prefix, network in self.networks()
+                for denial in [own_route(router, network)] if isinstance(denial, Denial)]

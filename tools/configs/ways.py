@@ -6,7 +6,7 @@ from configs.route import Denial, heard, own_route, told
 from network import LONGEST_PATH, path_text
 
 # How many times a route is told and judged for all prefixes of a set.
-MOST_STEPS = 500_000
+MOST_STEPS = 1_000_000
 
 # A way that a route took, from the router that has it to the origin, with its attributes there.
 Way = namedtuple("Way", "path route")
@@ -32,7 +32,7 @@ class Follower:
         return router.asn, network.map_name, has
 
     def ways(self, prefix, router, network):
-        """The ways of each router for a prefix of an origin; none at all where the origin does not announce it."""
+        """The ways of each router for a prefix that its origin announces."""
         key = self.alike(prefix, router, network)
         if key not in self.known:
             self.known[key] = self.follow(prefix, router, network)
@@ -41,10 +41,6 @@ class Follower:
     def follow(self, prefix, origin, network):
         found = {asn: [] for asn in self.set.routers}
         own = own_route(origin, network, {} if self.with_notes else None)
-        if isinstance(own, Denial):
-            if self.with_notes:
-                self.denied.append(Denied((origin.asn,), own))
-            return found
         found[origin.asn].append(Way((origin.asn,), own))
         ways = [found[origin.asn][0]]
         for way in ways:

@@ -140,6 +140,7 @@ class Refusals(unittest.TestCase):
                 ("ip prefix-list P permit 10.0.0.0/8 ge 7", "length <= ge <= le"),
                 ("ip prefix-list P permit 10.0.0.0/8 ge 20 le 19", "length <= ge <= le"),
                 ("ip prefix-list P permit 10.0.0.0/33", "does not take"),
+                ("ip prefix-list P permit 0.0.0.0/0 ge 0", "bounds are 1 to 32"),
                 ("access-list L permit any exact-match", "does not take"),
                 ("access-list 101 permit ip any any", "sources and destinations"),
                 ("bgp as-path access-list F permit [[:digit:]]", "':'"),
@@ -185,7 +186,8 @@ class Refusals(unittest.TestCase):
             self.refused(pair("route-map IN permit 10 / " + line), line, why)
         self.refused(pair("route-map IN deny 10 / on-match next"), "on-match next", "in an entry that denies")
         self.refused(pair("route-map A permit 10 / call B / route-map B permit 10 / call A"), "route-map A", "called by a map that it calls")
-        self.refused(pair("ip prefix-list P permit any / ip prefix-list P  permit any"), "P  permit", "says the same")
+        self.refused(pair("ip prefix-list P permit 10.0.0.1/8 / ip prefix-list P  permit 10.0.0.1/8"), "P  permit", "says the same")
+        self.refused(pair("access-list L permit 10.0.0.1/8 / access-list L permit 10.0.0.2/8"), "10.0.0.2", "says the same")
         self.refused(pair("bgp community-list standard C permit 1:1 / bgp community-list expanded C permit 1"), "expanded", "of the other kind")
 
     def test_what_is_no_configuration(self):
@@ -308,7 +310,7 @@ class Sessions(unittest.TestCase):
                    ("r2.conf", "NONE", "it fits nothing"), ("r2.conf", "NOC", "it fits nothing"), ("r2.conf", "NOL", "nothing is deleted"),
                    ("r2.conf", "NOM", "the call does nothing"), ("r2.conf", "set tag", "is not read"), ("r2.conf", "set metric 3", "FRR drops both"))
         files = {"r1.conf": router(1, (2,), lines="network 10.1.0.0/16 route-map NO"), "r2.conf": router(2, (1,), "ip route 10.0.0.0/8 null0")}
-        self.noted(files, ("r1.conf", "network", "there is no route-map NO: the network is not announced"), ("r2.conf", "ip route", "is not read"))
+        self.noted(files, ("r1.conf", "network 10", "there is no route-map NO: the network is not announced"), ("r2.conf", "ip route", "is not read"))
 
     def test_import_check_is_told_once(self):
         files = {name: text.replace(" no bgp network import-check\n", "") for name, text in line3(networks2=(TWO,)).items()}
@@ -359,7 +361,7 @@ class Expressions(unittest.TestCase):
             self.skipTest("another C library")
         draw, number = random.Random(5), 0
         texts = ["", "0", "1", "12", "0 1", "1 2 0", "10 2", "2 2 2", "12 21 1", "0 0 1 2 2"]
-        for _ in range(6000):
+        for _ in range(2500):
             text = "".join(draw.choice(self.SIGNS if draw.random() < 0.5 else "012_^$") for _ in range(draw.randint(1, 6)))
             compiled = ctypes.create_string_buffer(256)
             is_good = library.regcomp(compiled, text.replace("_", "(^|[,{}() ]|$)").encode(), 1 | 8) == 0
@@ -373,7 +375,7 @@ class Expressions(unittest.TestCase):
             for one in texts:
                 self.assertEqual(search(one) is not None, library.regexec(compiled, one.encode(), 0, None, 0) == 0, (text, one))
             library.regfree(compiled)
-        self.assertGreater(number, 2000)
+        self.assertGreater(number, 800)
 
 
 class Printed(unittest.TestCase):
@@ -461,7 +463,7 @@ class Printed(unittest.TestCase):
             self.assertEqual((status, out, error.count("\n")), (2, "", 1), words)
         self.assertEqual(run("config", names[0], names[0])[::2], (1, f"config: {names[0]}: the file stands twice\n"))
         status, out, error = run("config", "--prefix", ONE, *names)
-        self.assertEqual((status, error, out.count("origin")), (0, "", 1))
+        self.assertEqual((status, error, out.count("origin 65001")), (0, "", 1))
         self.assertEqual(run("config", "--prefix", TWO, *names)[::2], (1, f"config: no router announces {TWO}\n"))
         self.assertEqual(run("config", "nowhere.conf")[::2], (1, "config: nowhere.conf: No such file or directory\n"))
         (self.folder / "octets").write_bytes(b"frr version 8.4\n\0\1\2")
