@@ -154,7 +154,9 @@ member     PEER peer-group WORD
 shutdown_neighbor [no] PEER shutdown
 shutdown_neighbor PEER shutdown message REST...
 source     PEER update-source WORD
+source     no PEER update-source [WORD]
 password   PEER password REST...
+password   no PEER password [REST...]
 passive    [no] PEER passive
 loop_detection [no] PEER sender-as-path-loop-detection
 ignored    PEER description REST...
@@ -163,8 +165,8 @@ ignored    [no] PEER <disable-connected-check|enforce-multihop|solo|enforce-firs
 ignored    [no] PEER <graceful-restart|graceful-restart-disable|graceful-restart-helper|disable-link-bw-encoding-ieee>
 ignored    PEER <ebgp-multihop [(1-255)]|ttl-security hops (1-254)|tcp-mss (1-65535)|advertisement-interval (0-600)>
 ignored    PEER timers <(0-65535) (0-65535)|connect (1-65535)|delayopen (1-240)>
-ignored    no PEER <description|ebgp-multihop|ttl-security|tcp-mss|advertisement-interval|timers|update-source> [REST...]
-ignored    no PEER <password|local-as|port|maximum-prefix|maximum-prefix-out|local-role> [REST...]
+ignored    no PEER <description|ebgp-multihop|ttl-security|tcp-mss|advertisement-interval|timers> [REST...]
+ignored    no PEER <local-as|port|maximum-prefix|maximum-prefix-out|local-role> [REST...]
 warned     PEER bfd [REST...]
 ignored    no PEER bfd [REST...]
 role       PEER local-role REST...

@@ -59,8 +59,10 @@ class Lab:
         self.texts, self.processes, self.refused = texts, {}, []
 
     def copy_of(self, asn):
-        """The configuration of a router, with what its place here needs."""
-        lines = ["bgp route-map delay-timer 1"] + self.texts[asn].split("\n") + [f"router bgp {asn}"]
+        """The configuration of a router without the lines of other daemons, with what its place here needs."""
+        router = self.set.routers[asn]
+        lines = ["!" if number in router.foreign else line for number, line in enumerate(self.texts[asn].split("\n"), 1)]
+        lines = ["bgp route-map delay-timer 1"] + (lines[:router.end - 1] if router.end else lines) + [f"router bgp {asn}"]
         for peer, end in self.set.ends[asn].items():
             if not end.neighbor.line("source"):
                 own = self.set.ends[peer][asn].neighbor.key
@@ -116,12 +118,12 @@ class Lab:
         return json.loads(text) if text.strip() else {}
 
     def refusals(self):
-        """The lines that FRR refuses, as router, number and text, without those of other daemons."""
+        """The lines that FRR refuses, as router, number and text."""
         found = []
         for asn in self.set.routers:
             for line in (self.folder / str(asn) / "log").read_text().splitlines():
                 said = re.search(r"\] (.*) on config line (\d+): ?(.*)", line)
-                if said and int(said.group(2)) - 1 not in self.set.routers[asn].foreign:
+                if said:
                     found.append((asn, int(said.group(2)) - 1, said.group(3).strip(), said.group(1)))
         return found
 

@@ -135,6 +135,3 @@ class Order:
         end = self.set.ends[self.router.asn][best[0][1]]
         raise refusal(end.neighbor.place, f"{self.router.asn} {self.prefix}: no order: {said}: MED is compared only where "
                                           "the paths begin with the same AS")
-
-    def rank(self, path):
-        return next(place for place, way in enumerate(self.ways) if way.path == path)

@@ -29,8 +29,7 @@ class Reader:
         self.entry, self.foreign = None, None
         for number, line in cut_lines(text):
             self.place = Place(name, number)
-            if not self.obey(line):
-                break
+            self.obey(line)
 
     # ---- lines and blocks
 
@@ -38,21 +37,19 @@ class Reader:
         raise refusal(self.place, why)
 
     def obey(self, line):
-        """Obeys a line, and says whether there are more to read."""
+        """Obeys a line."""
         words = line.split()
         if not words or words[0][0] in "!#":
-            return True
+            return
+        if self.router.end:
+            self.refuse(f"'{line.strip()}' stands behind 'end', where FRR takes nothing")
         if not line.isascii() and not line.strip().startswith(("description", "neighbor", "hostname", "banner")):
             self.refuse("an octet past ASCII")
         if self.foreign and self.is_foreign(line, words):
             self.router.foreign.add(self.place.line)
-            return True
+            return
         self.foreign = None
-        match = self.find(words)
-        if match.command.action == "finish":
-            return False
-        self.act(match, line)
-        return True
+        self.act(self.find(words), line)
 
     def is_foreign(self, line, words):
         """Whether a line stands in a block that is passed over; the addresses of an interface are kept."""
@@ -106,6 +103,9 @@ class Reader:
         if self.block == "config":
             self.refuse(f"'{line.strip()}' leaves the configuration: FRR refuses what follows")
         self.block = "bgp" if self.block == "family" else "config"
+
+    def do_finish(self, words, line):
+        self.router.end = self.place.line
 
     def do_cut(self, words, line):
         self.refuse(f"'{line.strip()}': the command is cut short")
@@ -241,27 +241,32 @@ class Reader:
             self.refuse(f"'{line.strip()}': {NOT_TAKEN}: it is in the group {found.group.key}")
         found.group, found.is_active = group, group.is_active
 
-    def say(self, key, kind, value):
-        self.neighbor(key).said[kind] = Line(value, self.place)
+    def say(self, words, kind, value):
+        """Keeps what a line says of a neighbor. With `no` it is as if nothing was said: a member goes by its group."""
+        found = self.neighbor(words[2] if words[0] == "no" else words[1])
+        if words[0] == "no":
+            found.said.pop(kind, None)
+        else:
+            found.said[kind] = Line(value, self.place)
 
     def do_shutdown_neighbor(self, words, line):
-        self.say(words[2] if words[0] == "no" else words[1], "shutdown", words[0] != "no")
+        self.say(words, "shutdown", True)
 
     def do_source(self, words, line):
-        address = address_of(words[3])
-        self.say(words[1], "source", address if address is not None else words[3])
+        address = address_of(words[-1])
+        self.say(words, "source", address if address is not None else words[-1])
 
     def do_password(self, words, line):
-        self.say(words[1], "password", " ".join(words[3:]))
+        self.say(words, "password", " ".join(words[3:]))
 
     def do_passive(self, words, line):
-        self.say(words[2] if words[0] == "no" else words[1], "passive", words[0] != "no")
+        self.say(words, "passive", True)
 
     def do_loop_detection(self, words, line):
-        self.say(words[2] if words[0] == "no" else words[1], "loop detection", words[0] != "no")
+        self.say(words, "loop detection", True)
 
     def do_weight(self, words, line):
-        self.say(words[2] if words[0] == "no" else words[1], "weight", 0 if words[0] == "no" else int(words[3]))
+        self.say(words, "weight", int(words[-1]) if words[0] != "no" else 0)
 
     def do_shutdown_by_time(self, words, line):
         self.refuse(f"'{line.strip()}': whether the session stays depends on time")
@@ -289,9 +294,9 @@ class Reader:
 
     def do_send(self, words, line):
         is_set = words[0] != "no"
-        words = words if is_set else words[1:]
-        for kind in SENT.get(words[3], (words[3],)) if words[3:] else ("standard",):
-            self.say(words[1], ("send", kind), is_set)
+        key, rest = (words[1], words[3:]) if is_set else (words[2], words[4:])
+        for kind in SENT.get(rest[0], (rest[0],)) if rest else ("standard",):
+            self.say(["no", "neighbor", key] if is_set else ["neighbor", key], ("send", kind), False)
 
     # ---- lists
 
@@ -545,6 +550,15 @@ def check_calls(router):
             raise refusal(router.maps[name].place, f"route-map {name}: more than {MOST_CALLS} calls in one another")
 
 
+def check_detection(router):
+    """Refuses the detection of loops by the sender where a map excludes AS numbers: else the peer finds the same ones."""
+    excludes = any("exclude" in entry.sets for one in router.maps.values() for entry in one.ordered())
+    for neighbor in [*router.groups.values(), *router.neighbors.values()]:
+        if excludes and "loop detection" in neighbor.said:
+            raise refusal(neighbor.said["loop detection"].place, "sender-as-path-loop-detection beside 'set as-path exclude': "
+                          "what is told depends on which neighbors FRR tells alike")
+
+
 def undefined(router):
     """A warning for each name that is nowhere: what it then is to FRR."""
     def lacks(kind, name, place, what, effect):
@@ -600,6 +614,7 @@ def read_router(text, name):
                                        "is in its table")
             break
     check_calls(router)
+    check_detection(router)
     undefined(router)
     without_entries(router)
     return router

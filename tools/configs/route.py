@@ -280,8 +280,6 @@ def told(router, neighbor, prefix, route, is_own):
         by = f" by {said}" if said else ""
         return Denial(neighbor.place, f"community {community_text(min(kept))}{by}")
     denial = filtered(router, neighbor, "out", prefix, route.path)
-    if denial is None and neighbor.detects_loops and neighbor.peer_asn in route.path:
-        denial = Denial(neighbor.place, "the peer's AS stands in the path (sender-as-path-loop-detection)")
     if denial:
         return denial
     route = route.copy()

@@ -46,19 +46,16 @@ class Neighbor:
         return self.value(("send", kind), True)
 
     @property
-    def detects_loops(self):
-        return self.value("loop detection", False)
-
-    @property
     def is_shut(self):
         return self.value("shutdown", False)
 
 
 class Router:
-    """What one file says. `notes` are its warnings, each with its place."""
+    """What one file says. `notes` are its warnings, each with its place; `foreign` the numbers of lines that other daemons
+    take, and `end` that of its line `end`."""
 
     def __init__(self, name):
-        self.name, self.notes = name, []
+        self.name, self.notes, self.end = name, [], None
         self.version, self.profile = (8, 4), "traditional"
         self.asn, self.place, self.router_id = None, None, None
         self.neighbors, self.groups, self.networks = {}, {}, {}

@@ -162,7 +162,6 @@ class Set:
         if all(end.neighbor.value("passive", False) for end in (one, other)):
             raise refusal(one.neighbor.line("passive").place, f"both ends are passive: the other at "
                                                               f"{other.neighbor.line('passive').place}")
-        one.neighbor.peer_asn, other.neighbor.peer_asn = other.router.asn, one.router.asn
         self.ends[one.router.asn][other.router.asn] = one
         self.ends[other.router.asn][one.router.asn] = other
         for end in (one, other):

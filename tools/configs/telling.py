@@ -17,7 +17,7 @@ MOST_ORDERS = 64
 
 
 class Names:
-    """Short names of files, as long as they tell them apart."""
+    """Short names of files, as long as they tell them apart; of others the whole names."""
 
     def __init__(self, names):
         short = [os.path.basename(name) for name in names]
@@ -177,9 +177,7 @@ class Change:
 
     def __init__(self, program, old, new, most=None):
         self.sides = [Ranks(routers, with_notes=True) for routers in (old, new)]
-        self.names = [Names([router.name for router in routers.routers.values()]) for routers in (old, new)]
-        for at in (0, 1):
-            self.names[at].short = {}
+        self.names = [Names([]), Names([])]
         self.ends = [play(program, ranks, most) for ranks in self.sides]
 
     def lines(self):
@@ -205,7 +203,7 @@ class Change:
     def why(self, at, path):
         """Why a side has not a path."""
         denied = next((one for one in self.sides[at].follower.denied if one.path == path), None)
-        return f": {denied.denial.place} {denied.denial.why}" if denied else ": it does not come here"
+        return f": denied by {denied.denial.place} {denied.denial.why}" if denied else ": it does not come here"
 
     def router_lines(self, asn, prefix):
         old, new = self.ways(0, asn, prefix), self.ways(1, asn, prefix)

@@ -159,9 +159,10 @@ class Refusals(unittest.TestCase):
                 ("ipv6 prefix-list P permit any", "not read"),
                 ("frr defaults modern", "is no profile"),
                 ("exit", "leaves the configuration"),
+                ("end / hostname r2", "stands behind 'end'"),
                 ("set metric 5", "is no line that is known here"),
                 ("no ip prefix-list P", "takes back")):
-            self.refused(pair(line), line, why)
+            self.refused(pair(line), line.split(" / ")[-1], why)
         for line, why in (
                 ("match metric 0", "fits everything"),
                 ("continue", "cut short"),
@@ -186,6 +187,8 @@ class Refusals(unittest.TestCase):
             self.refused(pair("route-map IN permit 10 / " + line), line, why)
         self.refused(pair("route-map IN deny 10 / on-match next"), "on-match next", "in an entry that denies")
         self.refused(pair("route-map A permit 10 / call B / route-map B permit 10 / call A"), "route-map A", "called by a map that it calls")
+        self.refused(pair("route-map X permit 10 / set as-path exclude 7", "neighbor 10.255.1.1 sender-as-path-loop-detection"), "loop-detection",
+                     "which neighbors FRR tells alike")
         self.refused(pair("ip prefix-list P permit 10.0.0.1/8 / ip prefix-list P  permit 10.0.0.1/8"), "P  permit", "says the same")
         self.refused(pair("access-list L permit 10.0.0.1/8 / access-list L permit 10.0.0.2/8"), "10.0.0.2", "says the same")
         self.refused(pair("bgp community-list standard C permit 1:1 / bgp community-list expanded C permit 1"), "expanded", "of the other kind")
@@ -342,9 +345,9 @@ class Sessions(unittest.TestCase):
     def test_other_parts_of_a_file(self):
         """As `show running-config` prints the whole of a router."""
         text = pair()["r2.conf"]
-        whole = ("Building configuration...\n\nCurrent configuration:\n" * 0 + "frr version 8.4.4\nfrr defaults traditional\nhostname r2\nlog syslog informational\n"
+        whole = ("frr version 8.4.4\nfrr defaults traditional\nhostname r2\nlog syslog informational\n"
                  "no ipv6 forwarding\nservice integrated-vtysh-config\n!\ninterface eth0\n description to r1\n ip address 10.255.2.1/24\n ip ospf cost 4\nexit\n!\n"
-                 "router ospf\n network 10.0.0.0/8 area 0\nexit\n!\n" + text[len(HEAD):] + "!\nline vty\n exec-timeout 0 0\nexit\n!\nend\nwhat stands behind is not read\n")
+                 "router ospf\n network 10.0.0.0/8 area 0\nexit\n!\n" + text[len(HEAD):] + "!\nline vty\n exec-timeout 0 0\nexit\n!\nend\n! the end\n")
         self.noted(dict(pair(), **{"r2.conf": whole}))
         self.noted(dict(pair(), **{"r2.conf": whole.replace("exit\n", "!\n")}))
         crlf = {name: text.replace("\n", "\r\n") for name, text in pair().items()}
