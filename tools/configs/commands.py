@@ -122,12 +122,18 @@ ignored    [no] bgp <log-neighbor-changes|suppress-duplicates|reject-as-sets|fas
 ignored    [no] bgp <fast-convergence|suppress-fib-pending|allow-martian-nexthop|hard-administrative-reset>
 ignored    [no] bgp <disable-ebgp-connected-route-check|graceful-restart|graceful-restart-disable>
 ignored    [no] bgp <client-to-client reflection|route-reflector allow-outbound-policy>
-ignored    [no] bgp graceful-restart REST...
+ignored    bgp graceful-restart <stalepath-time (1-4095)|restart-time (0-4095)|select-defer-time (0-3600)>
+ignored    bgp graceful-restart rib-stale-time (1-3600)
+ignored    [no] bgp graceful-restart <preserve-fw-state|notification>
+ignored    no bgp graceful-restart <stalepath-time|restart-time|select-defer-time|rib-stale-time> [REST...]
 ignored    bgp <cluster-id WORD|minimum-holdtime (1-65535)|route-map delay-timer (0-600)|listen limit (1-65535)>
 ignored    bgp <long-lived-graceful-restart stale-time (1-4294967295)|conditional-advertisement timer (5-240)>
 ignored    no bgp <cluster-id [WORD]|minimum-holdtime [REST...]|route-map delay-timer [REST...]|listen limit [REST...]>
-ignored    <update-delay|write-quanta|read-quanta|coalesce-time|timers> REST...
-ignored    no <update-delay|write-quanta|read-quanta|coalesce-time|timers|auto-summary|synchronization> [REST...]
+ignored    timers bgp (0-65535) (0-65535)
+ignored    no timers bgp [(0-65535) (0-65535)]
+ignored    update-delay (0-3600) [(1-3600)]
+ignored    [no] <write-quanta (1-64)|read-quanta (1-10)|coalesce-time (0-4294967295)>
+ignored    no <update-delay [REST...]|auto-summary|synchronization>
 ignored    no bgp <graceful-shutdown|shutdown>
 confederation bgp confederation REST...
 max-med    bgp max-med REST...
@@ -167,7 +173,8 @@ ignored    PEER <ebgp-multihop [(1-255)]|ttl-security hops (1-254)|tcp-mss (1-65
 ignored    PEER timers <(0-65535) (0-65535)|connect (1-65535)|delayopen (1-240)>
 ignored    no PEER <description|ebgp-multihop|ttl-security|tcp-mss|advertisement-interval|timers> [REST...]
 ignored    no PEER <local-as|port|maximum-prefix|maximum-prefix-out|local-role> [REST...]
-warned     PEER bfd [REST...]
+warned     PEER bfd [<check-control-plane-failure|profile WORD>]
+warned     PEER bfd (2-255) (50-60000) (50-60000)
 ignored    no PEER bfd [REST...]
 role       PEER local-role REST...
 local-as   PEER local-as REST...
@@ -192,7 +199,8 @@ weight     no PEER weight [(0-65535)]
 policy     [no] PEER <distribute-list|prefix-list|filter-list|route-map> WORD <in|out>
 send       [no] PEER send-community [<both|all|extended|standard|large>]
 ignored    [no] PEER <soft-reconfiguration inbound|next-hop-self|next-hop-self force|disable-addpath-rx>
-warned     PEER maximum-prefix REST...
+warned     PEER maximum-prefix (1-4294967295) [(1-100)] [force]
+warned     PEER maximum-prefix (1-4294967295) [(1-100)] <warning-only|restart (1-65535)> [force]
 reflector  PEER route-reflector-client
 server     PEER route-server-client
 unchanged  PEER attribute-unchanged [REST...]
@@ -212,8 +220,14 @@ ignored    no PEER <attribute-unchanged|remove-private-AS|advertise-map|unsuppre
 ignored    no PEER capability orf REST...
 aggregate  aggregate-address REST...
 redistribute redistribute REST...
-ignored    [no] <distance|table-map> REST...
-ignored    [no] maximum-paths REST...
+ignored    distance bgp (1-255) (1-255) (1-255)
+ignored    [no] distance (1-255) A.B.C.D/M [WORD]
+ignored    no distance bgp [REST...]
+ignored    table-map WORD
+ignored    no table-map [WORD]
+ignored    maximum-paths (1-256)
+ignored    maximum-paths ibgp (1-256) [equal-cluster-length]
+ignored    no maximum-paths [REST...]
 dampening  bgp dampening [REST...]
 ignored    no bgp dampening [REST...]
 family     <import|export|rd|label|nexthop|rt|route-target|sid|route-map> <vpn|vrf> REST...

@@ -150,7 +150,7 @@ def tie_ends(program, ranks, prefix, most=None):
         ends[key] = ends.get(key, 0) + 1
     yield f"prefix {prefix} of {origin}"
     of = f"{len(tried)} of {number}" if number > len(tried) else str(number)
-    yield f"  {len(places)} ties, played {of} orders of them"
+    yield f"  ties: {len(places)}, orders played: {of}"
     for said, count in sorted(ends.items(), key=lambda end: -end[1]):
         yield f"  {count:3}  {said}"
 

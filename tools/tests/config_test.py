@@ -453,7 +453,7 @@ class Printed(unittest.TestCase):
         status, out, error = run("config", "--ties", *names)
         self.assertEqual(status, 0)
         self.assertIn("r4.conf:4: 65004 10.1.0.0/16: tie: 65004-65002-65001, 65004-65003-65001: FRR keeps the one", error)
-        self.assertEqual(out, "prefix 10.1.0.0/16 of 65001\n  1 ties, played 2 orders of them\n"
+        self.assertEqual(out, "prefix 10.1.0.0/16 of 65001\n  ties: 1, orders played: 2\n"
                               "    1  settled 65001 65002-65001 65003-65001 65004-65002-65001\n"
                               "    1  settled 65001 65002-65001 65003-65001 65004-65003-65001\n")
         names = self.write(diamond(options4="bgp bestpath compare-routerid"), "told")
