@@ -366,11 +366,12 @@ class Reader:
             return Block(0, 0, 0, 32), "any", False
         prefix, bounds = prefix_of(rest[0]), dict(zip(rest[1::2], rest[2::2]))
         is_whole = len(rest) % 2 == 1 and len(bounds) == len(rest) // 2 and set(bounds) <= {"ge", "le"}
-        if prefix is None or not is_whole or not all(word.isdigit() and 1 <= int(word) <= 32 for word in bounds.values()):
-            self.refuse(f"'{line.strip()}': {NOT_TAKEN}, or it is not read: bounds are 1 to 32")
+        if prefix is None or not is_whole or not all(word.isdigit() and int(word) <= 32 for word in bounds.values()):
+            self.refuse(f"'{line.strip()}': {NOT_TAKEN}")
+        bounds = {word: int(bound) for word, bound in bounds.items() if int(bound)}  # to FRR a 0 is none
         address, length = prefix
-        least = int(bounds.get("ge", length))
-        most = int(bounds.get("le", 32 if "ge" in bounds else length))
+        least = bounds.get("ge", length)
+        most = bounds.get("le", 32 if "ge" in bounds else length)
         if not length <= least <= most:
             self.refuse(f"'{line.strip()}': {NOT_TAKEN}: it has to be length <= ge <= le")
         block = Block(address & mask_of(length), mask_of(length), least, most)

@@ -90,22 +90,28 @@ def play(program, ranks, most=None, lines=None):
 
 
 def verify(routers, routes, chosen=None):
-    """A line for each router that has not the best of what its peers offer, by the configurations."""
+    """Of each router and prefix whether it has the best of what its peers offer, by the configurations, and a line that
+    says so."""
     for prefix, (router, network) in routers.origins().items():
         if chosen and prefix not in chosen:
             continue
         judge = Judge(routers, prefix, router, network)
         paths = {asn: routes.get((asn, prefix), ()) for asn in routers.routers}
         for asn, path in paths.items():
+            best, of = judge.best(asn, paths), f"{asn} {prefix}"
             if judge.may_keep(asn, path, paths):
-                continue
-            best, why = judge.best(asn, paths), ""
-            route = judge.route(path) if path else None
-            if path and (path[0] != asn or len(path) > 1 and paths.get(path[1]) != path[1:]):
-                why = ": no peer has the rest of it"
-            elif isinstance(route, Denial):
-                why = f": denied by {route.place} {route.why}"
-            yield f"unstable {asn} {prefix} has {path_text(path)} best {path_text(best)}{why}"
+                tie = f", a tie with {path_text(best)}" if path != best else ""
+                yield True, f"best {of} {path_text(path)}{tie}"
+            else:
+                yield False, f"unstable {of} has {path_text(path)} best {path_text(best)}{obstacle(judge, path, paths)}"
+
+
+def obstacle(judge, path, paths):
+    """Why a router can't have a path, or nothing."""
+    route = judge.route(path) if path else None
+    if isinstance(route, Denial):
+        return f": denied by {route.place} {route.why}"
+    return ": no peer has the rest of it" if len(path) > 1 and paths.get(path[1]) != path[1:] else ""
 
 
 def orders_of(classes, draw):

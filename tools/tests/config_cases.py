@@ -236,6 +236,8 @@ CASES = [
     ("host looks at the address alone", pair("access-list L permit host 10.1.0.0", "neighbor 10.255.1.1 distribute-list L in"), {(2, ONE): ["2-1 med 0"], (2, TWO): []}),
     ("no ge and no le: that length alone", pair("ip prefix-list P permit 10.0.0.0/8", "neighbor 10.255.1.1 prefix-list P in"), {(2, ONE): []}),
     ("ge alone is up to 32", pair("ip prefix-list P permit 10.0.0.0/8 ge 9", "neighbor 10.255.1.1 prefix-list P in"), {(2, ONE): ["2-1 med 0"]}),
+    ("a bound of 0 is none", pair("ip prefix-list P permit 0.0.0.0/0 ge 0 / ip prefix-list P deny 0.0.0.0/0 ge 0 le 15 / ip prefix-list P permit 10.2.0.0/16",
+                                   "neighbor 10.255.1.1 prefix-list P in"), {(2, ONE): [], (2, TWO): ["2-1 med 0"]}),
     ("bits of hosts are cleared, and the order is that of numbers",
      pair("ip prefix-list P seq 20 permit any / ip prefix-list P seq 10 deny 10.2.3.4/16", "neighbor 10.255.1.1 prefix-list P in"), {(2, ONE): ["2-1 med 0"], (2, TWO): []}),
     ("expressions are not anchored, and _ is an end too",
