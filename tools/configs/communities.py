@@ -2,6 +2,8 @@
 
 A set of communities is a sorted tuple without doubles, of numbers or of three numbers; the empty one is none."""
 
+from configs.syntax import number_of
+
 NAMES = {
     "internet": 0,
     "graceful-shutdown": 0xFFFF0000,
@@ -27,11 +29,8 @@ KEPT_IN = frozenset((NO_EXPORT, NO_ADVERTISE, LOCAL_AS))
 
 def numbers_of(word, parts, most):
     """The numbers of a word of so many parts, or None."""
-    numbers = word.split(":")
-    if len(numbers) != parts or not all(number.isascii() and number.isdigit() for number in numbers):
-        return None
-    numbers = [int(number) if len(number) <= 10 else most + 1 for number in numbers]
-    return None if max(numbers) > most else tuple(numbers)
+    numbers = tuple(map(number_of, word.split(":")))
+    return numbers if len(numbers) == parts and None not in numbers and max(numbers) <= most else None
 
 
 def read_community(word):

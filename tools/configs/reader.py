@@ -8,7 +8,7 @@ from configs.places import Place, refusal
 from configs.regular import BadExpression, expression, path_expression
 from configs.route import MOST, ORIGINS, RouteMap
 from configs.router import SENT, Line, Neighbor, Network, Router
-from configs.syntax import Unreadable, address_of, prefix_of
+from configs.syntax import Unreadable, address_of, number_of, prefix_of
 from network import GREATEST_ASN, Prefix
 
 NOT_TAKEN = "FRR 8.4 does not take this line"
@@ -120,7 +120,7 @@ class Reader:
         self.foreign = "interface"
 
     def do_version(self, words, line):
-        found = re.match(r"(\d+)(?:\.(\d+))?", words[2])
+        found = re.match(r"(\d{1,9})(?:\.(\d{1,9}))?", words[2])
         if not found:
             self.refuse(f"'{words[2]}' is no version")
         self.router.version = int(found.group(1)), int(found.group(2) or 0)
@@ -366,9 +366,10 @@ class Reader:
             return Block(0, 0, 0, 32), "any", False
         prefix, bounds = prefix_of(rest[0]), dict(zip(rest[1::2], rest[2::2]))
         is_whole = len(rest) % 2 == 1 and len(bounds) == len(rest) // 2 and set(bounds) <= {"ge", "le"}
-        if prefix is None or not is_whole or not all(word.isdigit() and int(word) <= 32 for word in bounds.values()):
+        bounds = {word: number_of(bound) for word, bound in bounds.items()}
+        if prefix is None or not is_whole or not all(bound is not None and bound <= 32 for bound in bounds.values()):
             self.refuse(f"'{line.strip()}': {NOT_TAKEN}")
-        bounds = {word: int(bound) for word, bound in bounds.items() if int(bound)}  # to FRR a 0 is none
+        bounds = {word: bound for word, bound in bounds.items() if bound}  # to FRR a 0 is none
         address, length = prefix
         least = bounds.get("ge", length)
         most = bounds.get("le", 32 if "ge" in bounds else length)
@@ -472,12 +473,12 @@ class Reader:
     def changed(self, word, line, takes_nothing):
         """The sign and the number of a word that sets or changes a number."""
         sign = word[0] if word[0] in "+-" else ""
-        digits = word[len(sign):]
-        if not (digits.isascii() and digits.isdigit()) or int(digits) > MOST:
+        number = number_of(word[len(sign):])
+        if number is None or number > MOST:
             self.refuse(f"'{line.strip()}': {NOT_TAKEN}: '{word}' is no number from 0 to {MOST}")
-        if sign and not int(digits) and not takes_nothing:
+        if sign and not number and not takes_nothing:
             self.refuse(f"'{line.strip()}': {NOT_TAKEN}: nothing is added")
-        return sign, int(digits)
+        return sign, number
 
     def set(self, kind, value, line, form=0):
         if not self.entry.set(kind, form, value, self.place):
@@ -496,9 +497,10 @@ class Reader:
         self.set("weight", int(words[2]), line)
 
     def numbers(self, words, line):
-        if not all(word.isascii() and word.isdigit() and 1 <= int(word) <= GREATEST_ASN for word in words):
+        numbers = tuple(map(number_of, words))
+        if None in numbers or not all(1 <= number <= GREATEST_ASN for number in numbers):
             self.refuse(f"'{line.strip()}': {NOT_TAKEN}: AS numbers are 1 to {GREATEST_ASN}")
-        return tuple(map(int, words))
+        return numbers
 
     def do_set_prepend(self, words, line):
         self.set("prepend", self.numbers(words[3:], line), line)

@@ -24,6 +24,11 @@ class Unreadable(Exception):
     """Why a line is no command."""
 
 
+def number_of(word):
+    """The number of a word of at most ten digits, or None."""
+    return int(word) if word.isascii() and word.isdigit() and len(word) <= 10 else None
+
+
 def address_of(word):
     """The number of an address, or None."""
     if not ADDRESS.fullmatch(word):
@@ -35,10 +40,8 @@ def address_of(word):
 def prefix_of(word):
     """The address and the length of a prefix as it is written, or None."""
     address, slash, length = word.partition("/")
-    value = address_of(address)
-    if not slash or value is None or not (length.isascii() and length.isdigit()) or int(length) > 32:
-        return None
-    return value, int(length)
+    value, length = address_of(address), number_of(length)
+    return (value, length) if slash and value is not None and length is not None and length <= 32 else None
 
 
 def variants(syntax):
@@ -59,7 +62,7 @@ def token_of(text):
     """What a token takes: its kind, and the bounds of a number."""
     if text.endswith("..."):
         return "rest", None
-    bounds = re.fullmatch(r"\((-?\d+)-(\d+)\)", text)
+    bounds = re.fullmatch(r"\((\d+)-(\d+)\)", text)
     if bounds:
         return "number", (int(bounds.group(1)), int(bounds.group(2)))
     if text in ("A.B.C.D", "A.B.C.D/M", "X:X::X:X"):
@@ -73,9 +76,8 @@ def fit(text, word):
     if kind == "keyword":
         return EXACT if text == word else SHORTENED if word and text.startswith(word) else None
     if kind == "number":
-        digits = word[1:] if word[:1] == "-" and bounds[0] < 0 else word
-        is_number = digits.isascii() and digits.isdigit() and len(digits) <= 10
-        return TYPED if is_number and bounds[0] <= int(word) <= bounds[1] else None
+        number = number_of(word)
+        return TYPED if number is not None and bounds[0] <= number <= bounds[1] else None
     if kind == "A.B.C.D":
         return TYPED if address_of(word) is not None else None
     if kind == "A.B.C.D/M":

@@ -9,6 +9,7 @@ from configs.ends import Judge
 from configs.ranks import Ranks, network_lines, schedule_lines
 from configs.route import ORIGINS, Denial
 from configs.sessions import dotted
+from configs.syntax import number_of
 from network import path_text, routes_of
 from program import Refusal
 
@@ -59,10 +60,11 @@ def columns(rows):
     return ["  ".join([cell.ljust(widths.get(at, 0)) for at, cell in enumerate(row[:-1])] + row[-1:]).rstrip() for row in rows]
 
 
-def explain(ranks, asn, prefix, names):
+def explain(ranks, word, prefix, names):
     """The lines that say of a router and a prefix which paths it permits, by which lines, and which it does not."""
+    asn = number_of(word)
     if asn not in ranks.set.routers:
-        raise Refusal(f"there is no router {asn}")
+        raise Refusal(f"there is no router {word}")
     order, router = ranks.orders[prefix][asn], ranks.set.routers[asn]
     tied = {way.path: place for place, tie in enumerate(order.ties, 1) for way in tie}
     rows = []

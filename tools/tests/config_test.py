@@ -547,3 +547,30 @@ def relations_conf(graph, asn, origins):
         lines += [f"route-map TO-{kind} deny 10", " match community UP", "exit"] * (kind != "CUSTOMER")
         lines += [f"route-map TO-{kind} permit 20", "exit"]
     return "\n".join(lines) + "\n"
+
+
+class Odd(unittest.TestCase):
+    def test_numbers_of_any_length(self):
+        """What is too long to be a number is a refusal, in each place where a number stands."""
+        long = "9" * 5000
+        for top, line in ((f"ip prefix-list P permit 10.0.0.0/{long}", ""), (f"ip prefix-list P permit 10.0.0.0/8 le {long}", ""), (f"ip prefix-list P seq {long} permit any", ""),
+                          (f"route-map M permit {long}", ""), (f"route-map M permit 1 / set metric +{long}", ""), (f"route-map M permit 1 / set local-preference {long}", ""),
+                          (f"route-map M permit 1 / set as-path prepend 1 {long}", ""), (f"route-map M permit 1 / set community 1:{long}", ""), ("", f"network 10.0.0.0/{long}"),
+                          (f"route-map M permit 1 / set large-community 1:2:{long}", ""), ("", f"neighbor 10.255.9.1 remote-as {long}"), ("", f"neighbor 10.255.1.{long} remote-as 1"),
+                          (f"bgp as-path access-list F permit 1{{{long}}}", ""), (f"frr version {long}.{long}", ""), ("", f"neighbor 10.255.1.1 weight {long}")):
+            with self.subTest(top[:30] + line[:30]):
+                try:
+                    read_set(pair(top, line))
+                except Refusal as why:
+                    self.assertRegex(str(why), r"^r2\.conf:\d+: ")
+
+    def test_lines_that_are_cut_anywhere(self):
+        """Of each beginning of a file, and of each file without a line, nothing but a refusal or a set comes."""
+        text = CASES[30][1]["r2.conf"] + make(3)["r2.conf"].replace("\r", "")
+        lines = text.split("\n")
+        for at in range(len(lines)):
+            for part in ("\n".join(lines[:at]), "\n".join(lines[:at] + lines[at + 1:]), "\n".join(lines[:at] + [lines[at][:len(lines[at]) // 2]])):
+                try:
+                    read_router(part, "r2.conf")
+                except Refusal as why:
+                    self.assertRegex(str(why), r"^r2\.conf:\d+: ")
