@@ -26,7 +26,7 @@ class Reader:
 
     def __init__(self, text, name):
         self.router, self.block, self.place = Router(name), "config", Place(name, 0)
-        self.entry, self.foreign = None, None
+        self.entry, self.foreign, self.is_loopback = None, None, False
         for number, line in cut_lines(text):
             self.place = Place(name, number)
             self.obey(line)
@@ -58,6 +58,8 @@ class Reader:
             if address is None:
                 self.refuse(f"'{words[2]}' is no address with a length")
             self.router.addresses.setdefault(address[0], self.place)
+            if self.is_loopback:
+                self.router.loopbacks.add(address[0])
             return True
         if words[0] in ("exit", "quit") or words[0].startswith("exit-"):
             self.foreign = "closed"
@@ -117,7 +119,7 @@ class Reader:
         self.foreign = "other"
 
     def do_addresses(self, words, line):
-        self.foreign = "interface"
+        self.foreign, self.is_loopback = "interface", words[1] == "lo"
 
     def do_version(self, words, line):
         found = re.match(r"(\d{1,9})(?:\.(\d{1,9}))?", words[2])
@@ -604,13 +606,22 @@ def without_entries(router):
             router.warn(place, f"prefix-list {value} has no entries: it fits {'nothing' if is_above else 'everything'}")
 
 
+def choose_id(router):
+    """Takes the router id that the interfaces give: the greatest address of `lo`, else of the others."""
+    own = [address for address in router.loopbacks or router.addresses if address >> 24 != 127]
+    if not own:
+        raise refusal(router.place, "no line 'bgp router-id', and no interface's address to take for it")
+    router.router_id = Line(max(own), router.addresses[max(own)])
+    router.warn(router.place, f"no line 'bgp router-id': it is taken to be the address at {router.router_id.place}")
+
+
 def read_router(text, name):
     """The router that a file is the configuration of."""
     router = Reader(text, name).router
     if router.asn is None:
         raise refusal(Place(name, 1), "no configuration of a router: there is no line 'router bgp'")
     if router.router_id is None:
-        raise refusal(router.place, "no line 'bgp router-id': which address FRR takes is not known here")
+        choose_id(router)
     for network in router.networks.values():
         if router.option("bgp network import-check"):
             router.warn(network.place, "network: taken as announced; with import-check FRR announces it where the route "

@@ -341,6 +341,13 @@ class Sessions(unittest.TestCase):
             sources[f"r{place}.conf"] = text[:-len("exit\n")] + more + "exit\n"
         self.assertEqual(ends(sources), wanted)
 
+    def test_a_router_id_of_the_interfaces(self):
+        files = pair()
+        top = "interface lo\n ip address 127.0.0.1/8\n ip address 10.255.2.1/32\nexit\ninterface eth0\n ip address 172.16.0.1/24\nexit\n"
+        files["r2.conf"] = top + files["r2.conf"].replace(" bgp router-id 10.255.2.1\n", "")
+        self.assertIn("router 65002 10.255.2.1", network_lines(Ranks(read_set(files)))[0])
+        self.noted(files, ("r2.conf", "router bgp", "it is taken to be the address at r2.conf:3"))
+
     def test_other_parts_of_a_file(self):
         """As `show running-config` prints the whole of a router."""
         text = pair()["r2.conf"]
