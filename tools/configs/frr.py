@@ -16,9 +16,10 @@ from program import Refusal
 
 LIBRARIES = ("usr/lib/x86_64-linux-gnu/frr", "usr/lib/x86_64-linux-gnu", "lib/x86_64-linux-gnu", "usr/lib/aarch64-linux-gnu/frr",
              "usr/lib/aarch64-linux-gnu", "lib/aarch64-linux-gnu")
-# Seconds: between two looks, before the first that may count, without a session, and until a set changes for ever.
-LOOK, LEAST, NO_SESSION, FOR_EVER = 0.5, 4.0, 20.0, 25.0
-ALIKE = 5
+# Seconds: between two looks, at least; until sessions have to be up; and for which a set has to change.
+LOOK, NO_SESSION, FOR_EVER = 0.6, 180.0, 25.0
+# How many looks in a row have to be alike, and how many changes a set shows that changes for ever.
+ALIKE, CHANGES = 5, 8
 
 
 def daemon(tree):
@@ -64,6 +65,7 @@ class Lab:
         lines = ["!" if number in router.foreign else line for number, line in enumerate(self.texts[asn].split("\n"), 1)]
         lines = ["bgp route-map delay-timer 1"] + (lines[:router.end - 1] if router.end else lines) + [f"router bgp {asn}"]
         for peer, end in self.set.ends[asn].items():
+            lines.append(f" neighbor {end.neighbor.key} timers connect 3")
             if not end.neighbor.line("source"):
                 own = self.set.ends[peer][asn].neighbor.key
                 lines.append(f" neighbor {end.neighbor.key} update-source {own}")
@@ -144,28 +146,34 @@ class Lab:
             found.append((said.get("tableVersion"), json.dumps(said.get("routes", {}), sort_keys=True)))
         return found
 
-    def wait(self):
-        """Waits until the set is quiet: `quiet`, `changing`, or `down` where sessions do not come up."""
-        began, looks = time.monotonic(), []
-        while True:
-            time.sleep(LOOK)
-            passed = time.monotonic() - began
+    def wait_for(self, is_done, most):
+        """Waits until something holds, and says whether it came to that in so many seconds."""
+        began = time.monotonic()
+        while time.monotonic() - began < most:
             try:
-                if not self.are_up():
-                    looks = []
-                    if passed > NO_SESSION:
-                        return "down"
-                    continue
-                looks = (looks + [self.look()])[-ALIKE:]
+                if is_done():
+                    return True
             except (OSError, ValueError):
-                if any(process.poll() is not None for process in self.processes.values()) or passed > FOR_EVER:
-                    raise Refusal("a bgpd ended, or did not answer")
-                looks = []
-                continue
-            if len(looks) == ALIKE and passed > LEAST and all(look == looks[0] for look in looks):
-                return "quiet"
-            if passed > FOR_EVER:
+                if any(process.poll() is not None for process in self.processes.values()):
+                    raise Refusal("a bgpd ended")
+            time.sleep(LOOK)
+        return False
+
+    def wait(self):
+        """Waits until the set is quiet: `quiet`, `changing`, or `down` where sessions do not come up. A machine that is
+        slow to answer is looked at less often."""
+        if not self.wait_for(self.are_up, NO_SESSION):
+            return "down"
+        began, last, alike, changes = time.monotonic(), None, 0, 0
+        while alike < ALIKE:
+            at = time.monotonic()
+            look = self.look()
+            alike, changes = (alike + 1, changes) if look == last else (1, changes + 1)
+            last = look
+            if at - began > FOR_EVER and changes > CHANGES:
                 return "changing"
+            time.sleep(max(LOOK, 2 * (time.monotonic() - at)))
+        return "quiet" if self.are_up() else "down"
 
     def tables(self, prefixes):
         """What each router has for each prefix."""
