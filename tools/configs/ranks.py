@@ -7,7 +7,8 @@ from network import (GREATEST_OF_TWO_OCTETS, MOST_PATHS, MOST_PREFIXES, MOST_RUL
                      path_text, starts)
 from program import Refusal
 
-ROUNDS, LATER = 1000, 100
+# The rounds before the snapshot, so many more for each prefix, and those behind it.
+ROUNDS, MORE, LATER = 1000, 100, 100
 SHOWN = 8
 
 
@@ -196,5 +197,6 @@ def network_lines(ranks, most=None):
 def schedule_lines(lines):
     """A schedule for a network: the sessions come up, every prefix is originated, then rounds and a snapshot."""
     network = Network(lines)
-    return ["schedule", *starts(network), *originations(network), f"rounds {ROUNDS}", f"snapshot {network.routers[0]} 1",
+    rounds = ROUNDS + MORE * len(network.origins)
+    return ["schedule", *starts(network), *originations(network), f"rounds {rounds}", f"snapshot {network.routers[0]} 1",
             f"rounds {LATER}"]
