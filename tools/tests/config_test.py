@@ -370,7 +370,7 @@ class Expressions(unittest.TestCase):
             self.skipTest("another C library")
         draw, number = random.Random(5), 0
         texts = ["", "0", "1", "12", "0 1", "1 2 0", "10 2", "2 2 2", "12 21 1", "0 0 1 2 2"]
-        for _ in range(2500):
+        for _ in range(1500):
             text = "".join(draw.choice(self.SIGNS if draw.random() < 0.5 else "012_^$") for _ in range(draw.randint(1, 6)))
             compiled = ctypes.create_string_buffer(256)
             is_good = library.regcomp(compiled, text.replace("_", "(^|[,{}() ]|$)").encode(), 1 | 8) == 0
@@ -384,7 +384,7 @@ class Expressions(unittest.TestCase):
             for one in texts:
                 self.assertEqual(search(one) is not None, library.regexec(compiled, one.encode(), 0, None, 0) == 0, (text, one))
             library.regfree(compiled)
-        self.assertGreater(number, 800)
+        self.assertGreater(number, 500)
 
 
 class Printed(unittest.TestCase):
@@ -491,7 +491,7 @@ class Random(unittest.TestCase):
     def test_ends_that_are_played_are_verified(self):
         """What the program settles in is an end by the configurations, of each set that is not refused."""
         program, taken = asked_program(), 0
-        for seed in range(60):
+        for seed in range(36):
             try:
                 routers = read_set(make(seed))
                 ranks = Ranks(routers)
@@ -503,11 +503,11 @@ class Random(unittest.TestCase):
             if said[0].endswith("settled"):
                 taken += 1
                 self.assertEqual([line for is_best, line in verify(routers, routes_of(said)) if not is_best], [], seed)
-        self.assertGreater(taken, 30)
+        self.assertGreater(taken, 20)
 
     def test_best_of_fewer_paths_ends_in_the_same(self):
         program = asked_program()
-        for seed in range(100, 125):
+        for seed in range(100, 110):
             try:
                 ranks = Ranks(read_set(make(seed)))
                 ends = [play(program, ranks, most) for most in (None, 1, 2)]
