@@ -1,6 +1,8 @@
 """Networks as the program reads them, of texts that it has taken: it alone refuses (`read_network` asks it)."""
 from collections import namedtuple
 
+from program import Refusal
+
 # The limits of networks (docs/TEXTS.md).
 MOST_ROUTERS = 64
 MOST_LINKS = 16
@@ -74,12 +76,12 @@ class Network:
     """The routers, links, origins and rules of a network.
 
     `lines` are its lines without those that are skipped, `peers` the peers of each router, rising, `origins` the
-    router of each prefix, by address, then length, `rules` those of each router, and `cut` the most octets of a
-    piece."""
+    router of each prefix, by address, then length, `rules` those of each router, `cut` the most octets of a piece,
+    `hold` the hold time in seconds, and `width` the octets of an AS number."""
 
     def __init__(self, lines):
         self.lines, self.routers, self.links, self.peers, self.rules = [], [], [], {}, {}
-        self.cut, origins = 4096, {}
+        self.cut, self.hold, self.width, origins = 4096, 90, 2, {}
         for number, line in enumerate(lines, 1):
             words = words_of(line)
             if not words or words[0] in SECTIONS:
@@ -98,6 +100,10 @@ class Network:
                 origins[Prefix.read(words[2])] = first
             elif words[0] == "cut":
                 self.cut = first
+            elif words[0] == "hold":
+                self.hold = first
+            elif words[0] == "asn":
+                self.width = first
             elif words[0] == "rank":
                 self.rules[first].append(Rule(Prefix.read(words[2]), [read_path(word) for word in words[3:]], number))
         self.routers.sort()
@@ -108,6 +114,12 @@ class Network:
     @property
     def text(self):
         return "".join(line + "\n" for line in self.lines)
+
+    def leave_out(self, links):
+        """Leaves links out of `links` and `peers`. `text` has them."""
+        self.links = [link for link in self.links if frozenset(link) not in links]
+        for router, peers in self.peers.items():
+            peers[:] = [peer for peer in peers if frozenset((router, peer)) not in links]
 
     def rule(self, router, prefix):
         """The rule of a router that applies to a prefix, the longest that covers it, or none."""
@@ -140,6 +152,21 @@ def routes_of(lines):
         if words and words[0] in ("route", "path"):
             routes[read_number(words[1]), Prefix.read(words[2])] = read_path(words[3])
     return routes
+
+
+def read_link(network, word):
+    """The link of a network that `U-V` names, as the network has it."""
+    ends = word.split("-")
+    if len(ends) == 2 and all(end.isascii() and end.isdigit() for end in ends):
+        link = tuple(map(read_number, ends))
+        for known in network.links:
+            if known in (link, link[::-1]):
+                return known
+    raise Refusal(f"there is no link {word}: a link is written as U-V")
+
+
+def link_text(link):
+    return "-".join(map(str, link))
 
 
 def starts(network):

@@ -104,6 +104,64 @@ def judgement(program, network, prefix, chosen, without=()):
     return f"check{' without ' * bool(links)}{links}: {lines[0]}", lines[0] == "stable"
 
 
+def reached(network, router, without=()):
+    """The routers that links lead to from a router, itself too, over links that are not left out."""
+    found = [router]
+    for one in found:
+        found += [peer for peer in network.peers[one] if peer not in found and frozenset((one, peer)) not in without]
+    return frozenset(found)
+
+
+def part_text(network, part, prefixes, routes, without):
+    """The input of `check` for the paths of some prefixes, in the part of a network that some routers are, without
+    some links. A rule keeps its paths over these routers."""
+    lines = []
+    for line in network.lines:
+        words = words_of(line)
+        if words[0] == "rank":
+            words[3:] = [word for word in words[3:] if part.issuperset(read_path(word))]
+        if words[0] in ("router", "rank") and read_number(words[1]) not in part:
+            continue
+        if words[0] == "origin" and Prefix.read(words[2]) not in prefixes:
+            continue
+        if words[0] == "link":
+            link = frozenset(map(read_number, words[1:]))
+            if link in without or not link <= part:
+                continue
+        lines.append(" ".join(words))
+    lines.append("assignment")
+    lines += [f"path {router} {prefix} {path_text(routes[router, prefix])}" for prefix in prefixes
+              for router in network.routers if router in part]
+    return "".join(line + "\n" for line in lines)
+
+
+def judgements(program, network, routes, without=(), about="check", prefixes=None):
+    """What `check` says of the routes of prefixes (without a list, of all) in the network without some links, as words
+    that begin with `about`, and whether they are stable. Where that network is not connected it is asked of the part of the origin;
+    elsewhere no path at all is stable, and so it is of a prefix that is not originated."""
+    said, parts = {}, {}
+    for prefix in network.origins if prefixes is None else prefixes:
+        origin = network.origins[prefix]
+        part = reached(network, origin, without) if routes[origin, prefix] else frozenset()
+        stray = [router for router in network.routers if routes[router, prefix] and not part.issuperset(routes[router, prefix])]
+        if stray:
+            said[prefix] = f"{stray[0]} has {path_text(routes[stray[0], prefix])}, and nothing leads there", False
+        elif part:
+            parts.setdefault(part, []).append(prefix)
+        else:
+            said[prefix] = f"{origin} does not originate it", True
+
+    def ask(part, prefixes):
+        return program.answer(["check"], part_text(network, part, prefixes, routes, without), "an assignment")[0]
+
+    for part, prefixes in parts.items():
+        are_stable = ask(part, prefixes) == "stable"
+        for prefix in prefixes:
+            line = "stable" if are_stable else ask(part, [prefix])
+            said[prefix] = f"{about}: {line}", line == "stable"
+    return said
+
+
 def unstable_of(said):
     """The router, its path and its best one where a judgement is not stable, else nothing."""
     if not said or said[1]:

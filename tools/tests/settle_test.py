@@ -1,6 +1,7 @@
 """Tests of `settle`. What it finds in random policies is compared with all assignments there are, and with the
 definition of a dispute wheel, without its code; then with what the program plays."""
 import itertools
+import json
 import pathlib
 import random
 import tempfile
@@ -8,7 +9,8 @@ import unittest
 
 from support import TOP, asked_program, load, run
 
-from network import Network
+import tracing
+from network import Network, read_network
 
 settle = load("settle")
 
@@ -108,12 +110,13 @@ class RandomPolicies(unittest.TestCase):
 
     def test_what_the_program_plays(self):
         program = asked_program()
-        for rule, seed in self.POLICIES[:40] + self.POLICIES[-40:]:
+        for rule, seed in self.POLICIES[:20] + self.POLICIES[-20:]:
             rules, network, live = self.made(rule, seed)
             stable, wheel = list(stable_ones(rules)), settle.Spokes(live).wheel()
             ends = settle.play_orders(program, network, ["rising", "lock-step", 1, 2])
             with self.subTest(rule=rule.__name__, seed=seed):
                 for said, routes in ends:
+                    self.assertTrue(said in ("settled", settle.NEVER))
                     self.assertTrue(said != "settled" or tuple(path for _, path in routes) in stable)
                     self.assertTrue(wheel or said == "settled")
 
@@ -130,14 +133,14 @@ class Printed(unittest.TestCase):
 """
 
     def test_examples(self):
-        for name, found, wheel, said in (
-                ("shortest", 1, None, "every order settles, and in the same routes"),
-                ("good-gadget", 1, None, "every order settles, and in the same routes"),
-                ("ring", 0, 3, "no order settles"),
-                ("wedgie", 2, 2, "orders may differ: 2 ends are possible, and an order may never settle"),
-                ("wedgie-failed", 1, None, "every order settles, and in the same routes")):
+        for name, found, wheel, said, wanted in (
+                ("shortest", 1, None, "every fair order settles, and in the same routes", 0),
+                ("good-gadget", 1, None, "every fair order settles, and in the same routes", 0),
+                ("ring", 0, 3, "no order settles", 6),
+                ("wedgie", 2, 2, "orders may differ: 2 ends are possible, and an order may never settle", 5),
+                ("wedgie-failed", 1, None, "every fair order settles, and in the same routes", 0)):
             status, out, error = run("settle", f"examples/{name}.txt")
-            self.assertEqual((status, error), (0, ""))
+            self.assertEqual((status, error), (wanted, ""))
             lines = [line for line in out.splitlines() if not line.startswith("warning: ")]
             self.assertEqual(lines[1], f"  stable assignments: {found}")
             self.assertEqual(sum(line.endswith("check: stable") for line in lines), found)
@@ -145,16 +148,18 @@ class Printed(unittest.TestCase):
             self.assertEqual(lines[-1], "  " + said)
 
     def test_disagree(self):
-        self.assertEqual(run("settle", "examples/disagree.txt"), (0, self.DISAGREE, ""))
+        self.assertEqual(run("settle", "examples/disagree.txt"), (5, self.DISAGREE, ""))
 
     def test_both_ends_of_disagree_come(self):
         status, out, error = run("settle", "examples/disagree.txt", "--play", 20)
-        self.assertEqual((status, error, out[:len(self.DISAGREE)]), (0, "", self.DISAGREE))
+        self.assertEqual((status, error, out[:len(self.DISAGREE)]), (5, "", self.DISAGREE))
         ends = out[len(self.DISAGREE):].splitlines()
         self.assertEqual(ends[0], "played 22 orders")
+        self.assertRegex(ends.pop(), r"^       of lock-step, which --write lock-step prints: the state behind round \d+ "
+                                     r"comes again behind round \d+, \d+ events later$")
         self.assertEqual(sum(int(line.split()[0]) for line in ends[1:]), 22)
-        self.assertEqual({" ".join(line.split("(")[0].split()[1:]) for line in ends[1:]} - {"moving"},
-                         {"settled 1 2-3-1 3-1", "settled 1 2-1 3-2-1"})
+        self.assertEqual({" ".join(line.split("(")[0].split()[1:]) for line in ends[1:]},
+                         {f"settled {PREFIX}: 1 2-3-1 3-1", f"settled {PREFIX}: 1 2-1 3-2-1", "never rests"})
 
     def test_an_order_that_is_written_plays(self):
         for order in ("rising", "lock-step", 7):
@@ -164,7 +169,7 @@ class Printed(unittest.TestCase):
 
     def test_numbers_with_zeros_in_front(self):
         text = (TOP / "examples/disagree.txt").read_text().replace("rank 2 10.1", f"rank {'0' * 5000}2 0010.01").replace("2-3-1", "02-03-1")
-        self.assertEqual(run("settle", "-", given=text.encode())[:2], (0, self.DISAGREE))
+        self.assertEqual(run("settle", "-", given=text.encode())[:2], (5, self.DISAGREE))
 
     def test_an_order_over_small_pieces(self):
         text = (TOP / "examples/play/octets.txt").read_text()
@@ -182,7 +187,7 @@ class Printed(unittest.TestCase):
         text += "".join(f"link {one} {other}\n" for one, other in links) + f"origin 1 {PREFIX}\n"
         text += "".join(f"rank {router} {PREFIX} {rule}\n" for router, rule in rules.items())
         status, out, error = run("settle", "-", "--most", 200, given=text.encode())
-        self.assertEqual((status, error, out.count("check: stable")), (0, "", 2**7))
+        self.assertEqual((status, error, out.count("check: stable")), (5, "", 2**7))
         out = run("settle", "-", "--most", 3, given=text.encode())[1]
         self.assertIn("  stable assignments: more than 3\n", out)
         self.assertEqual(out.count("check: stable"), 3)
@@ -195,11 +200,11 @@ class Printed(unittest.TestCase):
             status, out, error = run("settle", "examples/disagree.txt", "--program", program)
             self.assertEqual((status, error), (1, "settle: the program does not confirm what is found here\n"))
             self.assertEqual(out.count("check: unstable 2 has 2-1 best 2-3-1"), 2)
-            program.write_text("#!/bin/sh\nif read -r _ && grep -q schedule; then echo snapshot 1 settled; "
-                               "printf 'route %s 10.1.0.0/16 none\\n' 1 2 3; echo now; else echo stable; fi\n")
+            program.write_text("#!/bin/sh\nif [ $1 = trace ]; then exec " + asked_program().path + " trace; fi; if [ $1 = play ]; "
+                               "then echo snapshot 1 settled; echo now; printf 'route %s 10.1.0.0/16 none\\n' 1 2 3; else echo stable; fi\n")
             status, out, error = run("settle", "examples/disagree.txt", "--program", program, "--play", 0)
             self.assertEqual((status, error), (1, "settle: the program does not confirm what is found here\n"))
-            self.assertEqual(run("settle", "examples/disagree.txt", "--program", program)[0], 0)
+            self.assertEqual(run("settle", "examples/disagree.txt", "--program", program)[0], 5)
             program.write_text("#!/bin/sh\necho memory; exit 3\n")
             self.assertEqual(run("settle", "examples/disagree.txt", "--program", program),
                              (1, "", "settle: bgpnet check ends with status 3: memory\n"))
@@ -208,7 +213,8 @@ class Printed(unittest.TestCase):
         text = ("router 1 10.0.0.1\nrouter 2 10.0.0.2\nrouter 3 10.0.0.3\nlink 1 2\nlink 2 3\nlink 1 3\n"
                 "origin 3 10.2.0.0/16\norigin 1 10.1.0.0/16\nrank 2 10.0.0.0/8 2-3-1 2-1-3 2-1\nrank 3 10.1.0.0/16 3-2-1 3-1\n")
         status, out, error = run("settle", "-", "--play", 3, given=text.encode())
-        self.assertEqual((status, error), (0, ""))
+        self.assertEqual((status, error), (5, ""))
+        self.assertIn("settled 10.1.0.0/16: 1 2-1 3-2-1; 10.2.0.0/16: 1-3 2-1-3 3   (", out)
         self.assertTrue(out.startswith("prefix 10.1.0.0/16 of 1\n  stable assignments: 2\n"))
         self.assertIn("prefix 10.2.0.0/16 of 3\n  stable assignments: 1\n    1-3 2-1-3 3   check: stable\n  no dispute wheel\n", out)
 
@@ -225,15 +231,18 @@ class Warnings(unittest.TestCase):
         self.warned(f"rank 3 {PREFIX} 3-1 3-2-1\n", "line 9: 3-1 can never come: there is no link 3 1")
         self.warned(f"rank 2 {PREFIX} 2-1\nrank 4 {PREFIX} 4-3-1 4-3-2-1\n", "line 10: 4-3-1 can never come: there is no link 3 1")
         self.warned(f"rank 3 {PREFIX} 3-4-2-1\nrank 4 {PREFIX} 4-3-2-1\n",
-                    "line 9: 3-4-2-1 can never come: there is no link 4 2",
                     "line 10: 4-3-2-1 can never come: router 3 does not permit 3-2-1",
-                    f"router 3: no path for {PREFIX} can ever come", f"router 4: no path for {PREFIX} can ever come")
+                    "line 9: 3-4-2-1 can never come: there is no link 4 2",
+                    f"no path for {PREFIX} can ever come to: 3, 4")
+        self.warned(f"rank 2 {PREFIX} 2-1\nrank 3 {PREFIX} 3-1 3-2-1\nrank 4 {PREFIX} 4-3-1 4-3-2-1 4-1\n",
+                    "line 10: 3-1 can never come, nor can 1 other path of rules: there is no link 3 1",
+                    "line 11: 4-1 can never come: there is no link 4 1")
         self.warned(f"rank 3 {PREFIX} 3-2-1 3-4\n", f"line 9: 3-4: 4 is no origin of a prefix of this rule")
 
     def test_rules_for_nothing(self):
         self.warned("rank 3 10.2.0.0/16 3-2-1\n", "line 9: no prefix that an origin has goes by this rule")
         self.warned(f"rank 3 10.0.0.0/8 3-2-1\nrank 3 {PREFIX} 3-2-1\n", "line 9: no prefix that an origin has goes by this rule")
-        self.warned(f"rank 3 {PREFIX}\n", f"router 3: no path for {PREFIX} can ever come", f"router 4: no path for {PREFIX} can ever come")
+        self.warned(f"rank 3 {PREFIX}\n", f"no path for {PREFIX} can ever come to: 3, 4")
 
     def test_no_warning(self):
         self.warned("")
@@ -243,10 +252,6 @@ class Warnings(unittest.TestCase):
         text = (TOP / "examples/disagree.txt").read_text().replace("link 2 3", "link 2 9")
         line = text.splitlines().index("link 2 9") + 1
         self.assertEqual(run("settle", "-", given=text.encode()), (1, "", f"settle: -:{line}: N3: a router that no earlier line names\n"))
-        full = network_of({}, 10)
-        status, out, error = run("settle", "-", given=full.encode())
-        self.assertEqual((status, out, error),
-                         (1, "", f"settle: more than 20000 paths can come for {PREFIX}: give routers rank lines\n"))
         self.assertEqual(run("settle", "-", given=b"router 1 10.0.0.1\n"), (1, "", "settle: -: no origin, so no routes\n"))
         for words in ([], ["x", "--play", "-1"], ["x", "--write", "falling"], ["x", "y"]):
             status, out, error = run("settle", *words)
@@ -254,3 +259,139 @@ class Warnings(unittest.TestCase):
         self.assertEqual(run("settle", "nothing"), (1, "", "settle: nothing: No such file or directory\n"))
         self.assertEqual(run("settle", "examples/ring.txt", "--program", "nothing")[0], 1)
         self.assertEqual(run("settle", "--help")[0], 0)
+
+
+class Answered(unittest.TestCase):
+    """What was refused or left open once, and is answered."""
+
+    def wide(self, size):
+        """A network without rules, in which most routers have sixteen links."""
+        lines = [f"router {router} 10.0.0.{router}" for router in range(1, size + 1)]
+        lines += [f"link {router} {router + 1 + step}" for router in range(1, size + 1) for step in range(8)
+                  if router + 1 + step <= size]
+        return "".join(line + "\n" for line in lines) + f"origin 1 {PREFIX}\n"
+
+    def test_no_rules_at_sixty_four_routers(self):
+        status, out, error = run("settle", "-", "--play", 0, given=self.wide(64).encode())
+        self.assertEqual((status, error), (0, ""))
+        self.assertEqual(out.count("   check: stable\n"), 1)
+        self.assertIn("  no dispute wheel\n  every fair order settles, and in the same routes\nplayed 2 orders\n"
+                      f"    2  settled {PREFIX}: 1 2-1 3-1 ", out)
+
+    def test_no_rules_is_as_the_search_has_it(self):
+        for seed in range(60):
+            draw, lines = random.Random(seed), [f"router {router} 10.0.0.{router}" for router in range(1, 8)]
+            links = {(draw.randrange(1, router), router) for router in range(2, 8)}
+            links |= {tuple(sorted(draw.sample(range(1, 8), 2))) for _ in range(5)}
+            network = Network(lines + [f"link {one} {other}" for one, other in links] + [f"origin 1 {PREFIX}"])
+            found, live = settle.Found(network, next(iter(network.origins)), 9), settle.live_paths(network, next(iter(network.origins)))
+            self.assertEqual((found.assignments, found.are_all), settle.stable_assignments(live, 1, 9))
+            self.assertEqual(found.wheel, settle.Spokes(live).wheel())
+
+    def test_too_many_paths_of_one_prefix(self):
+        """The search gives that prefix up, and answers the other."""
+        text = self.wide(30) + f"rank 9 {PREFIX} 9-1\norigin 2 10.2.0.0/16\n"
+        status, out, error = run("settle", "-", given=text.encode())
+        self.assertEqual((status, error), (3, ""))
+        self.assertIn(f"prefix {PREFIX} of 1\n  more than 20000 paths can come: give routers rank lines; nothing is said of the ends\n", out)
+        self.assertIn("prefix 10.2.0.0/16 of 2\n  stable assignments: 1\n", out)
+
+    def test_links_left_out(self):
+        """What is left need not be connected."""
+        text = "".join(f"router {router} 10.0.0.{router}\n" for router in range(1, 5))
+        text += f"link 1 2\nlink 2 3\nlink 3 4\nlink 2 4\norigin 1 {PREFIX}\n"
+        status, out, error = run("settle", "-", "--without", "4-2", "--play", 1, given=text.encode())
+        self.assertEqual((status, error), (0, ""))
+        self.assertIn("    1 2-1 3-2-1 4-3-2-1   check without 2-4: stable\n", out)
+        self.assertIn(f"    3  settled {PREFIX}: 1 2-1 3-2-1 4-3-2-1   (rising, lock-step, 1)\n", out)
+        status, out, error = run("settle", "-", "--without", "1-2", "--play", 1, given=text.encode())
+        self.assertEqual((status, error), (0, ""))
+        self.assertIn(f"warning: no path for {PREFIX} can ever come to: 2, 3, 4\n", out)
+        self.assertIn("    1 2: none 3: none 4: none   check without 1-2: stable\n      without a route: 2, 3, 4\n", out)
+        self.assertIn(f"    3  settled {PREFIX}: 1 2: none 3: none 4: none   (rising, lock-step, 1)\n", out)
+        self.assertEqual(run("settle", "-", "--without", "1-3", given=text.encode()),
+                         (1, "", "settle: there is no link 1-3: a link is written as U-V\n"))
+
+    def test_a_hundred_prefixes_over_small_pieces(self):
+        """Rounds are as many as prefixes, peers and pieces ask for."""
+        text = "router 1 10.0.0.1\nrouter 2 10.0.0.2\nlink 1 2\n" + "".join(f"origin 1 10.{at}.0.0/16\n" for at in range(100))
+        status, out, error = run("settle", "-", "--play", 10, given=text.encode())
+        self.assertEqual((status, error), (0, ""))
+        self.assertIn("played 12 orders\n   12  settled 10.0.0.0/16: 1 2-1; 10.1.0.0/16: 1 2-1; ", out)
+        text = "cut 16\n" + (TOP / "examples/disagree.txt").read_text()
+        status, out, error = run("settle", "-", "--play", 4, given=text.encode())
+        self.assertEqual((status, error), (5, ""))
+        self.assertIn(f"settled {PREFIX}: 1 2-3-1 3-1   (2, 4)\n", out)
+        self.assertIn(f"settled {PREFIX}: 1 2-1 3-2-1   (1, 3)\n", out)
+        self.assertIn("    2  never rests   (rising, lock-step)\n", out)
+
+    def test_one_end_and_a_wheel(self):
+        text = network_of({2: "2-3-1 2-1", 3: "3-4-1 3-1", 4: "4-2-1 4-5-1 4-1", 5: "5-1"})
+        statuses = {run("settle", f"examples/{name}.txt")[0] for name in ("shortest", "disagree", "ring")}
+        self.assertEqual(statuses, {0, 5, 6})
+        found = settle.Found(Network(text.splitlines()), next(iter(Network(text.splitlines()).origins)), 100)
+        self.assertEqual(found.verdict[1], 6 if not found.assignments else 4)
+
+    def test_json(self):
+        status, out, error = run("settle", "examples/disagree.txt", "--play", 4, "--json")
+        self.assertEqual((status, error), (5, ""))
+        said = json.loads(out)
+        self.assertEqual((said["status"], said["warnings"], len(said["prefixes"])), (5, [], 1))
+        self.assertEqual([one["paths"] for one in said["prefixes"][0]["assignments"]],
+                         [{"1": "1", "2": "2-3-1", "3": "3-1"}, {"1": "1", "2": "2-1", "3": "3-2-1"}])
+        self.assertEqual(said["prefixes"][0]["wheel"][0], {"router": 2, "would_rather": "2-3-1", "than": "2-1", "through": 3})
+        self.assertEqual(sum(len(end["orders"]) for end in said["orders"]), 6)
+        again = next(end["again"] for end in said["orders"] if end["end"] == "never rests")
+        self.assertEqual(again[0]["order"], "lock-step")
+
+
+class NeverRests(unittest.TestCase):
+    """What is said to come again is compared with the schedule that is written, played once more by hand."""
+
+    def events(self, network, word, number):
+        """The events of each of so many rounds of an order, by its trace."""
+        order = settle.Order(network, word)
+        lines = asked_program().trace(order.text(order.head + order.round * number), "order")
+        first, rounds = len(network.lines) + len(order.head), [[]]
+        ends = {first + at * len(order.round) for at in range(1, number + 1)}
+        is_read = False
+        for line in lines:
+            if line.startswith("# line "):
+                at = int(line[7:line.index(":")])
+                is_read |= at == order.behind
+                if at in ends and (line.endswith("nothing to do") or " events, " in line or " event, " in line):
+                    rounds.append([])
+            elif is_read:
+                rounds[-1].append(line)
+        return rounds[:number]
+
+    def test_the_same_events_come_again(self):
+        for name, words in (("ring", ("rising", "lock-step", 3)), ("disagree", ("lock-step",))):
+            network = read_network(asked_program(), (TOP / f"examples/{name}.txt").read_text(), name)[0]
+            for word in words:
+                again = settle.end_of(asked_program(), settle.Order(network, word), True)[2]
+                span = again.second - again.first
+                rounds = self.events(network, word, again.second + 3 * span)
+                with self.subTest(name=name, word=word):
+                    between = [line for events in rounds[again.first:again.second] for line in events]
+                    self.assertEqual(len([line for line in between if line[0] != "#"]), again.events)
+                    for at in range(again.first, again.first + 3 * span):
+                        self.assertEqual(rounds[at], rounds[at + span])
+
+    def test_a_state_with_other_news_on_its_way_is_another(self):
+        """What routers keep is the same behind many rounds of the ring, and what is on its way is not."""
+        replay = tracing.Replay(2)
+        for line in ("advertise 1", "# tells 2 10.1.0.0/16 1"):
+            replay.read(line)
+        replay.mark()
+        for line in ("put 1 2", "# sends update announce 10.1.0.0/16 path 1 next 10.0.0.1"):
+            replay.read(line)
+        self.assertEqual(replay.different, {("pipe", "1", "2")})
+        for line in ("take 2 1", "# takes 44 octets", "handle 2 1", "# hears update announce 10.1.0.0/16 path 1 next 10.0.0.1"):
+            replay.read(line)
+        self.assertTrue(replay.is_known)
+        self.assertEqual(replay.different, {("waiting", "1", "2"), ("heard", "1", "2", "10.1.0.0/16")})
+        self.assertFalse(replay.now["taken", "1", "2"])
+        for line in ("put 1 2", "# sends keepalive"):
+            replay.read(line)
+        self.assertFalse(replay.is_known)

@@ -1,0 +1,215 @@
+"""What `bgpnet trace` says of a run: where its rounds come to rest, and how many UPDATEs routers told on the way."""
+import collections
+import re
+
+from network import Prefix
+
+# The comment behind a line of rounds.
+ENDED = re.compile(r"# line (\d+): (\d+) events?, (rest behind|no rest by) round (\d+)")
+
+# The events of one session.
+OF_SESSIONS = ("start", "stop", "reset", "put", "take", "handle")
+
+# A network that rests does so in far fewer rounds than these: so many, or so many times those in which a router tells
+# each prefix to each peer, and so many times more as there are pieces in this many octets.
+LEAST_BOUND, WAVES, PIECE, MOST_ROUNDS = 1000, 20, 64, 1_000_000
+
+
+def pieces_of(network):
+    """How many pieces a common message passes a link in."""
+    return max(1, PIECE // network.cut)
+
+
+def rounds_of_a_wave(network):
+    """In so many rounds a router tells each prefix to each peer."""
+    return max(map(len, network.peers.values())) * max(1, len(network.origins))
+
+
+def rest_bound(network):
+    """The rounds within which a network that comes to rest is expected to."""
+    return min(MOST_ROUNDS, max(LEAST_BOUND, WAVES * rounds_of_a_wave(network)) * pieces_of(network))
+
+
+class Stage:
+    """What rounds came to: the number of those behind which the network rested, or None; the events of theirs; and how
+    many UPDATEs were told since the rounds before, by prefix."""
+
+    def __init__(self, events, rest, told):
+        self.events, self.rest, self.told = events, rest, told
+
+
+def stages_of(lines):
+    """The stages of a run, one behind each line of rounds, by the line's number."""
+    stages, told = {}, collections.Counter()
+    for line in lines:
+        if line.startswith("# tells "):
+            told[Prefix.read(line.split()[3])] += 1
+        elif line.startswith("# line "):
+            ended = ENDED.fullmatch(line)
+            if ended:
+                number, events, rest, behind = ended.groups()
+                stages[int(number)] = Stage(int(events), int(behind) if rest == "rest behind" else None, told)
+                told = collections.Counter()
+    return stages
+
+
+# ---- what comes again
+
+class Replay:
+    """What routers know, and what is on its way, as the comments of a run say it, from a moment at which nothing was on
+    its way; and in how many places it is another than at a moment that was marked.
+
+    By keys it has the path that a router keeps, that a router last told a peer, and that it last heard from one; for
+    each way of a link the UPDATEs that were told and not heard, the pieces in the pipe, and how many octets were taken
+    and not handled. A key that is not there is as it was at the first moment. What passes the links `closed` is not
+    looked at, but that something did (`is_touched`). Where another message than an UPDATE passes another link, or its
+    session changes, `is_known` is no longer true."""
+
+    def __init__(self, width, closed=frozenset()):
+        self.width, self.closed, self.is_known, self.is_touched = width, closed, True, False
+        self.now, self.then, self.different = {}, {}, set()
+        self.event, self.is_outside = [], False
+
+    def set(self, *key, to):
+        """Sets a key; `to` is false where nothing is there."""
+        self.now[key] = to = to or None
+        if self.then.get(key) == to:
+            self.different.discard(key)
+        else:
+            self.different.add(key)
+
+    def mark(self):
+        """Marks this moment."""
+        self.then, self.different = dict(self.now), set()
+
+    def read(self, line):
+        """Reads a line of the run: an event, or a comment that says what it did."""
+        if not line.startswith("#"):
+            self.event = line.split()
+            self.is_outside = self.event[0] in OF_SESSIONS and frozenset(map(int, self.event[1:])) in self.closed
+            self.is_touched |= self.is_outside
+            if self.event[0] == "put" and not self.is_outside:
+                self.add("pipe", *self.ends(1, 2), more=((),))
+            return
+        words = line.split()
+        if words[1] in ("line", "title:") or self.is_outside:
+            return
+        if words[1] == "session" and frozenset((int(self.event[1]), int(words[2]))) in self.closed:
+            self.is_touched = True
+            return
+        reader = {"tells": self.tells, "sends": self.sends, "takes": self.takes, "hears": self.hears,
+                  "keeps": self.keeps}.get(words[1])
+        if reader:
+            reader(words[2:])
+        else:
+            self.is_known = False
+
+    def ends(self, one, other):
+        return self.event[one], self.event[other]
+
+    def add(self, *key, more):
+        self.set(*key, to=(self.now.get(key) or ()) + more)
+
+    def tells(self, words):
+        peer, prefix, path = words
+        self.set("told", self.event[1], peer, prefix, to=path)
+        self.add("waiting", self.event[1], peer, more=((prefix, path),))
+
+    def sends(self, words):
+        way = "pipe", *self.ends(1, 2)
+        pieces = self.now[way]
+        self.set(*way, to=pieces[:-1] + (pieces[-1] + (" ".join(words),),))
+        if words[0] != "update" and words[1:] not in (["octets"], ["octet"]):
+            self.is_known = False
+
+    def takes(self, words):
+        way = self.ends(2, 1)
+        pieces = self.now.get(("pipe", *way))
+        if not pieces or words[1:] not in (["octets"], ["octet"]):
+            self.is_known = False
+            return
+        self.set("pipe", *way, to=pieces[1:])
+        self.set("taken", *way, to=(self.now.get(("taken", *way)) or 0) + int(words[0]))
+
+    def hears(self, words):
+        way = self.ends(2, 1)
+        waiting, taken = self.now.get(("waiting", *way)), self.now.get(("taken", *way)) or 0
+        said = update_of(words)
+        if not waiting or said != waiting[0] or taken < octets_of(said, self.width):
+            self.is_known = False
+            return
+        self.set("waiting", *way, to=waiting[1:])
+        self.set("taken", *way, to=taken - octets_of(said, self.width))
+        self.set("heard", *way, said[0], to=said[1])
+
+    def keeps(self, words):
+        self.set("kept", self.event[1], words[0], to=words[1].rstrip(","))
+
+
+def update_of(words):
+    """The prefix of an UPDATE, as `decode` prints one of this program, and its path, `none` where it is withdrawn."""
+    if words[:2] == ["update", "withdraw"] and len(words) == 3:
+        return words[2], "none"
+    if words[:2] == ["update", "announce"] and len(words) == 7:
+        return words[2], words[4]
+    return None
+
+
+def octets_of(said, width):
+    """The octets of an UPDATE with one prefix (RFC 4271 section 4.3): of the header and the two lengths, of the prefix,
+    and, where it is announced, of ORIGIN, AS_PATH and NEXT_HOP."""
+    prefix, path = said
+    octets = 19 + 4 + 1 + (int(prefix.split("/")[1]) + 7) // 8
+    return octets if path == "none" else octets + 4 + 5 + width * len(path.split("-")) + 7
+
+
+class Rest:
+    """That behind round `round` of an order came one in which nothing was done."""
+
+    def __init__(self, number):
+        self.round = number
+
+
+class Again:
+    """That the state behind round `first` of an order came again behind round `second`, with `events` between."""
+
+    def __init__(self, first, second, events):
+        self.first, self.second, self.events = first, second, events
+
+    def __str__(self):
+        return f"the state behind round {self.first} comes again behind round {self.second}, {self.events} events later"
+
+
+def outcome_of(lines, behind, ends, network, closed=frozenset()):
+    """What a run comes to: Rest, or Again, or nothing that is seen here. The orders of each round are the same, and
+    `ends` are the numbers of the lines that end them; the run is read from the end of the line numbered `behind` on, or
+    from its beginning where that is a line `rounds 1`, and nothing is on its way there. A state that comes again does so for ever, since the program does the same in it."""
+    replay, is_read, number_of_round, events = Replay(network.width, closed), False, 0, 0
+    last = marked = None
+    for line in lines:
+        number = int(line[7:line.index(":")]) if line.startswith("# line ") else None
+        if not is_read:
+            is_read = number == behind and (is_end(line) or line.endswith(": rounds 1"))
+            continue
+        replay.read(line)
+        events += line[0] != "#"
+        if number not in ends or not is_end(line):
+            continue
+        if events == last:
+            return Rest(number_of_round)
+        number_of_round, last = number_of_round + 1, events
+        if replay.is_touched:
+            replay.is_touched, marked = False, None
+        if not replay.is_known:
+            return None
+        if marked and not replay.different:
+            return Again(marked[0], number_of_round, events - marked[1])
+        if number_of_round & number_of_round - 1 == 0:
+            replay.mark()
+            marked = number_of_round, events
+    return None
+
+
+def is_end(line):
+    """Whether a comment of a line of the input ends what that line did."""
+    return line.endswith("nothing to do") or ENDED.fullmatch(line) is not None
