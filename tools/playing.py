@@ -137,15 +137,15 @@ def part_text(network, part, prefixes, routes, without):
 
 def judgements(program, network, routes, without=(), about="check", prefixes=None):
     """What `check` says of the routes of prefixes (without a list, of all) in the network without some links, as words
-    that begin with `about`, and whether they are stable. Where that network is not connected it is asked of the part of the origin;
-    elsewhere no path at all is stable, and so it is of a prefix that is not originated."""
+    that begin with `about`, and whether they are stable. Where that network is not connected it is asked of the part of
+    the origin; elsewhere no path at all is stable, and so it is of a prefix that is not originated."""
     said, parts = {}, {}
     for prefix in network.origins if prefixes is None else prefixes:
         origin = network.origins[prefix]
         part = reached(network, origin, without) if routes[origin, prefix] else frozenset()
-        stray = [router for router in network.routers if routes[router, prefix] and not part.issuperset(routes[router, prefix])]
+        stray = [path for path in (routes[router, prefix] for router in network.routers) if not part.issuperset(path)]
         if stray:
-            said[prefix] = f"{stray[0]} has {path_text(routes[stray[0], prefix])}, and nothing leads there", False
+            said[prefix] = f"{stray[0][0]} has {path_text(stray[0])}, and nothing leads there", False
         elif part:
             parts.setdefault(part, []).append(prefix)
         else:

@@ -11,8 +11,8 @@ ENDED = re.compile(r"# line (\d+): (\d+) events?, (rest behind|no rest by) round
 OF_SESSIONS = ("start", "stop", "reset", "put", "take", "handle")
 
 # A network that rests does so in far fewer rounds than these: so many, or so many times those in which a router tells
-# each prefix to each peer, and so many times more as there are pieces in this many octets.
-LEAST_BOUND, WAVES, PIECE, MOST_ROUNDS = 1000, 20, 64, 1_000_000
+# each prefix to each peer, and so many times more as there are pieces in this many octets, but no more than the last.
+LEAST_BOUND, WAVES, PIECE, MOST_ROUNDS = 1000, 80, 64, 50_000
 
 
 def pieces_of(network):
@@ -181,9 +181,11 @@ class Again:
 
 
 def outcome_of(lines, behind, ends, network, closed=frozenset()):
-    """What a run comes to: Rest, or Again, or nothing that is seen here. The orders of each round are the same, and
-    `ends` are the numbers of the lines that end them; the run is read from the end of the line numbered `behind` on, or
-    from its beginning where that is a line `rounds 1`, and nothing is on its way there. A state that comes again does so for ever, since the program does the same in it."""
+    """What a run comes to: Rest, or Again, or nothing that is seen here.
+
+    The orders of each round are the same, and `ends` are the numbers of the lines that end them. The run is read from
+    the end of the line numbered `behind` on, or from its beginning where that is a line `rounds 1`, and nothing is on
+    its way there. A state that comes again does so for ever, since the program does the same in it."""
     replay, is_read, number_of_round, events = Replay(network.width, closed), False, 0, 0
     last = marked = None
     for line in lines:

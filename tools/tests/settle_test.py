@@ -155,8 +155,8 @@ class Printed(unittest.TestCase):
         self.assertEqual((status, error, out[:len(self.DISAGREE)]), (5, "", self.DISAGREE))
         ends = out[len(self.DISAGREE):].splitlines()
         self.assertEqual(ends[0], "played 22 orders")
-        self.assertRegex(ends.pop(), r"^       of lock-step, which --write lock-step prints: the state behind round \d+ "
-                                     r"comes again behind round \d+, \d+ events later$")
+        self.assertRegex(ends.pop(), r"^       --write lock-step: the state behind round \d+ comes again behind round \d+, "
+                                     r"\d+ events later$")
         self.assertEqual(sum(int(line.split()[0]) for line in ends[1:]), 22)
         self.assertEqual({" ".join(line.split("(")[0].split()[1:]) for line in ends[1:]},
                          {f"settled {PREFIX}: 1 2-3-1 3-1", f"settled {PREFIX}: 1 2-1 3-2-1", "never rests"})
@@ -200,8 +200,8 @@ class Printed(unittest.TestCase):
             status, out, error = run("settle", "examples/disagree.txt", "--program", program)
             self.assertEqual((status, error), (1, "settle: the program does not confirm what is found here\n"))
             self.assertEqual(out.count("check: unstable 2 has 2-1 best 2-3-1"), 2)
-            program.write_text("#!/bin/sh\nif [ $1 = trace ]; then exec " + asked_program().path + " trace; fi; if [ $1 = play ]; "
-                               "then echo snapshot 1 settled; echo now; printf 'route %s 10.1.0.0/16 none\\n' 1 2 3; else echo stable; fi\n")
+            program.write_text("#!/bin/sh\ncase $1 in check) echo stable;; trace) exec " + asked_program().path + " trace;;\n"
+                               "play) echo snapshot 1 settled; echo now; printf 'route %s 10.1.0.0/16 none\\n' 1 2 3;; esac\n")
             status, out, error = run("settle", "examples/disagree.txt", "--program", program, "--play", 0)
             self.assertEqual((status, error), (1, "settle: the program does not confirm what is found here\n"))
             self.assertEqual(run("settle", "examples/disagree.txt", "--program", program)[0], 5)
@@ -284,7 +284,8 @@ class Answered(unittest.TestCase):
             links = {(draw.randrange(1, router), router) for router in range(2, 8)}
             links |= {tuple(sorted(draw.sample(range(1, 8), 2))) for _ in range(5)}
             network = Network(lines + [f"link {one} {other}" for one, other in links] + [f"origin 1 {PREFIX}"])
-            found, live = settle.Found(network, next(iter(network.origins)), 9), settle.live_paths(network, next(iter(network.origins)))
+            prefix = next(iter(network.origins))
+            found, live = settle.Found(network, prefix, 9), settle.live_paths(network, prefix)
             self.assertEqual((found.assignments, found.are_all), settle.stable_assignments(live, 1, 9))
             self.assertEqual(found.wheel, settle.Spokes(live).wheel())
 
@@ -293,7 +294,8 @@ class Answered(unittest.TestCase):
         text = self.wide(30) + f"rank 9 {PREFIX} 9-1\norigin 2 10.2.0.0/16\n"
         status, out, error = run("settle", "-", given=text.encode())
         self.assertEqual((status, error), (3, ""))
-        self.assertIn(f"prefix {PREFIX} of 1\n  more than 20000 paths can come: give routers rank lines; nothing is said of the ends\n", out)
+        self.assertIn(f"prefix {PREFIX} of 1\n  more than 20000 paths can come: give routers rank lines; nothing is said of "
+                      "the ends\n", out)
         self.assertIn("prefix 10.2.0.0/16 of 2\n  stable assignments: 1\n", out)
 
     def test_links_left_out(self):
@@ -307,14 +309,16 @@ class Answered(unittest.TestCase):
         status, out, error = run("settle", "-", "--without", "1-2", "--play", 1, given=text.encode())
         self.assertEqual((status, error), (0, ""))
         self.assertIn(f"warning: no path for {PREFIX} can ever come to: 2, 3, 4\n", out)
-        self.assertIn("    1 2: none 3: none 4: none   check without 1-2: stable\n      without a route: 2, 3, 4\n", out)
+        self.assertIn("    1 2: none 3: none 4: none   check without 1-2: stable\n"
+                      "      without a route: 2, 3, 4\n", out)
         self.assertIn(f"    3  settled {PREFIX}: 1 2: none 3: none 4: none   (rising, lock-step, 1)\n", out)
         self.assertEqual(run("settle", "-", "--without", "1-3", given=text.encode()),
                          (1, "", "settle: there is no link 1-3: a link is written as U-V\n"))
 
     def test_a_hundred_prefixes_over_small_pieces(self):
         """Rounds are as many as prefixes, peers and pieces ask for."""
-        text = "router 1 10.0.0.1\nrouter 2 10.0.0.2\nlink 1 2\n" + "".join(f"origin 1 10.{at}.0.0/16\n" for at in range(100))
+        text = "router 1 10.0.0.1\nrouter 2 10.0.0.2\nlink 1 2\n"
+        text += "".join(f"origin 1 10.{at}.0.0/16\n" for at in range(100))
         status, out, error = run("settle", "-", "--play", 10, given=text.encode())
         self.assertEqual((status, error), (0, ""))
         self.assertIn("played 12 orders\n   12  settled 10.0.0.0/16: 1 2-1; 10.1.0.0/16: 1 2-1; ", out)
@@ -339,7 +343,8 @@ class Answered(unittest.TestCase):
         self.assertEqual((said["status"], said["warnings"], len(said["prefixes"])), (5, [], 1))
         self.assertEqual([one["paths"] for one in said["prefixes"][0]["assignments"]],
                          [{"1": "1", "2": "2-3-1", "3": "3-1"}, {"1": "1", "2": "2-1", "3": "3-2-1"}])
-        self.assertEqual(said["prefixes"][0]["wheel"][0], {"router": 2, "would_rather": "2-3-1", "than": "2-1", "through": 3})
+        self.assertEqual(said["prefixes"][0]["wheel"][0],
+                         {"router": 2, "would_rather": "2-3-1", "than": "2-1", "through": 3})
         self.assertEqual(sum(len(end["orders"]) for end in said["orders"]), 6)
         again = next(end["again"] for end in said["orders"] if end["end"] == "never rests")
         self.assertEqual(again[0]["order"], "lock-step")
@@ -387,7 +392,8 @@ class NeverRests(unittest.TestCase):
         for line in ("put 1 2", "# sends update announce 10.1.0.0/16 path 1 next 10.0.0.1"):
             replay.read(line)
         self.assertEqual(replay.different, {("pipe", "1", "2")})
-        for line in ("take 2 1", "# takes 44 octets", "handle 2 1", "# hears update announce 10.1.0.0/16 path 1 next 10.0.0.1"):
+        for line in ("take 2 1", "# takes 44 octets", "handle 2 1",
+                     "# hears update announce 10.1.0.0/16 path 1 next 10.0.0.1"):
             replay.read(line)
         self.assertTrue(replay.is_known)
         self.assertEqual(replay.different, {("waiting", "1", "2"), ("heard", "1", "2", "10.1.0.0/16")})

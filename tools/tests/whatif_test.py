@@ -1,5 +1,5 @@
-"""Tests of `whatif`. What it says of each failure is compared with what a plain iteration comes to, without its code, and
-its rests with what `play` says of them."""
+"""Tests of `whatif`. What it says of each failure is compared with what a plain iteration comes to, without its
+code."""
 import json
 import pathlib
 import random
@@ -199,8 +199,8 @@ class Enumerated(unittest.TestCase):
                 self.assert_state(said["failures"][0]["back"], expected(text, behind, before, before, ()))
 
     def test_silent_links(self):
-        for seed, hold, cut in ((1, "", ""), (2, "hold 3\n", ""), (3, "hold 5\n", "cut 7\n"), (4, "hold 91\nrestart 5\n", "")):
-            text = hold + cut + with_filters(8, seed)
+        for seed, lines in ((1, ""), (2, "hold 3\n"), (3, "hold 5\ncut 7\n"), (4, "hold 91\nrestart 5\n")):
+            text = lines + with_filters(8, seed)
             before = resting(text)
             for link in [tuple(map(int, words)) for words in lines_of(text, "link")][::4]:
                 said = self.said(text, "--silent", text_of(link), "--back")
@@ -236,11 +236,13 @@ class Printed(unittest.TestCase):
         self.assertEqual((status, error), (3, ""))
         lines = out.splitlines()
         self.assertRegex(lines[0], r"^before: no rest by round 1000, \d+ UPDATEs by then; as it stood there$")
-        self.assertRegex(lines[1], r"^  it never rests: the state behind round \d+ comes again behind round \d+, \d+ events later$")
+        self.assertRegex(lines[1], r"^  it never rests: the state behind round \d+ comes again behind round \d+, \d+ events "
+                                   r"later$")
         self.assertEqual(lines[-1], "it does not rest before anything fails, so nothing is compared")
         status, out, error = run("whatif", "examples/whatif/leaning.txt", "--fail", "2-5", "--json")
         behind = json.loads(out)["failures"][0]["behind"]
-        self.assertEqual((status, behind["rests"], behind["round"], behind["prefixes"][0]["stable"]), (3, False, None, False))
+        self.assertEqual((status, behind["rests"], behind["round"]), (3, False, None))
+        self.assertFalse(behind["prefixes"][0]["stable"])
         self.assertLess(behind["again"][0], behind["again"][1])
 
     def test_each_link_and_its_sum(self):
@@ -266,7 +268,8 @@ class Printed(unittest.TestCase):
         self.assertEqual((status, error), (3, ""))
         self.assertIn(f"  {PREFIX} of 1: 4 routers change; 1 does not originate it\n    1: 1, now none\n", out)
         self.assertIn("    without a route: 2, 3, 4 (no links lead to 1)\n", out)
-        self.assertIn("  10.3.0.0/16 of 4: 1 router changes; check without router 1: stable\n    1: 1-2-3-4, now none\n", out)
+        self.assertIn("  10.3.0.0/16 of 4: 1 router changes; check without router 1: stable\n"
+                      "    1: 1-2-3-4, now none\n", out)
         text += "rank 1 10.2.0.0/15\n"
         status, out, error = run("whatif", "-", "--crash", 1, given=text.encode())
         self.assertEqual((status, error), (3, ""))
@@ -282,8 +285,8 @@ class Printed(unittest.TestCase):
             self.assertEqual(lines[-1], f"route 7 {PREFIX} 7-4-2-1")
             said = json.loads(run("whatif", network, *words, "--back", "--json")[1])
             stages = tracing.stages_of(asked_program().trace(out, "schedule"))
-            self.assertEqual([stage.rest for _, stage in sorted(stages.items())][-3:],
-                             [state["round"] for state in (said["before"], *map(said["failures"][0].get, ("behind", "back")))])
+            states = [said["before"], said["failures"][0]["behind"], said["failures"][0]["back"]]
+            self.assertEqual([stage.rest for _, stage in sorted(stages.items())][-3:], [state["round"] for state in states])
 
     def test_a_network_that_bears_schedules(self):
         """The state before is the same, whichever text the network stands in."""
@@ -295,8 +298,8 @@ class Printed(unittest.TestCase):
     def test_a_program_that_does_not_confirm(self):
         with tempfile.TemporaryDirectory() as folder:
             program = pathlib.Path(folder) / "program"
-            program.write_text("#!/bin/sh\nif [ $1 = check ]; then if grep -q assignment; then echo unstable 2 has 2-1 best 2-3-1; else "
-                               f"echo stable; fi; else exec {asked_program().path} $1; fi\n")
+            program.write_text("#!/bin/sh\nif [ $1 != check ]; then exec " + asked_program().path + " $1; fi\n"
+                               "if grep -q assignment; then echo unstable 2 has 2-1 best 2-3-1; else echo stable; fi\n")
             program.chmod(0o755)
             status, out, error = run("whatif", "examples/shortest.txt", "--fail", "1-2", "--program", program)
             self.assertEqual((status, error), (1, "whatif: the program does not call stable where it rests\n"))
@@ -310,6 +313,9 @@ class Printed(unittest.TestCase):
                            (["--crash", "9"], "there is no router 9"),
                            (["--fail", "1-2", "--scheduled"], f"{path}: no schedule")):
             self.assertEqual(run("whatif", path, *words), (1, "", f"whatif: {why}\n"))
+        down = "examples/play/link-fails.txt"
+        self.assertEqual(run("whatif", down, "--fail", "1-3", "--scheduled"),
+                         (1, "", f"whatif: {down}: behind its schedule not every session is up: 1-2\n"))
         for words in ([], [path], [path, "--fail"], [path, "--fail", "1-2", "--crash", "1"], [path, "--crash", "0"],
                       [path, "--fail-each-link", "--write"], [path, "--fail", "1-2", "--write", "--json"]):
             status, out, error = run("whatif", *words)
@@ -317,6 +323,7 @@ class Printed(unittest.TestCase):
         text = "hold 0\n" + (TOP / path).read_text()
         self.assertEqual(run("whatif", "-", "--silent", "1-2", given=text.encode()),
                          (1, "", "whatif: hold 0: no timer runs, so nobody finds out that a link is silent\n"))
-        self.assertEqual(run("whatif", "-", "--crash", 1, given=b"router 1 10.0.0.1\n"), (1, "", "whatif: -: no origin, so no routes\n"))
+        self.assertEqual(run("whatif", "-", "--crash", 1, given=b"router 1 10.0.0.1\n"),
+                         (1, "", "whatif: -: no origin, so no routes\n"))
         self.assertEqual(run("whatif", "-", "--crash", 1, given=b"router 1 1\n"),
                          (1, "", "whatif: -:1: N2: a number, address or path that can't be read\n"))
