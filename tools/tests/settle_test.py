@@ -330,11 +330,18 @@ class Answered(unittest.TestCase):
         self.assertIn("    2  never rests   (rising, lock-step)\n", out)
 
     def test_one_end_and_a_wheel(self):
-        text = network_of({2: "2-3-1 2-1", 3: "3-4-1 3-1", 4: "4-2-1 4-5-1 4-1", 5: "5-1"})
-        statuses = {run("settle", f"examples/{name}.txt")[0] for name in ("shortest", "disagree", "ring")}
-        self.assertEqual(statuses, {0, 5, 6})
-        found = settle.Found(Network(text.splitlines()), next(iter(Network(text.splitlines()).origins)), 100)
-        self.assertEqual(found.verdict[1], 6 if not found.assignments else 4)
+        status, out, error = run("settle", "examples/whatif/leaning.txt", "--play", 1)
+        self.assertEqual((status, error), (4, ""))
+        self.assertIn("  dispute wheel of 3:\n", out)
+        self.assertIn("  one end is possible; nothing here says that every order comes to it\n", out)
+        self.assertIn(f"    3  settled {PREFIX}: 1 2-5-1 3-4-1 4-1 5-1   (rising, lock-step, 1)\n", out)
+
+    def test_too_few_rounds_are_no_verdict(self):
+        network = read_network(asked_program(), (TOP / "examples/disagree.txt").read_text(), "disagree")[0]
+        for word in ("rising", "lock-step"):
+            order = settle.Order(network, word)
+            order.most = 2
+            self.assertEqual(settle.end_of(asked_program(), order, True), ("no verdict in 2 rounds", (), None))
 
     def test_json(self):
         status, out, error = run("settle", "examples/disagree.txt", "--play", 4, "--json")

@@ -280,7 +280,7 @@ class Printed(unittest.TestCase):
         network = TOP / "examples/whatif/backup.txt"
         for words in (["--fail", "1-2"], ["--silent", "1-2"], ["--crash", 2]):
             status, out, error = run("whatif", network, *words, "--back", "--write")
-            self.assertEqual((status, error, out.count("# title: ")), (0, "", 3))
+            self.assertEqual((status, error, out.count("# title: ")), (0, "", 4))
             lines = asked_program().answer(["play"], out, "schedule")
             self.assertEqual(lines[-1], f"route 7 {PREFIX} 7-4-2-1")
             said = json.loads(run("whatif", network, *words, "--back", "--json")[1])
