@@ -378,13 +378,15 @@ class NeverRests(unittest.TestCase):
         return rounds[:number]
 
     def test_the_same_events_come_again(self):
-        for name, words in (("ring", ("rising", "lock-step", 3)), ("disagree", ("lock-step",))):
-            network = read_network(asked_program(), (TOP / f"examples/{name}.txt").read_text(), name)[0]
+        for name, lines, words in (("ring", "", ("rising", "lock-step", 3)), ("disagree", "", ("lock-step",)),
+                                   ("ring", "asn 4\n", ("rising",)), ("ring", "cut 20\n", ("rising",))):
+            text = lines + (TOP / f"examples/{name}.txt").read_text()
+            network = read_network(asked_program(), text, name)[0]
             for word in words:
                 again = settle.end_of(asked_program(), settle.Order(network, word), True)[2]
                 span = again.second - again.first
                 rounds = self.events(network, word, again.second + 3 * span)
-                with self.subTest(name=name, word=word):
+                with self.subTest(name=name, lines=lines, word=word):
                     between = [line for events in rounds[again.first:again.second] for line in events]
                     self.assertEqual(len([line for line in between if line[0] != "#"]), again.events)
                     for at in range(again.first, again.first + 3 * span):
