@@ -35,6 +35,11 @@ def wide_message(asn):
     return message(2, struct.pack(">HH", 0, len(attributes)) + attributes + bytes([16, 10, 7]))
 
 
+def refresh(family=1, subsequent=1, subtype=0, more=b""):
+    """A ROUTE-REFRESH (RFC 2918, RFC 7313)."""
+    return message(5, struct.pack(">HBB", family, subtype, subsequent) + more)
+
+
 def speech(asn, updates, capabilities=b""):
     """What one end says: an OPEN, a KEEPALIVE, and UPDATEs."""
     return open_message(asn, capabilities) + message(4) + b"".join(update_message(asn, n % 256) for n in range(updates))
@@ -306,6 +311,76 @@ def example():
     is sent twice; all stands behind a VLAN tag."""
     segments = conversation(speech(1, 2), speech(2, 0), size=37)
     return pcap(1, [FRAMES["a VLAN tag"][1](packet(said)) for said in [*segments[:9], *segments[8:]]])
+
+
+class Refreshes(unittest.TestCase):
+    """ROUTE-REFRESH, which RFC 4271 does not have."""
+
+    def decoded(self, said, *words):
+        """The status, what is printed of one stream, and the lines of the standard error."""
+        status, out, error = run("streams", "-", "--decode", *words, given=ethernet(talk(CLIENT, SERVER, said, 7, 60)))
+        return status, out.splitlines(), error.splitlines()
+
+    def test_they_stand_in_their_places(self):
+        said = refresh() + open_message(1) + refresh(2, 1, 1) + message(4) + update_message(1, 7)
+        said += refresh(2, 1, 2) + refresh(25, 70) + refresh(1, 128, 7) + update_message(1, 8) + refresh(99, 98)
+        status, out, error = self.decoded(said)
+        self.assertEqual((status, error), (0, []))
+        self.assertEqual(out[0], f"1  10.0.0.1:40000 > 10.0.0.2:179  {len(said)} octets  "
+                                 "route-refresh open route-refresh keepalive update .., 6 route-refresh, FIN")
+        self.assertEqual(out[1:], [f"  {line}" for line in (
+            "route-refresh ipv4 unicast", "open as 1 hold 90 id 10.0.0.1", "route-refresh ipv6 unicast BoRR", "keepalive",
+            "update announce 10.7.0.0/16 path 1 next 10.0.0.1", "route-refresh ipv6 unicast EoRR",
+            "route-refresh l2vpn evpn", "route-refresh ipv4 mpls-vpn subtype 7",
+            "update announce 10.8.0.0/16 path 1 next 10.0.0.1", "route-refresh 99 98")])
+
+    def test_without_an_open_and_alone(self):
+        said = message(4) + refresh() + message(4)
+        self.assertEqual(self.decoded(said)[1][1:], ["  keepalive", "  route-refresh ipv4 unicast", "  keepalive"])
+        self.assertEqual(self.decoded(refresh())[0::2], (0, []))
+        self.assertEqual(self.decoded(refresh())[1][1:], ["  route-refresh ipv4 unicast"])
+
+    def test_of_another_length_they_are_a_fault(self):
+        for wrong in (message(5), message(5, b"\0\1\0"), refresh(more=b"\0")):
+            status, out, error = self.decoded(refresh() + wrong + message(4))
+            self.assertEqual((status, out[1:3]), (1, ["  route-refresh ipv4 unicast", "  fault 1 3"]))
+            self.assertEqual(error, ["streams: stream 1: the program finds a fault; 19 octets are left behind it, "
+                                     "1 whole message in front of them"])
+
+    def test_what_is_left_behind_a_fault(self):
+        for left, messages in ((b"", None), (message(4) * 2 + refresh() + message(4)[:5], 3), (b"\0" * 7, 0)):
+            status, out, error = self.decoded(open_message(1) + refresh() + message(9) + left)
+            self.assertEqual((status, out[2:4]), (1, ["  route-refresh ipv4 unicast", "  fault 1 3"]))
+            more = f"; {len(left)} octets are left behind it, {messages} whole messages in front of them" if left else ""
+            self.assertEqual(error, [f"streams: stream 1: the program finds a fault{more}"])
+        status, out, error = self.decoded(message(4) + refresh() + b"\0" * 30 + message(4))
+        self.assertEqual((status, out[1:4]), (1, ["  keepalive", "  route-refresh ipv4 unicast", "  fault 1 1"]))
+        self.assertIn("; 30 octets are left behind it, 0 whole messages", error[0])
+
+    def test_a_stream_that_ends_in_the_middle(self):
+        status, out, error = self.decoded(message(4) + refresh() + refresh()[:20])
+        self.assertEqual((status, out[1:]), (1, ["  keepalive", "  route-refresh ipv4 unicast", "  truncated 20"]))
+        self.assertEqual(error, ["streams: stream 1: it ends in the middle of a message"])
+
+    def test_many_parts(self):
+        """The order stays over the ends of the parts in which the program is asked."""
+        said = (message(4) * 3000 + refresh(2) + update_message(1, 7)) * 40
+        status, out, error = self.decoded(said)
+        self.assertEqual((status, error), (0, []))
+        self.assertEqual([line.split()[0] for line in out[1:]], (["keepalive"] * 3000 + ["route-refresh", "update"]) * 40)
+
+    def test_any_mixture(self):
+        for seed in range(40):
+            draw = random.Random(seed)
+            kinds = draw.choices(["keepalive", "route-refresh", "update"], k=draw.randrange(1, 12))
+            octets = {"keepalive": message(4), "route-refresh": refresh(), "update": update_message(1, 7)}
+            data = b"".join(octets[kind] for kind in kinds)
+            size = draw.choice([40, 100, 1 << 21])
+            with self.subTest(seed=seed):
+                parts = list(streams.parts_of(data, size))
+                self.assertEqual(b"".join(streams.without_refreshes(data, part) for part in parts),
+                                 b"".join(octets[kind] for kind in kinds if kind != "route-refresh"))
+                self.assertEqual(b"".join(data[one.begin:one.end] for part in parts for one in part), data)
 
 
 class Printed(unittest.TestCase):

@@ -1,0 +1,70 @@
+"""What the tools read of BGP messages: where each ends, what it is called, and what an OPEN says its speaker can do."""
+import struct
+
+MARKER = b"\xff" * 16
+HEAD = 19
+OPEN, UPDATE, ROUTE_REFRESH = 1, 2, 5
+KINDS = {OPEN: "open", UPDATE: "update", 3: "notification", 4: "keepalive", ROUTE_REFRESH: "route-refresh"}
+# The head of a ROUTE-REFRESH as RFC 2918 has it; a longer one carries filters (RFC 5291).
+REFRESH_HEAD = MARKER + bytes([0, HEAD + 4, ROUTE_REFRESH])
+# Address families and subsequent ones, by the numbers of IANA.
+FAMILIES = {1: "ipv4", 2: "ipv6", 25: "l2vpn", 16388: "bgp-ls"}
+SUBSEQUENT = {1: "unicast", 2: "multicast", 4: "mpls-label", 65: "vpls", 70: "evpn", 71: "bgp-ls", 128: "mpls-vpn",
+              132: "rt-constraint", 133: "flowspec", 134: "flowspec-vpn"}
+# What a ROUTE-REFRESH marks by its subtype (RFC 7313); 0 is the request itself.
+MARKS = {0: "", 1: " BoRR", 2: " EoRR"}
+# The capability of AS numbers of four octets (RFC 6793).
+FOUR_OCTET_ASN = 65
+
+
+class Message:
+    """A whole message of a stream: its type, and the places where it begins and ends."""
+    __slots__ = ("kind", "begin", "end")
+
+    def __init__(self, kind, begin, end):
+        self.kind, self.begin, self.end = kind, begin, end
+
+    def body(self, octets):
+        return octets[self.begin + HEAD:self.end]
+
+    def is_refresh(self):
+        """Whether it is a ROUTE-REFRESH with the length of RFC 2918."""
+        return self.kind == ROUTE_REFRESH and self.end - self.begin == HEAD + 4
+
+
+def messages_of(octets, begin=0):
+    """The whole messages at the front, from a place on."""
+    while octets[begin:begin + 16] == MARKER and begin + HEAD <= len(octets):
+        size, kind = struct.unpack_from(">HB", octets, begin + 16)
+        if size < HEAD or begin + size > len(octets):
+            return
+        yield Message(kind, begin, begin + size)
+        begin += size
+
+
+def family_text(family, subsequent):
+    return f"{FAMILIES.get(family, family)} {SUBSEQUENT.get(subsequent, subsequent)}"
+
+
+def refresh_text(body):
+    """A ROUTE-REFRESH in words: what it asks for, and what it marks."""
+    family, subtype, subsequent = struct.unpack(">HBB", body)
+    return f"route-refresh {family_text(family, subsequent)}{MARKS.get(subtype, f' subtype {subtype}')}"
+
+
+def capabilities_of(octets):
+    """The values of the capabilities of the OPEN in front, by code, none where there is no OPEN (RFC 5492). That of AS
+    numbers of four octets counts where it has four (RFC 6793)."""
+    first = next(messages_of(octets), None)
+    body = first.body(octets) if first and first.kind == OPEN else b""
+    found, at = {}, 10
+    while at + 2 <= len(body):
+        parameter, size = body[at], body[at + 1]
+        values, at = body[at + 2:at + 2 + size], at + 2 + size
+        inner = 0
+        while parameter == 2 and inner + 2 <= len(values):
+            code, length = values[inner], values[inner + 1]
+            if code != FOUR_OCTET_ASN or length == 4:
+                found.setdefault(code, []).append(bytes(values[inner + 2:inner + 2 + length]))
+            inner += 2 + length
+    return found
