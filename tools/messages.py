@@ -13,8 +13,8 @@ SUBSEQUENT = {1: "unicast", 2: "multicast", 4: "mpls-label", 65: "vpls", 70: "ev
               132: "rt-constraint", 133: "flowspec", 134: "flowspec-vpn"}
 # What a ROUTE-REFRESH marks by its subtype (RFC 7313); 0 is the request itself.
 MARKS = {0: "", 1: " BoRR", 2: " EoRR"}
-# The capability of AS numbers of four octets (RFC 6793).
-FOUR_OCTET_ASN = 65
+# The capabilities of AS numbers of four octets (RFC 6793) and of path identifiers (RFC 7911).
+FOUR_OCTET_ASN, PATH_IDENTIFIERS = 65, 69
 
 
 class Message:
@@ -53,11 +53,12 @@ def refresh_text(body):
 
 
 def capabilities_of(octets):
-    """The values of the capabilities of the OPEN in front, by code, none where there is no OPEN (RFC 5492). That of AS
+    """The values of the capabilities of the OPEN in front, by code, None where there is no OPEN (RFC 5492). That of AS
     numbers of four octets counts where it has four (RFC 6793)."""
     first = next(messages_of(octets), None)
-    body = first.body(octets) if first and first.kind == OPEN else b""
-    found, at = {}, 10
+    if not first or first.kind != OPEN:
+        return None
+    body, found, at = first.body(octets), {}, 10
     while at + 2 <= len(body):
         parameter, size = body[at], body[at + 1]
         values, at = body[at + 2:at + 2 + size], at + 2 + size
@@ -68,3 +69,13 @@ def capabilities_of(octets):
                 found.setdefault(code, []).append(bytes(values[inner + 2:inner + 2 + length]))
             inner += 2 + length
     return found
+
+
+def path_identifiers(octets, answered):
+    """The families whose prefixes one end sends with path identifiers, since its OPEN says that it sends these, and the
+    other's that it receives them (RFC 7911 section 4)."""
+    sends, receives = ({tuple(value[at:at + 3]): value[at + 3]
+                        for value in (capabilities_of(end) or {}).get(PATH_IDENTIFIERS, ())
+                        for at in range(0, len(value) - 3, 4)} for end in (octets, answered))
+    return [family_text(family[0] << 8 | family[1], family[2]) for family, says in sends.items()
+            if says in (2, 3) and receives.get(family) in (1, 3)]

@@ -29,10 +29,15 @@ def update_message(asn, prefix):
     return message(2, struct.pack(">HH", 0, len(attributes)) + attributes + bytes([16, 10, prefix]))
 
 
+def path_message(path):
+    """An UPDATE whose AS_PATH has these octets."""
+    attributes = bytes([0x40, 1, 1, 0, 0x40, 2, len(path)]) + path + bytes([0x40, 3, 4, 10, 0, 0, 1])
+    return message(2, struct.pack(">HH", 0, len(attributes)) + attributes + bytes([16, 10, 7]))
+
+
 def wide_message(asn):
     """An UPDATE of a speaker of four-octet numbers."""
-    attributes = bytes([0x40, 1, 1, 0, 0x40, 2, 6, 2, 1]) + struct.pack(">I", asn) + bytes([0x40, 3, 4, 10, 0, 0, 1])
-    return message(2, struct.pack(">HH", 0, len(attributes)) + attributes + bytes([16, 10, 7]))
+    return path_message(struct.pack(">BBI", 2, 1, asn))
 
 
 def refresh(family=1, subsequent=1, subtype=0, more=b""):
@@ -175,7 +180,7 @@ class Files(unittest.TestCase):
             for octets, _, _ in found:
                 self.assertTrue(said.startswith(octets) or answered.startswith(octets))
             self.assertTrue(not losses or "in the middle of packet" in losses[0])
-        self.assertEqual(run("streams", "-", given=data[:20])[0::2], (1, "streams: the capture ends in its head\n"))
+        self.assertEqual(run("streams", "-", given=data[:20])[0::2], (1, "streams: -: the capture ends in its head\n"))
         for size in range(28, 400):
             found_in(pcapng(101, [packet(said) for said in conversation(said, answered)])[:size])
 
@@ -210,8 +215,8 @@ class Files(unittest.TestCase):
                          (whole(said, answered), []))
 
     def test_no_capture(self):
-        self.assertEqual(run("streams", "README.md"), (1, "", "streams: neither pcap nor pcapng\n"))
-        self.assertEqual(run("streams", "-", given=pcap(1, [])), (1, "", "streams: no octets from or to port 179\n"))
+        self.assertEqual(run("streams", "README.md"), (1, "", "streams: README.md: neither pcap nor pcapng\n"))
+        self.assertEqual(run("streams", "-", given=pcap(1, [])), (1, "", "streams: -: no octets from or to port 179\n"))
 
 
 class Segments(unittest.TestCase):
@@ -322,14 +327,14 @@ class Refreshes(unittest.TestCase):
         return status, out.splitlines(), error.splitlines()
 
     def test_they_stand_in_their_places(self):
-        said = refresh() + open_message(1) + refresh(2, 1, 1) + message(4) + update_message(1, 7)
+        said = open_message(1) + refresh() + refresh(2, 1, 1) + message(4) + update_message(1, 7)
         said += refresh(2, 1, 2) + refresh(25, 70) + refresh(1, 128, 7) + update_message(1, 8) + refresh(99, 98)
         status, out, error = self.decoded(said)
         self.assertEqual((status, error), (0, []))
         self.assertEqual(out[0], f"1  10.0.0.1:40000 > 10.0.0.2:179  {len(said)} octets  "
-                                 "route-refresh open route-refresh keepalive update .., 6 route-refresh, FIN")
+                                 "open route-refresh route-refresh keepalive update .., 6 route-refresh, FIN")
         self.assertEqual(out[1:], [f"  {line}" for line in (
-            "route-refresh ipv4 unicast", "open as 1 hold 90 id 10.0.0.1", "route-refresh ipv6 unicast BoRR", "keepalive",
+            "open as 1 hold 90 id 10.0.0.1", "route-refresh ipv4 unicast", "route-refresh ipv6 unicast BoRR", "keepalive",
             "update announce 10.7.0.0/16 path 1 next 10.0.0.1", "route-refresh ipv6 unicast EoRR",
             "route-refresh l2vpn evpn", "route-refresh ipv4 mpls-vpn subtype 7",
             "update announce 10.8.0.0/16 path 1 next 10.0.0.1", "route-refresh 99 98")])
@@ -344,7 +349,7 @@ class Refreshes(unittest.TestCase):
         for wrong in (message(5), message(5, b"\0\1\0"), refresh(more=b"\0")):
             status, out, error = self.decoded(refresh() + wrong + message(4))
             self.assertEqual((status, out[1:3]), (1, ["  route-refresh ipv4 unicast", "  fault 1 3"]))
-            self.assertEqual(error, ["streams: stream 1: the program finds a fault; 19 octets are left behind it, "
+            self.assertEqual(error, ["streams: -: stream 1: the program finds a fault; 19 octets are left behind it, "
                                      "1 whole message in front of them"])
 
     def test_what_is_left_behind_a_fault(self):
@@ -352,7 +357,7 @@ class Refreshes(unittest.TestCase):
             status, out, error = self.decoded(open_message(1) + refresh() + message(9) + left)
             self.assertEqual((status, out[2:4]), (1, ["  route-refresh ipv4 unicast", "  fault 1 3"]))
             more = f"; {len(left)} octets are left behind it, {messages} whole messages in front of them" if left else ""
-            self.assertEqual(error, [f"streams: stream 1: the program finds a fault{more}"])
+            self.assertEqual(error, [f"streams: -: stream 1: the program finds a fault{more}"])
         status, out, error = self.decoded(message(4) + refresh() + b"\0" * 30 + message(4))
         self.assertEqual((status, out[1:4]), (1, ["  keepalive", "  route-refresh ipv4 unicast", "  fault 1 1"]))
         self.assertIn("; 30 octets are left behind it, 0 whole messages", error[0])
@@ -360,12 +365,12 @@ class Refreshes(unittest.TestCase):
     def test_a_stream_that_ends_in_the_middle(self):
         status, out, error = self.decoded(message(4) + refresh() + refresh()[:20])
         self.assertEqual((status, out[1:]), (1, ["  keepalive", "  route-refresh ipv4 unicast", "  truncated 20"]))
-        self.assertEqual(error, ["streams: stream 1: it ends in the middle of a message"])
+        self.assertEqual(error, ["streams: -: stream 1: it ends in the middle of a message"])
 
     def test_many_parts(self):
         """The order stays over the ends of the parts in which the program is asked."""
         said = (message(4) * 3000 + refresh(2) + update_message(1, 7)) * 40
-        status, out, error = self.decoded(said)
+        status, out, error = self.decoded(said, "--asn", "2")
         self.assertEqual((status, error), (0, []))
         self.assertEqual([line.split()[0] for line in out[1:]], (["keepalive"] * 3000 + ["route-refresh", "update"]) * 40)
 
@@ -381,6 +386,81 @@ class Refreshes(unittest.TestCase):
                 self.assertEqual(b"".join(streams.without_refreshes(data, part) for part in parts),
                                  b"".join(octets[kind] for kind in kinds if kind != "route-refresh"))
                 self.assertEqual(b"".join(data[one.begin:one.end] for part in parts for one in part), data)
+
+
+class Late(unittest.TestCase):
+    """Streams that begin behind their OPENs, and what else says the width of AS numbers."""
+
+    EITHER = path_message(bytes([2, 2, 2, 1, 2, 1, 2, 1, 2, 1]))  # 513-513-513 by two octets, 33620481-33620481 by four
+
+    def decoded(self, said, answered, *words):
+        """The status, the lines behind both streams, and those of the standard error."""
+        data = ethernet([one for one in conversation(said, answered) if not one.flags & SYN])
+        status, out, error = run("streams", "--decode", *words, "-", given=data)
+        return status, [line for line in out.splitlines() if " > " not in line], error.splitlines()
+
+    def test_the_only_width_without_a_fault(self):
+        for update, width, path in ((wide_message(70000), 4, "70000"), (update_message(5, 7), 2, "5")):
+            for said, answered in ((update, message(4)), (message(4), update), (self.EITHER, update)):
+                status, out, error = self.decoded(message(4) + said, answered + refresh())
+                self.assertEqual((status, error, out[-1]), (0, [], f"1 and 2: width {width}, by its paths"))
+                self.assertIn(f"  update announce 10.7.0.0/16 path {path} next 10.0.0.1", out)
+
+    def test_a_stream_that_is_cut_off_has_no_fault(self):
+        status, out, error = self.decoded(wide_message(5) + message(4)[:7], message(4))
+        self.assertEqual((status, out[-1]), (1, "1 and 2: width 4, by its paths"))
+        self.assertEqual(error, ["streams: -: stream 1: it ends in the middle of a message"])
+
+    def test_no_path_says_none_and_needs_none(self):
+        for said in (message(4), path_message(b""), message(9)):
+            status, out, error = self.decoded(said, message(4))
+            self.assertEqual((status, len(error)), (int(said == message(9)),) * 2)
+            self.assertNotIn("width", "".join(out + error))
+
+    def test_else_it_is_asked_for(self):
+        for said, answered in ((self.EITHER, message(4)), (wide_message(1) + message(9), message(4)),
+                               (wide_message(70000), update_message(1, 7))):
+            status, out, error = self.decoded(said, answered)
+            self.assertEqual((status, out), (1, []))
+            self.assertEqual(error, [f"streams: -: stream {number}: the width of its AS numbers is not known: "
+                                     "say --asn 2 or --asn 4" for number in (1, 2)])
+        for width, path in ((2, "513-513-513"), (4, "33620481-33620481")):
+            status, out, error = self.decoded(self.EITHER, message(4), "--asn", width)
+            self.assertEqual((status, out, error), (0, [f"  update announce 10.7.0.0/16 path {path} next 10.0.0.1",
+                                                        "  keepalive"], []))
+
+    def test_one_open_that_has_not_the_capability_says_two(self):
+        four = Printed.FOUR
+        for said, answered, path in ((open_message(1) + self.EITHER, message(4), "513-513-513"),
+                                     (open_message(1, four) + self.EITHER, open_message(2, four), "33620481-33620481")):
+            for words in ((), ("--asn", 2), ("--asn", 4)):
+                self.assertIn(f"  update announce 10.7.0.0/16 path {path} next 10.0.0.1",
+                              self.decoded(said, answered, *words)[1])
+        self.assertEqual(self.decoded(open_message(1, four) + self.EITHER, message(4))[0], 1)
+
+    def test_options_stand_anywhere(self):
+        data = ethernet(conversation(self.EITHER, message(4)))
+        wanted = run("streams", "-", "--decode", "--asn", 4, "--port", 179, given=data)
+        self.assertEqual(wanted[0], 0)
+        for words in (("--decode", "--asn", "4", "-"), ("--asn", "4", "-", "--decode"), ("--asn=4", "--decode", "-")):
+            self.assertEqual(run("streams", *words, given=data), wanted)
+        for words in (("-", "--port", 179, 1), ("--port", 179, "-", 1), ("-", 1, "--port", 179)):
+            self.assertEqual(run("streams", *words, given=data), (0, streams.hex_lines(self.EITHER), ""))
+
+    def test_path_identifiers_where_one_end_sends_and_the_other_receives(self):
+        def identifiers(*families):
+            return bytes([69, 4 * len(families)]) + bytes(octet for family in families for octet in family)
+        receives, sends, both = (0, 1, 1, 1), (0, 1, 1, 2), (0, 1, 1, 3)
+        six, line = (0, 2, 1, 2), "path identifiers of ipv4 unicast pass (capability 69, RFC 7911)"
+        for one, other, numbers in ((receives, receives, []), (sends, sends, []), (sends, receives, [1]), (six, receives, []),
+                                    (receives, both, [2]), (both, both, [1, 2]), (sends, None, []), (six, both, [])):
+            data = ethernet(conversation(open_message(1, identifiers(one)),
+                                         open_message(2, identifiers(other) if other else b"")))
+            out = run("streams", "-", given=data)[1]
+            self.assertEqual([number for number in (1, 2) if f"{number}: {line}" in out], numbers)
+            self.assertEqual(out.count("identifiers"), len(numbers))
+        data = ethernet(conversation(open_message(1, identifiers(sends, six)), open_message(2, identifiers((0, 2, 1, 1), both))))
+        self.assertIn("1: path identifiers of ipv4 unicast, ipv6 unicast pass", run("streams", "-", given=data)[1])
 
 
 class Printed(unittest.TestCase):
@@ -415,7 +495,7 @@ class Printed(unittest.TestCase):
             self.assertEqual((status, error, bytes.fromhex(out)), (0, "", octets))
             status, lines = asked_program().ask(["decode"], out)
             self.assertEqual((status, lines[1], lines[-1].split()[0]), (0, "keepalive", "update"))
-        self.assertEqual(run("streams", "-", 3, given=data), (1, "", "streams: there are 2 streams\n"))
+        self.assertEqual(run("streams", "-", 3, given=data), (1, "", "streams: -: there are 2 streams\n"))
 
     def test_decode_of_four_octet_numbers(self):
         """Both OPENs decide the width of both streams."""
@@ -428,7 +508,7 @@ class Printed(unittest.TestCase):
     def test_decode(self):
         wrong = speech(2, 0) + message(9)
         status, out, error = run("streams", "-", "--decode", given=ethernet(conversation(speech(1, 1), wrong)))
-        self.assertEqual((status, error), (1, "streams: stream 2: the program finds a fault\n"))
+        self.assertEqual((status, error), (1, "streams: -: stream 2: the program finds a fault\n"))
         self.assertEqual(out.splitlines()[1:4], ["  open as 1 hold 90 id 10.0.0.1", "  keepalive",
                                                  "  update announce 10.0.0.0/16 path 1 next 10.0.0.1"])
         self.assertIn("\n  fault 1 3\n", out)
@@ -438,7 +518,7 @@ class Printed(unittest.TestCase):
         said = open_message(1) + (message(4) * 40 + update_message(1, 7)) * 12000
         data = ethernet(talk(CLIENT, SERVER, said + message(9), 7, 60000))
         status, out, error = run("streams", "-", "--decode", given=data)
-        self.assertEqual((status, error), (1, "streams: stream 1: the program finds a fault\n"))
+        self.assertEqual((status, error), (1, "streams: -: stream 1: the program finds a fault\n"))
         self.assertEqual((out.count("  keepalive\n"), out.count("  update announce")), (480000, 12000))
         self.assertTrue(out.endswith("\n  fault 1 3\n  " + "ff" * 16 + "0016" + "03010309\n"))
 
@@ -446,8 +526,8 @@ class Printed(unittest.TestCase):
         segments = list(talk(CLIENT, SERVER, speech(1, 2), 7, 30))
         status, out, error = run("streams", "-", 1, given=ethernet(segments[:2] + segments[3:]))
         self.assertEqual((status, bytes.fromhex(out)), (1, speech(1, 2)[:30]))
-        self.assertEqual(error, "streams: stream 1: 30 octets are missing behind octet 30\n"
-                                f"streams: stream 1: it ends at its first hole, {len(speech(1, 2)) - 60} octets stand behind it\n")
+        self.assertEqual(error, "streams: -: stream 1: 30 octets are missing behind octet 30\n"
+                                f"streams: -: stream 1: it ends at its first hole, {len(speech(1, 2)) - 60} octets stand behind it\n")
 
     def test_wrong_words(self):
         for words in ([], ["x", "0"], ["x", "1", "--decode"], ["x", "--port", "65536"], ["x", "y", "z"], ["--pro", "x"]):
