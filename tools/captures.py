@@ -1,9 +1,11 @@
 """What the tools read of captures: the frames of a file, the TCP segments in them, and the streams that these make."""
+import heapq
 import struct
 
 from program import Refusal
 
 FIN, SYN, RST, ACK = 1, 2, 4, 16
+SECOND = 10**9
 # A SYN that comes late is this many octets at most before what was seen.
 NEAR = 1 << 20
 
@@ -11,28 +13,30 @@ NEAR = 1 << 20
 # ---- frames of a capture file
 
 def frames(data, losses):
-    """The link type and the octets of each frame. What is wrong with the file is added to `losses`."""
+    """The link type, the octets and the time of each frame. What is wrong with the file is added to `losses`. Times are
+    nanoseconds from the beginning of 1970, UTC, and None where the file says none."""
     if data[:4] == b"\x0a\x0d\x0d\x0a":
         return frames_of_blocks(data, losses)
     for order in "<>":
-        if data[:4] in (struct.pack(order + "I", 0xA1B2C3D4), struct.pack(order + "I", 0xA1B23C4D)):
-            return frames_of_records(data, order, losses)
+        for magic, unit in ((0xA1B2C3D4, 1000), (0xA1B23C4D, 1)):
+            if data[:4] == struct.pack(order + "I", magic):
+                return frames_of_records(data, order, unit, losses)
     raise Refusal("neither pcap nor pcapng")
 
 
-def frames_of_records(data, order, losses):
-    """Those of a pcap file, whose head says the link type of all."""
+def frames_of_records(data, order, unit, losses):
+    """Those of a pcap file, whose head says the link type of all; `unit` is that of its times, in nanoseconds."""
     if len(data) < 24:
         raise Refusal("the capture ends in its head")
     link = struct.unpack_from(order + "I", data, 20)[0] & 0xFFFF
     at, number = 24, 0
     while at < len(data):
         number += 1
-        size = struct.unpack_from(order + "I", data, at + 8)[0] if at + 16 <= len(data) else 0
+        seconds, fraction, size = struct.unpack_from(order + "III", data, at) if at + 16 <= len(data) else (0, 0, 0)
         if at + 16 + size > len(data):
             losses.append(f"the capture ends in the middle of packet {number}")
         if at + 16 < len(data):
-            yield link, data[at + 16:at + 16 + size]
+            yield link, data[at + 16:at + 16 + size], seconds * SECOND + fraction * unit
         at += 16 + size
 
 
@@ -58,10 +62,11 @@ def frames_of_blocks(data, losses):
 
 
 def frame_of_block(order, kind, body, interfaces):
-    """The link type and the octets of a block with a packet; an interface's description joins the interfaces."""
+    """The link type, the octets and the time of a block with a packet; an interface's description joins the
+    interfaces."""
     if kind == 1 and len(body) >= 8:
         link, _, most = struct.unpack_from(order + "HHI", body)
-        interfaces.append((link, most))
+        interfaces.append((link, most, *clock_of(order, body[8:])))
     heads = {2: ("HHIIII", 0, 4), 3: ("I", None, 0), 6: ("IIIII", 0, 3)}
     if kind not in heads or len(body) < 4:
         return None
@@ -73,21 +78,38 @@ def frame_of_block(order, kind, body, interfaces):
     interface = 0 if interface is None else values[interface]
     if interface >= len(interfaces):
         return None
-    link, most = interfaces[interface]
+    link, most, ticks, offset = interfaces[interface]
     size = values[captured]
-    if kind == 3 and most:
-        size = min(size, most)
-    return link, body[start:start + size]
+    if kind == 3:
+        return link, body[start:start + (min(size, most) if most else size)], None
+    ticked = values[captured - 2] << 32 | values[captured - 1]
+    return link, body[start:start + size], ticked * SECOND // ticks + offset * SECOND
+
+
+def clock_of(order, options):
+    """How many ticks an interface counts a second, and the second at which it begins, by its options."""
+    ticks, offset, at = 10**6, 0, 0
+    while at + 4 <= len(options):
+        code, size = struct.unpack_from(order + "HH", options, at)
+        value = options[at + 4:at + 4 + size]
+        if code == 0:
+            break
+        if code == 9 and len(value) == 1:
+            ticks = 1 << (value[0] & 127) if value[0] >> 7 else 10 ** value[0]
+        if code == 14 and len(value) == 8:
+            offset = struct.unpack(order + "q", value)[0]
+        at += 4 + size + -size % 4
+    return ticks, offset
 
 
 # ---- segments of TCP
 
 class Segment:
-    """A TCP segment: its ends, what its head says, the octets of it that were captured, and how many it had."""
+    """A TCP segment: its ends, what its head says, the octets of it that were captured, how many it had, and when."""
 
     def __init__(self, source, target, sequence, acknowledged, flags, octets, size):
         self.source, self.target, self.sequence, self.acknowledged = source, target, sequence, acknowledged
-        self.flags, self.octets, self.size = flags, octets, size
+        self.flags, self.octets, self.size, self.time = flags, octets, size, None
 
 
 def packet_of(link, frame):
@@ -173,6 +195,7 @@ class Stream:
         self.least, self.last = 0, 0                        # what was seen stands between these places
         self.pieces = []
         self.octets, self.holes, self.behind = b"", [], 0
+        self.front = 0                                      # the place of its first octet
 
     def place(self, sequence):
         """The place of a sequence number: the nearest to the last one, since the numbers wrap around."""
@@ -190,7 +213,7 @@ class Stream:
         if segment.flags & SYN:
             self.initial, self.begin = segment.sequence, at
         if segment.size:
-            self.pieces.append((at, segment.octets))
+            self.pieces.append((at, segment.octets, segment.time))
         self.least, self.last = min(self.least, at), max(self.last, at + segment.size)
         if segment.flags & FIN:
             self.closed, self.final = "FIN", at + segment.size
@@ -201,7 +224,7 @@ class Stream:
         last = self.last if self.final is None else self.final
         begin = self.begin if self.begin is not None else self.pieces[0][0] if self.pieces else last
         parts, end = [], begin
-        for at, octets in [*self.pieces, (last, b"")]:
+        for at, octets, _ in [*self.pieces, (last, b"", None)]:
             if at > end:
                 self.holes.append((end - begin, at - end))
                 end = at
@@ -210,6 +233,21 @@ class Stream:
                 end = at + len(octets)
         self.octets = b"".join(octets for whole, octets in parts if whole)
         self.behind = sum(len(octets) for whole, octets in parts if not whole)
+        self.front = begin
+
+    def times(self, ends):
+        """The time at which the octet before each of these rising places was captured first."""
+        waiting, pieces = [], iter(self.pieces)
+        piece = next(pieces, None)
+        for end in ends:
+            end += self.front
+            while piece and piece[0] < end:
+                if piece[2] is not None:
+                    heapq.heappush(waiting, (piece[2], piece[0] + len(piece[1])))
+                piece = next(pieces, None)
+            while waiting and waiting[0][1] < end:
+                heapq.heappop(waiting)
+            yield waiting[0][0] if waiting else None
 
 
 class Connection:
@@ -236,7 +274,7 @@ class Connection:
 def connections_of(data, port, losses):
     """The connections of a capture in which octets pass from or to a port, in the order in which they begin."""
     found, latest, unread = [], {}, {}
-    for link, frame in frames(data, losses):
+    for link, frame, time in frames(data, losses):
         packet = packet_of(link, frame)
         if packet is None:
             unread[link] = unread.get(link, 0) + 1
@@ -244,6 +282,7 @@ def connections_of(data, port, losses):
         segment = segment_of(packet, port)
         if segment is None:
             continue
+        segment.time = time
         ends = frozenset((segment.source, segment.target))
         if ends not in latest or not latest[ends].has(segment):
             latest[ends] = Connection(segment)

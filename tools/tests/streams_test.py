@@ -111,9 +111,11 @@ FRAMES = {
 }
 
 
-def pcap(link, frames, order="<", magic=0xA1B2C3D4):
+def pcap(link, frames, order="<", magic=0xA1B2C3D4, times=None):
+    """Times are seconds and parts of one."""
     head = struct.pack(order + "IHHIIII", magic, 2, 4, 0, 0, 65535, link)
-    return head + b"".join(struct.pack(order + "IIII", 0, 0, len(frame), len(frame)) + frame for frame in frames)
+    return head + b"".join(struct.pack(order + "IIII", *time, len(frame), len(frame)) + frame
+                           for frame, time in zip(frames, times or [(0, 0)] * len(frames)))
 
 
 def block(order, kind, body):
@@ -121,16 +123,17 @@ def block(order, kind, body):
     return struct.pack(order + "II", kind, len(body) + 12) + body + struct.pack(order + "I", len(body) + 12)
 
 
-def pcapng(link, frames, order="<", kind=6, most=0):
-    """A section with an interface, and a block of a kind for each frame, of which `most` octets were captured (0: all)."""
+def pcapng(link, frames, order="<", kind=6, most=0, options=b"", times=None):
+    """A section with an interface, and a block of a kind for each frame, of which `most` octets were captured (0: all).
+    Times are ticks of the interface's clock, as its options say."""
     head = block(order, 0x0A0D0D0A, struct.pack(order + "IHHq", 0x1A2B3C4D, 1, 0, -1))
-    head += block(order, 1, struct.pack(order + "HHI", link, 0, most))
+    head += block(order, 1, struct.pack(order + "HHI", link, 0, most) + options)
     head += block(order, 5, b"statistics, which say nothing here")
-    for frame in frames:
-        part = frame[:most or None]
-        heads = {2: struct.pack(order + "HHIIII", 0, 0, 0, 0, len(part), len(frame)),
+    for frame, time in zip(frames, times or [0] * len(frames)):
+        part, clock = frame[:most or None], (time >> 32, time & 0xFFFFFFFF)
+        heads = {2: struct.pack(order + "HHIIII", 0, 0, *clock, len(part), len(frame)),
                  3: struct.pack(order + "I", len(frame)),
-                 6: struct.pack(order + "IIIII", 0, 0, 0, len(part), len(frame))}
+                 6: struct.pack(order + "IIIII", 0, *clock, len(part), len(frame))}
         head += block(order, kind, heads[kind] + part)
     return head
 
@@ -461,6 +464,139 @@ class Late(unittest.TestCase):
             self.assertEqual(out.count("identifiers"), len(numbers))
         data = ethernet(conversation(open_message(1, identifiers(sends, six)), open_message(2, identifiers((0, 2, 1, 1), both))))
         self.assertIn("1: path identifiers of ipv4 unicast, ipv6 unicast pass", run("streams", "-", given=data)[1])
+
+
+def attribute(code, value, flags=0xC0):
+    if len(value) > 255:
+        return struct.pack(">BBH", flags | 0x10, code, len(value)) + value
+    return bytes([flags, code, len(value)]) + value
+
+
+def told_message(attributes, withdrawn=b"", announced=b""):
+    """An UPDATE of these parts."""
+    return message(2, struct.pack(">H", len(withdrawn)) + withdrawn + struct.pack(">H", len(attributes)) + attributes
+                   + announced)
+
+
+def reach(family, subsequent, prefixes, hop=b"\x20" * 16):
+    """MP_REACH_NLRI (RFC 4760)."""
+    return attribute(14, struct.pack(">HBB", family, subsequent, len(hop)) + hop + b"\0" + prefixes, 0x80)
+
+
+class Remarks(unittest.TestCase):
+    """What `decode` leaves unsaid, and when a message was captured."""
+
+    PATH = attribute(1, b"\0", 0x40) + attribute(2, struct.pack(">BBHBBHH", 2, 1, 7, 1, 2, 8, 9), 0x40)
+    HOP = attribute(3, bytes([10, 0, 0, 1]), 0x40)
+    SIX = bytes([48]) + b"\x20\1\x0d\xb8\0\1"
+
+    def remarks(self, *messages, answered=None, capabilities=b""):
+        """The remark behind each message, or None, as the tool prints them."""
+        said = open_message(7, capabilities) + b"".join(messages)
+        data = ethernet(conversation(said, answered or open_message(2)))
+        status, out, error = run("streams", "-", "--decode", given=data)
+        self.assertEqual((status, error), (0, ""))
+        lines = out.split("\n2  ")[0].splitlines()[2:]
+        return [following[10:] if following.startswith("  # also: ") else None
+                for line, following in zip(lines, lines[1:] + [""]) if not line.startswith("  #")]
+
+    def test_what_an_update_carries_beside_its_prefixes(self):
+        communities = attribute(8, struct.pack(">HHHH", 65001, 1, 65535, 65281))
+        rows = [
+            (told_message(self.PATH + self.HOP, announced=b"\x08\x0a"), None),
+            (told_message(b"", withdrawn=b"\x08\x0a"), None),
+            (told_message(reach(2, 1, self.SIX) + self.PATH + communities[:2] + b"\4" + communities[3:7]),
+             "MP_REACH_NLRI ipv6 1 prefix, COMMUNITIES 65001:1, AS_PATH 7-{8,9}"),
+            (told_message(self.PATH + self.HOP + communities, announced=b"\x08\x0a"), "COMMUNITIES 65001:1 65535:65281"),
+            (told_message(attribute(1, b"\2", 0x40) + self.PATH[4:] + self.HOP + attribute(4, b"\0\0\1\0", 0x80)
+                          + attribute(5, b"\0\0\0\x64", 0x40) + attribute(6, b"", 0x40)
+                          + attribute(7, struct.pack(">HBBBB", 7, 10, 0, 0, 9)), announced=b"\x08\x0a"),
+             "MULTI_EXIT_DISC 256, LOCAL_PREF 100, ATOMIC_AGGREGATE, AGGREGATOR 7 10.0.0.9, ORIGIN INCOMPLETE"),
+            (told_message(attribute(9, bytes([10, 0, 0, 1]), 0x80) + attribute(10, bytes([10, 0, 0, 2, 10, 0, 0, 3]), 0x80)
+                          + attribute(32, struct.pack(">III", 70000, 1, 2)) + attribute(16, bytes(range(8)))),
+             "ORIGINATOR_ID 10.0.0.1, CLUSTER_LIST 10.0.0.2 10.0.0.3, LARGE_COMMUNITY 70000:1:2, "
+             "EXTENDED_COMMUNITIES 0001020304050607"),
+            (told_message(attribute(17, struct.pack(">BBI", 2, 1, 70000)) + attribute(18, struct.pack(">IBBBB", 70000, 1, 2, 3, 4))
+                          + attribute(35, struct.pack(">I", 70000)) + attribute(99, b"x") + attribute(40, b"xy")),
+             "AS4_PATH 70000, AS4_AGGREGATOR 70000 1.2.3.4, ONLY_TO_CUSTOMER 70000, attribute 99 1 octet, "
+             "BGP_PREFIX-SID 2 octets"),
+            (told_message(attribute(8, b"x" * 300)), "COMMUNITIES" + " 30840:30840" * 75),
+        ]
+        self.assertEqual(self.remarks(*(update for update, _ in rows)), [said for _, said in rows])
+
+    def test_families(self):
+        two = self.SIX + b"\0"
+        rows = [(reach(2, 1, two), "MP_REACH_NLRI ipv6 2 prefixes"), (reach(1, 2, b"\x08\x0a"), "MP_REACH_NLRI ipv4 multicast 1 prefix"),
+                (reach(25, 70, b"x" * 7), "MP_REACH_NLRI l2vpn evpn 7 octets"), (reach(2, 128, b"x"), "MP_REACH_NLRI ipv6 mpls-vpn 1 octet"),
+                (reach(99, 1, b""), "MP_REACH_NLRI 99 0 octets"),
+                (attribute(15, b"\0\2\1" + two, 0x80), "MP_UNREACH_NLRI ipv6 2 prefixes")]
+        self.assertEqual(self.remarks(*(told_message(value) for value, _ in rows)), [said for _, said in rows])
+
+    def test_end_of_rib(self):
+        rows = [(told_message(b""), "End-of-RIB ipv4"), (told_message(attribute(15, b"\0\2\1", 0x80)), "End-of-RIB ipv6"),
+                (told_message(attribute(15, b"\0\2\x80", 0x80)), "End-of-RIB ipv6 mpls-vpn"),
+                (told_message(attribute(15, b"\0\2\1", 0x80), withdrawn=b"\x08\x0a"), "MP_UNREACH_NLRI ipv6 0 prefixes")]
+        self.assertEqual(self.remarks(*(update for update, _ in rows)), [said for _, said in rows])
+
+    def test_values_that_do_not_fit(self):
+        """The program takes any value of an attribute that RFC 4271 does not name."""
+        rows = [(8, b"xyz"), (9, b"x"), (10, b"xyzab"), (16, b"x"), (17, b"\2\2\0\0\0\1"), (17, b"\3\1\0\0\0\1"), (17, b"\2"),
+                (18, b"x"), (32, b"x"), (35, b"x"), (14, b""), (14, b"\0\2\1"), (14, b"\0\2\1\0\0\x80"), (15, b"\0\2\1\x80\0"),
+                (15, b"\0\2")]
+        said = self.remarks(*(told_message(attribute(code, value)) for code, value in rows))
+        for (code, value), remark in zip(rows, said):
+            with self.subTest(code=code, value=value):
+                self.assertTrue(remark.endswith(f" {len(value)} octet{'s' * (len(value) != 1)}"), remark)
+
+    def test_path_identifiers_and_wide_numbers(self):
+        sends, receives = bytes([69, 4, 0, 2, 1, 2]), bytes([69, 4, 0, 2, 1, 1])
+        update = told_message(reach(2, 1, b"\0\0\0\1" + self.SIX + b"\0\0\0\2" + self.SIX))
+        self.assertEqual(self.remarks(update, capabilities=sends, answered=open_message(2, receives)),
+                         ["MP_REACH_NLRI ipv6 2 prefixes"])
+        wide = attribute(2, struct.pack(">BBI", 2, 1, 70000), 0x40) + attribute(7, struct.pack(">IBBBB", 70000, 1, 2, 3, 4))
+        self.assertEqual(self.remarks(told_message(wide), capabilities=Printed.FOUR, answered=open_message(2, Printed.FOUR)),
+                         ["AGGREGATOR 70000 1.2.3.4, AS_PATH 70000"])
+
+    def test_any_octets_behind_a_fault_stay_unread(self):
+        said = open_message(1) + message(2, b"\0\0\0\xff") + told_message(attribute(8, b"abcd"))
+        status, out, _ = run("streams", "-", "--decode", given=ethernet(talk(CLIENT, SERVER, said, 7, 60)))
+        self.assertEqual((status, out.splitlines()[2], "also" in out), (1, "  fault 3 1", False))
+
+    def timed(self, data):
+        """What stands before the first word of each message."""
+        status, out, error = run("streams", "-", "--decode", "--times", given=data)
+        self.assertEqual((status, error), (0, ""))
+        return [line.split()[0] for line in out.splitlines()[1:] if not line.startswith("  #")]
+
+    def test_times(self):
+        """The time of a message is that of the segment that made it whole, also where that was sent again later."""
+        said = open_message(1) + message(4) + refresh() + told_message(b"") + message(4)
+        segments = list(talk(CLIENT, SERVER, said, 7, 25))[:-1]  # messages end at 29, 48, 71, 94 and 113
+        again = Said(CLIENT, SERVER, 8, ACK, said[:100])
+        frames = [FRAMES["raw IP"][1](packet(one)) for one in [*segments, again]]
+        late, second = 1700000000, "2023-11-14T22:13:2"
+        wanted = [f"{second}{at}.000{at}00Z" for at in (2, 2, 3, 4, 5)]  # the SYN is captured at 0
+        for order in "<>":
+            for magic, unit in ((0xA1B2C3D4, 100), (0xA1B23C4D, 100000)):
+                times = [(late + at, at * unit) for at in range(len(frames))]
+                self.assertEqual(self.timed(pcap(101, frames, order, magic, times)), wanted)
+            for options, ticks in ((b"", 10**6), (struct.pack(order + "HHB3x", 9, 1, 9), 10**9)):
+                times = [(late + at) * ticks + at * ticks // 10000 for at in range(len(frames))]
+                for kind in (2, 6):
+                    data = pcapng(101, frames, order, kind, options=options, times=times)
+                    self.assertEqual(self.timed(data), wanted)
+            offset = struct.pack(order + "HHB3xHHq", 9, 1, 0x80 | 10, 14, 8, late)
+            times = [at << 10 for at in range(len(frames))]
+            self.assertEqual(self.timed(pcapng(101, frames, order, options=offset, times=times)),
+                             [f"{second}{at}.000000Z" for at in (2, 2, 3, 4, 5)])
+        self.assertEqual(self.timed(pcapng(101, frames, kind=3)), ["-"] * 5)
+
+    def test_a_fault_has_its_time(self):
+        data = pcap(101, [packet(one) for one in talk(CLIENT, SERVER, open_message(1) + message(9), 7, 29)],
+                    times=[(60 * at, 0) for at in range(4)])
+        self.assertEqual(run("streams", "-", "--decode", "--times", given=data)[1].splitlines()[1:3],
+                         ["  1970-01-01T00:01:00.000000Z open as 1 hold 90 id 10.0.0.1",
+                          "  1970-01-01T00:02:00.000000Z fault 1 3"])
 
 
 class Printed(unittest.TestCase):

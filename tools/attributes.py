@@ -1,0 +1,144 @@
+"""What the tools read of the path attributes of an UPDATE: what it carries beside what `decode` prints of it."""
+import ipaddress
+import struct
+
+from messages import FAMILIES, SUBSEQUENT, family_text
+
+ORIGIN, AS_PATH, NEXT_HOP, MP_REACH_NLRI, MP_UNREACH_NLRI = 1, 2, 3, 14, 15
+# The codes of IANA.
+NAMES = {ORIGIN: "ORIGIN", AS_PATH: "AS_PATH", NEXT_HOP: "NEXT_HOP", 4: "MULTI_EXIT_DISC", 5: "LOCAL_PREF",
+         6: "ATOMIC_AGGREGATE", 7: "AGGREGATOR", 8: "COMMUNITIES", 9: "ORIGINATOR_ID", 10: "CLUSTER_LIST",
+         MP_REACH_NLRI: "MP_REACH_NLRI", MP_UNREACH_NLRI: "MP_UNREACH_NLRI", 16: "EXTENDED_COMMUNITIES", 17: "AS4_PATH",
+         18: "AS4_AGGREGATOR", 22: "PMSI_TUNNEL", 23: "TUNNEL_ENCAPSULATION", 24: "TRAFFIC_ENGINEERING",
+         25: "IPV6_EXTENDED_COMMUNITIES", 26: "AIGP", 27: "PE_DISTINGUISHER_LABELS", 29: "BGP-LS",
+         32: "LARGE_COMMUNITY", 33: "BGPSEC_PATH", 35: "ONLY_TO_CUSTOMER", 37: "SFP", 38: "BFD_DISCRIMINATOR",
+         40: "BGP_PREFIX-SID", 128: "ATTR_SET"}
+ORIGINS = {0: "", 1: " EGP", 2: " INCOMPLETE"}
+EXTENDED_LENGTH = 0x10
+
+
+class Update:
+    """The parts of an UPDATE's body: whether prefixes are withdrawn and announced, and the value of each attribute, by
+    code and in the order of the message. `struct.error` or `IndexError` where a part is not whole."""
+
+    def __init__(self, body):
+        size = struct.unpack_from(">H", body)[0]
+        end = 4 + size + struct.unpack_from(">H", body, 2 + size)[0]
+        self.withdraws, self.announces, self.attributes = size > 0, len(body) > end, {}
+        at = 4 + size
+        while at < end:
+            flags, code, length = body[at], body[at + 1], body[at + 2]
+            at += 3
+            if flags & EXTENDED_LENGTH:
+                length, at = length << 8 | body[at], at + 1
+            self.attributes[code] = bytes(body[at:at + length])
+            at += length
+
+
+def remark_of(body, width, identified=()):
+    """What `decode` leaves unsaid of an UPDATE that it finds no fault in, None where it is nothing: the attributes that
+    it does not print, an ORIGIN that is not IGP, path and next hop where no prefix is announced by RFC 4271's field, and
+    an End-of-RIB (RFC 4724). `width` is that of AS numbers, `identified` has the families whose prefixes have path
+    identifiers."""
+    update = Update(body)
+    attributes = update.attributes
+    if not update.withdraws and not update.announces:
+        ended = family_of_end(attributes)
+        if ended:
+            return f"End-of-RIB {ended}"
+    said = {AS_PATH, NEXT_HOP} if update.announces else set()
+    if attributes.get(ORIGIN) == b"\0":
+        said.add(ORIGIN)
+    codes = sorted((code for code in attributes if code not in said), key=lambda code: code <= NEXT_HOP)
+    return ", ".join(attribute_text(code, attributes[code], width, identified) for code in codes) or None
+
+
+def family_of_end(attributes):
+    """The family whose End-of-RIB an UPDATE is that has no prefixes in RFC 4271's fields, else None."""
+    if not attributes:
+        return "ipv4"
+    value = attributes.get(MP_UNREACH_NLRI, b"")
+    return short_family(value) if len(attributes) == 1 and len(value) == 3 else None
+
+
+def short_family(value):
+    """The family that stands in front of a value; unicast goes without saying."""
+    family, subsequent = struct.unpack_from(">HB", value)
+    return FAMILIES.get(family, str(family)) if subsequent == 1 else family_text(family, subsequent)
+
+
+def attribute_text(code, value, width, identified):
+    """An attribute in words: its name, and its value, or how long that is where it can't be read."""
+    name = NAMES.get(code, f"attribute {code}")
+    try:
+        text = value_text(code, value, width, identified)
+    except (struct.error, IndexError, ValueError):
+        text = None
+    return name + (octets_text(len(value)) if text is None else text)
+
+
+def octets_text(number):
+    return f" {number} octet{'s' * (number != 1)}"
+
+
+def value_text(code, value, width, identified):
+    """The words of a value, a space in front; None where the code has none, and an error where the value does not fit
+    it."""
+    if code == ORIGIN:
+        return ORIGINS[value[0]]
+    if code in (AS_PATH, 17):
+        return " " + path_text(value, width if code == AS_PATH else 4)
+    if code in (NEXT_HOP, 9, 10):
+        return "".join(f" {ipaddress.IPv4Address(part)}" for part in parts_of(value, 4))
+    if code in (4, 5, 35):
+        return f" {struct.unpack('>I', value)[0]}"
+    if code == 6:
+        return ""
+    if code in (7, 18):
+        size = len(value) - 4
+        return f" {int.from_bytes(value[:size], 'big')} {ipaddress.IPv4Address(value[size:])}"
+    if code == 8:
+        return "".join(" %d:%d" % struct.unpack(">HH", part) for part in parts_of(value, 4))
+    if code == 16:
+        return "".join(f" {part.hex()}" for part in parts_of(value, 8))
+    if code == 32:
+        return "".join(" %d:%d:%d" % struct.unpack(">III", part) for part in parts_of(value, 12))
+    return prefixes_text(code, value, identified) if code in (MP_REACH_NLRI, MP_UNREACH_NLRI) else None
+
+
+def parts_of(value, size):
+    if len(value) % size:
+        raise ValueError
+    return [value[at:at + size] for at in range(0, len(value), size)]
+
+
+def path_text(value, width):
+    """A path as `decode` prints it."""
+    segments, at = [], 0
+    while at < len(value):
+        kind, number = value[at], value[at + 1]
+        numbers = [str(int.from_bytes(part, "big")) for part in parts_of(value[at + 2:at + 2 + number * width], width)]
+        if kind not in (1, 2) or not number or len(numbers) < number:
+            raise ValueError
+        segments.append("-".join(numbers) if kind == 2 else "{" + ",".join(numbers) + "}")
+        at += 2 + number * width
+    return "-".join(segments) or "none"
+
+
+def prefixes_text(code, value, identified):
+    """The family of prefixes in an attribute of RFC 4760, and how many they are, or how many octets they have where
+    the family has others than of a length and its octets."""
+    prefixes = value[3:]
+    if code == MP_REACH_NLRI:
+        prefixes = value[5 + value[3]:]
+    family, subsequent = struct.unpack_from(">HB", value)
+    if FAMILIES.get(family) not in ("ipv4", "ipv6") or SUBSEQUENT.get(subsequent) not in ("unicast", "multicast"):
+        return f" {short_family(value)}{octets_text(len(prefixes))}"
+    identifier = 4 if family_text(family, subsequent) in identified else 0
+    number, at = 0, 0
+    while at < len(prefixes):
+        at += identifier + 1 + (prefixes[at + identifier] + 7) // 8
+        number += 1
+    if at > len(prefixes):
+        raise ValueError
+    return f" {short_family(value)} {number} prefix{'es' * (number != 1)}"
