@@ -21,7 +21,7 @@ def frames(data, losses):
         for magic, unit in ((0xA1B2C3D4, 1000), (0xA1B23C4D, 1)):
             if data[:4] == struct.pack(order + "I", magic):
                 return frames_of_records(data, order, unit, losses)
-    raise Refusal("neither pcap nor pcapng")
+    raise Refusal("neither pcap, pcapng nor MRT")
 
 
 def frames_of_records(data, order, unit, losses):
@@ -196,6 +196,7 @@ class Stream:
         self.pieces = []
         self.octets, self.holes, self.behind = b"", [], 0
         self.front = 0                                      # the place of its first octet
+        self.notes = []                                     # what stands between messages: place, text and time
 
     def place(self, sequence):
         """The place of a sequence number: the nearest to the last one, since the numbers wrap around."""
@@ -217,6 +218,15 @@ class Stream:
         self.least, self.last = min(self.least, at), max(self.last, at + segment.size)
         if segment.flags & FIN:
             self.closed, self.final = "FIN", at + segment.size
+
+    def append(self, octets, time):
+        """Adds octets behind those that are there."""
+        self.pieces.append((self.last, octets, time))
+        self.last += len(octets)
+
+    def note(self, text, time):
+        """Adds what stands behind the octets that are there."""
+        self.notes.append((self.last, text, time))
 
     def join(self):
         """Puts the pieces together. Each octet counts once, and a place that no piece has is a hole."""
@@ -251,7 +261,8 @@ class Stream:
 
 
 class Connection:
-    """A TCP connection: the stream of each of its ends."""
+    """A TCP connection: the stream of each of its ends. It doesn't say itself how its messages are written."""
+    width, has_identifiers = None, False
 
     def __init__(self, segment):
         self.streams = {segment.source: Stream(segment.source, segment.target),

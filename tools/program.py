@@ -1,14 +1,20 @@
 """What the tools share beside the texts: the words of a command line, refusals, and the program that they ask."""
 import argparse
+import bz2
+import gzip
 import os
 import pathlib
 import subprocess
 import sys
+import zlib
 
 TOP = pathlib.Path(__file__).resolve().parent.parent
 
 # Where the built program stands, if no word names another.
 BUILT = os.environ.get("BGPNET") or str(TOP / "crates/bgpnet/out/bgpnet")
+
+# How the first block of a bzip2 file begins, and the end of an empty one.
+BZIP2_BLOCKS = (bytes.fromhex("314159265359"), bytes.fromhex("177245385090"))
 
 # The codes that the program prints behind `refused LINE`; docs/TEXTS.md says more of each.
 CODES = {
@@ -56,11 +62,22 @@ def count(least, most):
 
 
 def read_octets(name):
-    """The octets of a file, those of the standard input where its name is `-`."""
+    """The octets of a file, those of the standard input where its name is `-`. What gzip or bzip2 packed is unpacked."""
     if name == "-":
-        return sys.stdin.buffer.read()
+        return unpacked(name, sys.stdin.buffer.read())
     with open(name, "rb") as file:
-        return file.read()
+        return unpacked(name, file.read())
+
+
+def unpacked(name, octets):
+    for form, unpack, is_packed in (("gzip", gzip.decompress, octets[:3] == b"\x1f\x8b\x08"),
+                                    ("bzip2", bz2.decompress, octets[:3] == b"BZh" and octets[4:10] in BZIP2_BLOCKS)):
+        if is_packed:
+            try:
+                return unpack(octets)
+            except (OSError, EOFError, ValueError, zlib.error) as why:
+                raise Refusal(f"{name}: its {form} data can't be unpacked: {why}") from None
+    return octets
 
 
 def read_text(name):

@@ -13,7 +13,7 @@ from program import CODES
 
 DOCUMENTS = [TOP / "README.md", TOP / "examples/README.md", *sorted((TOP / "docs").glob("*.md"))]
 # What is not run here: the kit and the gate, another program, a file of the reader's.
-NOT_RUN = re.compile(r"\brt |^\.ci/run|\btshark\b|\boctets\.bin\b|^git ")
+NOT_RUN = re.compile(r"\brt |^\.ci/run|\btshark\b|\boctets\.bin\b|\bupdates\.|^git ")
 PROGRAM = re.compile(r"(?<![\w/])(crates/bgpnet/out/)?bgpnet(?= )")
 
 

@@ -2,9 +2,17 @@
 file. What the tool has to find is known before anything is altered.
 
     python3 tools/tests/streams_test.py     writes examples/session.pcap anew"""
+import bz2
+import contextlib
+import gzip
+import io
+import pathlib
 import random
 import struct
+import sys
+import tempfile
 import unittest
+import unittest.mock
 
 from support import TOP, asked_program, load, run
 
@@ -13,6 +21,18 @@ streams = load("streams")
 FIN, SYN, RST, ACK = 1, 2, 4, 16
 CLIENT, SERVER = (bytes([10, 0, 0, 1]), 40000), (bytes([10, 0, 0, 2]), 179)
 CLIENT_SIX, SERVER_SIX = (bytes([0x20, 1] + [0] * 13 + [1]), 40000), (bytes([0x20, 1] + [0] * 13 + [2]), 179)
+
+
+def ran(*words, given=b""):
+    """What `run` answers of the tool, without a process of its own."""
+    out, error = io.StringIO(), io.StringIO()
+    with unittest.mock.patch.object(sys, "argv", ["streams", *map(str, words)]), \
+            unittest.mock.patch.object(sys, "stdin", io.TextIOWrapper(io.BytesIO(given))), \
+            contextlib.redirect_stdout(out), contextlib.redirect_stderr(error):
+        try:
+            streams.run_tool(streams.main)
+        except SystemExit as ended:
+            return ended.code, out.getvalue(), error.getvalue()
 
 
 def message(kind, body=b""):
@@ -183,7 +203,7 @@ class Files(unittest.TestCase):
             for octets, _, _ in found:
                 self.assertTrue(said.startswith(octets) or answered.startswith(octets))
             self.assertTrue(not losses or "in the middle of packet" in losses[0])
-        self.assertEqual(run("streams", "-", given=data[:20])[0::2], (1, "streams: -: the capture ends in its head\n"))
+        self.assertEqual(ran("-", given=data[:20])[0::2], (1, "streams: -: the capture ends in its head\n"))
         for size in range(28, 400):
             found_in(pcapng(101, [packet(said) for said in conversation(said, answered)])[:size])
 
@@ -201,7 +221,7 @@ class Files(unittest.TestCase):
                 try:
                     found_in(bytes(data[:draw.choice([len(data), draw.randrange(len(data))])]))
                 except streams.Refusal as why:
-                    self.assertIn(str(why), ("neither pcap nor pcapng", "the capture ends in its head"))
+                    self.assertIn(str(why), ("neither pcap, pcapng nor MRT", "the capture ends in its head"))
 
     def test_other_link_types_are_named(self):
         data = pcap(127, [b"\0" * 60] * 3)
@@ -218,8 +238,8 @@ class Files(unittest.TestCase):
                          (whole(said, answered), []))
 
     def test_no_capture(self):
-        self.assertEqual(run("streams", "README.md"), (1, "", "streams: README.md: neither pcap nor pcapng\n"))
-        self.assertEqual(run("streams", "-", given=pcap(1, [])), (1, "", "streams: -: no octets from or to port 179\n"))
+        self.assertEqual(run("streams", "README.md"), (1, "", "streams: README.md: neither pcap, pcapng nor MRT\n"))
+        self.assertEqual(ran("-", given=pcap(1, [])), (1, "", "streams: -: no octets from or to port 179\n"))
 
 
 class Segments(unittest.TestCase):
@@ -285,7 +305,7 @@ class Segments(unittest.TestCase):
         later = [segment for segment in talk(CLIENT, SERVER, said, 7, 30)][3:]
         found, _ = found_in(ethernet(later[::-1]))
         self.assertEqual(found, whole(said[60:]))
-        status, out, error = run("streams", "-", given=ethernet(later))
+        status, out, error = ran("-", given=ethernet(later))
         self.assertEqual((status, error), (0, ""))
         self.assertIn("no message begins here", out)
 
@@ -326,7 +346,7 @@ class Refreshes(unittest.TestCase):
 
     def decoded(self, said, *words):
         """The status, what is printed of one stream, and the lines of the standard error."""
-        status, out, error = run("streams", "-", "--decode", *words, given=ethernet(talk(CLIENT, SERVER, said, 7, 60)))
+        status, out, error = ran("-", "--decode", *words, given=ethernet(talk(CLIENT, SERVER, said, 7, 60)))
         return status, out.splitlines(), error.splitlines()
 
     def test_they_stand_in_their_places(self):
@@ -372,10 +392,12 @@ class Refreshes(unittest.TestCase):
 
     def test_many_parts(self):
         """The order stays over the ends of the parts in which the program is asked."""
-        said = (message(4) * 3000 + refresh(2) + update_message(1, 7)) * 40
-        status, out, error = self.decoded(said, "--asn", "2")
-        self.assertEqual((status, error), (0, []))
-        self.assertEqual([line.split()[0] for line in out[1:]], (["keepalive"] * 3000 + ["route-refresh", "update"]) * 40)
+        said = (LONG * 9 + refresh(2) + message(4)) * 100
+        data = ethernet(talk(CLIENT, SERVER, open_message(1) + said, 7, 60000))
+        status, out, error = ran("-", "--decode", given=data)
+        self.assertEqual((status, error), (0, ""))
+        self.assertEqual([line.split()[0] for line in out.splitlines()[2:] if "also" not in line],
+                         (["update"] * 9 + ["route-refresh", "keepalive"]) * 100)
 
     def test_any_mixture(self):
         for seed in range(40):
@@ -399,7 +421,7 @@ class Late(unittest.TestCase):
     def decoded(self, said, answered, *words):
         """The status, the lines behind both streams, and those of the standard error."""
         data = ethernet([one for one in conversation(said, answered) if not one.flags & SYN])
-        status, out, error = run("streams", "--decode", *words, "-", given=data)
+        status, out, error = ran("--decode", *words, "-", given=data)
         return status, [line for line in out.splitlines() if " > " not in line], error.splitlines()
 
     def test_the_only_width_without_a_fault(self):
@@ -443,12 +465,12 @@ class Late(unittest.TestCase):
 
     def test_options_stand_anywhere(self):
         data = ethernet(conversation(self.EITHER, message(4)))
-        wanted = run("streams", "-", "--decode", "--asn", 4, "--port", 179, given=data)
+        wanted = ran("-", "--decode", "--asn", 4, "--port", 179, given=data)
         self.assertEqual(wanted[0], 0)
         for words in (("--decode", "--asn", "4", "-"), ("--asn", "4", "-", "--decode"), ("--asn=4", "--decode", "-")):
-            self.assertEqual(run("streams", *words, given=data), wanted)
+            self.assertEqual(ran(*words, given=data), wanted)
         for words in (("-", "--port", 179, 1), ("--port", 179, "-", 1), ("-", 1, "--port", 179)):
-            self.assertEqual(run("streams", *words, given=data), (0, streams.hex_lines(self.EITHER), ""))
+            self.assertEqual(ran(*words, given=data), (0, streams.hex_lines(self.EITHER), ""))
 
     def test_path_identifiers_where_one_end_sends_and_the_other_receives(self):
         def identifiers(*families):
@@ -459,11 +481,11 @@ class Late(unittest.TestCase):
                                     (receives, both, [2]), (both, both, [1, 2]), (sends, None, []), (six, both, [])):
             data = ethernet(conversation(open_message(1, identifiers(one)),
                                          open_message(2, identifiers(other) if other else b"")))
-            out = run("streams", "-", given=data)[1]
+            out = ran("-", given=data)[1]
             self.assertEqual([number for number in (1, 2) if f"{number}: {line}" in out], numbers)
             self.assertEqual(out.count("identifiers"), len(numbers))
         data = ethernet(conversation(open_message(1, identifiers(sends, six)), open_message(2, identifiers((0, 2, 1, 1), both))))
-        self.assertIn("1: path identifiers of ipv4 unicast, ipv6 unicast pass", run("streams", "-", given=data)[1])
+        self.assertIn("1: path identifiers of ipv4 unicast, ipv6 unicast pass", ran("-", given=data)[1])
 
 
 def attribute(code, value, flags=0xC0):
@@ -476,6 +498,10 @@ def told_message(attributes, withdrawn=b"", announced=b""):
     """An UPDATE of these parts."""
     return message(2, struct.pack(">H", len(withdrawn)) + withdrawn + struct.pack(">H", len(attributes)) + attributes
                    + announced)
+
+
+# An UPDATE of 4026 octets, of which `decode` prints one word.
+LONG = told_message(attribute(99, bytes(4000)))
 
 
 def reach(family, subsequent, prefixes, hop=b"\x20" * 16):
@@ -494,7 +520,7 @@ class Remarks(unittest.TestCase):
         """The remark behind each message, or None, as the tool prints them."""
         said = open_message(7, capabilities) + b"".join(messages)
         data = ethernet(conversation(said, answered or open_message(2)))
-        status, out, error = run("streams", "-", "--decode", given=data)
+        status, out, error = ran("-", "--decode", given=data)
         self.assertEqual((status, error), (0, ""))
         lines = out.split("\n2  ")[0].splitlines()[2:]
         return [following[10:] if following.startswith("  # also: ") else None
@@ -559,12 +585,12 @@ class Remarks(unittest.TestCase):
 
     def test_any_octets_behind_a_fault_stay_unread(self):
         said = open_message(1) + message(2, b"\0\0\0\xff") + told_message(attribute(8, b"abcd"))
-        status, out, _ = run("streams", "-", "--decode", given=ethernet(talk(CLIENT, SERVER, said, 7, 60)))
+        status, out, _ = ran("-", "--decode", given=ethernet(talk(CLIENT, SERVER, said, 7, 60)))
         self.assertEqual((status, out.splitlines()[2], "also" in out), (1, "  fault 3 1", False))
 
     def timed(self, data):
         """What stands before the first word of each message."""
-        status, out, error = run("streams", "-", "--decode", "--times", given=data)
+        status, out, error = ran("-", "--decode", "--times", given=data)
         self.assertEqual((status, error), (0, ""))
         return [line.split()[0] for line in out.splitlines()[1:] if not line.startswith("  #")]
 
@@ -594,9 +620,200 @@ class Remarks(unittest.TestCase):
     def test_a_fault_has_its_time(self):
         data = pcap(101, [packet(one) for one in talk(CLIENT, SERVER, open_message(1) + message(9), 7, 29)],
                     times=[(60 * at, 0) for at in range(4)])
-        self.assertEqual(run("streams", "-", "--decode", "--times", given=data)[1].splitlines()[1:3],
+        self.assertEqual(ran("-", "--decode", "--times", given=data)[1].splitlines()[1:3],
                          ["  1970-01-01T00:01:00.000000Z open as 1 hold 90 id 10.0.0.1",
                           "  1970-01-01T00:02:00.000000Z fault 1 3"])
+
+
+def record(kind, subtype, body, time=0, parts=None):
+    """An MRT record (RFC 6396), with microseconds where its type has them."""
+    body = (b"" if parts is None else struct.pack(">I", parts)) + body
+    return struct.pack(">IHHI", time, kind, subtype, len(body)) + body
+
+
+PEER, COLLECTOR = bytes([192, 0, 2, 1]), bytes([192, 0, 2, 9])
+# The subtypes of messages, by the width of AS numbers, who says it, and whether prefixes have path identifiers.
+MESSAGES = {(2, False, False): 1, (4, False, False): 4, (2, True, False): 6, (4, True, False): 7,
+            (2, False, True): 8, (4, False, True): 9, (2, True, True): 10, (4, True, True): 11}
+
+
+def peering(width, rest, ends=(PEER, COLLECTOR), asn=7):
+    """The body of a record of BGP4MP."""
+    return struct.pack(">IIHH" if width == 4 else ">HHHH", asn, 9, 3, 1 if len(ends[0]) == 4 else 2) + b"".join(ends) + rest
+
+
+def said_record(said, width=4, is_local=False, has_identifiers=False, time=0, parts=None, **ends):
+    return record(16 if parts is None else 17, MESSAGES[width, is_local, has_identifiers],
+                  peering(width, said, **ends), time, parts)
+
+
+def change_record(before, after, width=4, time=0, parts=None, **ends):
+    return record(16 if parts is None else 17, 5 if width == 4 else 0,
+                  peering(width, struct.pack(">HH", before, after), **ends), time, parts)
+
+
+class Collected(unittest.TestCase):
+    """Files of MRT."""
+
+    def decoded(self, data, *words):
+        status, out, error = ran("-", "--decode", *words, given=data)
+        return status, out.splitlines(), error
+
+    def test_messages_of_each_subtype(self):
+        for width, update in ((2, update_message(7, 7)), (4, wide_message(7))):
+            for kind in (16, 17):
+                parts = None if kind == 16 else 5
+                data = b"".join(said_record(said, width, is_local, parts=parts) for said, is_local in (
+                    (open_message(7), False), (open_message(9), True), (message(4), True), (refresh(), False), (update, False)))
+                with self.subTest(width=width, kind=kind):
+                    self.assertEqual(self.decoded(data), (0, [
+                        f"1  192.0.2.1 as 7 > 192.0.2.9 as 9  {52 + len(update)} octets  "
+                        "open route-refresh update, 1 route-refresh",
+                        "  open as 7 hold 90 id 10.0.0.7", "  route-refresh ipv4 unicast",
+                        "  update announce 10.7.0.0/16 path 7 next 10.0.0.1",
+                        "2  192.0.2.9 as 9 > 192.0.2.1 as 7  48 octets  open keepalive",
+                        "  open as 9 hold 90 id 10.0.0.9", "  keepalive"], ""))
+
+    def test_the_records_say_the_width(self):
+        """Not the OPENs, which a collector may not have, nor --asn."""
+        for width, path in ((2, "513-513-513"), (4, "33620481-33620481")):
+            for before in (b"", said_record(open_message(7), 2), said_record(open_message(7, Printed.FOUR), 4)):
+                status, out, error = self.decoded(before + said_record(Late.EITHER, width), "--asn", 2)
+                self.assertEqual((status, error), (0, ""))
+                self.assertEqual(out[-1], f"  update announce 10.7.0.0/16 path {path} next 10.0.0.1")
+
+    def test_a_change_of_the_width_begins_a_stream(self):
+        data = said_record(Late.EITHER, 2) + said_record(message(4), 4) + said_record(Late.EITHER, 4)
+        self.assertEqual([line.split(" path ")[-1].split()[0] for line in self.decoded(data)[1] if "path" in line],
+                         ["513-513-513", "33620481-33620481"])
+
+    def test_changes_of_state_stand_in_their_places(self):
+        data = b"".join([change_record(3, 4), said_record(open_message(7)), change_record(4, 5, 2), said_record(message(4)),
+                         change_record(5, 6), said_record(wide_message(7)), change_record(6, 1)])
+        self.assertEqual(self.decoded(data), (0, [
+            f"1  192.0.2.1 as 7 > 192.0.2.9 as 9  {48 + len(wide_message(7))} octets  open keepalive update, "
+            "4 changes of state",
+            "  state Active OpenSent", "  open as 7 hold 90 id 10.0.0.7", "  state OpenSent OpenConfirm", "  keepalive",
+            "  state OpenConfirm Established", "  update announce 10.7.0.0/16 path 7 next 10.0.0.1",
+            "  state Established Idle"], ""))
+        self.assertEqual(self.decoded(change_record(1, 99)), (0, [
+            "1  192.0.2.1 as 7 > 192.0.2.9 as 9  0 octets  1 change of state", "  state Idle 99"], ""))
+
+    def test_another_session_is_another_stream(self):
+        one = [said_record(open_message(7)), said_record(wide_message(7))]
+        for between in ([], [change_record(6, 1), change_record(1, 2), change_record(2, 4)], [change_record(6, 1)]):
+            lines = self.decoded(b"".join(one + between + one))[1]
+            with self.subTest(between=len(between)):
+                self.assertEqual([line.split()[0] for line in lines if " > " in line], ["1", "2"])
+                changes = [number for number, line in enumerate(lines) if line.startswith("  state")]
+                second = next(number for number, line in enumerate(lines) if line.startswith("2 "))
+                self.assertEqual([number < second for number in changes], [at == 0 for at in range(len(between))])
+
+    def test_peers_by_address_and_interface(self):
+        six = bytes([0x20, 1] + [0] * 13 + [1]), bytes([0x20, 1] + [0] * 13 + [2])
+        data = said_record(open_message(7)) + said_record(open_message(8), ends=six, asn=8)
+        data += said_record(open_message(6), ends=(bytes([192, 0, 2, 2]), COLLECTOR), asn=6)
+        data += said_record(message(4)) + said_record(message(4), ends=six, asn=8)
+        self.assertEqual([line.split("  ")[1] for line in self.decoded(data)[1] if " > " in line],
+                         ["192.0.2.1 as 7 > 192.0.2.9 as 9", "2001::1 as 8 > 2001::2 as 9", "192.0.2.2 as 6 > 192.0.2.9 as 9"])
+
+    def test_times(self):
+        data = said_record(open_message(7), time=60) + said_record(message(4), time=120, parts=250000)
+        data += change_record(6, 1, time=180, parts=1)
+        self.assertEqual([line.split()[0] for line in self.decoded(data, "--times")[1][1:]],
+                         ["1970-01-01T00:01:00.000000Z", "1970-01-01T00:02:00.250000Z", "1970-01-01T00:03:00.000001Z"])
+
+    def test_path_identifiers(self):
+        data = said_record(told_message(reach(2, 1, b"\0\0\0\1" + Remarks.SIX)), has_identifiers=True)
+        status, out, error = self.decoded(data)
+        self.assertEqual((status, error, out[2:]), (0, "", [
+            "  # also: MP_REACH_NLRI ipv6 1 prefix", "1: path identifiers pass (RFC 8050), which `decode` does not read"]))
+
+    def test_dumps_of_tables_are_refused_by_name(self):
+        for kind, name in ((12, "TABLE_DUMP"), (13, "TABLE_DUMP_V2")):
+            self.assertEqual(ran("-", given=record(kind, 1, b"x" * 40)), (1, "", (
+                f"streams: -: a dump of a table ({name}, RFC 6396): it has routes, and no messages\n")))
+        data = said_record(message(4)) + record(13, 2, b"x") * 2 + record(11, 0, b"x") + record(16, 3, b"x" * 30)
+        data += record(16, 4, b"x" * 9) + record(16, 1, peering(2, b"", (b"", b""))) + record(77, 0, b"")
+        status, out, error = self.decoded(data)
+        self.assertEqual((status, out[1:]), (1, ["  keepalive"]))
+        self.assertEqual(error.splitlines(), [f"streams: -: {number} records of {name} are not read" for number, name in (
+            (1, "BGP4MP of subtype 1"), (1, "BGP4MP of subtype 3"), (1, "BGP4MP of subtype 4"), (1, "OSPFv2"),
+            (2, "TABLE_DUMP_V2"), (1, "type 77"))])
+
+    def test_a_file_that_is_cut_off_or_altered(self):
+        data = said_record(open_message(7)) + change_record(5, 6) + said_record(wide_message(7), parts=3)
+        for size in range(12, len(data)):
+            losses = []
+            for session in streams.peerings_of(memoryview(data[:size]), losses):
+                self.assertTrue((open_message(7) + wide_message(7)).startswith(session.peer.octets))
+            self.assertTrue(not losses or "the capture ends in the middle of record" in losses[0])
+        for seed in range(300):
+            draw = random.Random(seed)
+            altered = bytearray(data)
+            for _ in range(draw.randrange(1, 10)):
+                altered[draw.randrange(8, len(data))] = draw.choice([0, 1, 255, draw.randrange(256)])
+            with self.subTest(seed=seed):
+                streams.peerings_of(memoryview(bytes(altered)), [])
+
+
+class Packed(unittest.TestCase):
+    """What gzip and bzip2 packed."""
+
+    def test_each_form(self):
+        for data in (example(), said_record(open_message(7)) + said_record(wide_message(7))):
+            wanted = ran("-", "--decode", given=data)
+            self.assertEqual(wanted[0::2], (0, ""))
+            for pack in (gzip.compress, bz2.compress):
+                self.assertEqual(ran("-", "--decode", given=pack(data)), wanted)
+                self.assertEqual(ran("-", "--decode", given=pack(data[:50]) + pack(data[50:])), wanted)
+
+    def test_what_can_not_be_unpacked(self):
+        for name, pack in (("gzip", gzip.compress), ("bzip2", bz2.compress)):
+            data = pack(example())
+            for wrong in (data[:-9], data[:40] + b"x" * 9 + data[49:]):
+                status, out, error = ran("-", given=wrong)
+                self.assertEqual((status, out, error.count("\n")), (1, "", 1))
+                self.assertTrue(error.startswith(f"streams: -: its {name} data can't be unpacked: "))
+
+    def test_other_tools_unpack_too(self):
+        edges = b"1 2\n2 3\n"
+        wanted = run("topology", "--from", "edges", "-", given=edges)
+        self.assertEqual(wanted[0::2], (0, ""))
+        for pack in (gzip.compress, bz2.compress):
+            self.assertEqual(run("topology", "--from", "edges", "-", given=pack(edges)), wanted)
+
+
+class Parts(unittest.TestCase):
+    """Streams as files that the program takes."""
+
+    def parts(self, said, folder):
+        data = ethernet(talk(CLIENT, SERVER, said, 7, 60000))
+        status, out, error = ran("-", 1, "--parts", pathlib.Path(folder) / "x", given=data)
+        return status, [line.replace(folder + "/", "") for line in out.splitlines()], error
+
+    def test_more_than_the_program_takes(self):
+        said = open_message(1) + (LONG * 20 + refresh() + update_message(1, 7)) * 120
+        with tempfile.TemporaryDirectory() as folder:
+            status, out, error = self.parts(said, folder)
+            self.assertEqual((status, error, len(out), out[-1]), (0, "", 3, "120 route-refresh left out"))
+            lines, octets = [], b""
+            for name in ("x-1.hex", "x-2.hex"):
+                text = (pathlib.Path(folder) / name).read_text()
+                status, more = asked_program().ask(["decode"], text)
+                self.assertEqual((status, more[:1] == ["refused 0 N6"]), (0, False))
+                self.assertIn(f"{name}  {len(more)} messages  {len(bytes.fromhex(text))} octets", out)
+                lines, octets = lines + more, octets + bytes.fromhex(text)
+            self.assertEqual([line.split()[0] for line in lines], ["open"] + ["update"] * 21 * 120)
+            self.assertEqual(octets, open_message(1) + (LONG * 20 + update_message(1, 7)) * 120)
+
+    def test_what_is_no_whole_message(self):
+        with tempfile.TemporaryDirectory() as folder:
+            self.assertEqual(self.parts(open_message(1) + message(4)[:5], folder), (1, ["x-1.hex  1 messages  29 octets"], (
+                "streams: -: stream 1: 5 octets at its end are no whole message, and are in no part\n")))
+            status, out, error = self.parts(open_message(1), folder)  # the file is there
+            self.assertEqual((status, out, error), (1, [], f"streams: {folder}/x-1.hex: File exists\n"))
+            self.assertEqual(bytes.fromhex((pathlib.Path(folder) / "x-1.hex").read_text()), open_message(1))
 
 
 class Printed(unittest.TestCase):
@@ -621,29 +838,29 @@ class Printed(unittest.TestCase):
         for one, other, said in ((self.FOUR, self.FOUR, True), (self.FOUR, b"", False), (b"", b"", False),
                                  (self.FOUR, bytes([2, 0]), False), (self.FOUR, bytes([65, 2, 0, 1]), False)):
             data = ethernet(conversation(speech(1, 0, one), speech(2, 0, other)))
-            self.assertEqual("1 and 2: both OPENs have capability 65" in run("streams", "-", given=data)[1], said)
+            self.assertEqual("1 and 2: both OPENs have capability 65" in ran("-", given=data)[1], said)
 
     def test_hex_is_what_the_program_reads(self):
         said, answered = speech(1, 300), speech(2, 1)
         data = ethernet(conversation(said, answered, (CLIENT_SIX, SERVER_SIX), size=1400))
         for number, octets in ((1, said), (2, answered)):
-            status, out, error = run("streams", "-", number, given=data)
+            status, out, error = ran("-", number, given=data)
             self.assertEqual((status, error, bytes.fromhex(out)), (0, "", octets))
             status, lines = asked_program().ask(["decode"], out)
             self.assertEqual((status, lines[1], lines[-1].split()[0]), (0, "keepalive", "update"))
-        self.assertEqual(run("streams", "-", 3, given=data), (1, "", "streams: -: there are 2 streams\n"))
+        self.assertEqual(ran("-", 3, given=data), (1, "", "streams: -: there are 2 streams\n"))
 
     def test_decode_of_four_octet_numbers(self):
         """Both OPENs decide the width of both streams."""
         one = open_message(1, self.FOUR) + wide_message(70000)
         for other, status, line in ((speech(2, 0, self.FOUR), 0, "  update announce 10.7.0.0/16 path 70000 next 10.0.0.1"),
                                     (speech(2, 0), 1, "  fault 3 11")):
-            got, out, _ = run("streams", "-", "--decode", given=ethernet(conversation(one, other)))
+            got, out, _ = ran("-", "--decode", given=ethernet(conversation(one, other)))
             self.assertEqual((got, out.splitlines()[2]), (status, line))
 
     def test_decode(self):
         wrong = speech(2, 0) + message(9)
-        status, out, error = run("streams", "-", "--decode", given=ethernet(conversation(speech(1, 1), wrong)))
+        status, out, error = ran("-", "--decode", given=ethernet(conversation(speech(1, 1), wrong)))
         self.assertEqual((status, error), (1, "streams: -: stream 2: the program finds a fault\n"))
         self.assertEqual(out.splitlines()[1:4], ["  open as 1 hold 90 id 10.0.0.1", "  keepalive",
                                                  "  update announce 10.0.0.0/16 path 1 next 10.0.0.1"])
@@ -651,25 +868,27 @@ class Printed(unittest.TestCase):
 
     def test_a_stream_is_decoded_in_parts(self):
         """More than the program reads at once, a fault in the last part."""
-        said = open_message(1) + (message(4) * 40 + update_message(1, 7)) * 12000
+        said = open_message(1) + (LONG * 20 + update_message(1, 7)) * 120
+        self.assertGreater(2 * len(said), 1 << 24)
         data = ethernet(talk(CLIENT, SERVER, said + message(9), 7, 60000))
-        status, out, error = run("streams", "-", "--decode", given=data)
+        status, out, error = ran("-", "--decode", given=data)
         self.assertEqual((status, error), (1, "streams: -: stream 1: the program finds a fault\n"))
-        self.assertEqual((out.count("  keepalive\n"), out.count("  update announce")), (480000, 12000))
+        self.assertEqual((out.count("  update\n"), out.count("  update announce")), (2400, 120))
         self.assertTrue(out.endswith("\n  fault 1 3\n  " + "ff" * 16 + "0016" + "03010309\n"))
 
     def test_holes_are_lines_on_the_standard_error(self):
         segments = list(talk(CLIENT, SERVER, speech(1, 2), 7, 30))
-        status, out, error = run("streams", "-", 1, given=ethernet(segments[:2] + segments[3:]))
+        status, out, error = ran("-", 1, given=ethernet(segments[:2] + segments[3:]))
         self.assertEqual((status, bytes.fromhex(out)), (1, speech(1, 2)[:30]))
         self.assertEqual(error, "streams: -: stream 1: 30 octets are missing behind octet 30\n"
                                 f"streams: -: stream 1: it ends at its first hole, {len(speech(1, 2)) - 60} octets stand behind it\n")
 
     def test_wrong_words(self):
-        for words in ([], ["x", "0"], ["x", "1", "--decode"], ["x", "--port", "65536"], ["x", "y", "z"], ["--pro", "x"]):
+        for words in ([], ["x", "0"], ["x", "1", "--decode"], ["x", "--port", "65536"], ["x", "y", "z"], ["--pro", "x"],
+                      ["x", "--asn", "3"], ["x", "--parts", "y"]):
             status, out, error = run("streams", *words)
             self.assertEqual((status, out, error.count("\n")), (2, "", 1))
-        self.assertEqual(run("streams", "nothing.pcap"), (1, "", "streams: nothing.pcap: No such file or directory\n"))
+        self.assertEqual(ran("nothing.pcap"), (1, "", "streams: nothing.pcap: No such file or directory\n"))
         self.assertEqual(run("streams", "--help")[0], 0)
 
 
