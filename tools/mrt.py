@@ -31,6 +31,11 @@ class Peering:
         self.streams = {"peer": self.peer, "local": self.local}
         self.width, self.has_identifiers = None, False
 
+    def meet(self, local):
+        """Learns the collector's end, which has no address before there is a connection."""
+        if not any(self.local.source[0]):
+            self.peer.target = self.local.source = local
+
     def takes(self, side, kind, width):
         """Whether a message belongs to this session: an OPEN behind other messages begins another, and a stream is read
         by one width."""
@@ -73,7 +78,8 @@ class Head:
         peer, local, interface, family = struct.unpack_from(numbers, body)
         size, at = SIZES[family], struct.calcsize(numbers)
         addresses = bytes(body[at:at + size]), bytes(body[at + size:at + 2 * size])
-        self.key = addresses, interface
+        # An address of one link alone is told apart by its interface.
+        self.key = addresses[0], interface if addresses[0][:1] == b"\xfe" else 0
         self.peer, self.local = (addresses[0], f"as {peer}"), (addresses[1], f"as {local}")
         self.rest = bytes(body[at + 2 * size:])
 
@@ -89,7 +95,7 @@ def head_of(subtype, body):
 
 
 class Peerings:
-    """The sessions that were found, and the latest of each two addresses."""
+    """The sessions that were found, and the latest of each peer."""
 
     def __init__(self):
         self.found, self.latest = [], {}
@@ -102,16 +108,17 @@ class Peerings:
         """Adds a record to the session of its peer."""
         if head.key not in self.latest:
             self.begin(head)
+        self.latest[head.key].meet(head.local)
         if subtype in CHANGES:
             self.add_change(time, head)
         else:
             self.add_message(time, subtype, head)
 
     def add_change(self, time, head):
-        """A change from Idle begins a session where the last one has messages."""
+        """A change that leaves Idle begins a session where the last one has messages."""
         before, after = struct.unpack_from(">HH", head.rest)
         latest = self.latest[head.key]
-        if before == IDLE and (latest.peer.last or latest.local.last):
+        if before == IDLE and after in STATES and (latest.peer.last or latest.local.last):
             self.begin(head)
         self.latest[head.key].peer.note(f"state {STATES.get(before, before)} {STATES.get(after, after)}", time)
 
@@ -139,7 +146,8 @@ def peerings_of(data, losses):
         else:
             name = TYPES.get(kind, f"type {kind}") + (f" of subtype {subtype}" if kind == BGP4MP else "")
             unread[name] = unread.get(name, 0) + 1
-    losses += [f"{number} records of {name} are not read" for name, number in sorted(unread.items())]
+    losses += [f"{number} record{'s are' if number > 1 else ' is'} not read: {name}"
+               for name, number in sorted(unread.items())]
     for peering in peerings.found:
         for stream in peering.streams.values():
             stream.join()

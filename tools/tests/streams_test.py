@@ -699,6 +699,13 @@ class Collected(unittest.TestCase):
         self.assertEqual(self.decoded(change_record(1, 99)), (0, [
             "1  192.0.2.1 as 7 > 192.0.2.9 as 9  0 octets  1 change of state", "  state Idle 99"], ""))
 
+    def test_a_collector_without_a_connection_has_no_address(self):
+        nowhere = (PEER, bytes(4))
+        data = change_record(1, 3, ends=nowhere) + change_record(3, 4) + said_record(open_message(7)) + change_record(1, 8)
+        self.assertEqual(self.decoded(data + said_record(message(4)))[1], [
+            "1  192.0.2.1 as 7 > 192.0.2.9 as 9  48 octets  open keepalive, 3 changes of state", "  state Idle Active",
+            "  state Active OpenSent", "  open as 7 hold 90 id 10.0.0.7", "  state Idle 8", "  keepalive"])
+
     def test_another_session_is_another_stream(self):
         one = [said_record(open_message(7)), said_record(wide_message(7))]
         for between in ([], [change_record(6, 1), change_record(1, 2), change_record(2, 4)], [change_record(6, 1)]):
@@ -716,6 +723,10 @@ class Collected(unittest.TestCase):
         data += said_record(message(4)) + said_record(message(4), ends=six, asn=8)
         self.assertEqual([line.split("  ")[1] for line in self.decoded(data)[1] if " > " in line],
                          ["192.0.2.1 as 7 > 192.0.2.9 as 9", "2001::1 as 8 > 2001::2 as 9", "192.0.2.2 as 6 > 192.0.2.9 as 9"])
+        link = bytes([0xFE, 0x80] + [0] * 13 + [1]), bytes([0xFE, 0x80] + [0] * 13 + [2])
+        one, other = peering(4, message(4), link), bytearray(peering(4, message(4), link))
+        other[9] = 4  # another interface
+        self.assertEqual(len([line for line in self.decoded(record(16, 4, one) + record(16, 4, other))[1] if " > " in line]), 2)
 
     def test_times(self):
         data = said_record(open_message(7), time=60) + said_record(message(4), time=120, parts=250000)
@@ -737,9 +748,10 @@ class Collected(unittest.TestCase):
         data += record(16, 4, b"x" * 9) + record(16, 1, peering(2, b"", (b"", b""))) + record(77, 0, b"")
         status, out, error = self.decoded(data)
         self.assertEqual((status, out[1:]), (1, ["  keepalive"]))
-        self.assertEqual(error.splitlines(), [f"streams: -: {number} records of {name} are not read" for number, name in (
-            (1, "BGP4MP of subtype 1"), (1, "BGP4MP of subtype 3"), (1, "BGP4MP of subtype 4"), (1, "OSPFv2"),
-            (2, "TABLE_DUMP_V2"), (1, "type 77"))])
+        self.assertEqual(error.splitlines(), [f"streams: -: {number} not read: {name}" for number, name in (
+            ("1 record is", "BGP4MP of subtype 1"), ("1 record is", "BGP4MP of subtype 3"),
+            ("1 record is", "BGP4MP of subtype 4"), ("1 record is", "OSPFv2"), ("2 records are", "TABLE_DUMP_V2"),
+            ("1 record is", "type 77"))])
 
     def test_a_file_that_is_cut_off_or_altered(self):
         data = said_record(open_message(7)) + change_record(5, 6) + said_record(wide_message(7), parts=3)
