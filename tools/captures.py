@@ -1,11 +1,13 @@
 """What the tools read of captures: the frames of a file, the TCP segments in them, and the streams that these make."""
 import heapq
+import re
 import struct
 
 from program import Refusal
 
 FIN, SYN, RST, ACK = 1, 2, 4, 16
 SECOND = 10**9
+HEX = re.compile(rb"[0-9A-Fa-f \t\r\n]+")
 # A SYN that comes late is this many octets at most before what was seen.
 NEAR = 1 << 20
 
@@ -21,7 +23,7 @@ def frames(data, losses):
         for magic, unit in ((0xA1B2C3D4, 1000), (0xA1B23C4D, 1)):
             if data[:4] == struct.pack(order + "I", magic):
                 return frames_of_records(data, order, unit, losses)
-    raise Refusal("neither pcap, pcapng nor MRT")
+    raise Refusal("neither pcap, pcapng, MRT nor hex digits")
 
 
 def frames_of_records(data, order, unit, losses):
@@ -280,6 +282,30 @@ class Connection:
         if segment.flags & ACK and other.initial is not None and segment.acknowledged == other.initial + 1 & 0xFFFFFFFF:
             return True
         return not other.pieces
+
+
+class Spoken:
+    """One stream without ends, of which nothing but its octets is known."""
+    width, has_identifiers = None, False
+
+    def __init__(self, octets):
+        self.streams = {"said": Stream(None, None), "answered": Stream(None, None)}
+        self.streams["said"].append(octets, None)
+        for stream in self.streams.values():
+            stream.join()
+
+
+def is_hex(data):
+    """Whether a file is a text of hex digits and blanks, as `decode` reads it."""
+    return HEX.fullmatch(data) is not None
+
+
+def spoken_of(data):
+    """The stream that a text of hex digits is."""
+    digits = bytes(data).translate(None, b" \t\r\n")
+    if len(digits) % 2:
+        raise Refusal("an odd number of hex digits")
+    return [Spoken(bytes.fromhex(digits.decode()))]
 
 
 def connections_of(data, port, losses):

@@ -221,7 +221,7 @@ class Files(unittest.TestCase):
                 try:
                     found_in(bytes(data[:draw.choice([len(data), draw.randrange(len(data))])]))
                 except streams.Refusal as why:
-                    self.assertIn(str(why), ("neither pcap, pcapng nor MRT", "the capture ends in its head"))
+                    self.assertIn(str(why), ("neither pcap, pcapng, MRT nor hex digits", "the capture ends in its head"))
 
     def test_other_link_types_are_named(self):
         data = pcap(127, [b"\0" * 60] * 3)
@@ -238,7 +238,7 @@ class Files(unittest.TestCase):
                          (whole(said, answered), []))
 
     def test_no_capture(self):
-        self.assertEqual(run("streams", "README.md"), (1, "", "streams: README.md: neither pcap, pcapng nor MRT\n"))
+        self.assertEqual(run("streams", "README.md"), (1, "", "streams: README.md: neither pcap, pcapng, MRT nor hex digits\n"))
         self.assertEqual(ran("-", given=pcap(1, [])), (1, "", "streams: -: no octets from or to port 179\n"))
 
 
@@ -769,6 +769,26 @@ class Collected(unittest.TestCase):
                 streams.peerings_of(memoryview(bytes(altered)), [])
 
 
+class Hexed(unittest.TestCase):
+    """A stream as hex, as `decode` reads it."""
+
+    def test_it_is_one_stream(self):
+        said = open_message(7, Printed.FOUR) + refresh() + wide_message(7)
+        text = said.hex()
+        for given in (text, text.upper(), " ".join(text) + "\r\n", streams.hex_lines(said)):
+            self.assertEqual(ran("-", "--decode", given=given.encode()), (0, "".join(f"{line}\n" for line in (
+                f"1  {len(said)} octets  open route-refresh update, 1 route-refresh",
+                "  open as 7 hold 90 id 10.0.0.7 cap 65 00000001 cap 2 -", "  route-refresh ipv4 unicast",
+                "  update announce 10.7.0.0/16 path 7 next 10.0.0.1", "1: width 4, by its paths")), ""))
+            self.assertEqual(ran("-", 1, given=given.encode()), (0, streams.hex_lines(said), ""))
+        self.assertEqual(ran("-", "--decode", "--times", given=message(4).hex().encode())[1].splitlines()[1:], ["  - keepalive"])
+
+    def test_what_is_none(self):
+        self.assertEqual(ran("-", given=b"ff f"), (1, "", "streams: -: an odd number of hex digits\n"))
+        for given in (b"0xff", b"ff:ff", b""):
+            self.assertEqual(ran("-", given=given), (1, "", "streams: -: neither pcap, pcapng, MRT nor hex digits\n"))
+
+
 class Packed(unittest.TestCase):
     """What gzip and bzip2 packed."""
 
@@ -818,6 +838,16 @@ class Parts(unittest.TestCase):
                 lines, octets = lines + more, octets + bytes.fromhex(text)
             self.assertEqual([line.split()[0] for line in lines], ["open"] + ["update"] * 21 * 120)
             self.assertEqual(octets, open_message(1) + (LONG * 20 + update_message(1, 7)) * 120)
+
+    def test_a_text_that_is_too_long(self):
+        """Of a stream as hex the parts are the same."""
+        said = open_message(1) + (LONG * 20 + refresh() + update_message(1, 7)) * 120
+        with tempfile.TemporaryDirectory() as folder:
+            wanted = self.parts(said, folder)[1]
+            out = ran("-", 1, "--parts", pathlib.Path(folder) / "y", given=said.hex().encode())[1]
+            self.assertEqual([line.replace(f"{folder}/y", "x") for line in out.splitlines()], wanted)
+            for name in ("1.hex", "2.hex"):
+                self.assertEqual(*((pathlib.Path(folder) / f"{form}-{name}").read_bytes() for form in "xy"))
 
     def test_what_is_no_whole_message(self):
         with tempfile.TemporaryDirectory() as folder:
