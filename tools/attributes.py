@@ -37,8 +37,8 @@ class Update:
 
 def remark_of(body, width, identified=()):
     """What `decode` leaves unsaid of an UPDATE that it finds no fault in, None where it is nothing: the attributes that
-    it does not print, an ORIGIN that is not IGP, path and next hop where no prefix is announced by RFC 4271's field, and
-    an End-of-RIB (RFC 4724). `width` is that of AS numbers, `identified` has the families whose prefixes have path
+    it does not print, an ORIGIN that is not IGP, path and next hop where no prefix is announced by RFC 4271's field,
+    and an End-of-RIB (RFC 4724). `width` is that of AS numbers, `identified` has the families whose prefixes have path
     identifiers."""
     update = Update(body)
     attributes = update.attributes

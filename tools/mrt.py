@@ -1,5 +1,5 @@
-"""What the tools read of MRT files (RFC 6396), as collectors of routes write them: the messages and the changes of state
-of each peer."""
+"""What the tools read of MRT files (RFC 6396), as collectors of routes write them: the messages and the changes of
+state of each peer."""
 import struct
 
 from captures import SECOND, Stream
@@ -7,8 +7,8 @@ from messages import HEAD, OPEN, UPDATE
 from program import Refusal
 
 TABLE_DUMP, TABLE_DUMP_V2, BGP4MP, BGP4MP_ET = 12, 13, 16, 17
-TYPES = {11: "OSPFv2", TABLE_DUMP: "TABLE_DUMP", TABLE_DUMP_V2: "TABLE_DUMP_V2", BGP4MP: "BGP4MP", BGP4MP_ET: "BGP4MP_ET",
-         32: "ISIS", 33: "ISIS_ET", 48: "OSPFv3", 49: "OSPFv3_ET"}
+TYPES = {11: "OSPFv2", TABLE_DUMP: "TABLE_DUMP", TABLE_DUMP_V2: "TABLE_DUMP_V2", BGP4MP: "BGP4MP",
+         BGP4MP_ET: "BGP4MP_ET", 32: "ISIS", 33: "ISIS_ET", 48: "OSPFv3", 49: "OSPFv3_ET"}
 # The subtypes of BGP4MP: changes of state, and messages; of these those with AS numbers of four octets, those that the
 # collector said itself, and those with path identifiers (RFC 8050).
 CHANGES, MESSAGES = {0, 5}, {1, 4, 6, 7, 8, 9, 10, 11}
@@ -57,7 +57,8 @@ def records_of(data, losses):
     at, number = 0, 0
     while at < len(data):
         number += 1
-        seconds, kind, subtype, size = struct.unpack_from(">IHHI", data, at) if at + RECORD <= len(data) else (0, 0, 0, 0)
+        is_whole = at + RECORD <= len(data)
+        seconds, kind, subtype, size = struct.unpack_from(">IHHI", data, at) if is_whole else (0, 0, 0, 0)
         end = at + RECORD + size
         if end > len(data):
             losses.append(f"the capture ends in the middle of record {number}")

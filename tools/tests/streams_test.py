@@ -542,8 +542,8 @@ class Remarks(unittest.TestCase):
                           + attribute(32, struct.pack(">III", 70000, 1, 2)) + attribute(16, bytes(range(8)))),
              "ORIGINATOR_ID 10.0.0.1, CLUSTER_LIST 10.0.0.2 10.0.0.3, LARGE_COMMUNITY 70000:1:2, "
              "EXTENDED_COMMUNITIES 0001020304050607"),
-            (told_message(attribute(17, struct.pack(">BBI", 2, 1, 70000)) + attribute(18, struct.pack(">IBBBB", 70000, 1, 2, 3, 4))
-                          + attribute(35, struct.pack(">I", 70000)) + attribute(99, b"x") + attribute(40, b"xy")),
+            (told_message(attribute(17, struct.pack(">BBI", 2, 1, 70000))
+                          + attribute(18, struct.pack(">IBBBB", 70000, 1, 2, 3, 4)) + attribute(35, struct.pack(">I", 70000)) + attribute(99, b"x") + attribute(40, b"xy")),
              "AS4_PATH 70000, AS4_AGGREGATOR 70000 1.2.3.4, ONLY_TO_CUSTOMER 70000, attribute 99 1 octet, "
              "BGP_PREFIX-SID 2 octets"),
             (told_message(attribute(8, b"x" * 300)), "COMMUNITIES" + " 30840:30840" * 75),
@@ -552,8 +552,10 @@ class Remarks(unittest.TestCase):
 
     def test_families(self):
         two = self.SIX + b"\0"
-        rows = [(reach(2, 1, two), "MP_REACH_NLRI ipv6 2 prefixes"), (reach(1, 2, b"\x08\x0a"), "MP_REACH_NLRI ipv4 multicast 1 prefix"),
-                (reach(25, 70, b"x" * 7), "MP_REACH_NLRI l2vpn evpn 7 octets"), (reach(2, 128, b"x"), "MP_REACH_NLRI ipv6 mpls-vpn 1 octet"),
+        rows = [(reach(2, 1, two), "MP_REACH_NLRI ipv6 2 prefixes"),
+                (reach(1, 2, b"\x08\x0a"), "MP_REACH_NLRI ipv4 multicast 1 prefix"),
+                (reach(25, 70, b"x" * 7), "MP_REACH_NLRI l2vpn evpn 7 octets"),
+                (reach(2, 128, b"x"), "MP_REACH_NLRI ipv6 mpls-vpn 1 octet"),
                 (reach(99, 1, b""), "MP_REACH_NLRI 99 0 octets"),
                 (attribute(15, b"\0\2\1" + two, 0x80), "MP_UNREACH_NLRI ipv6 2 prefixes")]
         self.assertEqual(self.remarks(*(told_message(value) for value, _ in rows)), [said for _, said in rows])
