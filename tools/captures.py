@@ -223,6 +223,7 @@ class Stream:
 
     def append(self, octets, time):
         """Adds octets behind those that are there."""
+        self.begin = 0
         self.pieces.append((self.last, octets, time))
         self.last += len(octets)
 

@@ -3,6 +3,8 @@ import struct
 
 MARKER = b"\xff" * 16
 HEAD = 19
+# The most octets of a message (RFC 8654).
+LONGEST = 65535
 OPEN, UPDATE, ROUTE_REFRESH = 1, 2, 5
 KINDS = {OPEN: "open", UPDATE: "update", 3: "notification", 4: "keepalive", ROUTE_REFRESH: "route-refresh"}
 # The head of a ROUTE-REFRESH as RFC 2918 has it; a longer one carries filters (RFC 5291).
@@ -40,6 +42,19 @@ def messages_of(octets, begin=0):
             return
         yield Message(kind, begin, begin + size)
         begin += size
+
+
+def first_message(octets):
+    """The place of the first whole message of octets that may begin in the middle of one: behind it stands another, or
+    nothing. It is 0 where none is found."""
+    at = octets.find(MARKER, 0, LONGEST + len(MARKER))
+    while at >= 0:
+        size, kind = struct.unpack_from(">HB", octets, at + 16) if at + HEAD <= len(octets) else (0, 0)
+        following = octets[at + size:at + size + 16]
+        if size >= HEAD and kind in KINDS and following == MARKER[:len(following)]:
+            return at
+        at = octets.find(MARKER, at + 1, LONGEST + len(MARKER))
+    return 0
 
 
 def family_text(family, subsequent):

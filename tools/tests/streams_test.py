@@ -463,6 +463,29 @@ class Late(unittest.TestCase):
                               self.decoded(said, answered, *words)[1])
         self.assertEqual(self.decoded(open_message(1, four) + self.EITHER, message(4))[0], 1)
 
+    def test_a_stream_that_begins_in_the_middle_of_a_message(self):
+        said = wide_message(1) + message(4) + wide_message(70000)
+        for skipped in range(1, len(wide_message(1)) + 1):
+            data = ethernet([Said(CLIENT, SERVER, 7, ACK, said[skipped:])])
+            status, out, error = ran("-", "--decode", given=data)
+            left = len(wide_message(1)) - skipped
+            with self.subTest(skipped=skipped):
+                self.assertEqual((status, error), (0, ""))
+                self.assertEqual(out.splitlines()[1:], ([f"  # {left} octets of an earlier message"] if left else []) + [
+                    "  keepalive", "  update announce 10.7.0.0/16 path 70000 next 10.0.0.1", "1: width 4, by its paths"])
+
+    def test_a_marker_in_a_message_is_no_message(self):
+        said = message(2, b"\xff" * 40) + message(4)  # no end of a message stands where these lengths say
+        status, out, error = ran("-", "--decode", given=ethernet([Said(CLIENT, SERVER, 7, ACK, said[20:])]))
+        self.assertEqual((status, out.splitlines()[1:]), (0, ["  # 39 octets of an earlier message", "  keepalive"]))
+        for said in (b"\0" * 90, b"\0" * 66000 + message(4)):
+            status, out, error = ran("-", "--decode", given=ethernet(list(talk(CLIENT, SERVER, said, 7, 60000))[1:]))
+            self.assertEqual((status, out.splitlines()[1]), (1, "  fault 1 1"))
+
+    def test_with_its_beginning_a_stream_has_to_begin_with_a_message(self):
+        self.assertEqual(ran("-", "--decode", given=ethernet(talk(CLIENT, SERVER, b"x" + message(4), 7, 60)))[0], 1)
+        self.assertEqual(ran("-", "--decode", given=(b"\1" + message(4)).hex().encode())[0], 1)
+
     def test_options_stand_anywhere(self):
         data = ethernet(conversation(self.EITHER, message(4)))
         wanted = ran("-", "--decode", "--asn", 4, "--port", 179, given=data)
@@ -850,6 +873,14 @@ class Parts(unittest.TestCase):
             self.assertEqual([line.replace(f"{folder}/y", "x") for line in out.splitlines()], wanted)
             for name in ("1.hex", "2.hex"):
                 self.assertEqual(*((pathlib.Path(folder) / f"{form}-{name}").read_bytes() for form in "xy"))
+
+    def test_a_stream_that_begins_late(self):
+        data = ethernet([Said(CLIENT, SERVER, 7, ACK, (message(4) + refresh() + wide_message(7))[5:])])
+        with tempfile.TemporaryDirectory() as folder:
+            self.assertEqual(ran("-", 1, "--parts", f"{folder}/x", given=data), (0, (
+                f"{folder}/x-1.hex  1 messages  {len(wide_message(7))} octets\n1 route-refresh left out\n"
+                "14 octets of an earlier message left out\n"), ""))
+            self.assertEqual(bytes.fromhex((pathlib.Path(folder) / "x-1.hex").read_text()), wide_message(7))
 
     def test_what_is_no_whole_message(self):
         with tempfile.TemporaryDirectory() as folder:
