@@ -67,7 +67,8 @@ class Documents(unittest.TestCase):
         self.assertEqual(set(CODES) - told, set())
 
     def test_each_tool_has_a_help_with_an_example(self):
-        for tool in ("streams", "topology", "settle", "whatif", "config", "beside_frr", "draw", "film", "chart", "pictures", "test"):
+        for tool in ("streams", "topology", "settle", "whatif", "config", "beside_frr", "draw", "film", "chart",
+                     "pictures", "test"):
             path = TOP / "tools" / tool
             self.assertTrue(os.access(path, os.X_OK))
             done = subprocess.run([path, "--help"], capture_output=True, text=True)
