@@ -46,6 +46,15 @@ pub record HasRoom (own_open : Message) (told : Option Message) (a : Sketch) (s 
   pub acted : MESSAGE_LIMIT ≤ s.acted.room
   pub acted_places : 1 ≤ s.acted.places
 
+-- what there was room for in a side there is room for in this one
+pub record KeepsRoom (s t : SideEnd) : Type 0 where
+  pub octets : s.outbox.room ≤ t.outbox.room
+  pub places : s.outbox.places ≤ t.outbox.places
+  pub acted : s.acted.room ≤ t.acted.room
+  pub acted_places : s.acted.places ≤ t.acted.places
+  pub sent : s.sent.room ≤ t.sent.room
+  pub sent_places : s.sent.places ≤ t.sent.places
+
 -- a side whose next item is put
 abbrev pub put_next : Side → ℕ → Side
 put_next s cut = record s { outbox = left_behind (next_item cut s.outbox) s.outbox }

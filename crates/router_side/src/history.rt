@@ -1,6 +1,6 @@
 //! The UPDATEs of a side, by incarnation, in octets that tell which they are.
 
-ghost use Rattle.std.specs.Prelude.{◌≡◌, ◌≤◌, ◌++◌, [], true, length, Ok, IfOk, OnOk};
+ghost use Rattle.std.specs.Prelude.{◌≡◌, ◌≤◌, ◌++◌, [], true, length, Ok, IfOk, OnOk, OnErr};
 ghost use Rattle.bgp_codec.specs.declared.message.Message.TheVariants.{UpdateMsg};
 ghost use Rattle.bgp_codec.specs.declared.update.Update as update;
 ghost use Rattle.bgp_codec.specs.Header.{IsFrame};
@@ -98,12 +98,13 @@ impl History {
         Ok(all)
     }
 
-    // Makes room for an UPDATE of so many octets.
+    // Makes room for an UPDATE of so many octets. Where a growth is refused all stays.
     pub(crate) fn reserve(&mut self, octets: usize) -> Result<(), AllocError>
         ensures entries { self.new.entries ≡ self.old.entries }
         ensures octets { self.new.octets ≡ self.old.octets }
         ensures room { OnOk result (octets ≤ self.new.room) }
         ensures places { OnOk result (1 ≤ self.new.places) }
+        ensures err { OnErr result (self.new ≡ self.old) }
     {
         if self.last.has_room(octets) {
             return Ok(());
@@ -119,6 +120,7 @@ impl History {
         ensures octets { self.new.octets ≡ self.old.octets }
         ensures room { OnOk result (octets ≤ self.new.room) }
         ensures places { OnOk result (1 ≤ self.new.places) }
+        ensures err { OnErr result (self.new ≡ self.old) }
     {
         let alloc = *self.full.allocator();
         let by_places = self.last.count().saturating_mul(OCTETS_A_PLACE);

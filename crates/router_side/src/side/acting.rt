@@ -1,10 +1,10 @@
 //! An UPDATE that comes in Established is acted on: its draft does nothing else, so none is made.
 
-ghost use Rattle.std.specs.Prelude.{◌≡◌, true, OnOk};
+ghost use Rattle.std.specs.Prelude.{◌≡◌, true, OnOk, OnErr};
 ghost use Rattle.bgp_codec.specs.declared.update.Update as updates;
 ghost use Rattle.bgp_framing.specs.Held.{is_waiting};
 ghost use Rattle.router_model.specs.Sides.{carried, is_up, without_front, HasUpdate};
-ghost use Rattle.router_side.specs.SideOf.{side, acting, IsInFront, HasRoomToAct};
+ghost use Rattle.router_side.specs.SideOf.{side, acting, IsInFront, HasRoomToAct, KeepsRoom};
 
 use super::SideEnd;
 use super::carrying::keep_front;
@@ -14,10 +14,11 @@ use std::alloc::AllocError;
 
 impl SideEnd {
     /// Makes room for the UPDATE in front to be acted on. It is refused only where memory was, and the side stays
-    /// as it was.
+    /// as it was, with the room that it had.
     pub fn reserve_acting(&mut self) -> Result<(), AllocError>
         ensures side { side self.new ≡ side self.old }
         ensures room { OnOk result (HasRoomToAct self.new) }
+        ensures kept { OnErr result (KeepsRoom self.old self.new) }
     {
         self.acted.reserve(MESSAGE_LIMIT)
     }

@@ -1,6 +1,6 @@
 //! A draft is given room, and carried out.
 
-ghost use Rattle.std.specs.Prelude.{◌≡◌, ◌≤◌, ◌++◌, [], true, cond, length, None, OnOk};
+ghost use Rattle.std.specs.Prelude.{◌≡◌, ◌≤◌, ◌++◌, [], true, cond, length, None, OnOk, OnErr};
 ghost use Rattle.bgp_values.specs.declared.messages.TheConstants.{MESSAGE_LIMIT};
 ghost use Rattle.bgp_values.specs.declared.width.Width as widths;
 ghost use Rattle.bgp_codec.specs.declared.update.Update as updates;
@@ -13,7 +13,7 @@ ghost use Rattle.router_model.specs.Sides.{carried, acted_with, rest_behind, wit
 ghost use Rattle.router_side.specs.Sayings.{told_of, all_entries, all_sizes, size_where, IsSayable, IsSayableWhere};
 ghost use Rattle.router_side.specs.Drafts.{draft, hand};
 ghost use Rattle.router_side.specs.Histories.{history, told_with};
-ghost use Rattle.router_side.specs.SideOf.{side, IsInFront, HasRoom};
+ghost use Rattle.router_side.specs.SideOf.{side, IsInFront, HasRoom, KeepsRoom};
 
 use super::SideEnd;
 use crate::at_hand::Given;
@@ -28,7 +28,7 @@ use std::alloc::{AllocError, Global};
 
 impl SideEnd {
     /// Makes room for all that a draft appends. It is refused only where memory was, and the side stays
-    /// as it was.
+    /// as it was, with the room that it had, or more.
     pub fn reserve(
         &mut self,
         own_open: &Message,
@@ -39,6 +39,7 @@ impl SideEnd {
         requires told { IsSayableWhere self.old.width (told_of (hand given.now)) }
         ensures side { side self.new ≡ side self.old }
         ensures room { OnOk result (HasRoom own_open.now (told_of (hand given.now)) made.now self.new) }
+        ensures kept { OnErr result (KeepsRoom self.old self.new) }
     {
         let says = made.says.as_slice();
         let octets = size_of_all(

@@ -1,10 +1,10 @@
 //! UPDATEs and markers that a router says of itself, beside the drafts of its events.
 
-ghost use Rattle.std.specs.Prelude.{◌≡◌, true, OnOk};
+ghost use Rattle.std.specs.Prelude.{◌≡◌, true, OnOk, OnErr};
 ghost use Rattle.bgp_codec.specs.declared.message.Message.TheVariants.{UpdateMsg};
 ghost use Rattle.router_model.specs.Sides.{is_up, marked};
 ghost use Rattle.router_side.specs.Sayings.{IsSayable};
-ghost use Rattle.router_side.specs.SideOf.{side, told_by, HasRoomToTell, HasRoomToMark};
+ghost use Rattle.router_side.specs.SideOf.{side, told_by, HasRoomToTell, HasRoomToMark, KeepsRoom};
 
 use super::SideEnd;
 use crate::route::Route;
@@ -14,11 +14,12 @@ use std::alloc::AllocError;
 
 impl SideEnd {
     /// Makes room for an UPDATE to be told. It is refused only where memory was, and the side stays as
-    /// it was.
+    /// it was, with the room that it had, or more.
     pub fn reserve_telling(&mut self, message: &Message) -> Result<(), AllocError>
         requires { IsSayable self.old.width message.now }
         ensures side { side self.new ≡ side self.old }
         ensures room { OnOk result (HasRoomToTell message.now self.new) }
+        ensures kept { OnErr result (KeepsRoom self.old self.new) }
     {
         let len = written_len(message, self.width);
         self.outbox.reserve(len, 1)?;
@@ -40,10 +41,12 @@ impl SideEnd {
         self.session.update_sent();
     }
 
-    /// Makes room for a path to be told. It is refused only where memory was, and the side stays as it was.
+    /// Makes room for a path to be told. It is refused only where memory was, and the side stays as it was, with the
+    /// room that it had, or more.
     pub fn reserve_route(&mut self, route: &Route) -> Result<(), AllocError>
         ensures side { side self.new ≡ side self.old }
         ensures room { OnOk result (HasRoomToTell (UpdateMsg route.now) self.new) }
+        ensures kept { OnErr result (KeepsRoom self.old self.new) }
     {
         let len = route.len(self.width);
         self.outbox.reserve(len, 1)?;
@@ -66,10 +69,12 @@ impl SideEnd {
         self.session.update_sent();
     }
 
-    /// Makes room for a marker. It is refused only where memory was, and the side stays as it was.
+    /// Makes room for a marker. It is refused only where memory was, and the side stays as it was, with the room that
+    /// it had, or more.
     pub fn reserve_marker(&mut self) -> Result<(), AllocError>
         ensures side { side self.new ≡ side self.old }
         ensures room { OnOk result (HasRoomToMark self.new) }
+        ensures kept { OnErr result (KeepsRoom self.old self.new) }
     {
         self.outbox.reserve(0, 1)?;
         Ok(())
