@@ -7,3 +7,4 @@ mod offers;
 mod snap_collector_tests;
 mod snap_marker_tests;
 mod stable_paths_tests;
+mod stable_search_tests;

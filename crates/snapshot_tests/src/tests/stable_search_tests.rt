@@ -1,0 +1,338 @@
+//! Which assignments a search says are stable (`stable_search`), beside a check of each assignment of
+//! listed paths.
+
+use super::networks::{DISAGREE, PAIR, Plan, RING, network, prefix};
+use ranked_policy::{Asn, NetError, Network, Path};
+use stable_paths::{Assignment, Check, Instance, check};
+use stable_search::laws::stable_is_fitting;
+use stable_search::{Every, Limits, Part, SearchError, stable_assignments};
+use std::alloc::Global;
+use std::process::Abort;
+use std::test::*;
+
+const LIMITS: Limits = Limits {
+    most: 1_000,
+    steps: 100_000,
+};
+
+/// The origin alone.
+static ALONE: Plan = Plan {
+    routers: 1,
+    links: &[],
+    rules: &[],
+};
+
+/// 2, 3 and 4 each prefer the way through the next that ends there, so they agree.
+static AGREE: Plan = Plan {
+    routers: 4,
+    links: &[(1, 2), (1, 3), (1, 4), (2, 3), (3, 4)],
+    rules: &[
+        &[&[2, 3, 4, 1], &[2, 1]],
+        &[&[3, 4, 1], &[3, 1]],
+        &[&[4, 1]],
+    ],
+};
+
+/// A ring of 2 to 5 round 1: each prefers the way through the next.
+static EVEN_RING: Plan = Plan {
+    routers: 5,
+    links: &[
+        (1, 2),
+        (1, 3),
+        (1, 4),
+        (1, 5),
+        (2, 3),
+        (3, 4),
+        (4, 5),
+        (5, 2),
+    ],
+    rules: &[
+        &[&[2, 3, 1], &[2, 1]],
+        &[&[3, 4, 1], &[3, 1]],
+        &[&[4, 5, 1], &[4, 1]],
+        &[&[5, 2, 1], &[5, 1]],
+    ],
+};
+
+/// Two pairs that disagree, each by itself.
+static TWO_PAIRS: Plan = Plan {
+    routers: 5,
+    links: &[(1, 2), (1, 3), (2, 3), (1, 4), (1, 5), (4, 5)],
+    rules: &[
+        &[&[2, 3, 1], &[2, 1]],
+        &[&[3, 2, 1], &[3, 1]],
+        &[&[4, 5, 1], &[4, 1]],
+        &[&[5, 4, 1], &[5, 1]],
+    ],
+};
+
+/// 2 lists a path over a router that is no peer of it, one that ends elsewhere, and none that it can have.
+static NONE_CAN: Plan = Plan {
+    routers: 3,
+    links: &[(1, 3), (2, 3)],
+    rules: &[&[&[2, 1], &[2, 3]], &[&[3, 1]]],
+};
+
+/// 3 permits no path, so 2 has none over it.
+static NONE_PERMITTED: Plan = Plan {
+    routers: 3,
+    links: &[(1, 3), (2, 3)],
+    rules: &[&[&[2, 3, 1]], &[&[3, 2, 1]]],
+};
+
+// What is listed for a router of a plan, and at the end the empty path.
+fn listed(plan: &Plan, router: Asn, place: usize) -> Option<&'static [Asn]> {
+    if router == 1 {
+        return if place == 0 { Some(&[1]) } else { None };
+    }
+    let lists = *plan.rules.get((router as usize).wrapping_sub(2))?;
+    match lists.get(place) {
+        Some(path) => Some(*path),
+        None => {
+            if place == lists.len() {
+                Some(&[])
+            } else {
+                None
+            }
+        }
+    }
+}
+
+// The calls. These helpers ensure nothing, so that one is not carried along to the next.
+fn sets(alloc: Global, assignment: &mut Assignment, router: Asn, numbers: &[Asn]) -> bool {
+    match Path::from_slice(alloc, numbers) {
+        Ok(path) => assignment.set(router, path).is_ok(),
+        Err(_) => false,
+    }
+}
+
+// Gives the routers the paths that the digits of a number say; false where they say nothing.
+fn sets_all(alloc: Global, plan: &Plan, code: u32, assignment: &mut Assignment) -> bool {
+    let mut rest = code;
+    for i in 0..plan.routers {
+        let router = i.wrapping_add(1);
+        let Some(path) = listed(plan, router, (rest % 4) as usize) else {
+            return false;
+        };
+        if !sets(alloc, assignment, router, path) {
+            return false;
+        }
+        rest /= 4;
+    }
+    true
+}
+
+fn is_stable(alloc: Global, instance: &Instance, assignment: &Assignment) -> bool {
+    match check(alloc, instance, assignment) {
+        Ok(Check::Stable) => true,
+        _ => false,
+    }
+}
+
+fn is_path(assignment: &Assignment, router: Asn, path: &Path) -> bool {
+    assignment.path(router) == path.as_slice()
+}
+
+fn has_paths(part: &Part, choice: &[Path], assignment: &Assignment) -> bool {
+    for (router, path) in part.routers.as_slice().iter().zip(choice) {
+        if !is_path(assignment, *router, path) {
+            return false;
+        }
+    }
+    true
+}
+
+fn has_choice(part: &Part, assignment: &Assignment) -> bool {
+    for choice in part.choices.as_slice() {
+        if has_paths(part, choice.as_slice(), assignment) {
+            return true;
+        }
+    }
+    false
+}
+
+fn is_listed(every: &Every, assignment: &Assignment) -> bool {
+    for part in every.parts.as_slice() {
+        if !has_choice(part, assignment) {
+            return false;
+        }
+    }
+    true
+}
+
+// Whether the assignment of a number is listed exactly where it is stable; true where there is none.
+fn agrees(alloc: Global, plan: &Plan, instance: &Instance, every: &Every, code: u32) -> bool {
+    let mut assignment = Assignment::new(alloc);
+    !sets_all(alloc, plan, code, &mut assignment)
+        || is_stable(alloc, instance, &assignment) == is_listed(every, &assignment)
+}
+
+// How many assignments are listed.
+fn count(every: &Every) -> usize {
+    let mut product = 1usize;
+    for part in every.parts.as_slice() {
+        product = product.wrapping_mul(part.choices.len());
+    }
+    product
+}
+
+fn searched(alloc: Global, instance: &Instance, limits: &Limits) -> Result<Every, SearchError> {
+    stable_assignments(alloc, instance, limits)
+}
+
+fn all_agree(rt: &impl Abort, alloc: Global, plan: &Plan, instance: &Instance, every: &Every) {
+    for code in 0..4u32.wrapping_pow(plan.routers) {
+        assert!(rt;
+            agrees(alloc, plan, instance, every, code),
+            "assignment {code}"
+        );
+    }
+}
+
+fn lists(rt: &impl Abort, alloc: Global, plan: &Plan, net: &Network, stable: usize) {
+    let Some(prefix) = prefix() else {
+        return;
+    };
+    assert!(rt; net.names(&prefix));
+    let instance = Instance::new(net, &prefix);
+    match searched(alloc, &instance, &LIMITS) {
+        Ok(every) => {
+            assert!(rt; count(&every) == stable);
+            all_agree(rt, alloc, plan, &instance, &every);
+        }
+        Err(_) => panic!(rt; "refused"),
+    }
+}
+
+// The search of the network of a plan lists so many assignments, and those that are stable.
+fn finds(rt: &impl Abort, alloc: Global, plan: &Plan, stable: usize) -> Result<(), NetError> {
+    match network(alloc, plan) {
+        Ok(net) => lists(rt, alloc, plan, &net, stable),
+        Err(error) => return Err(error),
+    }
+    Ok(())
+}
+
+fn answers(rt: &impl Abort, alloc: Global, net: &Network, limits: &Limits, error: SearchError) {
+    let Some(prefix) = prefix() else {
+        return;
+    };
+    assert!(rt; net.names(&prefix));
+    match searched(alloc, &Instance::new(net, &prefix), limits) {
+        Ok(_) => panic!(rt; "not refused"),
+        Err(met) => assert!(rt; met == error),
+    }
+}
+
+fn parts_have_few(rt: &impl Abort, alloc: Global, net: &Network, limits: &Limits, stable: usize) {
+    let Some(prefix) = prefix() else {
+        return;
+    };
+    assert!(rt; net.names(&prefix));
+    match searched(alloc, &Instance::new(net, &prefix), limits) {
+        Ok(every) => assert!(rt; count(&every) == stable),
+        Err(_) => panic!(rt; "refused"),
+    }
+}
+
+// The search of the network of a plan is refused.
+fn refuses(
+    rt: &impl Abort,
+    alloc: Global,
+    plan: &Plan,
+    limits: &Limits,
+    error: SearchError,
+) -> Result<(), NetError> {
+    match network(alloc, plan) {
+        Ok(net) => answers(rt, alloc, &net, limits, error),
+        Err(error) => return Err(error),
+    }
+    Ok(())
+}
+
+#[test]
+fn the_origin_alone(rt: HostRuntime) -> Result<(), NetError> {
+    finds(&rt, rt.alloc(), &ALONE, 1)
+}
+
+#[test]
+fn two_that_disagree(rt: HostRuntime) -> Result<(), NetError> {
+    finds(&rt, rt.alloc(), &DISAGREE, 2)
+}
+
+#[test]
+fn a_ring_of_three(rt: HostRuntime) -> Result<(), NetError> {
+    finds(&rt, rt.alloc(), &RING, 0)
+}
+
+#[test]
+fn a_ring_of_four(rt: HostRuntime) -> Result<(), NetError> {
+    finds(&rt, rt.alloc(), &EVEN_RING, 2)
+}
+
+#[test]
+fn three_that_agree(rt: HostRuntime) -> Result<(), NetError> {
+    finds(&rt, rt.alloc(), &AGREE, 1)
+}
+
+#[test]
+fn two_pairs(rt: HostRuntime) -> Result<(), NetError> {
+    finds(&rt, rt.alloc(), &TWO_PAIRS, 4)
+}
+
+// Each part has two choices, and all together four.
+#[test]
+fn choices_of_parts(rt: HostRuntime) -> Result<(), NetError> {
+    let limits = Limits { most: 2, ..LIMITS };
+    match network(rt.alloc(), &TWO_PAIRS) {
+        Ok(net) => parts_have_few(&rt, rt.alloc(), &net, &limits, 4),
+        Err(error) => return Err(error),
+    }
+    Ok(())
+}
+
+#[test]
+fn paths_that_none_can_have(rt: HostRuntime) -> Result<(), NetError> {
+    finds(&rt, rt.alloc(), &NONE_CAN, 1)
+}
+
+#[test]
+fn paths_that_no_peer_has(rt: HostRuntime) -> Result<(), NetError> {
+    finds(&rt, rt.alloc(), &NONE_PERMITTED, 1)
+}
+
+#[test]
+fn a_router_without_a_rule(rt: HostRuntime) -> Result<(), NetError> {
+    let error = SearchError::TooManyPaths { router: 2 };
+    refuses(&rt, rt.alloc(), &PAIR, &LIMITS, error)
+}
+
+#[test]
+fn more_choices_than_asked_for(rt: HostRuntime) -> Result<(), NetError> {
+    let limits = Limits { most: 1, ..LIMITS };
+    refuses(
+        &rt,
+        rt.alloc(),
+        &DISAGREE,
+        &limits,
+        SearchError::TooManyChoices,
+    )
+}
+
+#[test]
+fn no_step(rt: HostRuntime) -> Result<(), NetError> {
+    let limits = Limits { steps: 0, ..LIMITS };
+    refuses(
+        &rt,
+        rt.alloc(),
+        &DISAGREE,
+        &limits,
+        SearchError::TooManySteps,
+    )
+}
+
+// Calls the law once.
+#[test]
+fn the_law_is_called(_rt: HostRuntime) {
+    stable_is_fitting();
+}

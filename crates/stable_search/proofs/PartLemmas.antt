@@ -1,0 +1,428 @@
+-- Places that bear on each other have one label, and each label's places have their own picks.
+use Rattle.std.proofs.Common.{◌≡◌, ◌≢◌, ℕ, zero, suc, ◌<◌, ◌≤◌, ◌+◌, ◌==◌, Bool, true, cond, List, [], ◌∷◌, ◌++◌, length, take, get_or, map, refl, sym, ap, subst, ◌∙◌, eq-eqb, ne_eqb, arith, inl, inr, ◌⊎◌}
+use Rattle.std.specs.Prelude.{◌↔◌, Result, Ok, Err, IfOk}
+use Rattle.std.specs.List.{All, AllPairs, Any, Contains}
+use Rattle.std.specs.Int.{bit_at}
+use lib.Bits.{bit_and}
+use Rattle.std.proofs.lemmas.Bool.{cases_order, cases_lt, eqb-true}
+use Rattle.std.proofs.lemmas.List.{take_more, length-map, length-append, get_or_append_left, get_or-map, get_or-take, get_or_default, get_or_past, length-take-le, same_lists}
+use Rattle.std.proofs.lemmas.List.Elements.{All-push, Contains-append_left, Contains-push, Contains-push_cases, Contains-get_or}
+use Rattle.std.proofs.lemmas.List.Quantifiers.{all_pairs_push, Any-push}
+use Rattle.std.proofs.lemmas.Nat.Bits.{bit_at_and, bit_at-lt, bit_at_above}
+use Rattle.stable_search.specs.declared.group.Group.{Group}
+use Rattle.stable_search.specs.declared.way.Way.{Way}
+use Rattle.stable_search.specs.Picks.{Has, IsIn, FitsWay, IsWithin, AreWithin, Solves, AreAll, Narrows}
+use Rattle.stable_search.specs.Groups.{at_places, IsPickOf, IsGroup, AreGroups}
+use Rattle.stable_search.specs.Parting.{IsFree, Joins, AreLabels, InPart, KeepsPart, IsPartSets, IsPartGroup, AreGrouped}
+use Rattle.stable_search.proofs.NarrowLemmas.{in_before}
+
+pub in_all : (a b v : ℕ) → bit_and a b ≡ a → Has a v → Has b v
+in_all a b v e h =
+    let m = bit_at_and a b v in
+    let s : bit_at (bit_and a b) v ≡ bit_at a v = ap (λ (n : ℕ). bit_at n v) e in
+    let x = bit_at-lt b v in
+    omega (arith, m, s, x, h)
+
+-- ---- labels
+
+pub labels_on : (sets : List ℕ) (ways : List Way) (i : ℕ) (way : Way) (labels new : List ℕ) → AreWithin (length sets) ways → i < length ways → way ≡ get_or ways i way → length new ≡ length labels
+    → Joins sets way labels new → AreLabels sets (take i ways) labels → AreLabels sets (take (i + 1) ways) new
+labels_on sets ways i way labels new within lt is size joins are = record {
+  size = size ∙ are.size;
+  low = λ k klt. joins.low (length sets) (λ j jlt. are.low j (omega (arith, jlt, are.size))) k (omega (arith, klt, are.size));
+  joined = λ k d klt.
+      (let more : take (i + 1) ways ≡ take i ways ++ way ∷ [] = take_more ways i way lt ∙ ap (λ (w : Way). take i ways ++ w ∷ []) (sym is) in
+      subst (λ (ws : List Way). k < length ws → IsFree sets (get_or ws k d) ⊎ (get_or new (get_or ws k d).from 0 ≡ get_or new (get_or ws k d).to 0)) (sym more)
+      (λ l. All-push (λ (w : Way). IsFree sets w ⊎ (get_or new w.from 0 ≡ get_or new w.to 0)) (take i ways) way before joins.joined k d l) klt);
+}
+  where
+    before : All (λ (w : Way). IsFree sets w ⊎ (get_or new w.from 0 ≡ get_or new w.to 0)) (take i ways)
+    before k d klt = elim (are.joined k d klt) [
+      | inl free ↦ inl free
+      | inr e ↦
+          let under : k < i = omega (arith, klt, length-take-le i ways (omega (arith, lt))) in
+          let w_in : IsWithin (length sets) (get_or (take i ways) k d) = subst (IsWithin (length sets)) (sym (get_or-take i ways k d under)) (within k d (omega (arith, under, lt))) in
+          inr (joins.kept (get_or (take i ways) k d).from (get_or (take i ways) k d).to (omega (arith, w_in.from, are.size)) (omega (arith, w_in.to, are.size)) e)
+    ]
+
+-- ---- places of a label
+
+abbrev pub HasPlaces : List ℕ → ℕ → ℕ → List ℕ → Type 0
+HasPlaces labels label n places =
+    ((place : ℕ) → (Contains places place ↔ (place < n) × (get_or labels place 0 ≡ label))) × AllPairs (λ place later. place ≢ later) places
+
+pub places_add : (labels : List ℕ) (label n : ℕ) (places new : List ℕ) → get_or labels n 0 ≡ label → new ≡ places ++ n ∷ [] → HasPlaces labels label n places → HasPlaces labels label (n + 1) new
+places_add labels label n places new here e inv = (
+  λ place. (
+    λ c. elim (Contains-push_cases places n place (subst (λ (xs : List ℕ). Contains xs place) e c)) [
+      | inl before ↦ (let x = (inv.0 place).0 before in (omega (arith, x.0), x.1))
+      | inr same ↦ (omega (arith, same), ap (λ (k : ℕ). get_or labels k 0) (sym same) ∙ here)
+    ],
+    λ x. subst (λ (xs : List ℕ). Contains xs place) (sym e) (elim (cases_order place n) [
+      | inl same ↦ subst (Contains (places ++ n ∷ [])) (sym same) (Contains-push places n)
+      | inr differ ↦ Contains-append_left places (n ∷ []) place ((inv.0 place).1 (elim differ [ inl l ↦ l | inr m ↦ absurd (omega (arith, x.0, m)) ], x.1))
+    ]),
+  ),
+  subst (AllPairs (λ (a b : ℕ). a ≢ b)) (sym e) (all_pairs_push (λ (a b : ℕ). a ≢ b) places n inv.1 (λ k d lt same.
+      (let x = (inv.0 (get_or places k d)).0 (Contains-get_or places k d lt) in omega (arith, x.0, same)))),
+)
+
+pub places_skip : (labels : List ℕ) (label n : ℕ) (places new : List ℕ) → (get_or labels n 0 ≡ label → ⊥) → new ≡ places → HasPlaces labels label n places → HasPlaces labels label (n + 1) new
+places_skip labels label n places new not e inv = subst (HasPlaces labels label (n + 1)) (sym e) (
+  (λ place. (
+    (λ c. (let x = (inv.0 place).0 c in (omega (arith, x.0), x.1))),
+    (λ x. (inv.0 place).1 (
+      elim (cases_order place n) [
+        | inl same ↦ absurd (not (ap (λ (k : ℕ). get_or labels k 0) (sym same) ∙ x.1))
+        | inr differ ↦ elim differ [ inl l ↦ l | inr m ↦ absurd (omega (arith, x.0, m)) ]
+      ],
+      x.1,
+    )),
+  )),
+  inv.1,
+)
+
+-- ---- ways of a label
+
+same_fit : (pick : List ℕ) (way copy : Way) → copy.from ≡ way.from → copy.to ≡ way.to → copy.fits.items ≡ way.fits.items → (FitsWay pick copy ↔ FitsWay pick way)
+same_fit pick way copy a b f =
+    let set_is : get_or copy.fits.items (get_or pick copy.from 0) 0 ≡ get_or way.fits.items (get_or pick way.from 0) 0 =
+    ap (λ (xs : List ℕ). get_or xs (get_or pick copy.from 0) 0) f ∙ ap (λ (k : ℕ). get_or way.fits.items (get_or pick k 0) 0) a in
+    let bit_is : bit_at (get_or copy.fits.items (get_or pick copy.from 0) 0) (get_or pick copy.to 0) ≡ bit_at (get_or way.fits.items (get_or pick way.from 0) 0) (get_or pick way.to 0) =
+    ap (λ (n : ℕ). bit_at n (get_or pick copy.to 0)) set_is ∙ ap (λ (k : ℕ). bit_at (get_or way.fits.items (get_or pick way.from 0) 0) (get_or pick k 0)) b in
+    ((λ h. sym bit_is ∙ h), (λ h. bit_is ∙ h))
+
+cons_all : (P : Way → Type 0) (v : Way) (vs : List Way) → P v → All P vs → (k : ℕ) (d : Way) → k < length (v ∷ vs) → P (get_or (v ∷ vs) k d)
+cons_all P v vs p q zero d l = p
+cons_all P v vs p q (suc k) d l = q k d (omega (arith, l))
+
+split_last : (P : Way → Type 0) (ws : List Way) (w : Way) → All P (ws ++ w ∷ []) → All P ws × P w
+split_last P [] w h = ((λ k d l. absurd (omega (arith, l))), h 0 w (omega arith))
+split_last P (v ∷ vs) w h =
+    let rest = split_last P vs w (λ k d l. h (suc k) d (omega (arith, l))) in
+    (cons_all P v vs (h 0 v (omega arith)) rest.0, rest.1)
+
+module _ (labels : List ℕ) (label : ℕ) (ways : List Way) (i : ℕ) (way : Way) (lt : i < length ways) (is : way ≡ get_or ways i way) where
+  more : take (i + 1) ways ≡ take i ways ++ way ∷ []
+  more = take_more ways i way lt ∙ ap (λ (w : Way). take i ways ++ w ∷ []) (sym is)
+
+  first_all : (P : Way → Type 0) → All P (take (i + 1) ways) → All P (take i ways) × P way
+  first_all P all = split_last P (take i ways) way (subst (All P) more all)
+
+  last_all : (P : Way → Type 0) → All P (take i ways) → P way → All P (take (i + 1) ways)
+  last_all P all p = subst (All P) (sym more) (All-push P (take i ways) way all p)
+
+  pub part_add : (part new : List Way) (copy : Way) → copy.from ≡ way.from → copy.to ≡ way.to → copy.fits.items ≡ way.fits.items → new ≡ part ++ copy ∷ [] → InPart labels label way
+      → KeepsPart labels label (take i ways) part → KeepsPart labels label (take (i + 1) ways) new
+  part_add part new copy a b f e inside keeps pick =
+      let fit = same_fit pick way copy a b f in
+      let P : Way → Type 0 = λ w. InPart labels label w → FitsWay pick w in (
+        λ all.
+            (let parts = split_last (FitsWay pick) part copy (subst (All (FitsWay pick)) e all) in
+            last_all P ((keeps pick).0 parts.0) (λ _. fit.0 parts.1)),
+        λ all.
+            (let parts = first_all P all in
+            subst (All (FitsWay pick)) (sym e) (All-push (FitsWay pick) part copy ((keeps pick).1 parts.0) (fit.1 (parts.1 inside)))),
+      )
+
+  pub part_skip : (part new : List Way) → new ≡ part → (InPart labels label way → ⊥) → KeepsPart labels label (take i ways) part → KeepsPart labels label (take (i + 1) ways) new
+  part_skip part new e out keeps = subst (KeepsPart labels label (take (i + 1) ways)) (sym e) (λ pick. (
+    (λ all. last_all (λ w. InPart labels label w → FitsWay pick w) ((keeps pick).0 all) (λ inside. absurd (out inside))),
+    (λ all. (keeps pick).1 (first_all (λ w. InPart labels label w → FitsWay pick w) all).0),
+  ))
+
+-- ---- the picks of a label
+
+module _ (ways : List Way) (sets labels : List ℕ) (label : ℕ) (size : length labels ≡ length sets) (within : AreWithin (length labels) ways) (part_ways : List Way) (keeps : KeepsPart labels label ways part_ways)
+    (part_sets : List ℕ) (of : IsPartSets sets labels label part_sets) (places : List ℕ) (exact : (place : ℕ) → (Contains places place ↔ (place < length labels) × (get_or labels place 0 ≡ label)))
+    (apart : AllPairs (λ place later. place ≢ later) places) (found : List (List ℕ)) (all : AreAll part_ways part_sets found) where
+  set_in : (i : ℕ) → i < length sets → get_or labels i 0 ≡ label → get_or part_sets i 0 ≡ get_or sets i 0
+  set_in i lt e = of.each i lt ∙ ap (λ (b : Bool). cond b (get_or sets i 0) 1) (eq-eqb (get_or labels i 0) label e)
+
+  set_out : (i : ℕ) → i < length sets → (get_or labels i 0 ≡ label → ⊥) → get_or part_sets i 0 ≡ 1
+  set_out i lt not = of.each i lt ∙ ap (λ (b : Bool). cond b (get_or sets i 0) 1) (ne_eqb (get_or labels i 0) label not)
+
+  label_or : (i : ℕ) → (get_or labels i 0 ≡ label) ⊎ (get_or labels i 0 ≢ label)
+  label_or i = elim (cases_order (get_or labels i 0) label) [
+    | inl e ↦ inl e
+    | inr differ ↦ inr (λ e. elim differ [ inl l ↦ omega (arith, l, e) | inr m ↦ omega (arith, m, e) ])
+  ]
+
+  only_zero : (b : ℕ) → Has 1 b → b ≡ 0
+  only_zero b h = elim (cases_lt 0 b) [
+    | inl up ↦ (let z = bit_at_above 1 1 b (omega arith) (omega (arith, up)) in absurd (omega (arith, z, h)))
+    | inr none ↦ omega (arith, none)
+  ]
+
+  place_of : (k : ℕ) → k < length places → (get_or places k 0 < length labels) × (get_or labels (get_or places k 0) 0 ≡ label)
+  place_of k lt = (exact (get_or places k 0)).0 (Contains-get_or places k 0 lt)
+
+  at_index : (pick : List ℕ) (k : ℕ) → k < length places → get_or (at_places pick places) k 0 ≡ get_or pick (get_or places k 0) 0
+  at_index pick k lt = get_or-map (λ (i : ℕ). get_or pick i 0) places k 0 0 lt
+
+  -- picks with the same values at the places have them at each place of the label
+  same_at_label : (a b : List ℕ) → at_places a places ≡ at_places b places → (i : ℕ) → i < length labels → get_or labels i 0 ≡ label → get_or a i 0 ≡ get_or b i 0
+  same_at_label a b e i lt here =
+      let c = (exact i).1 (lt, here) in
+      let is : get_or places c.0 0 ≡ i = get_or_default places c.0 0 i c.1 ∙ c.2 in
+      ap (λ (k : ℕ). get_or a k 0) (sym is) ∙ sym (at_index a c.0 c.1) ∙ ap (λ (xs : List ℕ). get_or xs c.0 0) e ∙ at_index b c.0 c.1 ∙ ap (λ (k : ℕ). get_or b k 0) is
+
+  same_fits : (a b : List ℕ) → ((i : ℕ) → i < length labels → get_or labels i 0 ≡ label → get_or a i 0 ≡ get_or b i 0) → (way : Way) → IsWithin (length labels) way → InPart labels label way → FitsWay a way → FitsWay b way
+  same_fits a b same way w inside fits =
+      let from = same way.from w.from inside.0 in
+      let to = same way.to w.to inside.1 in
+      subst (λ (v : ℕ). Has (get_or way.fits.items (get_or b way.from 0) 0) v) to (subst (λ (v : ℕ). Has (get_or way.fits.items v 0) (get_or a way.to 0)) from fits)
+
+  -- a pick with 0 at each other place
+  masked : List ℕ → List ℕ → List ℕ
+  masked [] pick = []
+  masked (l ∷ ls) [] = 0 ∷ masked ls []
+  masked (l ∷ ls) (v ∷ vs) = cond (l == label) v 0 ∷ masked ls vs
+
+  masked_size : (ls pick : List ℕ) → length (masked ls pick) ≡ length ls
+  unfolding masked
+  masked_size [] pick = refl
+  masked_size (l ∷ ls) [] = ap suc (masked_size ls [])
+  masked_size (l ∷ ls) (v ∷ vs) = ap suc (masked_size ls vs)
+
+  masked_at : (ls pick : List ℕ) (i : ℕ) → i < length ls → length pick ≡ length ls → get_or (masked ls pick) i 0 ≡ cond (get_or ls i 0 == label) (get_or pick i 0) 0
+  unfolding masked
+  masked_at [] pick i lt e = absurd (omega (arith, lt))
+  masked_at (l ∷ ls) [] i lt e = absurd (omega (arith, e))
+  masked_at (l ∷ ls) (v ∷ vs) zero lt e = refl
+  masked_at (l ∷ ls) (v ∷ vs) (suc i) lt e = masked_at ls vs i (omega (arith, lt)) (omega (arith, e))
+
+  module _ (pick : List ℕ) (is : IsIn sets pick) where
+    psize : length pick ≡ length labels
+    psize = is.size ∙ sym size
+
+    m_in : (i : ℕ) → i < length labels → get_or labels i 0 ≡ label → get_or (masked labels pick) i 0 ≡ get_or pick i 0
+    m_in i lt e = masked_at labels pick i lt psize ∙ ap (λ (b : Bool). cond b (get_or pick i 0) 0) (eq-eqb (get_or labels i 0) label e)
+
+    m_out : (i : ℕ) → i < length labels → (get_or labels i 0 ≡ label → ⊥) → get_or (masked labels pick) i 0 ≡ 0
+    m_out i lt not = masked_at labels pick i lt psize ∙ ap (λ (b : Bool). cond b (get_or pick i 0) 0) (ne_eqb (get_or labels i 0) label not)
+
+    m_low : (i : ℕ) → get_or (masked labels pick) i 0 < 64
+    m_low i = elim (cases_lt i (length labels)) [
+      | inl lt ↦ elim (label_or i) [
+        | inl e ↦ (let s = m_in i lt e in let l = is.low i in omega (arith, s, l))
+        | inr not ↦ (let z = m_out i lt not in omega (arith, z))
+      ]
+      | inr past ↦ (let z = get_or_past (masked labels pick) i 0 (omega (arith, past, masked_size labels pick)) in omega (arith, z))
+    ]
+
+    m_has : (i : ℕ) → i < length labels → Has (get_or part_sets i 0) (get_or (masked labels pick) i 0)
+    m_has i lt = elim (label_or i) [
+      | inl e ↦
+          subst (λ (s : ℕ). Has s (get_or (masked labels pick) i 0)) (sym (set_in i (omega (arith, lt, size)) e))
+          (subst (Has (get_or sets i 0)) (sym (m_in i lt e)) (is.each i (omega (arith, lt, size))))
+      | inr not ↦
+          subst (λ (s : ℕ). Has s (get_or (masked labels pick) i 0)) (sym (set_out i (omega (arith, lt, size)) not))
+          (subst (Has 1) (sym (m_out i lt not)) refl)
+    ]
+
+    m_solves : All (λ way. InPart labels label way → FitsWay pick way) ways → Solves part_ways part_sets (masked labels pick)
+    m_solves fits = record {
+      inside = record {
+        size = masked_size labels pick ∙ size ∙ sym of.size;
+        low = m_low;
+        each = λ i lt. m_has i (omega (arith, lt, of.size, size));
+      };
+      fits = (keeps (masked labels pick)).1 (λ k d lt inside.
+          same_fits pick (masked labels pick) (λ i ilt e. sym (m_in i ilt e)) (get_or ways k d) (within k d lt) inside (fits k d lt inside));
+    }
+
+    m_same : at_places (masked labels pick) places ≡ at_places pick places
+    m_same =
+        let a = length-map places (λ (i : ℕ). get_or (masked labels pick) i 0) in
+        let b = length-map places (λ (i : ℕ). get_or pick i 0) in
+        same_lists (at_places (masked labels pick) places) (at_places pick places) (a ∙ sym b) (λ k d lt.
+        (let klt : k < length places = omega (arith, lt, a) in
+        let p = place_of k klt in
+        get_or_default (at_places (masked labels pick) places) k d 0 lt ∙ at_index (masked labels pick) k klt ∙ m_in (get_or places k 0) p.0 p.1 ∙ sym (at_index pick k klt)
+        ∙ get_or_default (at_places pick places) k 0 d (omega (arith, klt, b))))
+
+    part_exact : Contains (map (λ (f : List ℕ). at_places f places) found) (at_places pick places) ↔ All (λ way. InPart labels label way → FitsWay pick way) ways
+    part_exact = (
+      λ c.
+          (let lt : c.0 < length found = (let s = length-map found (λ (f : List ℕ). at_places f places) in omega (arith, s, c.1)) in
+          let f = get_or found c.0 [] in
+          let e : at_places f places ≡ at_places pick places = sym (get_or-map (λ (g : List ℕ). at_places g places) found c.0 [] (at_places pick places) lt) ∙ c.2 in
+          let s = all.listed f (Contains-get_or found c.0 [] lt) in
+          let fits = (keeps f).0 s.fits in
+          λ k d klt inside. same_fits f pick (same_at_label f pick e) (get_or ways k d) (within k d klt) inside (fits k d klt inside)),
+      λ fits.
+          (let c = all.covered (masked labels pick) (m_solves fits) in
+          let is_at : get_or found c.0 [] ≡ masked labels pick = get_or_default found c.0 [] (masked labels pick) c.1 ∙ c.2 in (
+            c.0,
+            (let s = length-map found (λ (f : List ℕ). at_places f places) in omega (arith, s, c.1)),
+            get_or-map (λ (g : List ℕ). at_places g places) found c.0 [] (at_places pick places) c.1 ∙ ap (λ (g : List ℕ). at_places g places) is_at ∙ m_same,
+          )),
+    )
+
+  part_pick : (f : List ℕ) → Contains found f → IsPickOf sets places (at_places f places)
+  part_pick f c = record {
+    size = length-map places (λ (i : ℕ). get_or f i 0);
+    each = λ k klt.
+        (let p = place_of k klt in
+        let s = all.listed f c in
+        let here : Has (get_or part_sets (get_or places k 0) 0) (get_or f (get_or places k 0) 0) = s.inside.each (get_or places k 0) (omega (arith, p.0, size, of.size)) in
+        subst (Has (get_or sets (get_or places k 0) 0)) (sym (at_index f k klt))
+        (subst (λ (n : ℕ). Has n (get_or f (get_or places k 0) 0)) (set_in (get_or places k 0) (omega (arith, p.0, size)) p.1) here));
+  }
+
+  -- picks found that have the same values at the places are the same
+  found_once : (a b : List ℕ) → Contains found a → Contains found b → at_places a places ≡ at_places b places → a ≡ b
+  found_once a b ca cb e =
+      let x = (all.listed a ca).inside in
+      let y = (all.listed b cb).inside in
+      same_lists a b (x.size ∙ sym y.size) (λ i d lt.
+      (let ilt : i < length labels = omega (arith, lt, x.size, of.size, size) in
+      let same : get_or a i 0 ≡ get_or b i 0 = elim (label_or i) [
+        | inl here ↦ same_at_label a b e i ilt here
+        | inr not ↦
+            let one = set_out i (omega (arith, ilt, size)) not in
+            only_zero (get_or a i 0) (subst (λ (n : ℕ). Has n (get_or a i 0)) one (x.each i (omega (arith, lt, x.size))))
+            ∙ sym (only_zero (get_or b i 0) (subst (λ (n : ℕ). Has n (get_or b i 0)) one (y.each i (omega (arith, lt, x.size)))))
+      ] in
+      get_or_default a i d 0 lt ∙ same ∙ get_or_default b i 0 d (omega (arith, lt, x.size, y.size))))
+
+  pub found_inside : All (λ pick. All (λ place. place < length pick) places) found
+  found_inside k d lt j e jlt =
+      let s = (all.listed (get_or found k d) (Contains-get_or found k d lt)).inside.size in
+      let p = place_of j jlt in
+      let same = get_or_default places j e 0 jlt in
+      omega (arith, s, p.0, same, of.size, size)
+
+  pub part_group : (group : Group) → group.places ≡ places → group.picks ≡ map (λ (f : List ℕ). at_places f places) found → IsPartGroup sets labels label ways group
+  part_group group pe fe = record {
+    group = record {
+      inside = subst (All (λ place. place < length sets)) (sym pe) (λ k d lt. (let p = place_of k lt in let e = get_or_default places k d 0 lt in omega (arith, e, p.0, size)));
+      apart = subst (AllPairs (λ (a b : ℕ). a ≢ b)) (sym pe) apart;
+      picks = subst (λ (ps : List ℕ). All (IsPickOf sets ps) group.picks) (sym pe) (subst (All (IsPickOf sets places)) (sym fe) (λ j d lt.
+          (let jlt : j < length found = (let s = length-map found (λ (f : List ℕ). at_places f places) in omega (arith, s, lt)) in
+          subst (IsPickOf sets places) (sym (get_or-map (λ (g : List ℕ). at_places g places) found j [] d jlt)) (part_pick (get_or found j []) (Contains-get_or found j [] jlt)))));
+      once = subst (AllPairs (λ (a b : List ℕ). a ≢ b)) (sym fe) (λ i j d lt inside e.
+          (let s = length-map found (λ (f : List ℕ). at_places f places) in
+          let jlt : j < length found = omega (arith, s, inside) in
+          let ilt : i < length found = omega (arith, jlt, lt) in
+          let same : at_places (get_or found i []) places ≡ at_places (get_or found j []) places =
+          sym (get_or-map (λ (g : List ℕ). at_places g places) found i [] d ilt) ∙ e ∙ get_or-map (λ (g : List ℕ). at_places g places) found j [] d jlt in
+          all.distinct i j [] lt jlt (found_once (get_or found i []) (get_or found j []) (Contains-get_or found i [] ilt) (Contains-get_or found j [] jlt) same)));
+    };
+    places = λ place. subst (λ (ps : List ℕ). Contains ps place ↔ (place < length labels) × (get_or labels place 0 ≡ label)) (sym pe) (exact place);
+    exact = λ pick is. subst (λ (ps : List ℕ). Contains group.picks (at_places pick ps) ↔ All (λ way. InPart labels label way → FitsWay pick way) ways) (sym pe)
+        (subst (λ (fs : List (List ℕ)). Contains fs (at_places pick places) ↔ All (λ way. InPart labels label way → FitsWay pick way) ways) (sym fe) (part_exact pick is));
+  }
+
+-- ---- all labels
+
+module _ (sets labels : List ℕ) (ways : List Way) (n : ℕ) (groups : List Group) where
+  pub grouped_skip : ((place : ℕ) → place < length labels → get_or labels place 0 ≡ n → ⊥) → AreGrouped sets labels ways n groups → AreGrouped sets labels ways (n + 1) groups
+  grouped_skip none are = record {
+    each = λ k d lt. (let x = are.each k d lt in (x.0, omega (arith, x.1), x.2));
+    all = λ place lt under. elim (cases_order (get_or labels place 0) n) [
+      | inl same ↦ absurd (none place lt same)
+      | inr differ ↦ are.all place lt (elim differ [ inl l ↦ l | inr m ↦ absurd (omega (arith, under, m)) ])
+    ];
+    apart = are.apart;
+  }
+
+  pub grouped_add : (new : List Group) (group : Group) → new ≡ groups ++ group ∷ [] → IsPartGroup sets labels n ways group → AreGrouped sets labels ways n groups → AreGrouped sets labels ways (n + 1) new
+  grouped_add new group e is are = subst (AreGrouped sets labels ways (n + 1)) (sym e) (record {
+    each = All-push (λ (g : Group). (label : ℕ) × (label < n + 1) × IsPartGroup sets labels label ways g) groups group
+        (λ k d lt. (let x = are.each k d lt in (x.0, omega (arith, x.1), x.2))) (n, omega arith, is);
+    all = λ place lt under. elim (cases_order (get_or labels place 0) n) [
+      | inl same ↦ Any-push (λ (g : Group). Contains g.places place) groups group ((is.places place).1 (lt, same))
+      | inr differ ↦ any_more place (are.all place lt (elim differ [ inl l ↦ l | inr m ↦ absurd (omega (arith, under, m)) ]))
+    ];
+    apart = all_pairs_push (λ (a b : Group). (place : ℕ) → Contains a.places place → Contains b.places place → ⊥) groups group are.apart (λ k d lt place one other.
+        (let x = are.each k d lt in
+        let a = (x.2.places place).0 one in
+        let b = (is.places place).0 other in
+        omega (arith, x.1, a.1, b.1)));
+  })
+    where
+      any_more : (place : ℕ) → Any (λ (g : Group). Contains g.places place) groups → Any (λ (g : Group). Contains g.places place) (groups ++ group ∷ [])
+      any_more place h =
+          let size = length-append groups (group ∷ []) in
+          (h.0, h.1, omega (arith, size, h.2), get_or_append_left groups (group ∷ []) h.1 h.0 h.2 ∙ h.3, h.4)
+
+pub grouped_start : (sets labels : List ℕ) (ways : List Way) (groups : List Group) → groups ≡ [] → AreGrouped sets labels ways 0 groups
+grouped_start sets labels ways groups e = subst (AreGrouped sets labels ways 0) (sym e) (record {
+  each = λ k d lt. absurd (omega (arith, lt));
+  all = λ place lt under. absurd (omega (arith, under));
+  apart = λ i j d lt inside. absurd (omega (arith, inside));
+})
+
+pub grouped_all : (sets labels : List ℕ) (ways : List Way) (n : ℕ) (groups : List Group) → AreWithin (length sets) ways → AreLabels sets ways labels → length sets ≤ n → AreGrouped sets labels ways n groups → AreGroups ways sets groups
+grouped_all sets labels ways n groups within of le are = record {
+  exact = λ pick size low. (
+    (λ s k d lt. (let x = are.each k d lt in (x.2.exact pick s.inside).1 (λ j e jlt inside. s.fits j e jlt))),
+    (λ chosen.
+        (let is : IsIn sets pick = record { size = size; low = low; each = λ i lt. has_at pick chosen i lt } in
+        record { inside = is; fits = λ j e jlt. fits_at pick low is chosen j e jlt (of.joined j e jlt) })),
+  );
+  each = λ k d lt. (are.each k d lt).2.group;
+  places = λ place lt. group_of place lt;
+  apart = are.apart;
+}
+  where
+    group_of : (place : ℕ) → place < length sets → Any (λ group. Contains group.places place) groups
+    group_of place lt = are.all place (omega (arith, lt, of.size)) (let low = of.low place lt in omega (arith, low, le))
+
+    has_at : (pick : List ℕ) → All (λ group. Contains group.picks (at_places pick group.places)) groups → (i : ℕ) → i < length sets → Has (get_or sets i 0) (get_or pick i 0)
+    has_at pick chosen i lt =
+        let g = group_of i lt in
+        let x : IsGroup sets g.1 = subst (IsGroup sets) g.3 (are.each g.0 g.1 g.2).2.group in
+        let c : Contains g.1.picks (at_places pick g.1.places) = subst (λ (h : Group). Contains h.picks (at_places pick h.places)) g.3 (chosen g.0 g.1 g.2) in
+        let place = g.4 in
+        let is : IsPickOf sets g.1.places (at_places pick g.1.places) = subst (IsPickOf sets g.1.places) c.2 (x.picks c.0 (at_places pick g.1.places) c.1) in
+        let i_is : get_or g.1.places place.0 0 ≡ i = get_or_default g.1.places place.0 0 i place.1 ∙ place.2 in
+        let value : get_or (at_places pick g.1.places) place.0 0 ≡ get_or pick (get_or g.1.places place.0 0) 0 = get_or-map (λ (j : ℕ). get_or pick j 0) g.1.places place.0 0 0 place.1 in
+        subst (λ (j : ℕ). Has (get_or sets j 0) (get_or pick j 0)) i_is (subst (Has (get_or sets (get_or g.1.places place.0 0) 0)) value (is.each place.0 place.1))
+
+    fits_at : (pick : List ℕ) → ((i : ℕ) → get_or pick i 0 < 64) → IsIn sets pick → All (λ group. Contains group.picks (at_places pick group.places)) groups → (j : ℕ) (e : Way) → j < length ways
+        → IsFree sets (get_or ways j e) ⊎ (get_or labels (get_or ways j e).from 0 ≡ get_or labels (get_or ways j e).to 0) → FitsWay pick (get_or ways j e)
+    fits_at pick low is chosen j e jlt (inl free) =
+        let w = within j e jlt in
+        free (get_or pick (get_or ways j e).from 0) (get_or pick (get_or ways j e).to 0) (low (get_or ways j e).from) (is.each (get_or ways j e).from w.from) (is.each (get_or ways j e).to w.to)
+    fits_at pick low is chosen j e jlt (inr same) =
+        let w = within j e jlt in
+        let g = group_of (get_or ways j e).from w.from in
+        let x = are.each g.0 g.1 g.2 in
+        let c = chosen g.0 g.1 g.2 in
+        let place : Contains (get_or groups g.0 g.1).places (get_or ways j e).from = subst (λ (h : Group). Contains h.places (get_or ways j e).from) (sym g.3) g.4 in
+        let here = (x.2.places (get_or ways j e).from).0 place in
+        (x.2.exact pick is).0 c j e jlt (here.1, sym same ∙ here.1)
+
+-- the groups of sets that a narrowing left are those of the sets before
+pub groups_before : (ways : List Way) (old new : List ℕ) (groups : List Group) → Narrows ways old new → AreGroups ways new groups → AreGroups ways old groups
+groups_before ways old new groups narrows are = record {
+  exact = λ pick size low. (
+    (λ s. (are.exact pick (size ∙ sym narrows.size) low).0 (record { inside = narrows.keeps pick s; fits = s.fits })),
+    (λ chosen. (let s = (are.exact pick (size ∙ sym narrows.size) low).1 chosen in record { inside = in_before ways old new pick narrows s.inside; fits = s.fits })),
+  );
+  each = λ k d lt. (let g = are.each k d lt in record {
+    inside = λ i e ilt. (let x = g.inside i e ilt in omega (arith, x, narrows.size));
+    apart = g.apart;
+    picks = λ i e ilt. (let x = g.picks i e ilt in record { size = x.size; each = λ m mlt. narrows.fewer _ _ (x.each m mlt) });
+    once = g.once;
+  });
+  places = λ place lt. are.places place (omega (arith, lt, narrows.size));
+  apart = are.apart;
+}
+
+pub within_copy : (n : ℕ) (way copy : Way) → copy.from ≡ way.from → copy.to ≡ way.to → copy.fits.items ≡ way.fits.items → IsWithin n way → IsWithin n copy
+within_copy n way copy a b f is = record { from = omega (arith, a, is.from); to = omega (arith, b, is.to); few = (let s = ap length f in omega (arith, s, is.few)) }
+
+pub if_ok : {T E : Type 0} {P Q : T → Type 0} (r : Result T E) → ((x : T) → P x → Q x) → IfOk r P → IfOk r Q
+if_ok (Ok x) f h = f x h
+if_ok (Err e) f h = h
+
+pub no_place : (labels : List ℕ) (label : ℕ) (places : List ℕ) → (length places == 0) ≡ true → ((place : ℕ) → (Contains places place ↔ (place < length labels) × (get_or labels place 0 ≡ label)))
+    → (place : ℕ) → place < length labels → get_or labels place 0 ≡ label → ⊥
+no_place labels label places none exact place lt here =
+    let c = (exact place).1 (lt, here) in
+    let z = eqb-true (length places) 0 none in
+    omega (arith, c.1, z)

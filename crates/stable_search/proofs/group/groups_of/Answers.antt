@@ -1,0 +1,29 @@
+use Rattle.std.proofs.Common.{◌≡◌, ◌∙◌, ◌+◌, ◌==◌, true, ℕ, List, length, sym, ap, subst}
+use Rattle.stable_search.specs.declared.group.Group.{Group}
+use Rattle.stable_search.specs.Parting.{AreLabels, AreGrouped}
+use Rattle.stable_search.proofs.PartLemmas.{grouped_skip, grouped_add, grouped_all, no_place}
+use Rattle.stable_search.proofs.group.groups_of.Goals as goal
+use Rattle.stable_search.proofs.group.groups_of.Goals.{then-not-is_empty+in_ok-group+in_ok-push, else-not-is_empty}
+
+pub loop-label-preserved : goal.loop-label-preserved
+loop-label-preserved c =
+    let sets = c.args.sets.now in
+    let ways = c.args.ways.now in
+    let labels = c.as_slice-labels.result.now in
+    let n = c.loop-label.label in
+    let old = c.loop-label.groups.items in
+    let new = c.if-not-is_empty.groups.items in
+    elim c.if-not-is_empty.branch [
+      | then-not-is_empty+in_ok-group+in_ok-push w ↦
+          grouped_add sets labels ways n old new w.in_ok-group.group (ap (λ v. v.items) w.groups-is ∙ w.in_ok-push.ensures.items) w.in_ok-group.ensures c.loop-label.invariant
+      | else-not-is_empty w ↦
+          let none : (length c.in_ok-places.places.items == 0) ≡ true = ap (λ (xs : List ℕ). length xs == 0) (sym c.as_slice.ensures.value) ∙ sym c.is_empty.ensures ∙ w.if-not-is_empty.false in
+          subst (λ (gs : List Group). AreGrouped sets labels ways (n + 1) gs) (ap (λ v. v.items) (sym w.groups-is))
+          (grouped_skip sets labels ways n old (no_place labels n c.in_ok-places.places.items none c.in_ok-places.ensures.exact) c.loop-label.invariant)
+    ]
+
+pub returns : goal.returns
+returns c =
+    let labels = c.as_slice-labels.result.now in
+    let of : AreLabels c.args.sets.now c.args.ways.now labels = subst (AreLabels c.args.sets.now c.args.ways.now) (sym c.as_slice-labels.ensures.value) c.in_ok-all_labels.ensures in
+    grouped_all c.args.sets.now labels c.args.ways.now c.loop-label.label c.loop-label.groups.items c.requires of c.loop-label-test.false c.loop-label.invariant

@@ -1,0 +1,28 @@
+use Rattle.std.proofs.Common.{◌≡◌, ◌∙◌, ℕ, List, length, set, get_or, sym, ap, subst, arith}
+use Rattle.stable_search.specs.Picks.{LeavesOut, AddsAll, Narrows}
+use Rattle.stable_search.proofs.PickLemmas.{leaves_start, leaves_none, leaves_on, written}
+use Rattle.stable_search.proofs.searching.+search.Goals as goal
+
+pub loop-steps-init : goal.loop-steps-init
+loop-steps-init t c = (leaves_start c.args.ways.now c.args.sets.items c.args.found.now.items c.requires, omega arith)
+
+pub returns-in_default-clause-all : goal.returns-in_default-clause-all
+returns-in_default-clause-all t c =
+    let now : c.as_mut_slice.result.now ≡ c.loop-steps.sets.items = c.as_mut_slice.ensures.value in
+    leaves_none c.args.ways.now c.args.sets.items c.loop-steps.sets.items c.args.found.now.items c.loop-steps.found.items c.settle.new.found.items c.loop-steps.invariant.0
+    (subst (λ (xs : List ℕ). AddsAll c.args.ways.now xs c.loop-steps.found.items c.settle.new.found.items) now (rw c.in_default.is at c.in_ok-place.ensures))
+
+pub loop-steps-preserved : goal.loop-steps-preserved
+loop-steps-preserved t c =
+    let now : c.as_mut_slice.result.now ≡ c.loop-steps.sets.items = c.as_mut_slice.ensures.value in
+    let size : length c.settle.new.sets ≡ length c.loop-steps.sets.items = c.settle.auto.sets ∙ ap length now in
+    let back = written c.loop-steps.sets.items c.settle.new.sets c.loop-steps.sets.len size (ap length (sym now) ∙ c.as_mut_slice.ensures.len) in
+    let next = rw c.in-Some.is at c.in_ok-place.ensures in
+    let value : c.index.result.now ≡ get_or c.settle.new.sets c.in-Some.place c.index.result.now = c.index.ensures ∙ ap (λ (xs : List ℕ). get_or xs c.in-Some.place c.index.result.now) back in
+    let one : c.in_ok-one.one.items ≡ c.settle.new.sets = c.in_ok-one.ensures.items ∙ c.as_slice.ensures.value ∙ back in (
+      subst (λ (xs : List ℕ). LeavesOut c.args.ways.now c.args.sets.items (set xs c.in-Some.place c.first_apart-first.result.1) c.args.found.now.items c.search.new.found.items) (sym back)
+          (leaves_on c.args.ways.now c.args.sets.items c.loop-steps.sets.items c.settle.new.sets c.in-Some.place c.index.result.now c.first_apart-first.result.0 c.first_apart-first.result.1 c.args.found.now.items
+          c.loop-steps.found.items c.settle.new.found.items c.search.new.found.items c.loop-steps.invariant.0 size (subst (λ (xs : List ℕ). Narrows c.args.ways.now xs c.settle.new.sets) now next.1) next.2 next.0 value
+          c.first_apart-first.ensures (subst (λ (xs : List ℕ). AddsAll c.args.ways.now (set xs c.in-Some.place c.first_apart-first.result.0) c.settle.new.found.items c.search.new.found.items) one c.in_ok-search.ensures.all)),
+      omega (arith, c.search.ensures.steps, c.loop-steps.invariant.1),
+    )

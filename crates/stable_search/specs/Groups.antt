@@ -1,0 +1,65 @@
+-- Places that fall into groups, each with its own picks.
+use Rattle.std.specs.Prelude.{ℕ, ◌≡◌, ◌≢◌, ◌↔◌, ◌<◌, List, [], length, map, slice_index, slice_index_or}
+use Rattle.std.specs.List.{All, AllPairs, Any, Contains}
+use Rattle.stable_search.specs.declared.every.Part.{Part}
+use Rattle.stable_search.specs.declared.group.Group.{Group}
+use Rattle.stable_search.specs.declared.seat.Seat.{Seat}
+use Rattle.stable_search.specs.declared.way.Way.{Way}
+use Rattle.stable_search.specs.Picks.{Has, Solves}
+use Rattle.stable_search.specs.Seats.{StandsAt}
+
+-- the values that a pick has at these places
+abbrev pub at_places : List ℕ → List ℕ → List ℕ
+at_places pick places = map (λ place. slice_index pick place) places
+
+-- of each of these places a value of its set
+pub record IsPickOf (sets places pick : List ℕ) : Type 0 where
+  pub size : length pick ≡ length places
+  pub each : (k : ℕ) → k < length places → Has (slice_index sets (slice_index places k)) (slice_index pick k)
+
+-- different places, with picks out of their sets, none listed twice
+pub record IsGroup (sets : List ℕ) (group : Group) : Type 0 where
+  pub inside : All (λ place. place < length sets) group.places
+  pub apart : AllPairs (λ place later. place ≢ later) group.places
+  pub picks : All (IsPickOf sets group.places) group.picks
+  pub once : AllPairs (λ pick later. pick ≢ later) group.picks
+
+-- a pick solves exactly where it is one of each group's; each place is in one group
+pub record AreGroups (ways : List Way) (sets : List ℕ) (groups : List Group) : Type 0 where
+  pub exact : (pick : List ℕ) → length pick ≡ length sets → ((i : ℕ) → slice_index pick i < 64)
+      → (Solves ways sets pick ↔ All (λ group. Contains group.picks (at_places pick group.places)) groups)
+  pub each : All (IsGroup sets) groups
+  pub places : (place : ℕ) → place < length sets → Any (λ group. Contains group.places place) groups
+  pub apart : AllPairs (λ group later. (place : ℕ) → Contains group.places place → Contains later.places place
+      → ⊥) groups
+
+-- the sets have the values of each seat
+abbrev pub AreValues : List Seat → List ℕ → Type 0
+AreValues seats sets =
+    (length sets ≡ length seats)
+    × ((place value : ℕ) (seat : Seat) → StandsAt seats place seat → (Has (slice_index sets place) value
+    ↔ value < length seat.values.items))
+
+-- of each place, the path of the seat that its value stands for
+pub record IsShown (seats : List Seat) (places pick : List ℕ) (choice : List (List ℕ)) : Type 0 where
+  pub size : length choice ≡ length places
+  pub each : (k : ℕ) (seat : Seat) → k < length places → StandsAt seats (slice_index places k) seat
+      → slice_index_or choice k [] ≡ slice_index_or seat.values.items (slice_index pick k) []
+
+-- the routers at these places
+pub record AreRoutersAt (seats : List Seat) (places routers : List ℕ) : Type 0 where
+  pub size : length routers ≡ length places
+  pub each : (k : ℕ) (seat : Seat) → k < length places → StandsAt seats (slice_index places k) seat
+      → slice_index routers k ≡ seat.router
+
+-- the part of a group
+pub record IsPartOf (seats : List Seat) (group : Group) (part : Part) : Type 0 where
+  pub routers : AreRoutersAt seats group.places part.routers
+  pub count : length part.choices ≡ length group.picks
+  pub shown : (j : ℕ) → j < length group.picks
+      → IsShown seats group.places (slice_index_or group.picks j []) (slice_index_or part.choices j [])
+
+pub record ArePartsOf (seats : List Seat) (groups : List Group) (parts : List Part) : Type 0 where
+  pub size : length parts ≡ length groups
+  pub each : (g : ℕ) (group : Group) (part : Part) → StandsAt groups g group → StandsAt parts g part
+      → IsPartOf seats group part

@@ -1,0 +1,6 @@
+pub mod Fits
+pub mod Every
+pub mod Picks
+pub mod Seats
+pub mod Groups
+pub mod Parting

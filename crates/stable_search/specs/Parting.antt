@@ -1,0 +1,58 @@
+-- Places that bear on each other have one label.
+use Rattle.std.specs.Prelude.{ℕ, ◌≡◌, ◌↔◌, ◌<◌, ◌==◌, List, length, slice_index, if◌then◌else◌}
+use Rattle.std.specs.List.{All, AllPairs, Any, Contains}
+use mathlib.Core.Logic.{◌⊎◌}
+use Rattle.stable_search.specs.declared.group.Group.{Group}
+use Rattle.stable_search.specs.declared.way.Way.{Way}
+use Rattle.stable_search.specs.Picks.{Has, IsIn, FitsWay}
+use Rattle.stable_search.specs.Groups.{at_places, IsGroup}
+
+-- each value of the one place fits each of the other
+abbrev pub IsFree : List ℕ → Way → Type 0
+IsFree sets way =
+    (a b : ℕ) → a < 64 → Has (slice_index sets way.from) a → Has (slice_index sets way.to) b
+    → Has (slice_index way.fits.items a) b
+
+-- places with one label keep one, no label is new, and the places of the way have one, or it is free
+pub record Joins (sets : List ℕ) (way : Way) (old new : List ℕ) : Type 0 where
+  pub kept : (i j : ℕ) → i < length old → j < length old → slice_index old i ≡ slice_index old j
+      → slice_index new i ≡ slice_index new j
+  pub low : (n : ℕ) → ((i : ℕ) → i < length old → slice_index old i < n) → (i : ℕ) → i < length old
+      → slice_index new i < n
+  pub joined : IsFree sets way ⊎ (slice_index new way.from ≡ slice_index new way.to)
+
+-- the ways that aren't free join places with one label
+pub record AreLabels (sets : List ℕ) (ways : List Way) (labels : List ℕ) : Type 0 where
+  pub size : length labels ≡ length sets
+  pub low : (i : ℕ) → i < length sets → slice_index labels i < length sets
+  pub joined : All (λ way. IsFree sets way ⊎ (slice_index labels way.from ≡ slice_index labels way.to)) ways
+
+-- both places of the way have the label
+abbrev pub InPart : List ℕ → ℕ → Way → Type 0
+InPart labels label way = (slice_index labels way.from ≡ label) × (slice_index labels way.to ≡ label)
+
+-- what fits over the ways of the part is what fits over those of them that are between its places
+abbrev pub KeepsPart : List ℕ → ℕ → List Way → List Way → Type 0
+KeepsPart labels label ways part =
+    (pick : List ℕ) → (All (FitsWay pick) part ↔ All (λ way. InPart labels label way → FitsWay pick way) ways)
+
+-- the sets of the part's places, and of each other place the value 0 alone
+pub record IsPartSets (sets labels : List ℕ) (label : ℕ) (part : List ℕ) : Type 0 where
+  pub size : length part ≡ length sets
+  pub each : (i : ℕ) → i < length sets
+      → slice_index part i ≡ (if slice_index labels i == label then slice_index sets i else 1)
+
+-- the places of the label, and all that they may have together
+pub record IsPartGroup (sets labels : List ℕ) (label : ℕ) (ways : List Way) (it : Group) : Type 0 where
+  pub group : IsGroup sets it
+  pub places : (place : ℕ) → (Contains it.places place ↔ (place < length labels) × (slice_index labels place ≡ label))
+  pub exact : (pick : List ℕ) → IsIn sets pick
+      → (Contains it.picks (at_places pick it.places) ↔ All (λ way. InPart labels label way → FitsWay pick way) ways)
+
+-- there is a group for each label below that a place has
+pub record AreGrouped (sets labels : List ℕ) (ways : List Way) (labels_below : ℕ) (groups : List Group) : Type 0 where
+  pub each : All (λ group. (label : ℕ) × (label < labels_below) × IsPartGroup sets labels label ways group) groups
+  pub all : (place : ℕ) → place < length labels → slice_index labels place < labels_below
+      → Any (λ group. Contains group.places place) groups
+  pub apart : AllPairs (λ group later. (place : ℕ) → Contains group.places place → Contains later.places place
+      → ⊥) groups

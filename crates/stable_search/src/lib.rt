@@ -1,0 +1,34 @@
+//! All stable path assignments of a network, for one prefix (Griffin, Shepherd and Wilfong 2002).
+//!
+//! [`stable_assignments`] answers parts of the routers, each with its choices. The one contract: an
+//! assignment is stable exactly where of each part it has one of its choices. So where a part has no
+//! choice, no assignment is stable; where each has one, one is; and their number is the product.
+//!
+//! It is a search for values under relations of two: what a router has and what its peer has fit each
+//! other, or not. Values that nothing fits go; routers that do not bear on each other any more fall
+//! into parts; in a part the values of one router are tried in turn.
+//!
+//! The definitions stand in `specs/`: `Fits` (what fits, and that stable is fitting), `Every` (what is
+//! answered), `Picks`, `Seats`, `Groups` and `Parting` (what the functions inside say).
+//!
+//! Left out: routers that no rule covers, whose paths are too many to list; texts.
+#![tactic(auto)]
+
+mod every;
+mod group;
+pub mod laws;
+mod limits;
+mod narrowing;
+mod parting;
+mod picking;
+mod refusal;
+mod relating;
+mod searching;
+mod seat;
+mod stable;
+mod way;
+
+pub use every::{Every, Part};
+pub use limits::Limits;
+pub use refusal::SearchError;
+pub use stable::stable_assignments;

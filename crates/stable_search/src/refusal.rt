@@ -1,0 +1,46 @@
+//! Why a search refuses.
+
+use std::alloc::{AllocError, AllocFailed};
+use thiserror::Error;
+
+/// Why the stable assignments were not found. What the call was lent is as it was.
+#[derive(Clone, Copy, Debug, PartialEq, Eq, Error)]
+pub enum SearchError {
+    /// The router may have more paths than are listed: no rule of it covers the prefix.
+    #[error("router {router} may have too many paths")]
+    TooManyPaths {
+        /// The router.
+        router: u32,
+    },
+    /// There are more choices than were asked for.
+    #[error("too many choices")]
+    TooManyChoices,
+    /// The search took as many steps as it may.
+    #[error("too many steps")]
+    TooManySteps,
+    /// A growth was refused.
+    #[error("out of memory")]
+    Memory,
+}
+
+impl From<AllocError> for SearchError {
+    ghost use Rattle.std.specs.Prelude.{◌≡◌};
+    ghost use Rattle.stable_search.specs.declared.refusal.SearchError.TheVariants.{Memory};
+
+    ghost from_gives = { λ _ error. error ≡ Memory };
+
+    fn from(_error: AllocError) -> SearchError {
+        SearchError::Memory
+    }
+}
+
+impl<T: Drop> From<AllocFailed<T>> for SearchError {
+    ghost use Rattle.std.specs.Prelude.{◌≡◌};
+    ghost use Rattle.stable_search.specs.declared.refusal.SearchError.TheVariants.{Memory};
+
+    ghost from_gives = { λ _ error. error ≡ Memory };
+
+    fn from(_error: AllocFailed<T>) -> SearchError {
+        SearchError::Memory
+    }
+}

@@ -1,0 +1,92 @@
+//! The search for all picks, case by case.
+
+ghost use Rattle.std.specs.Prelude.{◌≡◌, ◌≤◌, ◌<◌, ℕ, List, IfOk, OnOk, MatchOption, length};
+ghost use Rattle.std.specs.List.{All};
+ghost use Rattle.stable_search.specs.Picks.{IsOnlyPick, AreWithin, AddsAll, Narrows};
+
+use crate::narrowing::narrow_all;
+use crate::picking::{first_apart, fits_all, is_dead, only_pick, place_to_split};
+use crate::refusal::SearchError;
+use crate::way::Way;
+use ranked_policy::Items;
+use std::alloc::Global;
+
+// Adds a pick where its values fit.
+fn add_fitting(
+    ways: &[Way],
+    pick: Items<usize>,
+    most: usize,
+    found: &mut Vec<Items<usize>>,
+) -> Result<(), SearchError>
+    requires within { AreWithin (length pick) ways.now }
+    requires low { All (λ value. value < 64) pick }
+    ensures { (sets : List ℕ) → IsOnlyPick sets pick
+        → OnOk result (AddsAll ways.now sets found.old.items found.new.items) }
+{
+    if !fits_all(ways, pick.as_slice()) {
+        return Ok(());
+    }
+    if found.len() >= most {
+        return Err(SearchError::TooManyChoices);
+    }
+    found.push(pick)?;
+    Ok(())
+}
+
+// Narrows the sets. Adds their picks that solve, where they are that narrow; else it says which of
+// them to split.
+fn settle(
+    alloc: Global,
+    ways: &[Way],
+    sets: &mut [u64],
+    most: usize,
+    found: &mut Vec<Items<usize>>,
+) -> Result<Option<usize>, SearchError>
+    requires { AreWithin (length sets.old) ways.now }
+    ensures { IfOk result (λ next. MatchOption next
+        (AddsAll ways.now sets.old found.old.items found.new.items)
+        (λ place. (place < length sets.new) × Narrows ways.now sets.old sets.new
+        × (found.new.items ≡ found.old.items))) }
+{
+    narrow_all(ways, sets);
+    if is_dead(sets) {
+        return Ok(None);
+    }
+    match only_pick(alloc, sets)? {
+        Some(pick) => {
+            add_fitting(ways, pick, most, found)?;
+            Ok(None)
+        }
+        None => Ok(Some(place_to_split(sets))),
+    }
+}
+
+/// Adds all picks out of these sets that solve, each once.
+pub(crate) fn search(
+    alloc: Global,
+    ways: &[Way],
+    sets: Vec<u64>,
+    most: usize,
+    steps: &mut u64,
+    found: &mut Vec<Items<usize>>,
+) -> Result<(), SearchError>
+    requires { AreWithin (length sets.items) ways.now }
+    ensures steps { steps.new ≤ steps.old }
+    ensures all { OnOk result (AddsAll ways.now sets.items found.old.items found.new.items) }
+{
+    let mut sets = sets;
+    loop {
+        if *steps == 0 {
+            return Err(SearchError::TooManySteps);
+        }
+        *steps -= 1;
+        let Some(place) = settle(alloc, ways, sets.as_mut_slice(), most, found)? else {
+            return Ok(());
+        };
+        let (first, others) = first_apart(sets[place]);
+        let mut one = Vec::from_slice(alloc, sets.as_slice())?;
+        one[place] = first;
+        search(alloc, ways, one, most, steps, found)?;
+        sets[place] = others;
+    }
+}

@@ -1,0 +1,158 @@
+//! Routers with what they may have in a stable assignment.
+
+ghost use Rattle.std.specs.Prelude.{◌≡◌, ◌≢◌, ◌↔◌, ◌<◌, ◌⊎◌, ℕ, List, [], ◌∷◌, IsTrue, IfOk, OnOk, length, map};
+ghost use Rattle.std.specs.List.{All, AllPairs, Contains};
+ghost use Rattle.ranked_policy.specs.Choosing.{chosen_permits};
+ghost use Rattle.ranked_policy.specs.Plans.{IsRouter, numbers};
+ghost use Rattle.stable_search.specs.Fits.{GoesOver};
+ghost use Rattle.stable_search.specs.Seats.{IsSeat};
+
+use crate::refusal::SearchError;
+use ranked_policy::{Asn, Chosen, MOST_PATHS, Network, Path, Policy};
+use stable_paths::Instance;
+use std::alloc::Global;
+
+/// A router in a search.
+#[derive(Debug, Drop)]
+pub(crate) struct Seat<'a> {
+    /// The router.
+    pub(crate) router: Asn,
+    /// Whether it originates the prefix.
+    pub(crate) is_origin: bool,
+    /// Its policy for the prefix.
+    pub(crate) policy: Chosen<'a>,
+    /// What it may have.
+    pub(crate) values: Vec<Path>,
+}
+
+// Whether a path goes on from a router over a peer of it.
+fn goes_over(network: &Network, router: Asn, path: &Path) -> bool
+    ensures { IsTrue result ↔ GoesOver network.now.links router path.now }
+{
+    match path.as_slice() {
+        [first, peer, ..] => *first == router && network.linked(router, *peer),
+        _ => false,
+    }
+}
+
+// Whether two paths are the same.
+fn are_same(one: &Path, other: &Path) -> bool
+    ensures { IsTrue result ↔ (one.now ≡ other.now) }
+{
+    one.as_slice() == other.as_slice()
+}
+
+// Whether a path is one of these.
+fn has_path(paths: &[Path], path: &Path) -> bool
+    ensures { IsTrue result ↔ Contains paths.now path.now }
+{
+    for listed in paths {
+        if are_same(listed, path) {
+            return true;
+        }
+    }
+    false
+}
+
+// Adds a path that is not there yet.
+fn add_once(alloc: Global, values: &mut Vec<Path>, path: &Path) -> Result<(), SearchError>
+    ensures exact { OnOk result ((other : List ℕ) → (Contains values.new.items other
+        ↔ Contains values.old.items other ⊎ (path.now ≡ other))) }
+    ensures distinct { OnOk result (AllPairs (λ one later. one ≢ later) values.old.items
+        → AllPairs (λ one later. one ≢ later) values.new.items) }
+{
+    if !has_path(values.as_slice(), path) {
+        values.push(Path::from_slice(alloc, path.as_slice())?)?;
+    }
+    Ok(())
+}
+
+// Whether a path is permitted and goes on from the router over a peer of it.
+fn may_stand(network: &Network, policy: &Chosen, router: Asn, path: &Path) -> bool
+    ensures { IsTrue result ↔ (chosen_permits policy.now path.now × GoesOver network.now.links router path.now) }
+{
+    policy.permits(path) && goes_over(network, router, path)
+}
+
+// The paths of a list that are permitted and go on over a peer, each once, and then the empty path.
+fn listed(
+    alloc: Global,
+    network: &Network,
+    policy: &Chosen,
+    router: Asn,
+    paths: &[Path],
+) -> Result<Vec<Path>, SearchError>
+    ensures exact { IfOk result (λ values. (path : List ℕ) → (Contains values.items path ↔ (Contains paths.now path
+        × chosen_permits policy.now path × GoesOver network.now.links router path) ⊎ ([] ≡ path))) }
+    ensures distinct { IfOk result (λ values. AllPairs (λ path later. path ≢ later) values.items) }
+{
+    let mut values = Vec::new(alloc);
+    for path in paths {
+        if may_stand(network, policy, router, path) {
+            add_once(alloc, &mut values, path)?;
+        }
+    }
+    add_once(alloc, &mut values, &Path::new(alloc))?;
+    Ok(values)
+}
+
+// What a router may have that is not the origin: none of its paths is left out.
+fn values_by(
+    alloc: Global,
+    network: &Network,
+    policy: &Chosen,
+    router: Asn,
+) -> Result<Vec<Path>, SearchError>
+    ensures exact { IfOk result (λ values. (path : List ℕ) → (Contains values.items path
+        ↔ (chosen_permits policy.now path × GoesOver network.now.links router path) ⊎ ([] ≡ path))) }
+    ensures distinct { IfOk result (λ values. AllPairs (λ path later. path ≢ later) values.items) }
+    ensures few { IfOk result (λ values. length values.items < 64) }
+{
+    let Chosen::Ranked(ranked) = policy else {
+        return Err(SearchError::TooManyPaths { router });
+    };
+    let values = listed(alloc, network, policy, router, ranked.paths)?;
+    if values.len() >= 2 * MOST_PATHS {
+        return Err(SearchError::TooManyPaths { router });
+    }
+    Ok(values)
+}
+
+// A router with what it may have.
+fn seat_of<'a>(alloc: Global, instance: &Instance<'a>, router: Asn) -> Result<Seat<'a>, SearchError>
+    requires { IsRouter instance.now.net.routers router }
+    ensures router { IfOk result (λ seat. seat.router ≡ router) }
+    ensures seat { IfOk result (IsSeat instance.now) }
+{
+    let network = instance.network();
+    let prefix = instance.prefix();
+    let policy = network.policies(router).unwrap().for_prefix(prefix);
+    let is_origin = network.is_origin(router, prefix);
+    let values = if is_origin {
+        vec![in alloc; Path::from_slice(alloc, &[router])?]?
+    } else {
+        values_by(alloc, network, &policy, router)?
+    };
+    Ok(Seat {
+        router,
+        is_origin,
+        policy,
+        values,
+    })
+}
+
+/// The routers of an instance with what they may have, by rising number.
+pub(crate) fn seats<'a>(
+    alloc: Global,
+    instance: &Instance<'a>,
+) -> Result<Vec<Seat<'a>>, SearchError>
+    ensures routers { IfOk result (λ seats. map (λ seat. seat.router) seats.items ≡ numbers instance.now.net.routers) }
+    ensures seats { IfOk result (λ seats. All (IsSeat instance.now) seats.items) }
+{
+    let network = instance.network();
+    let mut seats = Vec::with_capacity(alloc, network.routers().len())?;
+    for router in network.routers() {
+        seats.push(seat_of(alloc, instance, router.asn)?)?;
+    }
+    Ok(seats)
+}

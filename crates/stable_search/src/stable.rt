@@ -1,0 +1,131 @@
+//! The search for all stable assignments.
+
+ghost use Rattle.std.specs.Prelude.{◌≡◌, ◌↔◌, ◌<◌, ◌≤◌, ℕ, List, [], IfOk, length, slice_index, slice_index_or};
+ghost use Rattle.std.specs.List.{All};
+ghost use Rattle.stable_search.specs.Every.{IsEveryStable};
+ghost use Rattle.stable_search.specs.Groups.{IsShown, AreRoutersAt, IsPartOf, ArePartsOf, IsGroup, AreValues};
+ghost use Rattle.stable_search.specs.Picks.{Has};
+ghost use Rattle.stable_search.specs.Seats.{StandsAt};
+ghost use Rattle.stable_search.specs.declared.seat.Seat.{Seat};
+
+use crate::every::{Every, Part};
+use crate::group::{Group, groups};
+use crate::laws::stable_is_fitting;
+use crate::limits::Limits;
+use crate::refusal::SearchError;
+use crate::relating::ways_between;
+use crate::seat::{Seat, seats};
+use ranked_policy::{Asn, Items, Path};
+use stable_paths::Instance;
+use std::alloc::{AllocError, Global};
+
+// The routers at these places.
+fn routers_at(alloc: Global, seats: &[Seat], places: &[usize]) -> Result<Items<Asn>, AllocError>
+    requires { All (λ place. place < length seats.now) places.now }
+    ensures { IfOk result (AreRoutersAt seats.now places.now) }
+{
+    let mut routers = Vec::with_capacity(alloc, places.len())?;
+    for place in places {
+        routers.push(seats[*place].router)?;
+    }
+    Ok(Items::from_vec(routers))
+}
+
+// The paths that the values of a pick stand for.
+fn shown(
+    alloc: Global,
+    seats: &[Seat],
+    places: &[usize],
+    pick: &[usize],
+) -> Result<Items<Path>, AllocError>
+    requires inside { All (λ place. place < length seats.now) places.now }
+    requires size { length pick.now ≡ length places.now }
+    requires values { (k : ℕ) (seat : Seat) → k < length places.now
+        → StandsAt seats.now (slice_index places.now k) seat → slice_index pick.now k < length seat.values.items }
+    ensures { IfOk result (IsShown seats.now places.now pick.now) }
+{
+    let mut choice = Vec::with_capacity(alloc, places.len())?;
+    for (k, place) in places.iter().enumerate() {
+        let path = &seats[*place].values[pick[k]];
+        choice.push(Path::from_slice(alloc, path.as_slice())?)?;
+    }
+    Ok(Items::from_vec(choice))
+}
+
+// The first so many values as a set.
+fn first_values(count: usize) -> u64
+    requires { count ≤ 64 }
+    ensures { (value : ℕ) → (Has result value ↔ value < count) }
+{
+    let mut values = 0;
+    for value in 0..count {
+        values |= 1 << value;
+    }
+    values
+}
+
+// All values of each seat.
+fn all_values(alloc: Global, seats: &[Seat]) -> Result<Vec<u64>, AllocError>
+    requires { All (λ seat. length seat.values.items < 64) seats.now }
+    ensures { IfOk result (λ sets. AreValues seats.now sets.items) }
+{
+    let mut sets = Vec::with_capacity(alloc, seats.len())?;
+    for seat in seats {
+        sets.push(first_values(seat.values.len()))?;
+    }
+    Ok(sets)
+}
+
+// The part of a group.
+fn part_of(alloc: Global, seats: &[Seat], group: &Group) -> Result<Part, AllocError>
+    requires { (sets : List ℕ) × AreValues seats.now sets × IsGroup sets group.now }
+    ensures { IfOk result (IsPartOf seats.now group.now) }
+{
+    let places = group.places.as_slice();
+    let mut choices = Vec::with_capacity(alloc, group.picks.len())?;
+    for pick in group.picks.as_slice() {
+        choices.push(shown(alloc, seats, places, pick.as_slice())?)?;
+    }
+    let routers = routers_at(alloc, seats, places)?;
+    Ok(Part {
+        routers,
+        choices: Items::from_vec(choices),
+    })
+}
+
+// The parts of groups, in their order.
+fn parts_of(alloc: Global, seats: &[Seat], groups: &[Group]) -> Result<Items<Part>, AllocError>
+    requires { (sets : List ℕ) × AreValues seats.now sets × All (IsGroup sets) groups.now }
+    ensures { IfOk result (ArePartsOf seats.now groups.now) }
+{
+    let mut parts = Vec::with_capacity(alloc, groups.len())?;
+    for group in groups {
+        parts.push(part_of(alloc, seats, group)?)?;
+    }
+    Ok(Items::from_vec(parts))
+}
+
+/// All stable assignments of an instance: an assignment is stable exactly where of each part it has
+/// one of its choices.
+///
+/// Nothing is answered that isn't all. It refuses [`SearchError::TooManyPaths`] with the least router
+/// that isn't the origin and that has no rule for the prefix; [`SearchError::TooManyChoices`] where a
+/// part has more choices than the limit; [`SearchError::TooManySteps`] where the search of a part
+/// would take more steps than the limit; [`SearchError::Memory`] where a growth was refused. What the
+/// call was lent is as it was.
+pub fn stable_assignments(
+    alloc: Global,
+    instance: &Instance,
+    limits: &Limits,
+) -> Result<Every, SearchError>
+    ensures { IfOk result (IsEveryStable instance.now) }
+{
+    stable_is_fitting();
+    let network = instance.network();
+    let seats = seats(alloc, instance)?;
+    let ways = ways_between(alloc, network, seats.as_slice())?;
+    let mut sets = all_values(alloc, seats.as_slice())?;
+    let groups = groups(alloc, ways.as_slice(), sets.as_mut_slice(), limits)?;
+    let parts = parts_of(alloc, seats.as_slice(), groups.as_slice())?;
+    Ok(Every { parts })
+}
