@@ -44,6 +44,7 @@ use Rattle.router_runs.specs.Model.{network_of}
 use Rattle.world_core.specs.Verdicts.{MembersAreOfTheNetwork}
 use Rattle.router_runs.specs.Promises.{UpdatesPassInOrder, NothingIsActedOnAfterTheClose}
 use Rattle.router_runs.specs.Snapshots.{CloseLosesTheRecording, SnapshotsHoldInRuns}
+use Rattle.run_cuts.specs.ThroughSnapshot.{RunsPassThroughSnapshots}
 use Rattle.net_workers.proofs.CalledJournals.{IsCalledJournal, called_journal, of_orders, called_run, ordered_run}
 use Rattle.net_workers.proofs.Blocks.{Block, IsFit, acts_of, acts_by, routers_of, by, rises_map, own_acts, all_fit, routers_rise, own_rise, events_are}
 
@@ -345,9 +346,9 @@ records_are_runs {G} given journals rise sorting lifts stamped_law collectors th
       refl,
     )
 
-pub records_keep_their_promises : {G : Type 0} (given : G → List Chore) → RecordsAreRuns given → UpdatesPassInOrder → NothingIsActedOnAfterTheClose → CloseLosesTheRecording → SnapshotsHoldInRuns → MembersAreOfTheNetwork → VerdictsAreOutcomes
+pub records_keep_their_promises : {G : Type 0} (given : G → List Chore) → RecordsAreRuns given → UpdatesPassInOrder → NothingIsActedOnAfterTheClose → CloseLosesTheRecording → SnapshotsHoldInRuns → RunsPassThroughSnapshots → MembersAreOfTheNetwork → VerdictsAreOutcomes
     → CollectedAreKept → RecordsKeepTheirPromises given
-records_keep_their_promises given runs_law order nothing_after loses hold members_law verdicts kept plan turns p workers c gathered is turn g net set =
+records_keep_their_promises given runs_law order nothing_after loses hold pass members_law verdicts kept plan turns p workers c gathered is turn g net set =
     let both = runs_law plan turns p workers c gathered is turn g net set in
     let ran = both.0 in
     let made : made_for c ≡ with_offers (λ s. []) ran.state.offered = is.collects.made ∙ ap (with_offers (λ s. [])) (sym both.1) in
@@ -359,6 +360,7 @@ records_keep_their_promises given runs_law order nothing_after loses hold member
       after_close = λ d old new at. nothing_after g set at.before at.later d old new ran.state at.reached at.step at.goes_on;
       closes = λ d old new at. loses g set at.before at.later d old new ran.state at.reached at.step at.goes_on;
       snapshots = hold g set ran.order ran.state ran.run;
+      through = pass g set ran.order ran.state ran.run;
       offered = made;
       outcomes = λ s.
           subst (λ (ms : List MadeOffer). HasOutcome (network_of g) s ran.state.offered (verdict members (kept_of members ms))) (sym (ap (λ (f : ℕ → List MadeOffer). f s) made))

@@ -11,6 +11,7 @@ use Rattle.router_runs.specs.Runs.{RunOrder, RunState, IsRunTo, new_logged, side
 use Rattle.router_runs.specs.Model.{network_of}
 use Rattle.router_runs.specs.Promises.{PassesInOrder, ActsOnNothingAfterCloses}
 use Rattle.router_runs.specs.Snapshots.{ClosesLoseRecordings, SnapshotsHold}
+use Rattle.run_cuts.specs.ThroughSnapshot.{PassesThroughItsCuts}
 use Rattle.router_core.specs.Views.{plain_of}
 use Rattle.snap_collector.specs.Collector.{CollectorView, made_for, with_offers}
 use Rattle.world_core.specs.Verdicts.{judged}
@@ -52,14 +53,15 @@ RecordsAreRuns {G} given =
     → (record_of : IsRecord given plan turns p workers c gathered) → InTurn p → (g : Setting) → g.net ≡ plan → IsSetting g
     → (run : IsRunOfThreads g p workers gathered) × (run.state.offered ≡ offers_on record_of.collects.offers)
 
--- and the promises of runs hold of it; the collector has just the offers of that run, and how a snapshot comes out by it is how it
--- comes out in that run
+-- and the promises of runs hold of it, and a run of the same events passes through the cut of each snapshot whose parts all routers
+-- made; the collector has just the offers of that run, and how a snapshot comes out by it is how it comes out in that run
 pub record KeepsPromises {G : Type 0} (g : Setting) (p : Passed) (workers : List (Worked G)) (c : CollectorView) (gathered : List Entry) : Type 0 where
   pub run : IsRunOfThreads g p workers gathered
   pub in_order : (u v e : ℕ) → linked g.net u v ≡ true → PassesInOrder g run.state u v e × IsPrefix ((side_of run.state v u).acted e) ((side_of run.state u v).sent e)
   pub after_close : ActsOnNothingAfterCloses g run.order run.state
   pub closes : ClosesLoseRecordings g run.order run.state
   pub snapshots : SnapshotsHold g run.order run.state
+  pub through : PassesThroughItsCuts g run.order run.state
   pub offered : made_for c ≡ with_offers (λ s. []) run.state.offered
   pub outcomes : (s : ℕ) → HasOutcome (network_of g) s run.state.offered (judged c s)
 

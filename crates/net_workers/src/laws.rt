@@ -7,6 +7,7 @@ use router_runs::{
     NetworkRouters, close_loses_the_recording, nothing_is_acted_on_after_the_close,
     snapshots_of_runs, updates_pass_in_order,
 };
+use run_cuts::laws::runs_pass_through_snapshots;
 use run_model::orders::{
     JournalLines, Routers, WholeLines, causal_orders_end_alike, gathered_events_are_stamped,
     gathering_lifts, sorting_by_stamp_gathers, stamps_change_no_item,
@@ -78,8 +79,8 @@ impl Routers for CalledRouters {
 /// the items that were put and taken, and the offers of the record (`runs`). Each event is what the call of its router
 /// answers, and a command only where one of the router's chores is that command. So all promises of runs hold of it:
 /// UPDATEs and octets passed in order, none was acted on after a close, a close lost the recording of its router, how a
-/// snapshot comes out by the collector is how it comes out in that run, and what is settled is a stable path assignment
-/// that stays (`promises`).
+/// snapshot comes out by the collector is how it comes out in that run, what is settled is a stable path assignment that
+/// stays, and a run of the same events passes through the cut of each snapshot whose parts all routers made (`promises`).
 ///
 /// Premises: the record is one ([`crate::run_net`]), and in each direction the items that were taken are the first of those that
 /// were put, one after another; the network is one, routers choose by rank. It does not say that two threads ever ran at
@@ -103,6 +104,7 @@ pub fn records_are_runs<G: Gate>()
     nothing_is_acted_on_after_the_close();
     close_loses_the_recording();
     snapshots_of_runs();
+    runs_pass_through_snapshots();
     members_are_of_the_network();
     verdicts_are_outcomes();
     collected_are_kept();

@@ -142,9 +142,8 @@ where
 
 /// The record of workers that have ended, or why there is none.
 ///
-/// Refused with the fault of the least router that has one. Where none has, refused
-/// [`RunFault::BoardDiffers`] where the offers of the board are not those of the journals, and
-/// [`RunFault::Memory`] where a growth was refused. Nothing is handed back then.
+/// Refused with the fault of the least router that has one; where none has, only with
+/// [`RunFault::BoardDiffers`] or [`RunFault::Memory`]. Nothing is handed back then.
 ///
 /// Premise: the workers are those of the network, each begun as one that did nothing and run to its end.
 pub fn record_of<'a, R, G>(
@@ -221,10 +220,11 @@ where
 /// threads have. Gates stand by rising router, and have given no chore yet.
 ///
 /// A worker ends at its first Stop, or after so many chores. Refused [`RunFault::BadLimits`] where the
-/// chores are not 1 to [`MOST_TURNS`] or there is not one gate for each router, before anything is
-/// done; with the fault of the least router that has one; [`RunFault::BoardDiffers`] where the offers
-/// of the board are not those of the journals, and [`RunFault::Memory`] where a growth was refused.
-/// After a fault the other workers go on to their own end, and nothing is handed back.
+/// chores are not 1 to [`MOST_TURNS`] or there is not one gate for each router, and nowhere else;
+/// [`RunFault::WorkerRefused`] only with the least router that has a fault, where it was refused;
+/// [`RunFault::BoardDiffers`] only where no worker has a fault. [`RunFault::Memory`] is a worker's want of
+/// memory or that of what is done around them: no clause says when. After a fault the other workers go on
+/// to their own end, and nothing is handed back.
 ///
 /// What a record says is what the threads did, each router at the word of the gate that was given for it:
 /// it is one run of the network, and its pipes hold what was put into them and not taken.

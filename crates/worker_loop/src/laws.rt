@@ -13,13 +13,14 @@ pub fn what_follows_is_done()
     ensures { WhatFollowsIsDone }
 {}
 
-/// Events that lead a router from its opening are a journal of it, as the laws of runs have it, which leads
-/// to the same router.
+/// Events that lead a router of the network from one of its states to another are a journal of it, as the
+/// laws of runs have it: from the one, with whatever it ever appended, to the other.
 pub fn acts_are_journals()
     ensures { ActsAreJournals }
 {}
 
-/// The stamps of a worker's events rise, each above the one before.
+/// The stamps of events that lead a router on never fall; each event is of that router, and its item fits
+/// its stamp.
 pub fn stamps_rise()
     ensures { StampsRise }
 {}

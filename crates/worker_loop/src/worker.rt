@@ -101,12 +101,11 @@ impl<'a, L: Lines, D: Desk, G: Gate> Worker<'a, L, D, G> {
     /// Does the chores that the gate gives: so many, or up to the first Stop. It backs off after a
     /// chore in which no event was done.
     ///
-    /// Refused [`WorkerFault::Refused`] only where the router has no stamp or incarnation left for what
-    /// was tried, or the board refuses its offer; and [`WorkerFault::Memory`] only where the next chore
-    /// was to be written down and the list of chores has no room left, a step was due, or an offer waits:
-    /// where nothing is due, a growth that is refused ends no worker. Then the worker ended in the middle,
-    /// with its router as it was before the call that ended it; an item that was taken off its line for
-    /// that call is lost.
+    /// Refused [`WorkerFault::Refused`] only where the router, as it is then, has no stamp or incarnation
+    /// left for a call of the last chore; [`WorkerFault::Memory`] only where the next chore was to be
+    /// written down and the list of chores has no room left, or a call of the last chore has a step due;
+    /// and either where an offer waits in the router. So where nothing is due, a growth that is refused
+    /// ends no worker. Such a call may be of the item that was taken last from a peer, which is lost.
     pub fn work<R: Wait>(&mut self, rt: &R, board: &D::Board, turns: u32) -> Result<(), WorkerFault>
         requires fresh { G.given self.old.gate ≡ [] }
         requires blank { self.old.journal.chores.items ≡ [] }

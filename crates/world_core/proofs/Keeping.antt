@@ -8,6 +8,7 @@ use Rattle.router_model.specs.Step.{RouterEvent}
 use Rattle.router_model.specs.Laws.{AnswersAreSteps, LinkedRoutersArePeers}
 use Rattle.router_runs.specs.Promises.{UpdatesPassInOrder, NothingIsActedOnAfterTheClose}
 use Rattle.router_runs.specs.Snapshots.{CloseLosesTheRecording, SnapshotsHoldInRuns}
+use Rattle.run_cuts.specs.ThroughSnapshot.{RunsPassThroughSnapshots}
 use Rattle.world_core.specs.declared.schedule.Event.{Event}
 use Rattle.world_core.specs.World.{World, WorldAnswer, Does, Nothing, Stops, new_world, world_answer, world_after, world_of, onward, played, IsReplayed, IsRunOfWorld}
 use Rattle.world_core.specs.Keeping.{PlayedWorldsKeepTheirPromises, WhatIsPlayedIsReplayed, StepsAreReplayed}
@@ -56,7 +57,7 @@ what_is_played_is_replayed g events w h = replayed g events (new_world g) w 0 re
 
 -- ---- its promises
 
-module _ (answers_are_steps : AnswersAreSteps) (peers : LinkedRoutersArePeers) (in_order : UpdatesPassInOrder) (nothing_after : NothingIsActedOnAfterTheClose) (loses : CloseLosesTheRecording) (hold : SnapshotsHoldInRuns) where
+module _ (answers_are_steps : AnswersAreSteps) (peers : LinkedRoutersArePeers) (in_order : UpdatesPassInOrder) (nothing_after : NothingIsActedOnAfterTheClose) (loses : CloseLosesTheRecording) (hold : SnapshotsHoldInRuns) (pass : RunsPassThroughSnapshots) where
   pub worlds_keep_their_promises : PlayedWorldsKeepTheirPromises
   worlds_keep_their_promises g set events w h =
       let run = what_is_played_is_a_run answers_are_steps g set events w h in
@@ -67,6 +68,7 @@ module _ (answers_are_steps : AnswersAreSteps) (peers : LinkedRoutersArePeers) (
         after_close = λ order state r agrees d old new at. nothing_after g set at.before at.later d old new state at.reached at.step at.goes_on;
         closes = λ order state r agrees d old new at. loses g set at.before at.later d old new state at.reached at.step at.goes_on;
         snapshots = λ order state r agrees. hold g set order state r;
+        through = λ order state r agrees. pass g set order state r;
       }
     where
       in_order_of : (run : IsRunOfWorld g w) (u v e : ℕ) → linked g.net u v ≡ true → IsPrefix (((w.routers v).router.sides u).acted e) (((w.routers u).router.sides v).sent e)

@@ -13,6 +13,7 @@ use Rattle.router_model.specs.Calls.{Advertise, Refuses, answer}
 use Rattle.router_runs.specs.Runs.{RunOrder, RunState, IsRunTo, logged_steps}
 use Rattle.router_runs.specs.Promises.{OctetsPassInOrder, ActsOnNothingAfterCloses}
 use Rattle.router_runs.specs.Snapshots.{ClosesLoseRecordings, SnapshotsHold}
+use Rattle.run_cuts.specs.ThroughSnapshot.{PassesThroughItsCuts}
 use Rattle.world_core.specs.declared.schedule.Event.{Event}
 use Rattle.world_core.specs.declared.schedule.Event.TheVariants as schedule
 use Rattle.world_core.specs.World.{World, Does, Nothing, new_world, world_answer, world_after, played, name_of, AgreesWith, IsRunOfWorld, IsReplayed}
@@ -23,8 +24,8 @@ HoldsOfItsRuns g w Holds = (order : RunOrder) (state : RunState) → IsRunTo g o
 
 -- it stands at the end of a run; the UPDATEs that each router acted on in an incarnation of a session are a beginning of those that
 -- its peer sent in it; and of each run that it stands at the end of: so are the octets, from end to end, nothing is acted on after a
--- close, a close loses the recording of its router, the snapshots are consistent cuts, and what is settled is a stable path
--- assignment, which stays
+-- close, a close loses the recording of its router, the snapshots are consistent cuts, what is settled is a stable path
+-- assignment, which stays, and a run of the same events passes through the cut of each snapshot whose parts all routers made
 pub record KeepsItsPromises (g : Setting) (w : World) : Type 0 where
   pub run : IsRunOfWorld g w
   pub in_order : (u v e : ℕ) → linked g.net u v ≡ true
@@ -33,6 +34,7 @@ pub record KeepsItsPromises (g : Setting) (w : World) : Type 0 where
   pub after_close : HoldsOfItsRuns g w (ActsOnNothingAfterCloses g)
   pub closes : HoldsOfItsRuns g w (ClosesLoseRecordings g)
   pub snapshots : HoldsOfItsRuns g w (SnapshotsHold g)
+  pub through : HoldsOfItsRuns g w (PassesThroughItsCuts g)
 
 -- what is played is a run
 abbrev pub WhatIsPlayedIsARun : Type 0

@@ -8,15 +8,17 @@ ghost use Rattle.world_core.specs.Picking.{NamesAreEnough};
 ghost use Rattle.world_core.specs.Tested.{TestsTellWhatIsInside};
 ghost use Rattle.world_core.specs.Through.{PickedIsThrough};
 ghost use Rattle.world_core.specs.Replays.{ChosenRunsArePlayed, CalledRunsArePlayed, AnswersAreCalled, WorldsHaveTheirRuns, CutsArePlayed};
+ghost use Rattle.world_core.specs.OneRun.{PlayedRunsAreOne, PlayedCutsAreOne};
 
 use router_model::laws::{
     answers_are_steps, idle_where_nothing_may_come, linked_routers_are_peers,
 };
 use router_runs::{
-    close_loses_the_recording, nothing_is_acted_on_after_the_close, snapshots_of_runs,
-    updates_pass_in_order,
+    NetworkRouters, close_loses_the_recording, nothing_is_acted_on_after_the_close,
+    snapshots_of_runs, updates_pass_in_order,
 };
 use run_cuts::laws::{chosen_runs_pass_through, cuts_are_one, runs_pass_through_snapshots};
+use run_model::orders::steps_are_takes_in_order;
 use snap_collector::laws::{collected_are_kept, verdicts_are_outcomes};
 
 /// The events that a schedule did are a run of the network's routers, and the last state of the run has all that the world
@@ -40,8 +42,9 @@ pub fn steps_are_replayed()
 /// Every world that was played stands at the end of a run, and in it the UPDATEs that each router acted on in an
 /// incarnation of a session are a beginning of those that its peer sent in it: in order, once each. In each run that it stands
 /// at the end of the octets pass in order, from end to end; nothing is acted on after a close; a close queues the loss of the
-/// snapshot that its router records; and the snapshots are consistent cuts, the paths of one that is settled being a stable
-/// path assignment, which stays while the run is quiet.
+/// snapshot that its router records; the snapshots are consistent cuts, the paths of one that is settled being a stable
+/// path assignment, which stays while the run is quiet; and a run of the same events passes through the cut of each
+/// snapshot whose parts all routers made.
 pub fn played_worlds_keep_their_promises()
     ensures { PlayedWorldsKeepTheirPromises }
 {
@@ -51,6 +54,7 @@ pub fn played_worlds_keep_their_promises()
     nothing_is_acted_on_after_the_close();
     close_loses_the_recording();
     snapshots_of_runs();
+    runs_pass_through_snapshots();
 }
 
 /// An event answers that there is nothing to do only where no step of the network has its name; or all outboxes of a router
@@ -120,6 +124,16 @@ pub fn worlds_have_their_runs()
     ensures { WorldsHaveTheirRuns }
 {
     answers_are_steps();
+}
+
+/// The run that a world played is one: its order and its state (`run`). So is the cut of a snapshot in it: the events that
+/// are inside, and the run through the cut (`cut`).
+pub fn played_runs_are_one()
+    ensures run { PlayedRunsAreOne }
+    ensures cut { PlayedCutsAreOne }
+{
+    steps_are_takes_in_order::<NetworkRouters>();
+    cuts_are_one();
 }
 
 /// The run through the cut of a snapshot, played: where no outbox reached the limit, its events lead from a new world to one

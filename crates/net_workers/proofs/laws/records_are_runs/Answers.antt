@@ -10,5 +10,5 @@ returns g c =
     record {
       runs = runs;
       promises = records_keep_their_promises g.G.Gate.given runs c.updates_pass_in_order.ensures c.nothing_is_acted_on_after_the_close.ensures
-          c.close_loses_the_recording.ensures c.snapshots_of_runs.ensures.hold c.members_are_of_the_network.ensures c.verdicts_are_outcomes.ensures c.collected_are_kept.ensures;
+          c.close_loses_the_recording.ensures c.snapshots_of_runs.ensures.hold c.runs_pass_through_snapshots.ensures.through c.members_are_of_the_network.ensures c.verdicts_are_outcomes.ensures c.collected_are_kept.ensures;
     }
