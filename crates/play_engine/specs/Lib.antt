@@ -1,3 +1,4 @@
 pub mod Reporting
 pub mod Playing
 pub mod Cutting
+pub mod Laws

@@ -11,6 +11,7 @@
 
 mod cut;
 mod cuts;
+pub mod laws;
 mod play;
 mod schedules;
 mod snapshots;

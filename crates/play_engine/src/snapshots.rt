@@ -1,6 +1,6 @@
 //! How snapshots came out, and their routes.
 
-ghost use Rattle.std.specs.Prelude.{◌≡◌, ◌++◌, false, OnOk, drop, map};
+ghost use Rattle.std.specs.Prelude.{◌≡◌, ◌++◌, false, OnOk, OnErr, length, take, drop, map};
 ghost use Rattle.std.specs.List.{AllPairs};
 ghost use Rattle.prefix_lanes.specs.Bits.{PrefixView, is_prefix};
 ghost use Rattle.ranked_policy.specs.Plans.{IsBefore};
@@ -54,7 +54,8 @@ fn put_part(
     out: &mut Vec<u8>,
 ) -> Result<(), AllocError>
     requires { AllPairs (λ origin later. IsBefore origin.prefix later.prefix) origins.now }
-    ensures { OnOk result (out.new.items ≡ out.old.items ++ router_text (kept_in part.now.kept.items) number origins.now) }
+    ensures kept { take (length out.old.items) out.new.items ≡ out.old.items }
+    ensures ok { OnOk result (out.new.items ≡ out.old.items ++ router_text (kept_in part.now.kept.items) number origins.now) }
 {
     let kept = part.kept.as_slice();
     let mut passed = 0;
@@ -74,7 +75,8 @@ fn put_recorded(
     out: &mut Vec<u8>,
 ) -> Result<(), AllocError>
     requires { AllPairs (λ origin later. IsBefore origin.prefix later.prefix) origins.now }
-    ensures { OnOk result (out.new.items ≡ out.old.items ++ part_text origins.now router (recorded (kept_of (map member_of collector.now.members) (made_for collector.now number)) router)) }
+    ensures kept { take (length out.old.items) out.new.items ≡ out.old.items }
+    ensures ok { OnOk result (out.new.items ≡ out.old.items ++ part_text origins.now router (recorded (kept_of (map member_of collector.now.members) (made_for collector.now number)) router)) }
 {
     match collector.part(number, router) {
         Some(part) => put_part(router, part, origins, out),
@@ -82,23 +84,43 @@ fn put_recorded(
     }
 }
 
+// Appends the routes that routers recorded in the snapshot of this number. Where memory is refused, some of the lines
+// stand behind what the buffer had.
+fn put_each_part(
+    network: &Network,
+    collector: &Collector,
+    number: u32,
+    out: &mut Vec<u8>,
+) -> Result<(), AllocError>
+    ensures kept { take (length out.old.items) out.new.items ≡ out.old.items }
+    ensures ok { OnOk result (out.new.items ≡ out.old.items ++ parts_text network.now (kept_of (map member_of collector.now.members) (made_for collector.now number))) }
+{
+    for member in network.routers() {
+        put_recorded(collector, number, member.asn, network.origins(), out)?;
+    }
+    Ok(())
+}
+
 /// Appends the routes that routers recorded in the snapshot of this number: a line for each router that has a
 /// part of it, routers rising, and each prefix that the network originates, with the path that the part keeps
 /// for the prefix, or `none`. A router without a part has no line.
 ///
-/// Where memory is refused, some of the lines stand behind what the buffer had.
+/// It is refused only where memory was, and then leaves what the buffer had.
 pub fn put_parts(
     network: &Network,
     collector: &Collector,
     number: u32,
     out: &mut Vec<u8>,
 ) -> Result<(), AllocError>
-    ensures { OnOk result (out.new.items ≡ out.old.items ++ parts_text network.now (kept_of (map member_of collector.now.members) (made_for collector.now number))) }
+    ensures ok { OnOk result (out.new.items ≡ out.old.items ++ parts_text network.now (kept_of (map member_of collector.now.members) (made_for collector.now number))) }
+    ensures err { OnErr result (out.new.items ≡ out.old.items) }
 {
-    for member in network.routers() {
-        put_recorded(collector, number, member.asn, network.origins(), out)?;
+    let start = out.len();
+    let result = put_each_part(network, collector, number, out);
+    if result.is_err() {
+        out.truncate(start);
     }
-    Ok(())
+    result
 }
 
 // Appends how a snapshot came out, and its routes where it is settled.

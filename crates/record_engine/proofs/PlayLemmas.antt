@@ -33,7 +33,8 @@ use Rattle.text_engines.specs.Decoding.{Output, output}
 use Rattle.text_engines.specs.Inputs.{NetworkGives}
 use Rattle.trace_engine.specs.Tracing.{head_of_trace}
 use Rattle.trace_engine.proofs.EventLemmas.{MaySay}
-use Rattle.trace_engine.proofs.LawLemmas.{all_of, front_is, rest_is, trace_parted, refused_at, no_fault, same_events, no_halt, not_done}
+use Rattle.play_engine.proofs.OneText.{refused_at, no_fault, no_halt}
+use Rattle.trace_engine.proofs.LawLemmas.{all_of, front_is, rest_is, trace_parted, same_events, not_done}
 use Rattle.trace_engine.proofs.LineLemmas.{order_of, as_orders, Says, one_lines}
 use Rattle.run_engine.specs.declared.chores.RunOptions.{RunOptions}
 use Rattle.run_engine.specs.declared.gates.RunGate.{RunGate}

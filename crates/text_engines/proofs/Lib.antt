@@ -7,3 +7,4 @@ mod HexLanes
 pub mod PlaceLemmas
 pub mod PrintingLemmas
 pub mod WritingLemmas
+pub mod OneText

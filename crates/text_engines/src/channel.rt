@@ -66,6 +66,13 @@ impl<C> Watched<C> {
         }
     }
 
+    /// Whether a read or a write of it failed.
+    pub fn has_failed(&self) -> bool
+        ensures { result ≡ self.now.has_failed }
+    {
+        self.has_failed
+    }
+
     /// The reader or writer of std.
     pub fn into_inner(self) -> C
         ensures { result ≡ self.inner }

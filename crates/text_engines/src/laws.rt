@@ -1,9 +1,13 @@
 //! What the definitions of the engines say together. Each function here does nothing but call the
 //! laws that its proof rests on; its contract is the law.
 
-ghost use Rattle.text_engines.specs.Laws.{DecodesToOne};
+ghost use Rattle.text_engines.specs.Laws.{DecodesToOne, ChecksToOne};
 
 use bgp_framing::laws::splits_once;
+use net_text::laws::{
+    spelt_settings, texts_are_refused_once, texts_spell_one_network, what_is_spelt_is_not_refused,
+};
+use stable_paths::laws::one_best;
 
 /// What `decode` prints, want of memory aside, is a function of what it reads and of the number that
 /// it checks against.
@@ -11,4 +15,15 @@ pub fn decode_prints_one_text()
     ensures { DecodesToOne }
 {
     splits_once();
+}
+
+/// What `check` prints, want of memory aside, is a function of what it reads.
+pub fn check_prints_one_text()
+    ensures { ChecksToOne }
+{
+    texts_spell_one_network();
+    spelt_settings();
+    what_is_spelt_is_not_refused();
+    texts_are_refused_once();
+    one_best();
 }

@@ -1,23 +1,19 @@
 -- A trace spells the run, and is played to the same.
-use Rattle.std.proofs.Common.{◌≡◌, ◌≢◌, ℕ, zero, suc, ◌-◌, ◌==◌, ◌<◌, ◌≤◌, Bool, true, false, List, [], ◌∷◌, ◌++◌, length, map, get_or, refl, ap, sym, subst, ◌∙◌, arith, append_assoc, inl, inr, Ok, Err, Option}
-use Rattle.std.specs.Prelude.{Result, IsOk, codes, if◌then◌else◌, ◌&&◌, nat_lt}
+use Rattle.std.proofs.Common.{◌≡◌, ℕ, zero, suc, ◌-◌, ◌==◌, ◌<◌, ◌≤◌, Bool, true, false, List, [], ◌∷◌, ◌++◌, length, map, get_or, refl, ap, sym, subst, ◌∙◌, arith, append_assoc, inl, inr}
+use Rattle.std.specs.Prelude.{codes, if◌then◌else◌, ◌&&◌, nat_lt}
 use Rattle.std.specs.List.{All, AllByRecursion}
 use Rattle.std.proofs.lemmas.Bool.{eq-eqb, lt-ltb}
 use Rattle.std.proofs.lemmas.Bool.Decides.{nat_tests}
 use Rattle.std.proofs.lemmas.List.{append-nil, append_cancel_left, length-append}
-use Rattle.std.proofs.lemmas.Grind.{flat_map-append}
 use Rattle.ranked_policy.specs.Plans.{Plan, IsNetwork}
 use Rattle.router_model.specs.Settings.{Setting, ChoosesByRank}
 use Rattle.router_runs.specs.Existence.{EachNetworkHasASetting}
 use Rattle.world_core.specs.declared.schedule.Event.{Event}
 use Rattle.world_core.specs.declared.schedule.Order.{Order}
 use Rattle.world_core.specs.declared.schedule.Order.TheVariants as order
-use Rattle.world_core.specs.declared.schedule.StepFault.{StepFault}
-use Rattle.world_core.specs.declared.schedule.StepFault.TheVariants.{Memory}
-use Rattle.world_core.specs.World.{World, WorldAnswer, new_world, played, world_of, onward}
+use Rattle.world_core.specs.World.{World, new_world, played}
 use Rattle.world_core.specs.Keeping.{WhatIsPlayedIsReplayed}
-use Rattle.world_core.specs.Orders.{events_of, StopsAt, IsRefused}
-use Rattle.net_text.specs.declared.code.Code.{Code}
+use Rattle.world_core.specs.Orders.{events_of}
 use Rattle.net_text.specs.declared.code.Code.TheVariants as kinds
 use Rattle.net_text.specs.Laws.{OneNetwork, SpeltIsNotRefused}
 use Rattle.net_text.specs.Layout.{IsOneLine, LinesEndByLineFeeds}
@@ -26,19 +22,18 @@ use Rattle.net_text.specs.Networks.{SpellsNetwork}
 use Rattle.net_text.specs.Printing.{line}
 use Rattle.schedule_text.specs.declared.schedule.ScheduledOrder.{ScheduledOrder}
 use Rattle.schedule_text.specs.Sayings.{LinesAreReadAsTheySay}
-use Rattle.schedule_text.specs.Schedules.{line_order, orders_of, IsGood, IsFirstFault, SpellsSchedule, RefusesSchedule}
+use Rattle.schedule_text.specs.Schedules.{orders_of, IsGood, SpellsSchedule}
 use Rattle.text_engines.specs.declared.status.TheConstants.{DONE}
 use Rattle.text_engines.specs.declared.transfer.TheConstants.{INPUT_LIMIT}
 use Rattle.text_engines.specs.Decoding.{Output, output}
 use Rattle.text_engines.specs.Inputs.{NetworkGives}
-use Rattle.play_engine.specs.declared.schedules.Stop.{Stop}
-use Rattle.play_engine.specs.Playing.{all_events, LeadTo, IsFirstRefused, IsReport, OrdersGive, ScheduleGives, Plays}
+use Rattle.play_engine.specs.Playing.{all_events, LeadTo, IsReport, OrdersGive, ScheduleGives, Plays}
+use Rattle.play_engine.proofs.OneText.{refused_at, no_fault, no_halt}
 use Rattle.trace_engine.specs.Tracing.{ends_in_return, whole_line, network_text, head_of_trace, OrdersText, limit_comment, limited, OrdersTrace}
 use Rattle.trace_engine.specs.Tracings.{network_lines, ScheduleTraces, Traces}
 use Rattle.trace_engine.specs.Laws.{SpellsEvents, TracesSpellTheirRuns, TracesPlayBack}
 use Rattle.trace_engine.proofs.LineLemmas.{order_of, as_orders, line_parted, one_lines}
 use Rattle.trace_engine.proofs.RunLemmas.{MayOrder, lines_may, orders_say}
-use Rattle.trace_engine.proofs.TextLemmas.{played_parts}
 
 -- ---- what is printed spells the run
 
@@ -140,31 +135,6 @@ module _ (feeds : LinesEndByLineFeeds) where
 
 -- ---- what is played of it
 
-pub refused_at : (net : Plan) (before : ℕ) (lines : List Text) (at : ℕ) (code : Code) → code ≢ kinds.Memory → RefusesSchedule net before lines at code → IsFirstFault net before lines at code
-refused_at net before lines at kinds.BadForm k h = h
-refused_at net before lines at kinds.Unreadable k h = h
-refused_at net before lines at kinds.UnknownRouter k h = h
-refused_at net before lines at kinds.Repeated k h = h
-refused_at net before lines at kinds.NotConnected k h = h
-refused_at net before lines at kinds.OutOfLimit k h = h
-refused_at net before lines at kinds.NotSimple k h = h
-refused_at net before lines at kinds.BadPrefix k h = h
-refused_at net before lines at kinds.Memory k h = absurd (k refl)
-refused_at net before lines at kinds.NotPermitted k h = h
-
-good_in : (P : Text → Type 0) (front : List Text) (x : Text) (rest : List Text) → All P (front ++ x ∷ rest) → P x
-good_in P [] x rest all = all 0 x (omega arith)
-good_in P (y ∷ ys) x rest all = good_in P ys x rest (λ k d lt. all (suc k) d (omega (arith, lt)))
-
-not_good : (r : Result (Option Order) Code) (code : Code) → r ≡ Err code → IsOk r → ⊥
-not_good (Ok o) code is h = absurd cc
-not_good (Err e) code is h = absurd cc
-
-pub no_fault : (net : Plan) (before : ℕ) (lines : List Text) (at : ℕ) (code : Code) → All (IsGood net) lines → IsFirstFault net before lines at code → ⊥
-no_fault net before lines at code all f =
-    let good = good_in (IsGood net) f.front f.faulty f.behind (subst (All (IsGood net)) f.parted all) in
-    not_good (line_order net f.faulty) code f.fault good
-
 pub same_events : (net : Plan) (os : List ScheduledOrder) (es : List Event) → map order_of os ≡ as_orders es → all_events net os ≡ es
 same_events net [] [] h = refl
 same_events net [] (e ∷ es) h = absurd cc
@@ -173,30 +143,6 @@ same_events net (o ∷ os) (e ∷ es) h =
     let here : o.order ≡ order.One e = cc in
     let more : map order_of os ≡ as_orders es = cc in
     ap (λ (k : Order). events_of net k ++ all_events net os) here ∙ ap (λ (k : List Event). e ∷ k) (same_events net os es more)
-
-module _ (g : Setting) where
-  not_refused : (y z : World) (x : Event) (xs : List Event) (why : StepFault) → why ≢ Memory → IsRefused g y x why → played g y 0 (x ∷ xs) ≡ Ok z → ⊥
-  not_refused y z x xs why kind (inl is) h =
-      let stops : played g y 0 (x ∷ xs) ≡ Err (record { at = 0; why = why }) = ap (λ (a : WorldAnswer). onward (world_of g y x 0 a) (λ next. played g next 1 xs)) is in
-      absurd (let k = sym stops ∙ h in cc)
-  not_refused y z x xs why kind (inr m) h = kind m.3
-
-  no_stop : (w z y : World) (es more : List Event) (at : ℕ) (why : StepFault) → why ≢ Memory → StopsAt g w es at why y → played g w 0 (es ++ more) ≡ Ok z → ⊥
-  no_stop w z y es more at why kind s h =
-      let whole : played g w 0 (s.before ++ (s.event ∷ (s.behind ++ more))) ≡ Ok z =
-      ap (λ (k : List Event). played g w 0 k) (sym (ap (λ (k : List Event). k ++ more) s.parts ∙ append_assoc s.before (s.event ∷ s.behind) more)) ∙ h in
-      let k = played_parts g s.before (s.event ∷ (s.behind ++ more)) w z 0 whole in
-      let same : k.0 ≡ y = (let e = sym k.1 ∙ s.reached in cc) in
-      not_refused y z s.event (s.behind ++ more) why kind s.refused (subst (λ (v : World). played g v 0 (s.event ∷ (s.behind ++ more)) ≡ Ok z) same k.2)
-
-  pub no_halt : (w z : World) (os : List ScheduledOrder) (stop : Stop) → stop.why ≢ Memory → IsFirstRefused g w os stop → LeadTo g w os z → ⊥
-  no_halt w z os stop kind s h =
-      let events : all_events g.net os ≡ all_events g.net s.before ++ (events_of g.net s.order.order ++ all_events g.net s.behind) =
-      ap (all_events g.net) s.parts ∙ flat_map-append (λ o. events_of g.net o.order) s.before (s.order ∷ s.behind) in
-      let k = played_parts g (all_events g.net s.before) (events_of g.net s.order.order ++ all_events g.net s.behind) w z 0 (ap (λ (es : List Event). played g w 0 es) (sym events) ∙ h) in
-      let same : k.0 ≡ s.reached = (let e = sym k.1 ∙ s.done in cc) in
-      no_stop s.reached z s.left (events_of g.net s.order.order) (all_events g.net s.behind) s.at stop.why kind s.stops
-      (subst (λ (v : World). played g v 0 (events_of g.net s.order.order ++ all_events g.net s.behind) ≡ Ok z) same k.2)
 
 -- what an input has whose trace was printed whole
 pub record IsTraced (input text : List ℕ) : Type 0 where

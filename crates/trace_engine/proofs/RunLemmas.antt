@@ -36,7 +36,8 @@ use Rattle.schedule_text.specs.Events.{event_line}
 use Rattle.trace_engine.specs.Tracing.{StepText, EventsText, reached, place_text, head_line, head_text, idle_line, counted_line, ticked_line, tail_text, count_of, rest_of, OrderText, OrdersText}
 use Rattle.trace_engine.proofs.LineLemmas.{both_true, shown_both, decimal_shown, are_shown, IsNamed, named_from, number_from, Says, says_none, says_both, says_nothing, says_comments}
 use Rattle.trace_engine.proofs.EventLemmas.{IsOriginated, MaySay, event_said}
-use Rattle.trace_engine.proofs.TextLemmas.{played_parts, reached_is}
+use Rattle.play_engine.proofs.OneText.{played_parts}
+use Rattle.trace_engine.proofs.TextLemmas.{reached_is}
 
 -- ---- comments
 

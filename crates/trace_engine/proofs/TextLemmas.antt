@@ -11,9 +11,9 @@ use Rattle.world_core.specs.declared.schedule.StepFault.{StepFault}
 use Rattle.world_core.specs.declared.schedule.StepFault.TheVariants.{Memory}
 use Rattle.world_core.specs.World.{World, WorldAnswer, Does, Nothing, Stops, Gives, world_answer, world_after, world_of, onward, played}
 use Rattle.world_core.specs.Orders.{StopsAt, IsRefused, events_of, round}
-use Rattle.world_core.proofs.Orders.{any_place}
 use Rattle.world_core.proofs.Resting.{grows}
 use Rattle.play_engine.specs.Playing.{all_events, LeadTo}
+use Rattle.play_engine.proofs.OneText.{played_parts}
 use Rattle.schedule_text.specs.Events.{event_line}
 use Rattle.trace_engine.specs.Tracing.{AreComments, StepText, EventsText, end_of, reached, rest_in, OrderText, OrdersText, Adds}
 
@@ -94,20 +94,6 @@ module _ (g : Setting) where
   failed Nothing w y x why h kind = (let k = h.0 in absurd cc)
   failed (Stops fault) w y x why h kind = (let k = h.0 in let same : why ≡ fault = cc in (ap Stops (sym same), h.1))
 
-  -- ---- played events in two parts
-
-  parts_by : (a : WorldAnswer) (w y : World) (x : Event) (at : ℕ) (xs ys : List Event)
-      → ((next : World) → played g next (at + 1) (xs ++ ys) ≡ Ok y → (z : World) × (played g next (at + 1) xs ≡ Ok z) × (played g z 0 ys ≡ Ok y))
-      → onward (world_of g w x at a) (λ next. played g next (at + 1) (xs ++ ys)) ≡ Ok y
-      → (z : World) × (onward (world_of g w x at a) (λ next. played g next (at + 1) xs) ≡ Ok z) × (played g z 0 ys ≡ Ok y)
-  parts_by (Does u e stamp) w y x at xs ys go h = go (world_after g w x u e stamp) h
-  parts_by Nothing w y x at xs ys go h = go w h
-  parts_by (Stops fault) w y x at xs ys go h = absurd cc
-
-  pub played_parts : (xs ys : List Event) (w y : World) (at : ℕ) → played g w at (xs ++ ys) ≡ Ok y → (z : World) × (played g w at xs ≡ Ok z) × (played g z 0 ys ≡ Ok y)
-  played_parts [] ys w y at h = (w, refl, any_place g ys w y at 0 h)
-  played_parts (x ∷ xs) ys w y at h = parts_by (world_answer g w x) w y x at xs ys (λ next k. played_parts xs ys next y (at + 1) k) h
-
   -- ---- orders
 
   -- orders that are all obeyed, and one more
@@ -116,7 +102,7 @@ module _ (g : Setting) where
       let same : w ≡ y = cc in
       subst (λ (r : List ℕ). OrdersText g w (o ∷ []) (r ++ t)) (sym none) (t, [], subst (λ (v : World). OrderText g v o t) (sym same) k, refl, sym (append-nil t))
   orders_behind (p ∷ os) o w y s t h k more =
-      let l = played_parts (events_of g.net p.order) (all_events g.net os) w y 0 h in
+      let l = played_parts g (events_of g.net p.order) (all_events g.net os) w y 0 h in
       let is : reached g w (events_of g.net p.order) ≡ l.0 = reached_is w l.0 (events_of g.net p.order) l.1 in
       let rest = orders_behind os o l.0 y k.1 t l.2 (subst (λ (v : World). OrdersText g v os k.1) is k.3) more in (
         k.0,

@@ -1,6 +1,6 @@
 //! The lines of a network, as they were read.
 
-ghost use Rattle.std.specs.Prelude.{◌≡◌, ◌++◌, ◌-◌, ◌==◌, ◌&&◌, OnOk};
+ghost use Rattle.std.specs.Prelude.{◌≡◌, ◌++◌, ◌-◌, ◌==◌, ◌&&◌, length, take, OnOk, OnErr};
 ghost use Rattle.net_text.specs.Lexing.{lines_of};
 ghost use Rattle.trace_engine.specs.Tracing.{ends_in_return, whole_line, network_text};
 
@@ -16,7 +16,8 @@ fn ends_in_return(line: &[u8]) -> bool
 
 // Appends a line with its end. A CR at its end stands twice, since the reader takes one away.
 fn put_line(line: &[u8], out: &mut Vec<u8>) -> Result<(), AllocError>
-    ensures { OnOk result (out.new.items ≡ out.old.items ++ whole_line line.now) }
+    ensures kept { take (length out.old.items) out.new.items ≡ out.old.items }
+    ensures ok { OnOk result (out.new.items ≡ out.old.items ++ whole_line line.now) }
 {
     out.extend_from_slice(line)?;
     if ends_in_return(line) {
@@ -25,10 +26,10 @@ fn put_line(line: &[u8], out: &mut Vec<u8>) -> Result<(), AllocError>
     out.extend_from_slice(b"\n")
 }
 
-/// Appends the lines of a text, each as it is read. It is refused only where memory was, and then a beginning of them
-/// may stand there.
-pub fn put_network(text: &[u8], out: &mut Vec<u8>) -> Result<(), AllocError>
-    ensures { OnOk result (out.new.items ≡ out.old.items ++ network_text (lines_of text.now)) }
+// Appends the lines of a text. Where memory is refused, a beginning of them stands behind what the buffer had.
+fn put_lines(text: &[u8], out: &mut Vec<u8>) -> Result<(), AllocError>
+    ensures kept { take (length out.old.items) out.new.items ≡ out.old.items }
+    ensures ok { OnOk result (out.new.items ≡ out.old.items ++ network_text (lines_of text.now)) }
 {
     let mut left = text;
     'lines: while !left.is_empty() {
@@ -37,4 +38,18 @@ pub fn put_network(text: &[u8], out: &mut Vec<u8>) -> Result<(), AllocError>
         left = rest;
     }
     Ok(())
+}
+
+/// Appends the lines of a text, each as it is read. It is refused only where memory was, and then leaves what the
+/// buffer had.
+pub fn put_network(text: &[u8], out: &mut Vec<u8>) -> Result<(), AllocError>
+    ensures ok { OnOk result (out.new.items ≡ out.old.items ++ network_text (lines_of text.now)) }
+    ensures err { OnErr result (out.new.items ≡ out.old.items) }
+{
+    let start = out.len();
+    let result = put_lines(text, out);
+    if result.is_err() {
+        out.truncate(start);
+    }
+    result
 }

@@ -3,6 +3,7 @@ use Rattle.std.proofs.lemmas.Grind.{common_steps}
 use Rattle.std.proofs.lemmas.List.{get_or_default}
 use Rattle.prefix_lanes.specs.Bits.{is_prefix}
 use Rattle.ranked_policy.specs.declared.network.Origin.{Origin}
+use Rattle.play_engine.proofs.BufferLemmas.{kept_before}
 use Rattle.play_engine.proofs.PathLemmas.{before_apart}
 use Rattle.play_engine.proofs.snapshots.put_part.Goals as goal
 
@@ -19,4 +20,5 @@ loop-origin-preserved c =
           subst (λ (o : Origin). is_prefix o.prefix (get_or origins j d).prefix ≡ false) is
           (before_apart (get_or origins i d).prefix (get_or origins j d).prefix (c.requires i j d (omega (arith, l)) m)) in
           c.next_path-path.ensures.others (get_or origins j d).prefix other ∙ c.loop-origin.invariant.left j d (omega (arith, l)) m;
+      kept = kept_before _ _ _ _ c.loop-origin.invariant.kept c.in_ok-route_line.ensures.ok;
     }

@@ -1,5 +1,6 @@
--- what was put, before what is left, is what all are printed as; and for what is left no path is passed
-use Rattle.std.proofs.Common.{◌≡◌, ◌≤◌, ◌<◌, ◌++◌, ℕ, drop, get_or, length}
+-- what was put, before what is left, is what all are printed as; for what is left no path is
+-- passed; and what the buffer had stands in front
+use Rattle.std.proofs.Common.{◌≡◌, ◌≤◌, ◌<◌, ◌++◌, ℕ, drop, get_or, length, take}
 use Rattle.ranked_policy.specs.declared.network.Origin.{Origin}
 use Rattle.snap_marker.specs.Parts.{kept_in}
 use Rattle.play_engine.specs.Reporting.{router_text}
@@ -13,4 +14,5 @@ invariant-loop-origin l = record {
   left :
       (j : ℕ) (d : Origin) → l.origin-index ≤ j → j < length l.origins
       → kept_in (drop l.passed l.kept) (get_or l.origins j d).prefix ≡ kept_in l.kept (get_or l.origins j d).prefix;
+  kept : take (length l.fn.out.items) l.out.items ≡ l.fn.out.items;
 }

@@ -6,12 +6,12 @@ use Rattle.play_engine.specs.Reporting.{part_text}
 use Rattle.play_engine.proofs.PartLemmas.{part_is_recorded}
 use Rattle.play_engine.proofs.snapshots.put_recorded.Goals as goal
 
-pub returns-in-Some : goal.returns-in-Some
-returns-in-Some c =
+pub returns-in-Some-clause-ok : goal.returns-in-Some-clause-ok
+returns-in-Some-clause-ok c =
     subst (λ (o : Option RouterPart). OnOk c.put_part.result (c.put_part.new.out.items ≡ c.args.out.now.items ++ part_text c.args.origins.now c.args.router o))
-    (part_is_recorded c.args.collector.now c.args.number c.args.router (Some c.in-Some.part.now) c.in-Some.ensures) c.put_part.ensures
+    (part_is_recorded c.args.collector.now c.args.number c.args.router (Some c.in-Some.part.now) c.in-Some.ensures) c.put_part.ensures.ok
 
-pub returns-in-None : goal.returns-in-None
-returns-in-None c =
+pub returns-in-None-clause-ok : goal.returns-in-None-clause-ok
+returns-in-None-clause-ok c =
     subst (λ (o : Option RouterPart). c.args.out.now.items ≡ c.args.out.now.items ++ part_text c.args.origins.now c.args.router o)
     (part_is_recorded c.args.collector.now c.args.number c.args.router None c.in-None.ensures) (sym (append-nil c.args.out.now.items))

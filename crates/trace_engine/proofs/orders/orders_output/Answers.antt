@@ -12,6 +12,6 @@ returns-in-Ok c =
     if_ok _ _ c.world_output.result
     (λ printed gives.
     subst (λ (head : List ℕ). OrdersTrace c.args.network.now head c.args.orders.now (output printed.0.items printed.1))
-    (c.in_ok-extend_from_slice.ensures.items ∙ ap (λ (t : List ℕ). t ++ line (codes "schedule")) (c.in_ok-put_network.ensures ∙ ap (λ (t : List ℕ). t ++ network_text (lines_of c.args.lines.now)) c.new-out.ensures.items))
+    (c.in_ok-extend_from_slice.ensures.items ∙ ap (λ (t : List ℕ). t ++ line (codes "schedule")) (c.in_ok-put_network.ensures.ok ∙ ap (λ (t : List ℕ). t ++ network_text (lines_of c.args.lines.now)) c.new-out.ensures.items))
     gives)
     c.world_output.ensures
