@@ -2,7 +2,8 @@
 //! network, and runs a network in threads.
 //!
 //! The program reads its words, standard input and nothing else, and writes standard output. `main` hands
-//! them to [`command_line::run_with`] and ends with its status.
+//! them to [`command_line::run_with`] and ends with its status. Where a text is refused, or a read or a write
+//! failed, it says so in words on the standard error, which no contract speaks of.
 //!
 //! Its one contract is that of the engine that the words ask for: `text_engines::decode_stream` for
 //! `bgpnet decode`, `text_engines::check_stream` for `bgpnet check`, `play_engine::play_stream` for
@@ -10,7 +11,10 @@
 //! `run_engine::run_stream` for `bgpnet run`. The definitions stand in their `specs/`.
 #![tactic(auto)]
 
+mod said;
+
 use command_line::{run_with, status_of};
+use said::{Ending, refusal_of};
 use std::alloc::Global;
 use std::process::ExitCode;
 use std::sync::Wait;
@@ -65,9 +69,28 @@ where
     }
 }
 
+// Says on the standard error what a refusal means, or what failed.
+fn say(rt: &HostRuntime, status: u8, line: Option<&str>, unread: bool) -> io::Result<()> {
+    if status == status::STOPPED && unread {
+        return eprintln!(rt; "bgpnet: the standard input can't be read");
+    }
+    if status == status::STOPPED {
+        return eprintln!(rt; "bgpnet: the standard output can't be written");
+    }
+    if status == status::REFUSED {
+        if let Some((at, code, meaning)) = line.and_then(refusal_of) {
+            return eprintln!(rt; "bgpnet: line {at}: {code}: {meaning}");
+        }
+    }
+    Ok(())
+}
+
 fn main(rt: HostRuntime) -> ExitCode {
     let mut reader = Watched::new(rt.stdin());
-    let mut writer = Watched::new(io::writer(&rt));
+    let mut writer = Ending::new(Watched::new(io::writer(&rt)));
     let ended = run(&rt, rt.alloc(), words_of(&rt), &mut reader, &mut writer);
-    ExitCode::from(status_of(ended))
+    let status = status_of(ended);
+    // Where the standard error can't be written either, nobody is told.
+    let _ = say(&rt, status, writer.line(), reader.has_failed());
+    ExitCode::from(status)
 }

@@ -1,33 +1,31 @@
 //! The words behind the program's name, and the engines that they ask for.
 //!
-//! [`run_with`] reads the words and hands them to an engine of `text_engines`, `play_engine`, `trace_engine`,
-//! `run_engine` or `record_engine`, a function over a reader and a writer that says exactly what it writes for what it
-//! reads; or it writes a help, or what is wrong with the words. Its one contract: a status is answered where no read
-//! and no write failed, and only there. [`status_of`] is the status that the program ends with.
+//! [`read_words`] says what the words ask for: a [`Task`] that starts no thread, a [`ThreadTask`], or a text, which is
+//! a help or what is wrong with the words. [`run_task`] and [`run_thread_task`] hand a task to an engine of
+//! `text_engines`, `play_engine`, `trace_engine`, `run_engine` or `record_engine`, a function over a reader and a
+//! writer that says exactly what it writes for what it reads, and say the same. `run_task` has no bound by which it
+//! could wait for a thread, so it returns. [`run_with`] does what the words ask for, and may wait: a status is answered
+//! where no read and no write failed, and only there. [`status_of`] is the status that the program ends with.
 #![tactic(auto)]
 
 ghost use Rattle.std.specs.Prelude.{◌≡◌, true, false, ◌⊎◌, IfOk, IsErr, OnOk, OnErr};
 ghost use Rattle.text_engines.specs.declared.status.TheConstants.{STOPPED};
 
 mod helps;
+mod tasks;
 mod words;
 
 pub use helps::{
     CHECK_HELP, CUT_HELP, DECODE_HELP, PLAY_HELP, RECORD_HELP, RUN_HELP, TOP_HELP, TRACE_HELP,
     WHY_HELP,
 };
-use play_engine::{cut_stream, play_stream, why_stream};
-use record_engine::record_stream;
-use run_engine::run_stream;
 use std::alloc::{AllocError, Global};
 use std::sync::Wait;
 use std::thread::Threads;
+pub use tasks::{Task, ThreadTask, run_task, run_thread_task};
 use text_engines::status::STOPPED;
-use text_engines::{
-    IoStopped, Sink, Source, check_stream, decode_stream, want_of_memory, write_out,
-};
-use trace_engine::trace_stream;
-use words::{Asked, read_words};
+use text_engines::{IoStopped, Sink, Source, want_of_memory, write_out};
+pub use words::{Asked, read_words};
 
 /// Runs the program on the words behind its name, and answers its status.
 pub fn run_with<R, S, T>(
@@ -47,14 +45,8 @@ where
     ensures silent { S.failed reader.old ≡ false → S.failed reader.new ≡ true → T.contents writer.new ≡ T.contents writer.old }
 {
     match read_words(alloc, words) {
-        Ok(Asked::Decode(rule)) => decode_stream(alloc, &rule, reader, writer),
-        Ok(Asked::Check) => check_stream(alloc, reader, writer),
-        Ok(Asked::Play) => play_stream(alloc, reader, writer),
-        Ok(Asked::Trace) => trace_stream(alloc, reader, writer),
-        Ok(Asked::Cut(number)) => cut_stream(alloc, number, reader, writer),
-        Ok(Asked::Why(number)) => why_stream(alloc, number, reader, writer),
-        Ok(Asked::Run(options)) => run_stream(rt, alloc, &options, reader, writer),
-        Ok(Asked::Record(options)) => record_stream(rt, alloc, &options, reader, writer),
+        Ok(Asked::Task(task)) => run_task(alloc, task, reader, writer),
+        Ok(Asked::Threads(task)) => run_thread_task(rt, alloc, task, reader, writer),
         Ok(Asked::Text(text, status)) => {
             write_out(writer, text.as_bytes())?;
             Ok(status)

@@ -8,6 +8,7 @@ use crate::helps::{
     CHECK_HELP, CUT_HELP, DECODE_HELP, PLAY_HELP, RECORD_HELP, RUN_HELP, TOP_HELP, TRACE_HELP,
     WHY_HELP,
 };
+use crate::tasks::{Task, ThreadTask};
 use bgp_codec::{NOBODY, Rule};
 use bgp_values::{Width, greatest_asn};
 use clap::error::ErrorKind;
@@ -19,22 +20,10 @@ use text_engines::status::{DONE, USAGE};
 /// What the words ask for.
 #[derive(Drop)]
 pub enum Asked {
-    /// Decode under a rule: the width of AS numbers, and the speaker's number where `--peer` names it.
-    Decode(Rule),
-    /// Check an assignment.
-    Check,
-    /// Play a schedule.
-    Play,
-    /// Write the run of a schedule as a schedule.
-    Trace,
-    /// Show the cut of the snapshot of this number.
-    Cut(u32),
-    /// Show what the router of this number knows.
-    Why(u32),
-    /// Run a network in threads.
-    Run(RunOptions),
-    /// Run a network in threads, and write what they did as a schedule.
-    Record(RunOptions),
+    /// A task that starts no thread.
+    Task(Task),
+    /// A task of threads.
+    Threads(ThreadTask),
     /// A text to write, and the status to end with.
     Text(String, u8),
 }
@@ -107,11 +96,11 @@ fn asked_decode(alloc: Global, found: &ArgMatches) -> Result<Asked, AllocError> 
         Some(peer) if peer > greatest_asn(width) => {
             Ok(Asked::Text(above(alloc, width, peer)?, USAGE))
         }
-        Some(_) | None => Ok(Asked::Decode(Rule {
+        Some(_) | None => Ok(Asked::Task(Task::Decode(Rule {
             width,
             peer,
             own: None,
-        })),
+        }))),
     }
 }
 
@@ -120,7 +109,7 @@ fn asked_cut(alloc: Global, found: &ArgMatches) -> Result<Asked, AllocError> {
         return Ok(Asked::Text(text, USAGE));
     }
     match found.get_one::<u32>("number") {
-        Some(number) => Ok(Asked::Cut(number)),
+        Some(number) => Ok(Asked::Task(Task::Cut(number))),
         // The words were refused without it.
         None => {
             let text = format!(in alloc; "error: the number of a snapshot is missing\n")?;
@@ -134,7 +123,7 @@ fn asked_why(alloc: Global, found: &ArgMatches) -> Result<Asked, AllocError> {
         return Ok(Asked::Text(text, USAGE));
     }
     match found.get_one::<u32>("router") {
-        Some(number) => Ok(Asked::Why(number)),
+        Some(number) => Ok(Asked::Task(Task::Why(number))),
         // The words were refused without it.
         None => {
             let text = format!(in alloc; "error: the number of a router is missing\n")?;
@@ -162,14 +151,14 @@ fn run_options(
 
 fn asked_run(alloc: Global, found: &ArgMatches) -> Result<Asked, AllocError> {
     match run_options(alloc, found)? {
-        Ok(options) => Ok(Asked::Run(options)),
+        Ok(options) => Ok(Asked::Threads(ThreadTask::Run(options))),
         Err(text) => Ok(Asked::Text(text, USAGE)),
     }
 }
 
 fn asked_record(alloc: Global, found: &ArgMatches) -> Result<Asked, AllocError> {
     match run_options(alloc, found)? {
-        Ok(options) => Ok(Asked::Record(options)),
+        Ok(options) => Ok(Asked::Threads(ThreadTask::Record(options))),
         Err(text) => Ok(Asked::Text(text, USAGE)),
     }
 }
@@ -288,13 +277,13 @@ fn command<'a>(alloc: Global) -> Result<Command<'a>, AllocError> {
 // What words that were taken ask for.
 fn asked_by(alloc: Global, matches: &ArgMatches) -> Result<Asked, AllocError> {
     if matches.subcommand_matches("play").is_some() {
-        return Ok(Asked::Play);
+        return Ok(Asked::Task(Task::Play));
     }
     if matches.subcommand_matches("trace").is_some() {
-        return Ok(Asked::Trace);
+        return Ok(Asked::Task(Task::Trace));
     }
     if matches.subcommand_matches("check").is_some() {
-        return Ok(Asked::Check);
+        return Ok(Asked::Task(Task::Check));
     }
     if let Some(found) = matches.subcommand_matches("cut") {
         return asked_cut(alloc, found);
@@ -310,7 +299,7 @@ fn asked_by(alloc: Global, matches: &ArgMatches) -> Result<Asked, AllocError> {
     }
     match matches.subcommand_matches("decode") {
         Some(found) => asked_decode(alloc, found),
-        None => Ok(Asked::Decode(NOBODY)),
+        None => Ok(Asked::Task(Task::Decode(NOBODY))),
     }
 }
 
@@ -319,7 +308,8 @@ fn parse(alloc: Global, words: &[&str]) -> Result<Asked, Error> {
     Ok(asked_by(alloc, &matches)?)
 }
 
-/// What the words behind the program's name ask for.
+/// What the words behind the program's name ask for; for words that the program does not take, what is said of them. It
+/// reads no input, and is refused only where memory was.
 pub fn read_words(alloc: Global, words: &[&str]) -> Result<Asked, AllocError> {
     let mut all = vec![in alloc; "bgpnet"]?;
     all.extend_from_slice(words)?;

@@ -1,0 +1,27 @@
+-- What is printed for a task.
+use Rattle.std.specs.Prelude.{ℕ, List}
+use Rattle.text_engines.specs.Decoding.{Output, Prints}
+use Rattle.text_engines.specs.Checking.{Checks}
+use Rattle.play_engine.specs.Playing.{Plays}
+use Rattle.play_engine.specs.Cutting.{Cuts, Whys}
+use Rattle.trace_engine.specs.Tracings.{Traces}
+use Rattle.run_engine.specs.Running.{Runs}
+use Rattle.record_engine.specs.Recording.{Records}
+use Rattle.command_line.specs.declared.tasks.Task.{Task}
+use Rattle.command_line.specs.declared.tasks.Task.TheVariants as task
+use Rattle.command_line.specs.declared.tasks.ThreadTask.{ThreadTask}
+use Rattle.command_line.specs.declared.tasks.ThreadTask.TheVariants as threads
+
+-- what a task that starts no thread prints for an input
+abbrev pub TaskPrints : Task → List ℕ → Output → Type 0
+TaskPrints (task.Decode rule) = Prints rule
+TaskPrints task.Check = Checks
+TaskPrints task.Play = Plays
+TaskPrints task.Trace = Traces
+TaskPrints (task.Cut s) = Cuts s
+TaskPrints (task.Why u) = Whys u
+
+-- what a task of threads prints for an input
+abbrev pub ThreadsPrint : ThreadTask → List ℕ → Output → Type 0
+ThreadsPrint (threads.Run options) = Runs options
+ThreadsPrint (threads.Record options) = Records options

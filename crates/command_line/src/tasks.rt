@@ -1,0 +1,104 @@
+//! What the words ask for beside a text, and the engines that do it.
+
+ghost use Rattle.std.specs.Prelude.{◌≡◌, true, false, ◌⊎◌, IfOk, OnOk, OnErr};
+ghost use Rattle.text_engines.specs.Engine.{PrintedBy, PrintedFrontBy};
+ghost use Rattle.command_line.specs.Tasks.{TaskPrints, ThreadsPrint};
+
+use bgp_codec::Rule;
+use play_engine::{cut_stream, play_stream, why_stream};
+use record_engine::record_stream;
+use run_engine::{RunOptions, run_stream};
+use std::alloc::Global;
+use std::sync::Wait;
+use std::thread::Threads;
+use text_engines::{IoStopped, Sink, Source, check_stream, decode_stream};
+use trace_engine::trace_stream;
+
+/// A task that starts no thread.
+#[derive(Clone, Copy)]
+pub enum Task {
+    /// Decode under a rule: the width of AS numbers, and the speaker's number where `--peer` names it.
+    Decode(Rule),
+    /// Check an assignment.
+    Check,
+    /// Play a schedule.
+    Play,
+    /// Write the run of a schedule as a schedule.
+    Trace,
+    /// Show the cut of the snapshot of this number.
+    Cut(u32),
+    /// Show what the router of this number knows.
+    Why(u32),
+}
+
+/// A task of threads.
+#[derive(Clone, Copy)]
+pub enum ThreadTask {
+    /// Run a network in threads.
+    Run(RunOptions),
+    /// Run a network in threads, and write what they did as a schedule.
+    Record(RunOptions),
+}
+
+/// Reads the input of a task that starts no thread, and writes its text; answers the status. It waits for no thread,
+/// and always returns.
+///
+/// Where memory is refused it writes `memory` alone and answers 3. It stops only where a read or a write failed, and
+/// then what was written is a beginning of the text.
+pub fn run_task<S: Source, T: Sink>(
+    alloc: Global,
+    task: Task,
+    reader: &mut S,
+    writer: &mut T,
+) -> Result<u8, IoStopped>
+    // What is written is what the task prints for what was read, and nothing else.
+    ensures done { IfOk result (λ status. PrintedBy (TaskPrints task) (S.remaining reader.old) (T.contents writer.old) (T.contents writer.new) status) }
+    // It answers a status only where no read and no write failed, and stops only where one did.
+    ensures unfailed { OnOk result ((S.failed reader.new ≡ S.failed reader.old) × (T.failed writer.new ≡ T.failed writer.old)) }
+    ensures failed { OnErr result ((S.failed reader.new ≡ true) ⊎ (T.failed writer.new ≡ true)) }
+    // Where a read failed nothing is written.
+    ensures silent { S.failed reader.old ≡ false → S.failed reader.new ≡ true → T.contents writer.new ≡ T.contents writer.old }
+    // A failed read or write leaves a beginning of the text.
+    ensures stopped { OnErr result (PrintedFrontBy (TaskPrints task) (S.remaining reader.old) (T.contents writer.old) (T.contents writer.new)) }
+{
+    match task {
+        Task::Decode(rule) => decode_stream(alloc, &rule, reader, writer),
+        Task::Check => check_stream(alloc, reader, writer),
+        Task::Play => play_stream(alloc, reader, writer),
+        Task::Trace => trace_stream(alloc, reader, writer),
+        Task::Cut(number) => cut_stream(alloc, number, reader, writer),
+        Task::Why(number) => why_stream(alloc, number, reader, writer),
+    }
+}
+
+/// Reads the network of a task of threads, runs it, and writes the task's text; answers the status. It waits for the
+/// threads.
+///
+/// Where memory is refused it writes `memory` alone and answers 3. It stops only where a read or a write failed, and
+/// then what was written is a beginning of the text.
+pub fn run_thread_task<R, S, T>(
+    rt: &R,
+    alloc: Global,
+    task: ThreadTask,
+    reader: &mut S,
+    writer: &mut T,
+) -> Result<u8, IoStopped>
+where
+    R: Threads + Wait + Sync,
+    S: Source,
+    T: Sink,
+    // What is written is what the task prints for what was read, and nothing else.
+    ensures done { IfOk result (λ status. PrintedBy (ThreadsPrint task) (S.remaining reader.old) (T.contents writer.old) (T.contents writer.new) status) }
+    // It answers a status only where no read and no write failed, and stops only where one did.
+    ensures unfailed { OnOk result ((S.failed reader.new ≡ S.failed reader.old) × (T.failed writer.new ≡ T.failed writer.old)) }
+    ensures failed { OnErr result ((S.failed reader.new ≡ true) ⊎ (T.failed writer.new ≡ true)) }
+    // Where a read failed nothing is written.
+    ensures silent { S.failed reader.old ≡ false → S.failed reader.new ≡ true → T.contents writer.new ≡ T.contents writer.old }
+    // A failed read or write leaves a beginning of the text.
+    ensures stopped { OnErr result (PrintedFrontBy (ThreadsPrint task) (S.remaining reader.old) (T.contents writer.old) (T.contents writer.new)) }
+{
+    match task {
+        ThreadTask::Run(options) => run_stream(rt, alloc, &options, reader, writer),
+        ThreadTask::Record(options) => record_stream(rt, alloc, &options, reader, writer),
+    }
+}
