@@ -39,6 +39,7 @@ REFUSED = {
     "set": "this set is not read",
     "vrf": "a VRF: one instance of BGP is read",
     "view": "a list of this family is not read",
+    "sources": "access-lists of sources and destinations are not read",
     "undone": "a line that takes back others: leave those out",
     "port": "a port of its own: whether the other end listens there is not known here",
     "capability": "no capabilities: the session may not come up",
@@ -51,9 +52,9 @@ REFUSED = {
 
 # What other parts of a configuration begin with: their blocks are passed over.
 CONFIG = """
-ignored    hostname WORD
-ignored    domainname WORD
-ignored    <log|password|enable|service|banner|debug|dump|agentx> REST...
+host       <hostname|domainname> WORD
+ignored    <log|password|enable|service|debug|dump|agentx> REST...
+ignored    banner motd <default|file WORD|line REST...>
 ignored    no <log|password|enable|service|banner|debug|agentx|hostname> REST...
 ignored    allow-reserved-ranges
 ignored    bgp <no-rib|session-dscp (0-63)|update-delay (0-3600) [(1-3600)]|route-map delay-timer (0-600)>
@@ -68,18 +69,23 @@ foreign    <line|key|nexthop-group|pseudowire|mpls|segment-routing|bfd|l2vpn|rpk
 foreign    router <ospf|ospf6|isis|rip|ripng|eigrp|babel|openfabric|pim> [REST...]
 version    frr version WORD
 profile    frr defaults WORD
-addresses  interface REST...
+addresses  interface WORD [vrf WORD]
 bgp        router bgp (1-4294967295)
 vrf        router bgp (1-4294967295) <view|vrf> WORD
-cut        router bgp
+again      router bgp
 vrf        vrf WORD
 route_map  route-map WORD <permit|deny> (1-65535)
-access     access-list WORD <permit|deny> REST...
-access     access-list WORD seq (1-4294967295) <permit|deny> REST...
+access     access-list WORD [seq (1-4294967295)] <permit|deny> <any|A.B.C.D/M|A.B.C.D/M exact-match>
+access     access-list WORD [seq (1-4294967295)] <permit|deny> <A.B.C.D|host A.B.C.D|A.B.C.D A.B.C.D>
+sources    access-list WORD [seq (1-4294967295)] <permit|deny> ip REST...
 remark     access-list WORD remark REST...
-prefixes   ip prefix-list WORD <permit|deny> REST...
-prefixes   ip prefix-list WORD seq (1-4294967295) <permit|deny> REST...
+wrong      access-list WORD REST...
+prefixes   ip prefix-list WORD [seq (1-4294967295)] <permit|deny> <any|A.B.C.D/M>
+prefixes   ip prefix-list WORD [seq (1-4294967295)] <permit|deny> A.B.C.D/M <ge (0-32)|le (0-32)>
+prefixes   ip prefix-list WORD [seq (1-4294967295)] <permit|deny> A.B.C.D/M <ge (0-32) le (0-32)|le (0-32) ge (0-32)>
 remark     ip prefix-list WORD description REST...
+ignored    no ip prefix-list sequence-number
+wrong      ip prefix-list WORD REST...
 paths      bgp as-path access-list WORD <permit|deny> REST...
 paths      bgp as-path access-list WORD seq (0-4294967295) <permit|deny> REST...
 communities bgp community-list <(1-99)|standard WORD> <permit|deny> AA:NN...
@@ -94,6 +100,8 @@ old        ip <community-list|large-community-list|extcommunity-list|as-path> RE
 graceful   bgp graceful-shutdown
 alias      bgp community alias WORD WORD
 extcommunity bgp extcommunity-list REST...
+view       ipv6 <prefix-list|access-list> WORD [seq (1-4294967295)] <permit|deny> any
+view       ipv6 <prefix-list WORD description|access-list WORD remark> REST...
 view       ipv6 <prefix-list|access-list> REST...
 view       mac access-list REST...
 undone     no <router|route-map|access-list|ip|bgp|ipv6|interface|vrf> REST...
@@ -125,15 +133,18 @@ ignored    [no] bgp <client-to-client reflection|route-reflector allow-outbound-
 ignored    bgp graceful-restart <stalepath-time (1-4095)|restart-time (0-4095)|select-defer-time (0-3600)>
 ignored    bgp graceful-restart rib-stale-time (1-3600)
 ignored    [no] bgp graceful-restart <preserve-fw-state|notification>
-ignored    no bgp graceful-restart <stalepath-time|restart-time|select-defer-time|rib-stale-time> [REST...]
-ignored    bgp <cluster-id WORD|minimum-holdtime (1-65535)|route-map delay-timer (0-600)|listen limit (1-65535)>
+ignored    no bgp graceful-restart <stalepath-time|restart-time|select-defer-time|rib-stale-time> [(0-4095)]
+ignored    bgp <cluster-id A.B.C.D|cluster-id (1-4294967295)|listen limit (1-65535)>
+warned     bgp minimum-holdtime (1-65535)
+ignored    bgp route-map delay-timer (0-600)
 ignored    bgp <long-lived-graceful-restart stale-time (1-4294967295)|conditional-advertisement timer (5-240)>
-ignored    no bgp <cluster-id [WORD]|minimum-holdtime [REST...]|route-map delay-timer [REST...]|listen limit [REST...]>
-ignored    timers bgp (0-65535) (0-65535)
+ignored    no bgp <cluster-id|cluster-id A.B.C.D|cluster-id (1-4294967295)>
+ignored    no bgp <minimum-holdtime [(1-65535)]|route-map delay-timer [(0-600)]|listen limit [(1-65535)]>
+ignored    timers bgp (0-65535) <0|(3-65535)>
 ignored    no timers bgp [(0-65535) (0-65535)]
 ignored    update-delay (0-3600) [(1-3600)]
 ignored    [no] <write-quanta (1-64)|read-quanta (1-10)|coalesce-time (0-4294967295)>
-ignored    no <update-delay [REST...]|auto-summary|synchronization>
+ignored    no <update-delay [(0-3600) [(1-3600)]]|auto-summary|synchronization>
 ignored    no bgp <graceful-shutdown|shutdown>
 confederation bgp confederation REST...
 max-med    bgp max-med REST...
@@ -161,24 +172,29 @@ shutdown_neighbor [no] PEER shutdown
 shutdown_neighbor PEER shutdown message REST...
 source     PEER update-source WORD
 source     no PEER update-source [WORD]
-password   PEER password REST...
-password   no PEER password [REST...]
+password   PEER password WORD
+password   no PEER password [WORD]
 passive    [no] PEER passive
 loop_detection [no] PEER sender-as-path-loop-detection
 ignored    PEER description REST...
 ignored    [no] PEER <capability dynamic|capability extended-nexthop|strict-capability-match|override-capability>
 ignored    [no] PEER <disable-connected-check|enforce-multihop|solo|enforce-first-as|extended-optional-parameters>
 ignored    [no] PEER <graceful-restart|graceful-restart-disable|graceful-restart-helper|disable-link-bw-encoding-ieee>
-ignored    PEER <ebgp-multihop [(1-255)]|ttl-security hops (1-254)|tcp-mss (1-65535)|advertisement-interval (0-600)>
-ignored    PEER timers <(0-65535) (0-65535)|connect (1-65535)|delayopen (1-240)>
-ignored    no PEER <description|ebgp-multihop|ttl-security|tcp-mss|advertisement-interval|timers> [REST...]
-ignored    no PEER <local-as|port|maximum-prefix|maximum-prefix-out|local-role> [REST...]
+hops       PEER ebgp-multihop [(1-255)]
+hops       PEER ttl-security hops (1-254)
+ignored    PEER <tcp-mss (1-65535)|advertisement-interval (0-600)>
+ignored    PEER timers <(0-65535) 0|(0-65535) (3-65535)|connect (1-65535)|delayopen (1-240)>
+hops       no PEER <ebgp-multihop [(1-255)]|ttl-security hops (1-254)>
+ignored    no PEER <description [REST...]|tcp-mss [(1-65535)]|advertisement-interval [(0-600)]|port [(0-65535)]>
+ignored    no PEER timers [<(0-65535) (0-65535)|connect|connect (1-65535)|delayopen|delayopen (0-65535)>]
+ignored    no PEER <local-as|maximum-prefix|maximum-prefix-out|local-role> [REST...]
 warned     PEER bfd [<check-control-plane-failure|profile WORD>]
 warned     PEER bfd (2-255) (50-60000) (50-60000)
-ignored    no PEER bfd [REST...]
+ignored    no PEER bfd [<check-control-plane-failure|profile|profile WORD>]
 role       PEER local-role REST...
 local-as   PEER local-as REST...
 interface  PEER interface [REST...]
+ignored    PEER port 179
 port       PEER port (0-65535)
 capability PEER dont-capability-negotiate
 ignored    no PEER dont-capability-negotiate
@@ -224,10 +240,11 @@ ignored    distance bgp (1-255) (1-255) (1-255)
 ignored    [no] distance (1-255) A.B.C.D/M [WORD]
 ignored    no distance bgp [REST...]
 ignored    table-map WORD
-ignored    no table-map [WORD]
+ignored    no table-map WORD
 ignored    maximum-paths (1-256)
 ignored    maximum-paths ibgp (1-256) [equal-cluster-length]
-ignored    no maximum-paths [REST...]
+ignored    no maximum-paths [(1-256)]
+ignored    no maximum-paths ibgp [(1-256) [equal-cluster-length]]
 dampening  bgp dampening [REST...]
 ignored    no bgp dampening [REST...]
 family     <import|export|rd|label|nexthop|rt|route-target|sid|route-map> <vpn|vrf> REST...
@@ -252,8 +269,11 @@ match_value match metric (0-4294967295)
 match_value match local-preference (0-4294967295)
 match_value match origin <igp|egp|incomplete>
 match      match <interface|tag|mac|evpn|source-vrf|alias|probability|peer|rpki|rpki-extcommunity> REST...
+match      match ip <next-hop|route-source> <WORD|prefix-list WORD>
 match      match ip <next-hop|route-source> REST...
 extcommunity match extcommunity REST...
+ipv6       match ipv6 address <WORD|prefix-list WORD>
+ipv6       match ipv6 next-hop <WORD|prefix-list WORD|type WORD>
 ipv6       match ipv6 REST...
 set_metric set metric WORD
 set_preference set local-preference WORD
@@ -266,8 +286,10 @@ set_origin set origin <igp|egp|incomplete>
 set_communities set community AA:NN...
 set_communities set large-community AA:BB:CC...
 set_delete set <comm-list|large-comm-list> WORD delete
-warned     set <tag|distance|table|label-index|atomic-aggregate|aggregator> [REST...]
-warned     set extcommunity REST...
+warned     set <tag (1-4294967295)|distance (0-255)|table (1-4294967295)|label-index (0-1048560)|atomic-aggregate>
+warned     set aggregator as (1-4294967295) A.B.C.D
+warned     set extcommunity <rt|soo|bandwidth> REST...
+warned     set extcommunity none
 nexthop    set ip next-hop REST...
 set        set <originator-id|sr-te|evpn|ipv4|l3vpn> REST...
 ipv6       set ipv6 REST...
@@ -287,6 +309,7 @@ EXITS = table("leave <exit|quit>\nfinish end")
 TABLES = {
     "config": Commands(table(CONFIG) + EXITS),
     "bgp": Commands(table(BGP) + table(NEIGHBOR) + table(FAMILY) + EXITS),
-    "family": Commands(table(FAMILY) + EXITS + table("leave exit-address-family")),
+    "family": Commands(table(FAMILY) + EXITS + table("leave exit-address-family\nmember PEER peer-group WORD\n"
+                                                     "cut PEER peer-group")),
     "route-map": Commands(table(ROUTE_MAP) + EXITS),
 }

@@ -24,6 +24,7 @@ NAMES = {
 TEXTS = {number: name for name, number in NAMES.items()}
 INTERNET, SHUTDOWN, BLACKHOLE = NAMES["internet"], NAMES["graceful-shutdown"], NAMES["blackhole"]
 NO_EXPORT, NO_ADVERTISE, LOCAL_AS = NAMES["no-export"], NAMES["no-advertise"], NAMES["local-AS"]
+STALE = NAMES["llgr-stale"]
 KEPT_IN = frozenset((NO_EXPORT, NO_ADVERTISE, LOCAL_AS))
 
 

@@ -1,12 +1,7 @@
 """Judges where a network ended: whether each router has the best of what its peers offer, by the configurations."""
-import itertools
-
 from configs.order import Order, coarse_key, compares_metric, metric
 from configs.route import Denial, heard, own_route, told
 from configs.ways import Way
-
-# Of so many routes in a table every order of their coming is tried.
-MOST_IN_TABLE = 7
 
 
 class Judge:
@@ -25,10 +20,12 @@ class Judge:
         if before is None or isinstance(before, Denial) or listener not in self.set.up[teller]:
             return None
         ends = self.set.ends
-        route = told(ends[teller][listener].router, ends[teller][listener].neighbor, self.prefix, before, len(path) == 2)
+        end = ends[teller][listener]
+        route = told(end.router, end.neighbor, self.prefix, before, len(path) == 2)
         if isinstance(route, Denial):
             return route
-        return heard(ends[listener][teller].router, ends[listener][teller].neighbor, self.prefix, route)
+        end = ends[listener][teller]
+        return heard(end.router, end.neighbor, self.prefix, route)
 
     def route(self, path):
         """The route at the first router of a path that comes over the others; or why there is none."""
@@ -55,7 +52,10 @@ class Judge:
         return ways[0].path if ways else ()
 
     def may_keep(self, asn, path, chosen):
-        """Whether a router may stay with a path: nothing that its peers offer is better, the router id left aside."""
+        """Whether a router may stay with a path: nothing that its peers offer is better, the router id left aside.
+
+        A better metric may be passed over: FRR compares one route after the other, so that one whose metric is not
+        compared may come between."""
         ways = self.offers(asn, chosen)
         kept = next((way for way in ways if way.path == path), None)
         if kept is None:
@@ -63,50 +63,14 @@ class Judge:
         router = self.set.routers[asn]
         if router.option("bgp bestpath compare-routerid"):
             return self.best(asn, chosen) == path
-        key = coarse_key(router, kept)
+        key, order = coarse_key(router, kept), Order(self.set, self.prefix, asn, [])
         if any(coarse_key(router, way) < key for way in ways):
             return False
-        ways = [way for way in ways if coarse_key(router, way) == key and way is not kept]
-        if not any(self.by_metric(router, way, kept) > 0 for way in ways):
+        ways = [way for way in ways if coarse_key(router, way) == key]
+        above = [way for way in ways if order.beats(way, kept) > 0]
+        if not above:
             return True
-        return len(ways) < MOST_IN_TABLE and any(self.scanned(asn, order, kept) is kept for order in self.orders(ways, kept))
-
-    @staticmethod
-    def orders(ways, kept):
-        for order in itertools.permutations(ways + [kept]):
-            yield order
-
-    @staticmethod
-    def by_metric(router, one, other):
-        if not compares_metric(router, one.route, other.route):
-            return 0
-        metrics = metric(router, one.route), metric(router, other.route)
-        return (metrics[0] < metrics[1]) - (metrics[0] > metrics[1])
-
-    def scanned(self, asn, ways, kept):
-        """What is left where ways are compared one after the other, and one of them is selected now."""
-        router, best = self.set.routers[asn], None
-        order = Order(self.set, self.prefix, asn, [])
-        groups = [[way] for way in ways]
-        if router.option("bgp deterministic-med"):
-            groups = []
-            for way in ways:
-                group = next((group for group in groups if compares_metric(router, group[0].route, way.route)), None)
-                if group is None:
-                    groups.append([way])
-                else:
-                    group.append(way)
-        for group in groups:
-            first = group[0]
-            for way in group[1:]:
-                first = self.better(order, router, way, first, kept)
-            best = first if best is None else self.better(order, router, first, best, kept)
-        return best
-
-    def better(self, order, router, one, other, kept):
-        judged = self.by_metric(router, one, other)
-        if judged:
-            return one if judged > 0 else other
-        if kept in (one, other):
-            return kept
-        return one if order.last_key(one) < order.last_key(other) else other
+        first = min(above, key=lambda way: (metric(router, way.route), order.last_key(way)))
+        return not router.option("bgp deterministic-med") and any(
+            order.last_key(way) < order.last_key(first) and not compares_metric(router, way.route, first.route)
+            for way in ways)

@@ -14,8 +14,11 @@ import time
 
 from program import Refusal
 
-LIBRARIES = ("usr/lib/x86_64-linux-gnu/frr", "usr/lib/x86_64-linux-gnu", "lib/x86_64-linux-gnu", "usr/lib/aarch64-linux-gnu/frr",
-             "usr/lib/aarch64-linux-gnu", "lib/aarch64-linux-gnu")
+LIBRARIES = [f"{place}/{machine}-linux-gnu{more}" for machine in ("x86_64", "aarch64")
+             for place, more in (("usr/lib", "/frr"), ("usr/lib", ""), ("lib", ""))]
+# A line of a log that says that a part of a configuration is not taken. What is taken back, it says also where a line
+# takes the place of another.
+CHANGE = re.compile(r"error processing configuration change: .*operation \[(?!destroy).* xpath \[(\S*)\]")
 # Seconds: between two looks, at least; until sessions have to be up; and for which a set has to change.
 LOOK, NO_SESSION, FOR_EVER = 0.6, 180.0, 25.0
 # How many looks in a row have to be alike, and how many changes a set shows that changes for ever.
@@ -62,8 +65,10 @@ class Lab:
     def copy_of(self, asn):
         """The configuration of a router without the lines of other daemons, with what its place here needs."""
         router = self.set.routers[asn]
-        lines = ["!" if number in router.foreign else line for number, line in enumerate(self.texts[asn].split("\n"), 1)]
-        lines = ["bgp route-map delay-timer 1"] + (lines[:router.end - 1] if router.end else lines) + [f"router bgp {asn}"]
+        lines = ["!" if number in router.foreign else line
+                 for number, line in enumerate(self.texts[asn].split("\n"), 1)]
+        lines = lines[:router.end - 1] if router.end else lines
+        lines = ["bgp route-map delay-timer 1", *lines, f"router bgp {asn}"]
         for peer, end in self.set.ends[asn].items():
             lines.append(f" neighbor {end.neighbor.key} timers connect 3")
             if not end.neighbor.line("source"):
@@ -120,13 +125,16 @@ class Lab:
         return json.loads(text) if text.strip() else {}
 
     def refusals(self):
-        """The lines that FRR refuses, as router, number and text."""
+        """What FRR refuses: the router, the number of the line, 0 where it says none, and the text."""
         found = []
         for asn in self.set.routers:
-            for line in (self.folder / str(asn) / "log").read_text().splitlines():
-                said = re.search(r"\] (.*) on config line (\d+): ?(.*)", line)
+            for line in (self.folder / str(asn) / "log").read_text(errors="replace").splitlines():
+                said = re.search(r"\] .* on config line (\d+): ?(.*)", line)
+                change = CHANGE.search(line)
                 if said:
-                    found.append((asn, int(said.group(2)) - 1, said.group(3).strip(), said.group(1)))
+                    found.append((asn, int(said.group(1)) - 1, said.group(2).strip()))
+                elif change:
+                    found.append((asn, 0, change.group(1)))
         return found
 
     def are_up(self):

@@ -12,6 +12,10 @@ Entry = namedtuple("Entry", "permits value text place")
 Block = namedtuple("Block", "address mask least most")
 
 
+# How many values a list keeps its decisions of.
+MOST_DECIDED = 65536
+
+
 def mask_of(length):
     return (1 << 32) - (1 << 32 - length)
 
@@ -21,25 +25,32 @@ class List:
 
     def __init__(self, kind, name, place):
         self.kind, self.name, self.place, self.entries, self.in_order = kind, name, place, {}, None
+        self.greatest, self.numbers, self.decided = 0, {}, {}
 
     def next_number(self):
-        return (max(self.entries, default=0) // 5 + 1) * 5
+        return (self.greatest // 5 + 1) * 5
 
     def add(self, number, entry):
         """Adds an entry, in place of another of its number."""
-        self.entries[number] = entry
-        self.in_order = None
+        former = self.entries.get(number)
+        if former:
+            del self.numbers[former.permits, former.text]
+        self.entries[number], self.numbers[entry.permits, entry.text] = entry, number
+        self.greatest, self.in_order, self.decided = max(self.greatest, number), None, {}
 
-    def double(self, entry):
+    def double(self, permits, text):
         """The number of an entry that says the same, or None."""
-        return next((number for number, other in self.entries.items()
-                     if (other.permits, other.text) == (entry.permits, entry.text)), None)
+        return self.numbers.get((permits, text))
 
     def deciding(self, value, fits):
         """The first entry that fits a value, or None."""
         if self.in_order is None:
             self.in_order = [self.entries[number] for number in sorted(self.entries)]
-        return next((entry for entry in self.in_order if fits(entry.value, value)), None)
+        if (fits, value) not in self.decided:
+            if len(self.decided) > MOST_DECIDED:
+                self.decided = {}
+            self.decided[fits, value] = next((entry for entry in self.in_order if fits(entry.value, value)), None)
+        return self.decided[fits, value]
 
     def permits(self, value, fits):
         entry = self.deciding(value, fits)

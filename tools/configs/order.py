@@ -1,7 +1,9 @@
 """The order of a router's ways: the decision process of FRR."""
+from itertools import permutations
+
 from configs.places import refusal
 from configs.route import MOST
-from network import path_text
+from network import MOST_PATHS, path_text
 
 
 def coarse_key(router, way):
@@ -9,7 +11,7 @@ def coarse_key(router, way):
     route = way.route
     preference = route.preference if route.has_preference else router.default_preference
     length = 0 if router.option("bgp bestpath as-path ignore") else len(route.path)
-    return -route.weight, -preference, length, route.origin
+    return -route.weight, -preference, len(way.path) > 1, length, route.origin
 
 
 def metric(router, route):
@@ -23,10 +25,79 @@ def compares_metric(router, one, other):
     return router.option("bgp always-compare-med") or one.path[:1] == other.path[:1]
 
 
-class Order:
-    """The order of the ways of a router for a prefix, best first.
+class Tie:
+    """Ways of two peers or more that are alike up to the router id, or of which only some are compared by their metric.
 
-    `ties` are its classes of ways, of two peers or more, that are alike up to the router id."""
+    Those of a kind are of one peer and alike to all others; `kinds` has the paths of each in their order, and `above`
+    for each kind those of other peers that its metric sets above it. `blocks` are what is put in orders: the paths, or
+    where these are many the kinds."""
+
+    def __init__(self, kinds, above):
+        self.kinds = {kind: tuple(way.path for way in ways) for kind, ways in kinds.items()}
+        self.above, self.kind = above, {path: kind for kind, paths in self.kinds.items() for path in paths}
+        self.blocks = list(self.kinds.values()) if len(self.kind) > MOST_PATHS else [(path,) for path in self.kind]
+
+    @property
+    def paths(self):
+        return tuple(self.kind)
+
+    def is_above(self, one, other):
+        """Whether a metric sets a block above another."""
+        return self.kind[one[0]] in self.above.get(self.kind[other[0]], ())
+
+    def are_rivals(self, one, other):
+        """Whether no metric says which of two blocks of different peers is better."""
+        return one[0][1] != other[0][1] and not self.is_above(one, other) and not self.is_above(other, one)
+
+    def tied(self):
+        """The paths that have rivals."""
+        kinds = list(self.kinds.values())
+        return {path for one in kinds if any(self.are_rivals(one, other) for other in kinds) for path in one}
+
+    def orders(self, found=()):
+        """The orders of the blocks that metrics allow. Two of one peer never stand in a table together: where nothing
+        comes between them they keep their places."""
+        left = [block for block in self.blocks if block not in found]
+        last = self.blocks.index(found[-1]) if found else 0
+        if not left:
+            yield found
+        for block in left:
+            is_turned = found and block[0][1] == found[-1][0][1] and self.blocks.index(block) < last
+            if not is_turned and not any(self.is_above(other, block) for other in left):
+                yield from self.orders(found + (block,))
+
+    def nearest(self, wanted):
+        """The order that metrics allow in which the blocks stand as wanted, each behind those that belong above it."""
+        found = {}
+        for block in wanted:
+            waiting = [block]
+            while waiting:
+                missing = next((other for other in wanted if self.is_above(other, waiting[-1])
+                                and other not in found), None)
+                if missing:
+                    waiting.append(missing)
+                else:
+                    found.setdefault(waiting.pop())
+        return tuple(found)
+
+    def allows(self, order):
+        """Whether metrics allow an order."""
+        return not any(self.is_above(other, block) for at, block in enumerate(order) for other in order[at + 1:])
+
+    def first(self, block):
+        """The blocks with one of them in front."""
+        return (block, *(other for other in self.blocks if other != block))
+
+    def outlasting(self):
+        """Orders with a block in front that a metric sets below another. FRR compares one route after the other: where
+        a third one is taken before the better one, and the path is selected now, it stays."""
+        return [self.first(block) for block in self.blocks if any(self.is_above(other, block) for other in self.blocks)
+                and any(self.are_rivals(block, other) for other in self.blocks)]
+
+
+class Order:
+    """The order of the ways of a router for a prefix, best first. `ties` are those that FRR tells apart by what it
+    selected before."""
 
     def __init__(self, routers, prefix, asn, ways):
         self.set, self.prefix, self.router = routers, prefix, routers.routers[asn]
@@ -70,68 +141,66 @@ class Order:
 
     def by_id(self, group):
         """Ways that are alike up to the router id."""
-        group = sorted(group, key=self.last_key)
-        self.note_tie(group)
+        group, peers = sorted(group, key=self.last_key), {}
+        for way in group:
+            peers.setdefault(way.path[1:2], []).append(way)
+        if len(peers) > 1:
+            self.note_tie(Tie(peers, {}))
         return group
 
-    def note_tie(self, group):
-        if len({way.path[1] for way in group if len(way.path) > 1}) > 1 and \
-                not self.router.option("bgp bestpath compare-routerid"):
-            self.ties.append(group)
+    def note_tie(self, tie):
+        if not self.router.option("bgp bestpath compare-routerid"):
+            self.ties.append(tie)
 
     def by_pairs(self, group):
-        """Ways of which only some are compared by their metric. Two of one peer never stand in a table together, so
-        nothing says which of them is better."""
-        above = {way.path: set() for way in group}
-        by_path = {way.path: way for way in group}
-        for one in group:
-            for other in group:
-                if one is not other and (one.path[1] != other.path[1]):
-                    is_above = self.beats(one, other) or (1 if self.last_key(one) < self.last_key(other) else -1)
-                    if is_above < 0:
-                        above[one.path].add(other.path)
-        found, left = [], sorted(above, key=lambda path: self.last_key(by_path[path]))
+        """Ways of which only some are compared by their metric. Two of one peer never stand in a table together: where
+        no metric says which is better, nothing does."""
+        kinds = {}
+        for way in sorted(group, key=self.last_key):
+            kinds.setdefault((way.path[1], way.route.path[:1], metric(self.router, way.route)), []).append(way)
+        above, by_metric = {kind: set() for kind in kinds}, {kind: set() for kind in kinds}
+        for one, other in permutations(kinds, 2):
+            judged, is_other = self.beats(kinds[one][0], kinds[other][0]), one[0] != other[0]
+            if judged < 0 and is_other:
+                by_metric[one].add(other)
+            if judged < 0 or not judged and is_other and \
+                    self.last_key(kinds[other][0]) < self.last_key(kinds[one][0]):
+                above[one].add(other)
+        found, left = {}, dict.fromkeys(kinds)
         while left:
-            free = next((path for path in left if not above[path].intersection(left)), None)
+            free = next((kind for kind in left if not any(other in left for other in above[kind])), None)
             if free is None:
-                self.refuse_circle(left, above, by_path)
-            left.remove(free)
-            found.append(by_path[free])
-        self.note_partial_ties(group)
-        return found
+                self.refuse_circle(left, above, kinds)
+            del left[free]
+            found[free] = kinds[free]
+        tie = Tie(found, by_metric)
+        if tie.tied():
+            self.note_tie(tie)
+        return [way for ways in found.values() for way in ways]
 
-    def note_partial_ties(self, group):
-        """Classes of ways of which none is above another by its metric."""
-        left = sorted(group, key=self.last_key)
-        while left:
-            first = left.pop(0)
-            tied = [first]
-            for other in list(left):
-                if all(not self.beats(one, other) for one in tied):
-                    tied.append(other)
-            if len(tied) > 1:
-                self.note_tie(tied)
-
-    def refuse_circle(self, left, above, by_path):
+    def refuse_circle(self, left, above, kinds):
         """The shortest circle of paths, each better than the next."""
         best = None
         for start in left:
             before, queue = {start: None}, [start]
-            for path in queue:
-                for better in sorted(above[path].intersection(left)):
+            for kind in queue:
+                for better in sorted(above[kind].intersection(left)):
                     if better == start:
-                        circle = [path]
+                        circle = [kind]
                         while before[circle[-1]] is not None:
                             circle.append(before[circle[-1]])
                         best = circle if best is None or len(circle) < len(best) else best
                         queue = []
                         break
                     if better not in before:
-                        before[better] = path
+                        before[better] = kind
                         queue.append(better)
                 if not queue:
                     break
-        said = " over ".join(path_text(path) for path in best + best[:1])
-        end = self.set.ends[self.router.asn][best[0][1]]
-        raise refusal(end.neighbor.place, f"{self.router.asn} {self.prefix}: no order: {said}: MED is compared only where "
-                                          "the paths begin with the same AS")
+            if best and len(best) == 3:
+                break
+        paths = [kinds[kind][0].path for kind in best]
+        said = " over ".join(path_text(path) for path in paths + paths[:1])
+        end = self.set.ends[self.router.asn][paths[0][1]]
+        raise refusal(end.neighbor.place, f"{self.router.asn} {self.prefix}: no order: {said}: MED is compared only "
+                                          "where the paths begin with the same AS")

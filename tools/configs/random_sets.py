@@ -4,8 +4,9 @@ import random
 
 PREFIXES = ("10.1.0.0/16", "10.1.1.0/24", "10.2.0.0/16", "192.168.7.0/24", "172.16.0.0/12", "10.1.128.0/17")
 WELL_KNOWN = ("no-export", "no-advertise", "local-AS", "graceful-shutdown", "blackhole", "no-peer")
-REGULAR = ("^$", "_{0}_", "^{0}_", "_{0}$", "{0}", "^[0-9]+$", "^{0}$", ".*", "_{0}_{1}_", "^({0}|{1})_", "^.* .* ", "[{2}]$",
-           "^{0} {1}", "{0}.*{1}", "_{0}_|_{1}_", "^_{0}_", "{2}?{2}$", "^(_[0-9]+)+$", "( [0-9]+){1,2}$", "({2}|{0})+_")
+REGULAR = ("^$", "_{0}_", "^{0}_", "_{0}$", "{0}", "^[0-9]+$", "^{0}$", ".*", "_{0}_{1}_", "^({0}|{1})_", "^.* .* ",
+           "[{2}]$", "^{0} {1}", "{0}.*{1}", "_{0}_|_{1}_", "^_{0}_", "{2}?{2}$", "^(_[0-9]+)+$", "( [0-9]+){1,2}$",
+           "({2}|{0})+_")
 
 
 class Draw:
@@ -112,7 +113,9 @@ class Text:
 
     def numbers(self, count):
         """Numbers of entries, or none at all."""
-        return [f"seq {10 * at + self.draw.number(1, 9)} " for at in range(count)] if self.draw.chance(0.4) else [""] * count
+        if self.draw.chance(0.4):
+            return [f"seq {10 * at + self.draw.number(1, 9)} " for at in range(count)]
+        return [""] * count
 
     def make_prefix_list(self, name):
         lines, seen = [], set()
@@ -137,14 +140,14 @@ class Text:
         for number in self.numbers(self.draw.number(1, 3)):
             prefix = self.prefix()
             address = prefix.split("/")[0]
-            text = self.draw.of((prefix, prefix, f"{prefix} exact-match", f"host {address}", f"{address} 0.0.255.255", "any",
-                                 f"{address} 0.255.255.255", address))
+            text = self.draw.of((prefix, prefix, f"{prefix} exact-match", f"host {address}", f"{address} 0.0.255.255",
+                                 "any", f"{address} 0.255.255.255", address))
             text = f"{self.verb()} {text}"
             if text not in seen:
                 seen.add(text)
                 lines.append(f"access-list {name} {number}{text}")
         if self.draw.chance(0.8):
-            lines.append(f"access-list {name} permit any" if "any" not in " ".join(seen) else f"access-list {name} remark end")
+            lines.append(f"access-list {name} {'remark end' if 'any' in ' '.join(seen) else 'permit any'}")
         return name, lines
 
     def make_as_path(self, name):
@@ -165,8 +168,9 @@ class Text:
             if is_standard and draw.chance(0.05):
                 words = "internet"
             if not is_standard:
-                words = draw.of((f"{65000 + draw.number(1, 2)}:.*", "^$", f"_{self.community()}_", f":{draw.number(1, 4)}$", ".",
-                                 "no-export", f"^{self.community()}$", f"{self.community()} {self.community()}",
+                words = draw.of((f"{65000 + draw.number(1, 2)}:.*", "^$", f"_{self.community()}_",
+                                 f":{draw.number(1, 4)}$", ".", "no-export", f"^{self.community()}$",
+                                 f"{self.community()} {self.community()}",
                                  f":[{draw.number(1, 2)}-{draw.number(3, 4)}]"))
             lines.append(f"{head} {number}{self.verb()} {words}")
         return name, lines
@@ -252,7 +256,8 @@ class Text:
             lambda: f"set community {' '.join(self.community() for _ in range(draw.number(1, 2)))} additive",
             lambda: f"set community {' '.join(self.community() for _ in range(draw.number(1, 3)))}",
             lambda: "set community none" if draw.chance(0.4) else f"set comm-list {self.name_of('community')} delete",
-            lambda: f"set large-community {' '.join(self.large() for _ in range(draw.number(1, 2)))}{draw.of(('', ' additive'))}",
+            lambda: f"set large-community {' '.join(self.large() for _ in range(draw.number(1, 2)))}"
+                    f"{draw.of(('', ' additive'))}",
             lambda: f"set large-comm-list {self.name_of('large-community')} delete",
             lambda: f"set origin {draw.of(('igp', 'egp', 'incomplete'))}"))()
 
@@ -296,11 +301,12 @@ class Text:
     def gadget_lines(self, peer, key):
         """What a gadget wants: routes through one neighbor first, where it has the origin's own link beside."""
         gadget, place = self.maker.gadget, self.place
-        liked = {"disagree": {1: 2, 2: 1}, "bad": {1: 2, 2: 3, 3: 1}, "good": {1: 2, 2: 3}, "wedgie": {2: 1, 1: 2}}[gadget]
-        if liked.get(place) == peer:
-            self.list_lines.append(f"bgp as-path access-list GADGET permit ^{self.maker.asns[peer]}_{self.maker.asns[0]}$"
-                                   if gadget != "wedgie" else "bgp as-path access-list GADGET permit .*")
-            self.map_lines.append(["route-map GADGET permit 10", " match as-path GADGET", " set local-preference 300", "exit"])
+        liked = {"disagree": {1: 2, 2: 1}, "bad": {1: 2, 2: 3, 3: 1}, "good": {1: 2, 2: 3}, "wedgie": {2: 1, 1: 2}}
+        if liked[gadget].get(place) == peer:
+            paths = f"^{self.maker.asns[peer]}_{self.maker.asns[0]}$" if gadget != "wedgie" else ".*"
+            self.list_lines.append(f"bgp as-path access-list GADGET permit {paths}")
+            self.map_lines.append(["route-map GADGET permit 10", " match as-path GADGET", " set local-preference 300",
+                                   "exit"])
             return [f"neighbor {key} route-map GADGET in"]
         return []
 
@@ -328,8 +334,8 @@ class Text:
                 session.append(f"neighbor {key} remote-as {'external' if draw.chance(0.05) else asn}")
                 own += self.policy_lines(key) if not own else []
             if draw.chance(0.1):
-                session.append(draw.of((f"neighbor {key} description the router {asn}", f"neighbor {key} timers connect 5",
-                                        f"neighbor {key} sender-as-path-loop-detection", f"neighbor {key} ebgp-multihop")))
+                session.append(f"neighbor {key} " + draw.of((f"description the router {asn}", "timers connect 5",
+                                                             "sender-as-path-loop-detection", "ebgp-multihop")))
             if self.names_source:
                 session.append(f"neighbor {key} update-source 10.255.{self.place + 1}.1")
             if draw.chance(0.012):
@@ -341,7 +347,8 @@ class Text:
     def without_conflicts(own, group, key):
         """The lines of a member without a list that its group's other list of a direction stands against."""
         taken = {(line.split()[-1]) for line in group if "-list" in line and "filter" not in line}
-        return [line for line in own if not (("prefix-list" in line or "distribute-list" in line) and line.split()[-1] in taken)]
+        return [line for line in own
+                if not ("prefix-list" in line or "distribute-list" in line) or line.split()[-1] not in taken]
 
     def option_lines(self):
         draw = self.draw
@@ -389,9 +396,9 @@ class Text:
         else:
             body += [" !", " address-family ipv4 unicast"] + ["  " + line for line in family]
             body += [" exit-address-family", draw.of(("exit", "!"))]
-        head = draw.of((["frr version 8.4.4", "frr defaults traditional"], ["frr version 7.3", "frr defaults traditional"],
-                        ["frr version 8.4.4", "frr defaults datacenter"], ["! by hand"]) if draw.chance(0.3) else
-                       (["frr version 8.4.4", "frr defaults traditional"],))
+        heads = [["frr version 8.4.4", "frr defaults traditional"], ["frr version 7.3", "frr defaults traditional"],
+                 ["frr version 8.4.4", "frr defaults datacenter"], ["! by hand"]]
+        head = draw.of(heads if draw.chance(0.3) else heads[:1])
         maps = [line for lines in self.map_lines for line in lines + ["!"]]
         parts = draw.some([body, self.list_lines, maps], 3)
         lines = head + [f"hostname r{self.place + 1}", "!"] + [line for part in parts for line in part + ["!"]]

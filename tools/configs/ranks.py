@@ -12,6 +12,12 @@ ROUNDS, MORE, LATER = 1000, 100, 100
 SHOWN = 8
 
 
+def listed(words):
+    """Words with commas, the first of them where there are many."""
+    words = list(words)
+    return ", ".join(words[:SHOWN]) + (f" and {len(words) - SHOWN} more" if len(words) > SHOWN else "")
+
+
 class Ranks:
     """The order of each router's ways for each prefix.
 
@@ -22,7 +28,7 @@ class Ranks:
         self.follower = Follower(routers, with_notes)
         known = {}
         for prefix, (router, network) in routers.origins().items():
-            if chosen and prefix not in chosen:
+            if chosen is not None and prefix not in chosen:
                 continue
             ways = self.follower.ways(prefix, router, network)
             self.origins[prefix] = router.asn
@@ -34,24 +40,23 @@ class Ranks:
                 raise Refusal(f"no router announces {prefix}")
         if len(self.origins) > MOST_PREFIXES:
             raise refusal(next(iter(routers.routers.values())).place,
-                          f"{len(self.origins)} prefixes, and a network has at most {MOST_PREFIXES}: --prefix takes some")
-
-    def ties(self):
-        """Each class of ways that FRR tells apart by what was selected first: the router, the prefix, and the ways."""
-        for prefix, orders in self.orders.items():
-            for asn, order in orders.items():
-                for tied in order.ties:
-                    yield asn, prefix, tied
+                          f"{len(self.origins)} prefixes, and a network has "
+                          f"at most {MOST_PREFIXES}: --prefix takes some")
 
     def tie_notes(self):
+        """A warning for each class of ways that FRR tells apart by what was selected first."""
         found = {}
-        for asn, prefix, tied in self.ties():
-            found.setdefault((asn, tuple(way.path for way in tied)), []).append(prefix)
-        for (asn, paths), prefixes in found.items():
-            router = self.set.routers[asn]
-            words = ", ".join(map(path_text, paths[:SHOWN])) + (f" and {len(paths) - SHOWN} more" if len(paths) > SHOWN else "")
-            yield router.place, (f"{asn} {', '.join(map(str, prefixes))}: tie: {words}: FRR keeps the one that it selected "
-                                 "first, and here they stand by router id (without 'bgp bestpath compare-routerid')")
+        for prefix, orders in self.orders.items():
+            for asn, order in orders.items():
+                for tie in order.ties:
+                    found.setdefault((asn, tie.paths), (tie, []))[1].append(prefix)
+        for (asn, paths), (tie, prefixes) in found.items():
+            above = [f"{path_text(other[0])} above {path_text(block[0])}" for block in tie.blocks
+                     for other in tie.blocks if tie.is_above(other, block)]
+            words = listed(map(path_text, paths)) + (f" (by MED {listed(above)})" if above else "")
+            yield self.set.routers[asn].place, (
+                f"{asn} {listed(map(str, prefixes))}: tie: {words}: FRR keeps the one that it selected first, and here "
+                "they stand by router id (without 'bgp bestpath compare-routerid')")
 
     def paths(self, prefix):
         """The permitted paths of each router for a prefix, best first."""
@@ -84,15 +89,13 @@ def best_paths(paths, prefix, origin, most):
     if not longer:
         return paths, []
     left = lasting(paths, origin)
-    said = [f"{prefix}: {sum(map(len, paths.values())) - sum(map(len, left.values()))} paths that can't last are left out "
-            f"({', '.join(map(str, longer))} had more than {most}): the ends are the same, the way there may differ"]
+    number = sum(map(len, paths.values())) - sum(map(len, left.values()))
+    said = [f"{prefix}: {number} paths that can't last are left out ({', '.join(map(str, longer))} had more than "
+            f"{most}): the ends are the same, the way there may differ"]
     for asn, own in left.items():
         if len(own) > most:
-            omitted = own[most:]
-            words = ", ".join(map(path_text, omitted[:SHOWN]))
-            more = f" and {len(omitted) - SHOWN} more" if len(omitted) > SHOWN else ""
-            said.append(f"{prefix}: {asn} has the best {most} of {len(own)} paths; left out: {words}{more}: let --verify "
-                        "judge the end")
+            said.append(f"{prefix}: {asn} has the best {most} of {len(own)} paths; left out: "
+                        f"{listed(map(path_text, own[most:]))}: let --verify judge the end")
             left[asn] = own[:most]
     return left, said
 
@@ -144,7 +147,8 @@ class Rules:
             bit = 31 - length
             below = [prefix for prefix in prefixes if prefix.length > length]
             for side in (0, 1):
-                part = self.gather([prefix for prefix in below if prefix.address >> bit & 1 == side], wanted, length + 1)
+                half = [prefix for prefix in below if prefix.address >> bit & 1 == side]
+                part = self.gather(half, wanted, length + 1)
                 parts += [part] if part else []
         rest = parts[0]
         for part in parts[1:]:
@@ -182,8 +186,8 @@ def network_lines(ranks, most=None):
         for asn, own in paths.items():
             if asn != origin:
                 if len(own) > MOST_PATHS:
-                    raise refusal(routers[asn].place, f"{asn} permits {len(own)} paths for {prefix}, and a rule has at most "
-                                                      f"{MOST_PATHS}: --best {MOST_PATHS} leaves some out")
+                    raise refusal(routers[asn].place, f"{asn} permits {len(own)} paths for {prefix}, and a rule has at "
+                                                      f"most {MOST_PATHS}: --best {MOST_PATHS} leaves some out")
                 wanted[asn][prefix] = own
     for asn, own in wanted.items():
         rules = rules_of(own, ranks.origins)
@@ -198,5 +202,5 @@ def schedule_lines(lines):
     """A schedule for a network: the sessions come up, every prefix is originated, then rounds and a snapshot."""
     network = Network(lines)
     rounds = ROUNDS + MORE * len(network.origins)
-    return ["schedule", *starts(network), *originations(network), f"rounds {rounds}", f"snapshot {network.routers[0]} 1",
-            f"rounds {LATER}"]
+    return ["schedule", *starts(network), *originations(network), f"rounds {rounds}",
+            f"snapshot {network.routers[0]} 1", f"rounds {LATER}"]

@@ -2,7 +2,7 @@
 import re
 
 from configs import commands
-from configs.communities import read_community, read_large, sorted_set
+from configs.communities import STALE, read_community, read_large, sorted_set
 from configs.lists import Block, CommunityList, Entry, List, mask_of
 from configs.places import Place, refusal
 from configs.regular import BadExpression, expression, path_expression
@@ -13,7 +13,7 @@ from network import GREATEST_ASN, Prefix
 
 NOT_TAKEN = "FRR 8.4 does not take this line"
 LARGE_WORDS = {"large-community": read_large, "community": read_community}
-MOST_CALLS = 10
+MOST_CALLS, MOST_PASSWORD, MOST_HOPS, MOST_HOST = 10, 80, 255, 255
 
 
 def cut_lines(text):
@@ -61,6 +61,8 @@ class Reader:
             if self.is_loopback:
                 self.router.loopbacks.add(address[0])
             return True
+        if self.foreign == "interface" and words == ["shutdown"]:
+            self.router.warn(self.place, "the interface is shut: 'shutdown' is not read")
         if words[0] in ("exit", "quit") or words[0].startswith("exit-"):
             self.foreign = "closed"
             return True
@@ -75,7 +77,7 @@ class Reader:
                 match = commands.TABLES[block].find(words)
             except Unreadable as why:
                 self.refuse(f"'{' '.join(words)}': {why}")
-            if match:
+            if match and (match.command.action != "foreign" or words[0] == match.words[0]):
                 if match.command.action not in ("leave", "finish"):
                     self.block = block
                 return match
@@ -112,6 +114,9 @@ class Reader:
     def do_cut(self, words, line):
         self.refuse(f"'{line.strip()}': the command is cut short")
 
+    def do_wrong(self, words, line):
+        self.refuse(f"'{line.strip()}': {NOT_TAKEN}")
+
     def do_old(self, words, line):
         self.refuse(f"'{line.strip()}': {NOT_TAKEN}: it is 'bgp {' '.join(words[1:3])} ..'")
 
@@ -121,11 +126,20 @@ class Reader:
     def do_addresses(self, words, line):
         self.foreign, self.is_loopback = "interface", words[1] == "lo"
 
+    def do_host(self, words, line):
+        if not words[1][0].isalnum() or len(words[1]) > MOST_HOST:
+            self.refuse(f"'{line.strip()}': {NOT_TAKEN}: a name begins with a letter or a digit, and has at most "
+                        f"{MOST_HOST} signs")
+        if self.block == "config":
+            self.router.foreign.add(self.place.line)
+
     def do_version(self, words, line):
-        found = re.match(r"(\d{1,9})(?:\.(\d{1,9}))?", words[2])
+        found = re.fullmatch(r"(\d{1,9})(?:\.(\d{1,9}))?((?:\.\d{1,9})*)([^\d.].*)?", words[2])
         if not found:
             self.refuse(f"'{words[2]}' is no version")
-        self.router.version = int(found.group(1)), int(found.group(2) or 0)
+        major, minor, more, tail = found.groups()
+        is_before = not more and (tail or "").startswith("~")
+        self.router.version = int(major), int(minor or 0), -1 if is_before else 0
 
     def do_profile(self, words, line):
         if words[2] not in ("traditional", "datacenter"):
@@ -140,11 +154,17 @@ class Reader:
             self.refuse(f"a second AS: {router.place} has {router.asn}")
         if router.asn is None:
             router.asn, router.place = asn, self.place
-            is_new = router.version >= (7, 4)
+            is_new = router.version >= (7, 4, 0)
             defaults = {"bgp ebgp-requires-policy": is_new and router.profile != "datacenter",
                         "bgp network import-check": is_new,
                         "bgp deterministic-med": router.profile == "datacenter"}
             router.options.update((name, Line(value, self.place)) for name, value in defaults.items())
+        self.block = "bgp"
+
+    def do_again(self, words, line):
+        """`router bgp` without a number is the one that is there."""
+        if self.router.asn is None:
+            self.do_cut(words, line)
         self.block = "bgp"
 
     def do_router_id(self, words, line):
@@ -161,7 +181,9 @@ class Reader:
         self.router.options["bgp bestpath med missing-as-worst"] = Line(words[0] != "no", self.place)
 
     def do_default_preference(self, words, line):
-        self.router.default_preference = 100 if words[0] == "no" else int(words[3])
+        is_set = words[0] != "no"
+        self.router.default_preference = int(words[3]) if is_set else 100
+        self.router.default_line = (f"{self.place} bgp default local-preference",) if is_set else None
 
     def do_default_family(self, words, line):
         self.router.activates = words[0] != "no"
@@ -236,11 +258,16 @@ class Reader:
             self.refuse(f"'{line.strip()}': {NOT_TAKEN}: '{words[1]}' is no address")
         found = router.neighbors.get(address)
         if found is None:
-            if group.remote is None:
-                self.refuse(f"'{line.strip()}': {NOT_TAKEN}: no line above says the neighbor's AS, or the group's")
             found = router.neighbors[address] = Neighbor(words[1], address, self.place, group.is_active)
-        elif found.group not in (None, group):
+        elif found.group is group:
+            return
+        elif found.group is not None:
             self.refuse(f"'{line.strip()}': {NOT_TAKEN}: it is in the group {found.group.key}")
+        elif group.remote is None and found.remote is not None:
+            members = [one for one in router.neighbors.values() if one.group is group]
+            first = min(members, key=lambda one: one.address, default=found)
+            if first.remote is None:
+                self.refuse(f"'{line.strip()}': {NOT_TAKEN}: the group's first member, {first.place}, has no AS yet")
         found.group, found.is_active = group, group.is_active
 
     def say(self, words, kind, value):
@@ -259,7 +286,17 @@ class Reader:
         self.say(words, "source", address if address is not None else words[-1])
 
     def do_password(self, words, line):
-        self.say(words, "password", " ".join(words[3:]))
+        if words[0] != "no" and len(words[3]) > MOST_PASSWORD:
+            self.refuse(f"'neighbor {words[1]} password': {NOT_TAKEN}: a password has at most {MOST_PASSWORD} octets")
+        self.say(words, "password", words[-1])
+
+    def do_hops(self, words, line):
+        """FRR does not take `ttl-security` where `ebgp-multihop` stands above it."""
+        kind = words[3] if words[0] == "no" else words[2]
+        self.say(words, kind, MOST_HOPS if words[-1] == kind else number_of(words[-1]))
+        other = self.neighbor(words[1]).line("ebgp-multihop") if words[0] != "no" and kind == "ttl-security" else None
+        if other:
+            self.refuse(f"'{line.strip()}': {NOT_TAKEN}: {other.place} has ebgp-multihop")
 
     def do_passive(self, words, line):
         self.say(words, "passive", True)
@@ -317,11 +354,11 @@ class Reader:
 
     def do_access(self, words, line):
         permits, number, rest = self.numbered(words, 2)
-        block, text = self.block_of(rest, line)
+        block, text = self.block_of(rest)
         found = self.list_of("access-list", words[1])
         entry = Entry(permits, block, text, self.place)
-        doubles = [other for other, one in found.entries.items() if one.permits == permits and other != number
-                   and (one.text == text or one.text == text + " exact-match")]
+        doubles = [found.double(permits, text), found.double(permits, text + " exact-match")]
+        doubles = [other for other in doubles if other not in (None, number)]
         if not doubles:
             found.add(found.next_number() if number is None else number, entry)
         elif prefix_of(rest[0]) and prefix_of(rest[0])[0] != block.address:
@@ -330,32 +367,27 @@ class Reader:
             self.router.warn(self.place, f"'{line.strip()}': FRR takes it for a double of "
                                          f"{found.entries[doubles[0]].place}, and drops it")
 
-    def block_of(self, rest, line):
+    @staticmethod
+    def block_of(rest):
         """What an entry of an access-list looks for, and the text that tells doubles."""
-        everything = Block(0, 0, 0, 32)
         if rest == ["any"]:
-            return everything, "any"
+            return Block(0, 0, 0, 32), "any"
         prefix = prefix_of(rest[0])
-        if prefix and rest[1:] in ([], ["exact-match"]):
+        if prefix:
             address, length = prefix
             address &= mask_of(length)
             most = length if rest[1:] else 32
             return Block(address, mask_of(length), length, most), " ".join([f"{address}/{length}", *rest[1:]])
-        rest = rest[1:] if rest[0] == "host" else rest
-        numbers = [address_of(word) for word in rest]
-        if rest and rest[0] != "ip" and len(rest) <= 2 and None not in numbers:
-            wildcard = numbers[1] if len(numbers) == 2 else 0
-            return Block(numbers[0], MOST & ~wildcard, 0, 32), " ".join(map(str, numbers))
-        if rest[:1] == ["ip"]:
-            self.refuse(f"'{line.strip()}': access-lists of sources and destinations are not read")
-        return self.refuse(f"'{line.strip()}': {NOT_TAKEN}")
+        numbers = [address_of(word) for word in rest if word != "host"]
+        wildcard = numbers[1] if len(numbers) == 2 else 0
+        return Block(numbers[0], MOST & ~wildcard, 0, 32), " ".join(map(str, numbers))
 
     def do_prefixes(self, words, line):
         permits, number, rest = self.numbered(words, 3)
         block, text, has_hosts = self.span_of(rest, line)
         found = self.list_of("prefix-list", words[2])
         entry = Entry(permits, block, text, self.place)
-        other = found.double(entry)
+        other = found.double(permits, text)
         if other is None or other == number:
             found.add(found.next_number() if number is None else number, entry)
         elif has_hosts:
@@ -366,18 +398,12 @@ class Reader:
         set."""
         if rest == ["any"]:
             return Block(0, 0, 0, 32), "any", False
-        prefix, bounds = prefix_of(rest[0]), dict(zip(rest[1::2], rest[2::2]))
-        is_whole = len(rest) % 2 == 1 and len(bounds) == len(rest) // 2 and set(bounds) <= {"ge", "le"}
-        bounds = {word: number_of(bound) for word, bound in bounds.items()}
-        if prefix is None or not is_whole or not all(bound is not None and bound <= 32 for bound in bounds.values()):
-            self.refuse(f"'{line.strip()}': {NOT_TAKEN}")
-        bounds = {word: bound for word, bound in bounds.items() if bound}  # to FRR a 0 is none
-        address, length = prefix
-        least = bounds.get("ge", length)
-        most = bounds.get("le", 32 if "ge" in bounds else length)
-        if not length <= least <= most:
+        (address, length), bounds = prefix_of(rest[0]), dict(zip(rest[1::2], map(int, rest[2::2])))
+        if not length <= bounds.get("ge", length) <= bounds.get("le", 32) or bounds.get("le", length) < length:
             self.refuse(f"'{line.strip()}': {NOT_TAKEN}: it has to be length <= ge <= le")
-        block = Block(address & mask_of(length), mask_of(length), least, most)
+        bounds = {word: bound for word, bound in bounds.items() if bound}  # to FRR a 0 is none
+        most = bounds.get("le", 32 if "ge" in bounds else length)
+        block = Block(address & mask_of(length), mask_of(length), bounds.get("ge", length), most)
         return block, (block.address, length, bounds.get("ge"), bounds.get("le")), block.address != address
 
     def expression(self, text, make, line):
@@ -394,7 +420,7 @@ class Reader:
 
     def add_once(self, found, number, entry):
         """Adds an entry, unless one says the same: FRR drops it in silence."""
-        if found.double(entry) is None:
+        if found.double(entry.permits, entry.text) is None:
             found.add(found.next_number() if number is None else number, entry)
 
     @staticmethod
@@ -407,11 +433,10 @@ class Reader:
         at = 3 if words[2].isdigit() else 4
         name, is_standard = words[at - 1], words[2] == "standard" or words[2].isdigit() and int(words[2]) < 100
         permits, number, rest = self.numbered(words, at)
-        if at == 4 and name.isdigit() and (int(name) < 100) != is_standard and int(name) <= 500 or \
-                kind == "large-community" and at == 4 and name.isdigit():
+        if kind == "large-community" and at == 4 and name.isdigit():
             self.refuse(f"'{line.strip()}': {NOT_TAKEN}: a number is no name here")
         found = self.list_of(kind, name, CommunityList)
-        if found.entries and any(callable(entry.value) == is_standard for entry in found.entries.values()):
+        if found.entries and callable(next(iter(found.entries.values())).value) == is_standard:
             self.refuse(f"'{line.strip()}': {NOT_TAKEN}: {found.place} is a list of the other kind")
         if is_standard:
             value = sorted_set(self.communities(rest, LARGE_WORDS[kind], line))
@@ -526,7 +551,11 @@ class Reader:
         numbers = [self.full(word, is_large) for word in rest if word not in adds]
         if not numbers or is_large and adds and (rest[-1] != "additive" or len(adds) > 1):
             self.refuse(f"'{line.strip()}': {NOT_TAKEN}, or it is not read: 'additive' stands behind communities")
-        self.set(kind, (sorted_set(self.communities(numbers, LARGE_WORDS[kind], line)), bool(adds)), line, 1)
+        value = sorted_set(self.communities(numbers, LARGE_WORDS[kind], line))
+        if STALE in value:
+            self.refuse(f"'{line.strip()}': llgr-stale: FRR likes such a route less than any other, and of two such "
+                        "ones it takes that which came first")
+        self.set(kind, (value, bool(adds)), line, 1)
 
     @staticmethod
     def full(word, is_large):
@@ -556,12 +585,12 @@ def check_calls(router):
 
 
 def check_detection(router):
-    """Refuses the detection of loops by the sender where a map excludes AS numbers: else the peer finds the same ones."""
+    """Refuses the detection of loops by the sender where a map excludes AS numbers: else the peer finds the same."""
     excludes = any("exclude" in entry.sets for one in router.maps.values() for entry in one.ordered())
     for neighbor in [*router.groups.values(), *router.neighbors.values()]:
         if excludes and "loop detection" in neighbor.said:
-            raise refusal(neighbor.said["loop detection"].place, "sender-as-path-loop-detection beside 'set as-path exclude': "
-                          "what is told depends on which neighbors FRR tells alike")
+            raise refusal(neighbor.said["loop detection"].place, "sender-as-path-loop-detection beside 'set as-path "
+                          "exclude': what is told depends on which neighbors FRR tells alike")
 
 
 def undefined(router):
@@ -597,8 +626,8 @@ def without_entries(router):
         for (kind, direction), line in neighbor.policies.items():
             if kind == "prefix-list" and line.name in empty:
                 is_above = empty[line.name].place.line < line.place.line
-                router.warn(line.place, f"prefix-list {line.name} has no entries: it {'permits' if is_above else 'denies'} "
-                                        f"everything {direction}")
+                effect = "permits" if is_above else "denies"
+                router.warn(line.place, f"prefix-list {line.name} has no entries: it {effect} everything {direction}")
     for entry in (entry for one in router.maps.values() for entry in one.ordered()):
         value, place = entry.matches.get("prefix-list", (None, None))
         if value in empty:
@@ -624,8 +653,8 @@ def read_router(text, name):
         choose_id(router)
     for network in router.networks.values():
         if router.option("bgp network import-check"):
-            router.warn(network.place, "network: taken as announced; with import-check FRR announces it where the route "
-                                       "is in its table")
+            router.warn(network.place, "network: taken as announced; with import-check FRR announces it where the "
+                                       "route is in its table")
             break
     check_calls(router)
     check_detection(router)

@@ -22,7 +22,8 @@ class Route:
     """A route in a router's table, or on its way to one.
 
     LOCAL_PREF and MULTI_EXIT_DISC have a field and a flag each, as in FRR: without the flag the attribute is not there,
-    and the field is still seen by `match`. `notes` has by what line each attribute came, where that is asked for."""
+    and the field is still seen by `match`. `notes` has by what lines each attribute came, where that is asked for, and
+    by which a number was excluded."""
 
     __slots__ = ("path", "origin", "med", "has_med", "preference", "has_preference", "weight", "communities", "large",
                  "notes")
@@ -37,9 +38,11 @@ class Route:
         return Route(self.path, self.origin, self.med, self.has_med, self.preference, self.has_preference, self.weight,
                      self.communities, self.large, None if self.notes is None else dict(self.notes))
 
-    def note(self, attribute, said):
+    def note(self, attribute, said=None, adds=False):
+        """Keeps by what line an attribute came, or what other line changed it; without one it came by none."""
         if self.notes is not None:
-            self.notes[attribute] = said
+            former = self.notes.get(attribute, ()) if adds else ()
+            self.notes[attribute] = former + (str(said),) * (said is not None)
 
     def attributes(self):
         """What tells routes of one way apart: all that a table shows."""
@@ -104,8 +107,11 @@ def excluded(path, numbers):
 def apply_sets(router, entry, route):
     """What the `set` lines of an entry make of a route."""
     for kind, (value, place) in entry.sets.items():
+        if kind == "exclude":
+            for number in {*value}.intersection(route.path):
+                route.note(("excluded", number), place, True)
         SETS[kind](router, route, value)
-        route.note(ATTRIBUTE_OF[kind], f"{place} {entry}")
+        route.note(ATTRIBUTE_OF[kind], f"{place} {entry}", kind in CHANGING or kind in ADDING and value[1])
 
 
 def set_preference(router, route, value):
@@ -158,6 +164,9 @@ def delete_large(router, route, value):
 SETS = {"local-preference": set_preference, "metric": set_metric, "weight": set_weight, "prepend": set_prepend,
         "exclude": set_exclude, "origin": set_origin, "community": set_communities, "large-community": set_large,
         "comm-list": delete_communities, "large-comm-list": delete_large}
+# Those that change what was there, and those that do so where they add.
+CHANGING = ("prepend", "exclude", "comm-list", "large-comm-list")
+ADDING = ("community", "large-community")
 ATTRIBUTE_OF = {"local-preference": "local-pref", "metric": "med", "weight": "weight", "prepend": "path",
                 "exclude": "path", "origin": "origin", "community": "communities", "comm-list": "communities",
                 "large-community": "large", "large-comm-list": "large"}
@@ -177,7 +186,8 @@ def fits(router, kind, value, place, prefix, route):
     if kind in ("community", "large-community"):
         name, is_exact = value
         found = router.lists[kind].get(name)
-        return found is not None and found.permits_set(route.communities if kind == "community" else route.large, is_exact)
+        communities = route.communities if kind == "community" else route.large
+        return found is not None and found.permits_set(communities, is_exact)
     return value == {"metric": route.med, "local-preference": route.preference, "origin": route.origin}[kind]
 
 
@@ -195,8 +205,8 @@ def match_text(entry):
 def apply_map(router, name, prefix, route):
     """Changes a route by a route-map; the denial, where it ends in one.
 
-    What fits in a `permit` entry acts at once. Behind `on-match` the map goes on, and an entry that then does not fit is
-    a denial again, if none behind it fits."""
+    What fits in a `permit` entry acts at once. Behind `on-match` the map goes on, and an entry that then does not fit
+    is a denial again, if none behind it fits."""
     entries = router.maps[name].ordered()
     denial, at = Denial(router.maps[name].place, f"route-map {name} (no entry fits)"), 0
     nothing = denial
@@ -277,7 +287,7 @@ def told(router, neighbor, prefix, route, is_own):
     kept = KEPT_IN.intersection(route.communities)
     if kept:
         said = route.notes and route.notes.get("communities")
-        by = f" by {said}" if said else ""
+        by = f" by {', '.join(said)}" if said else ""
         return Denial(neighbor.place, f"community {community_text(min(kept))}{by}")
     denial = filtered(router, neighbor, "out", prefix, route.path)
     if denial:
@@ -285,7 +295,7 @@ def told(router, neighbor, prefix, route, is_own):
     route = route.copy()
     if not is_own:
         route.has_med = False
-        route.note("med", None)
+        route.note("med")
     denial = mapped(router, neighbor, "out", prefix, route) or without_policy(router, neighbor, "out")
     if denial:
         return denial

@@ -51,17 +51,18 @@ class Neighbor:
 
 
 class Router:
-    """What one file says. `notes` are its warnings, each with its place; `addresses` those of its interfaces, `loopbacks`
-    those of `lo`; `foreign` the numbers of lines that other daemons take, and `end` that of its line `end`."""
+    """What one file says. `notes` are its warnings, each with its place; `addresses` those of its interfaces,
+    `loopbacks` those of `lo`; `foreign` the numbers of lines that other daemons take, and `end` that of its line
+    `end`."""
 
     def __init__(self, name):
         self.name, self.notes, self.end = name, [], None
-        self.version, self.profile = (8, 4), "traditional"
+        self.version, self.profile = (8, 4, 0), "traditional"
         self.asn, self.place, self.router_id = None, None, None
         self.neighbors, self.groups, self.networks = {}, {}, {}
         self.lists = {"access-list": {}, "prefix-list": {}, "as-path": {}, "community": {}, "large-community": {}}
         self.maps, self.addresses, self.loopbacks, self.foreign = {}, {}, set(), set()
-        self.default_preference, self.activates = 100, True
+        self.default_preference, self.default_line, self.activates = 100, None, True
         self.options = {}
 
     def option(self, name):

@@ -24,7 +24,8 @@ def check_set(routers):
     for router in routers:
         other = by_asn.setdefault(router.asn, router)
         if other is not router:
-            raise refusal(router.place, f"AS {router.asn} is that of {other.place} too: every router is an AS of its own")
+            raise refusal(router.place, f"AS {router.asn} is that of {other.place} too: every router is an AS of its "
+                                        "own")
         other = by_id.setdefault(router.router_id.name, router)
         if other is not router:
             raise refusal(router.router_id.place, f"the router id {dotted(router.router_id.name)} is that of "
@@ -74,6 +75,12 @@ class Set:
                     raise refusal(neighbor.place, f"neighbor {neighbor.key}: no line says its AS")
                 if neighbor.asn.name in self.routers:
                     claim(neighbor.address, self.routers[neighbor.asn.name], neighbor.asn.place)
+        for router in self.routers.values():
+            for neighbor in router.neighbors.values():
+                owner, place = owners.get(neighbor.address, (None, None))
+                if owner and neighbor.asn.name not in ("external", owner.asn):
+                    raise refusal(neighbor.asn.place, f"neighbor {neighbor.key} is AS {neighbor.asn.name} here, and "
+                                                      f"its address is one of {owner.asn} at {place}")
         ids = {router.router_id.name: router for router in self.routers.values()}
         for router in self.routers.values():
             for neighbor in router.neighbors.values():
@@ -119,18 +126,18 @@ class Set:
                 if peer is router:
                     raise refusal(neighbor.place, f"neighbor {neighbor.key} is the router itself")
                 if peer is None:
-                    router.warn(neighbor.place, f"neighbor {neighbor.key}: no configuration of AS {neighbor.asn.name} is "
-                                                "among these, so there is no session")
+                    router.warn(neighbor.place, f"neighbor {neighbor.key}: no configuration of AS {neighbor.asn.name} "
+                                                "is among these, so there is no session")
                     continue
                 other = named.setdefault((router.asn, peer.asn), neighbor)
                 if other is not neighbor:
-                    raise refusal(neighbor.place, f"neighbor {neighbor.key} is a second session with {peer.asn}: the first "
-                                                  f"is at {other.place}")
+                    raise refusal(neighbor.place, f"neighbor {neighbor.key} is a second session with {peer.asn}: the "
+                                                  f"first is at {other.place}")
         for (asn, peer), neighbor in named.items():
             router, other = self.routers[asn], named.get((peer, asn))
             if other is None:
-                router.warn(neighbor.place, f"neighbor {neighbor.key} is {peer}, and {self.routers[peer].place} names no "
-                                            f"neighbor {asn}: there is no session")
+                router.warn(neighbor.place, f"neighbor {neighbor.key} is {peer}, and {self.routers[peer].place} names "
+                                            f"no neighbor {asn}: there is no session")
             elif asn < peer:
                 self.join(End(router, neighbor), End(self.routers[peer], other))
         for asn, ends in self.ends.items():
@@ -142,8 +149,8 @@ class Set:
         """Makes a session of two ends, unless one is shut."""
         for end in (one, other):
             if end.neighbor.is_shut:
-                end.router.warn(end.neighbor.line("shutdown").place, f"neighbor {end.neighbor.key} is shut: there is no "
-                                                                     "session")
+                end.router.warn(end.neighbor.line("shutdown").place, f"neighbor {end.neighbor.key} is shut: there is "
+                                                                     "no session")
                 return
         if not (one.neighbor.is_active or other.neighbor.is_active):
             one.router.warn(one.neighbor.place, f"neighbor {one.neighbor.key} is not activated, nor is the other end, "
@@ -154,6 +161,7 @@ class Set:
             if far.router.addresses and end.neighbor.address not in own:
                 raise refusal(end.neighbor.place, f"neighbor {end.neighbor.key} is no address of {far.router.name}")
             self.check_source(end, far)
+            self.check_hops(end, far)
         secrets = [end.neighbor.line("password") for end in (one, other)]
         if (secrets[0] and secrets[0].name) != (secrets[1] and secrets[1].name):
             said = secrets[0] or secrets[1]
@@ -166,8 +174,8 @@ class Set:
         self.ends[other.router.asn][one.router.asn] = other
         for end in (one, other):
             if not end.neighbor.is_active:
-                end.router.warn(end.neighbor.place, f"neighbor {end.neighbor.key} is not activated: the session carries "
-                                                    "no routes")
+                end.router.warn(end.neighbor.place, f"neighbor {end.neighbor.key} is not activated: the session "
+                                                    "carries no routes")
 
     @staticmethod
     def check_source(end, far):
@@ -176,6 +184,15 @@ class Set:
         if source and isinstance(source.name, int) and source.name != far.neighbor.address:
             raise refusal(source.place, f"the source is {dotted(source.name)}, and {far.neighbor.place} names "
                                         f"{far.neighbor.key}")
+
+    @staticmethod
+    def check_hops(end, far):
+        """Refuses `ttl-security` where the other end's segments live too short."""
+        line = end.neighbor.line("ttl-security")
+        lives = 255 if far.neighbor.line("ttl-security") else far.neighbor.value("ebgp-multihop", 1)
+        if line and lives < 256 - line.name:
+            raise refusal(line.place, f"ttl-security hops {line.name} takes a TTL from {256 - line.name}, and the "
+                                      f"other end, {far.neighbor.place}, sends with {lives}")
 
     def carries(self, asn, peer):
         return self.ends[asn][peer].neighbor.is_active and self.ends[peer][asn].neighbor.is_active
@@ -189,7 +206,10 @@ class Set:
             queue += new
         apart = [router for asn, router in self.routers.items() if asn not in reached]
         if apart:
-            raise refusal(apart[0].place, f"no sessions lead from {first} to {apart[0].asn}: the network isn't connected")
+            why = next((f"; {place}: {said}" for router in [*apart, *self.routers.values()]
+                        for place, said in router.notes if said.endswith("no session")), "")
+            raise refusal(apart[0].place, f"no sessions lead from {first} to {apart[0].asn}: the network isn't "
+                                          f"connected{why}")
 
     # ---- what is asked of the set
 
@@ -217,7 +237,8 @@ class Set:
 
     def networks(self):
         """Each line that announces a prefix."""
-        return [(router, prefix, network) for router in self.routers.values() for prefix, network in router.networks.items()]
+        return [(router, prefix, network) for router in self.routers.values()
+                for prefix, network in router.networks.items()]
 
     def silent(self):
         """A warning for each line whose route-map denies its prefix."""

@@ -1,8 +1,8 @@
 """The commands of a configuration: which one a line is, with its keywords in full.
 
 A syntax is written as FRR writes it: keywords, `<one|other>`, `[what may be left out]`, `(1-99)` for a number,
-`A.B.C.D` and `A.B.C.D/M` for addresses and prefixes, WORD for any word, `REST...` for one word or more. A keyword may be
-shortened as long as it is no other's beginning."""
+`A.B.C.D` and `A.B.C.D/M` for addresses and prefixes, WORD for any word, `REST...` for one word or more. A keyword may
+be shortened as long as it is no other's beginning."""
 import re
 from collections import namedtuple
 from functools import lru_cache
@@ -10,7 +10,8 @@ from functools import lru_cache
 # How well a word fits a token: the least is the best, and of two commands the one that fits better further in front.
 EXACT, TYPED, SHORTENED, ANY, REST = range(5)
 
-ADDRESS = re.compile(r"\d{1,3}\.\d{1,3}\.\d{1,3}\.\d{1,3}")
+ADDRESS = re.compile(r"(0|[1-9]\d{0,2})(\.(0|[1-9]\d{0,2})){3}")
+LENGTH = re.compile(r"\d|[12]\d|3[012]")
 OPTION = re.compile(r"\[([^][]*)\]")
 CHOICE = re.compile(r"<([^<>]*)>")
 
@@ -30,7 +31,7 @@ def number_of(word):
 
 
 def address_of(word):
-    """The number of an address, or None."""
+    """The number of an address, or None. A part with a 0 in front is none to FRR."""
     if not ADDRESS.fullmatch(word):
         return None
     parts = [int(part) for part in word.split(".")]
@@ -40,8 +41,8 @@ def address_of(word):
 def prefix_of(word):
     """The address and the length of a prefix as it is written, or None."""
     address, slash, length = word.partition("/")
-    value, length = address_of(address), number_of(length)
-    return (value, length) if slash and value is not None and length is not None and length <= 32 else None
+    value = address_of(address)
+    return (value, int(length)) if value is not None and LENGTH.fullmatch(length) else None
 
 
 def variants(syntax):

@@ -3,18 +3,23 @@ what ends there are."""
 import itertools
 import os
 import random
+import re
 
 from configs.communities import community_text, large_text
 from configs.ends import Judge
+from configs.places import Place, refusal
 from configs.ranks import Ranks, network_lines, schedule_lines
 from configs.route import ORIGINS, Denial
 from configs.sessions import dotted
-from configs.syntax import number_of
-from network import path_text, routes_of
+from configs.syntax import number_of, prefix_of
+from network import MOST_PATHS, Prefix, path_text, routes_of, words_of
 from program import Refusal
 
 # Orders of ties that are played for a prefix, at most.
 MOST_ORDERS = 64
+
+# How a path is written.
+PATH = re.compile(r"none|\d{1,10}(-\d{1,10})*")
 
 
 class Names:
@@ -35,6 +40,7 @@ def attributes_of(router, way, names):
     """The attributes of a way that policy gave, or that are compared, each a text and the line that it comes by."""
     route, found = way.route, []
     preference = route.preference if route.has_preference else router.default_preference
+    default = None if route.has_preference else router.default_line
     if route.weight:
         found.append(("weight", f"weight {route.weight}"))
     found.append(("local-pref", f"local-pref {preference}"))
@@ -48,7 +54,9 @@ def attributes_of(router, way, names):
     if route.large:
         found.append(("large", "large-community " + " ".join(map(large_text, route.large))))
     notes = route.notes or {}
-    return [(name, said + (f" ({names.of(notes[name])})" if notes.get(name) else "")) for name, said in found]
+    notes = dict(notes, **{"local-pref": default} if default else {})
+    return [(name, said + (f" ({', '.join(map(names.of, notes[name]))})" if notes.get(name) else ""))
+            for name, said in found]
 
 
 def columns(rows):
@@ -57,7 +65,8 @@ def columns(rows):
     for row in rows:
         for at, cell in enumerate(row[:-1]):
             widths[at] = max(widths.get(at, 0), len(cell))
-    return ["  ".join([cell.ljust(widths.get(at, 0)) for at, cell in enumerate(row[:-1])] + row[-1:]).rstrip() for row in rows]
+    return ["  ".join([cell.ljust(widths.get(at, 0)) for at, cell in enumerate(row[:-1])] + row[-1:]).rstrip()
+            for row in rows]
 
 
 def explain(ranks, word, prefix, names):
@@ -66,7 +75,7 @@ def explain(ranks, word, prefix, names):
     if asn not in ranks.set.routers:
         raise Refusal(f"there is no router {word}")
     order, router = ranks.orders[prefix][asn], ranks.set.routers[asn]
-    tied = {way.path: place for place, tie in enumerate(order.ties, 1) for way in tie}
+    tied = {path: place for place, tie in enumerate(order.ties, 1) for path in tie.tied()}
     rows = []
     for place, way in enumerate(order.ways, 1):
         said = attributes_of(router, way, names)
@@ -77,8 +86,8 @@ def explain(ranks, word, prefix, names):
             rest.append(f"tie {tied[way.path]}: router id {dotted(peer.router_id.name)}")
         rows.append([str(place), path_text(way.path), before, "  ".join([said[at][1], *rest])])
     lines = columns(rows)
-    denied = [one for one in ranks.follower.denied if one.path[0] == asn and asn not in one.path[1:]]
-    rows = [["denied", path_text(one.path), f"{names.of(one.denial.place)} {one.denial.why}"] for one in denied]
+    rows = [["denied", path_text(path), f"{names.of(denial.place)} {denial.why}"]
+            for path, denial in ranks.follower.denials[prefix].items() if path[0] == asn and asn not in path[1:]]
     return lines + columns(rows) or ["nothing comes here"]
 
 
@@ -91,10 +100,33 @@ def play(program, ranks, most=None, lines=None):
     return said[0].endswith("settled"), routes_of(said[said.index("now") + 1:])
 
 
+def read_routes(routers, text, name):
+    """The paths of `route` and `path` lines, as `play` prints them, by router and prefix; refuses what is none of them,
+    and what is not of these configurations."""
+    lines, origins = list(enumerate(text.split("\n"), 1)), routers.origins()
+    lines = [(Place(name, number), words_of(line)) for number, line in lines]
+    for place, words in lines:
+        if words[:1] in (["route"], ["path"]):
+            if len(words) != 4 or None in (number_of(words[1]), prefix_of(words[2]), PATH.fullmatch(words[3])):
+                raise refusal(place, f"'{' '.join(words)}' is no line 'route ROUTER PREFIX PATH'")
+            if int(words[1]) not in routers.routers:
+                raise refusal(place, f"these configurations have no router {words[1]}")
+            if Prefix.read(words[2]) not in origins:
+                raise refusal(place, f"no router announces {words[2]}")
+    found = routes_of([" ".join(words) for _, words in lines])
+    if not found:
+        raise Refusal(f"{name}: no routes, as `play` prints them")
+    return found
+
+
 def verify(routers, routes, chosen=None):
     """Of each router and prefix whether it has the best of what its peers offer, by the configurations, and a line that
     says so."""
-    for prefix, (router, network) in routers.origins().items():
+    origins = routers.origins()
+    for prefix in chosen or ():
+        if prefix not in origins:
+            raise Refusal(f"no router announces {prefix}")
+    for prefix, (router, network) in origins.items():
         if chosen and prefix not in chosen:
             continue
         judge = Judge(routers, prefix, router, network)
@@ -116,51 +148,71 @@ def obstacle(judge, path, paths):
     return ": no peer has the rest of it" if len(path) > 1 and paths.get(path[1]) != path[1:] else ""
 
 
-def orders_of(classes, draw):
-    """Orders of classes of ways, as tuples of tuples: all of them, or some where there are too many; and how many there
-    are."""
-    choices = [list(itertools.permutations(paths)) for paths in classes]
-    number = 1
-    for choice in choices:
-        number *= len(choice)
-    if number <= MOST_ORDERS:
-        return list(itertools.product(*choices)), number
-    first = tuple(choice[0] for choice in choices)
-    found = {first: None}
-    for at, choice in enumerate(choices):
-        for other in choice[1:]:
-            found.setdefault(first[:at] + (other,) + first[at + 1:])
-    while len(found) < MOST_ORDERS:
-        found.setdefault(tuple(choice[int(draw.random() * len(choice))] for choice in choices))
-    return list(found)[:MOST_ORDERS], number
+def orders_of(ties, draw):
+    """Orders of ties, for each of them a tuple of its blocks: all of them, or some where there are too many; and
+    whether there are more."""
+    choices = [list(itertools.islice(tie.orders(), MOST_ORDERS + 1)) if len(tie.paths) <= MOST_PATHS else None
+               for tie in ties]
+    if None not in choices:
+        choices = [choice + tie.outlasting() for choice, tie in zip(choices, ties)]
+        found = list(itertools.islice(itertools.product(*choices), MOST_ORDERS + 1))
+        if len(found) <= MOST_ORDERS:
+            return found, False
+    plain = tuple(tuple(tie.blocks) for tie in ties)
+    found = {plain: None}
+    for at, tie in enumerate(ties):
+        for block in tie.blocks[1:]:
+            found.setdefault(plain[:at] + (tie.nearest(tie.first(block)),) + plain[at + 1:])
+        for order in tie.outlasting():
+            found.setdefault(plain[:at] + (order,) + plain[at + 1:])
+    for _ in range(MOST_ORDERS):
+        found.setdefault(tuple(tie.nearest(shuffled(tie.blocks, draw)) for tie in ties))
+    return list(found)[:MOST_ORDERS], True
 
 
-def reordered(paths, classes, order):
-    """A router's paths with those of each class in another order, on the places of the class."""
+def shuffled(blocks, draw):
+    """Blocks in a random order, the same in every Python."""
+    return [block for _, block in sorted((draw.random(), block) for block in blocks)]
+
+
+def reordered(paths, ties, orders):
+    """A router's paths with those of each tie in another order, on the places of the tie."""
     paths = list(paths)
-    for tied, others in zip(classes, order):
-        for place, path in zip([at for at, path in enumerate(paths) if path in tied], others):
+    for tie, order in zip(ties, orders):
+        own = [path for block in order for path in block]
+        for place, path in zip([at for at, path in enumerate(paths) if path in tie.kind], own):
             paths[place] = path
     return paths
 
 
 def tie_ends(program, ranks, prefix, most=None):
-    """The lines that say in which ends a prefix ends by the orders of its ties."""
-    orders, origin = ranks.orders[prefix], ranks.origins[prefix]
-    places = [(asn, tuple(way.path for way in tie)) for asn, order in orders.items() for tie in order.ties
-              if len(tie) <= 6]
-    tried, number = orders_of([paths for _, paths in places], random.Random(1))
-    ends = {}
+    """The lines that say in which ends a prefix ends by the orders of its ties. An order against metrics counts where
+    its end is one by the configurations."""
+    orders = ranks.orders[prefix]
+    places = [(asn, tie) for asn, order in orders.items() for tie in order.ties]
+    tried, are_more = orders_of([tie for _, tie in places], random.Random(1))
+    judge, ends = Judge(ranks.set, prefix, *ranks.set.origins()[prefix]), {}
     for order in tried:
-        one = Reordered(ranks, prefix, places, order)
-        is_settled, routes = play(program, one, most)
-        key = " ".join(["settled" if is_settled else "moving", *(path_text(routes[asn, prefix]) for asn in orders)])
-        ends[key] = ends.get(key, 0) + 1
-    yield f"prefix {prefix} of {origin}"
-    of = f"{len(tried)} of {number}" if number > len(tried) else str(number)
-    yield f"  ties: {len(places)}, orders played: {of}"
+        is_settled, routes = play(program, Reordered(ranks, prefix, places, order), most)
+        chosen = {asn: routes[asn, prefix] for asn in orders}
+        if all(tie.allows(one) for (_, tie), one in zip(places, order)) or \
+                is_settled and all(judge.may_keep(asn, path, chosen) for asn, path in chosen.items()):
+            key = " ".join(["settled" if is_settled else "moving", *map(path_text, chosen.values())])
+            ends[key] = ends.get(key, 0) + 1
+    yield f"  ties: {len(places)}, orders played: {sum(ends.values())}{', and there are more' * are_more}"
     for said, count in sorted(ends.items(), key=lambda end: -end[1]):
         yield f"  {count:3}  {said}"
+
+
+def all_tie_ends(program, ranks, most=None):
+    """The same of every prefix; those that go alike are played once."""
+    known = {}
+    for prefix, origin in ranks.origins.items():
+        key = id(ranks.orders[prefix])
+        if key not in known:
+            known[key] = list(tie_ends(program, ranks, prefix, most))
+        yield f"prefix {prefix} of {origin}"
+        yield from known[key]
 
 
 class Reordered:
@@ -183,8 +235,12 @@ class Reordered:
 class Change:
     """Two sets of configurations, and what is other in the second."""
 
-    def __init__(self, program, old, new, most=None):
-        self.sides = [Ranks(routers, with_notes=True) for routers in (old, new)]
+    def __init__(self, program, old, new, most=None, chosen=()):
+        for prefix in chosen:
+            if prefix not in {**old.origins(), **new.origins()}:
+                raise Refusal(f"no router announces {prefix}")
+        self.sides = [Ranks(routers, [one for one in chosen if one in routers.origins()] if chosen else None, True)
+                      for routers in (old, new)]
         self.names = [Names([]), Names([])]
         self.ends = [play(program, ranks, most) for ranks in self.sides]
 
@@ -208,10 +264,14 @@ class Change:
         orders = self.sides[at].orders.get(prefix)
         return {way.path: (place, way) for place, way in enumerate(orders[asn].ways, 1)} if orders else {}
 
-    def why(self, at, path):
-        """Why a side has not a path."""
-        denied = next((one for one in self.sides[at].follower.denied if one.path == path), None)
-        return f": denied by {denied.denial.place} {denied.denial.why}" if denied else ": it does not come here"
+    def why(self, at, path, prefix):
+        """Why a side has not a path: it is denied here, or on its way."""
+        denials = self.sides[at].follower.denials.get(prefix, {})
+        denied = next((path[cut:] for cut in reversed(range(len(path))) if path[cut:] in denials), None)
+        if denied is None:
+            return ": it does not come here"
+        where = "" if denied == path else f" at {denied[0]}"
+        return f": denied{where} by {denials[denied].place} {denials[denied].why}"
 
     def router_lines(self, asn, prefix):
         old, new = self.ways(0, asn, prefix), self.ways(1, asn, prefix)
@@ -219,10 +279,10 @@ class Change:
         for path, (place, way) in new.items():
             if path not in old:
                 said = ", ".join(text for _, text in attributes_of(self.sides[1].set.routers[asn], way, self.names[1]))
-                found.append(f"  + {place} {path_text(path)}  {said}; before{self.why(0, path)}")
+                found.append(f"  + {place} {path_text(path)}  {said}; before{self.why(0, path, prefix)}")
         for path, (place, way) in old.items():
             if path not in new:
-                found.append(f"  - {place} {path_text(path)}{self.why(1, path)}")
+                found.append(f"  - {place} {path_text(path)}{self.why(1, path, prefix)}")
         kept = [[path for path in side if path in old and path in new] for side in (old, new)]
         for path in kept[1]:
             said = [dict(attributes_of(self.sides[at].set.routers[asn], side[path][1], self.names[at]))
@@ -230,7 +290,8 @@ class Change:
             values = [[text.split(" (")[0] for text in one.values()] for one in said]
             is_moved = kept[0].index(path) != kept[1].index(path)
             if values[0] != values[1]:
-                what = [f"{said[1].get(name, 'no ' + name)}, was {said[0].get(name, 'none')}" for name in {**said[0], **said[1]}
+                what = [f"{said[1].get(name, 'no ' + name)}, was {said[0].get(name, 'none')}"
+                        for name in {**said[0], **said[1]}
                         if said[0].get(name, "").split(" (")[0] != said[1].get(name, "").split(" (")[0]]
                 found.append(f"  = {new[path][0]} (was {old[path][0]}) {path_text(path)}  {'; '.join(what)}")
             elif is_moved:
@@ -245,5 +306,6 @@ class Change:
         for key in sorted(set(before) | set(after), key=lambda key: (key[1], key[0])):
             if before.get(key) != after.get(key):
                 asn, prefix = key
-                found.append(f"end {asn} {prefix} {path_text(after.get(key, ()))}, was {path_text(before.get(key, ()))}")
+                found.append(f"end {asn} {prefix} {path_text(after.get(key, ()))}, was "
+                             f"{path_text(before.get(key, ()))}")
         return found

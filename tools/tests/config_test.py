@@ -1,5 +1,7 @@
 """Tests of `config`."""
 import ctypes
+import functools
+import itertools
 import pathlib
 import random
 import re
@@ -7,18 +9,22 @@ import shutil
 import tempfile
 import time
 import unittest
+import unittest.mock
 
 from support import asked_program, load, run
-from config_cases import CASES, HEAD, ONE, TWO, diamond, line3, pair, router
+from config_cases import CASES, HEAD, ONE, OUT1, OUT2, Q, TWO, between, diamond, line3, pair, router
 
 from configs.communities import community_text, large_text
+from configs.ends import Judge
+from configs.order import Order, Tie
 from configs.random_sets import make
 from configs.ranks import Ranks, network_lines, schedule_lines
 from configs.reader import read_router
 from configs.regular import BadExpression, expression
-from configs.route import ORIGINS
+from configs.route import ORIGINS, Route
 from configs.sessions import Set
-from configs.telling import play, verify
+from configs.telling import orders_of, play, tie_ends, verify
+from configs.ways import Way
 from network import Prefix, path_text, routes_of
 from program import Refusal
 
@@ -131,9 +137,24 @@ class Refusals(unittest.TestCase):
                 ("router bgp 65009", "a second AS"),
                 ("router bgp 65002 vrf RED", "a VRF"),
                 ("bgp community alias 1:1 ONE", "names of communities"),
+                ("timers bgp 1 2", "is no line that is known here"),
+                ("neighbor 10.255.1.1 timers 5 2", "is no line that is known here"),
+                ("neighbor 10.255.1.1 password one two", "is no line that is known here"),
+                ("neighbor 10.255.1.1 password " + 81 * "x", "at most 80 octets"),
+                ("bgp cluster-id x", "is no line that is known here"),
+                ("neighbor 010.255.1.1 weight 5", "no line above says its AS"),
+                ("network 10.5.0.0/08", "is no line that is known here"),
+                ("no neighbor 10.255.1.1 timers x", "is no line that is known here"),
+                ("no table-map", "cut short"),
                 ("no route-map X", "takes back")):
             self.refused(pair("", line), line, why)
-        self.refused(pair("", "neighbor 10.255.1.1 prefix-list P in / neighbor 10.255.1.1 distribute-list D in"), "distribute-list", "prefix-list")
+        self.refused(pair("", "address-family ipv4 unicast / neighbor G peer-group"), "G peer-group", "cut short")
+        self.refused(pair("", "neighbor G peer-group / neighbor 10.255.0.1 peer-group G / "
+                              "neighbor 10.255.1.1 peer-group G"), "10.255.1.1 peer-group", "r2.conf:10, has no AS yet")
+        self.refused(pair("", "neighbor 10.255.1.1 ebgp-multihop / neighbor 10.255.1.1 ttl-security hops 5"),
+                     "ttl-security", "has ebgp-multihop")
+        self.refused(pair("", "neighbor 10.255.1.1 prefix-list P in / neighbor 10.255.1.1 distribute-list D in"),
+                     "distribute-list", "prefix-list")
 
     def test_lines_of_lists_and_maps(self):
         for line, why in (
@@ -150,7 +171,22 @@ class Refusals(unittest.TestCase):
                 ("bgp community-list standard C permit 65001", "is no community"),
                 ("bgp community-list standard C permit 65536:1", "is no community"),
                 ("bgp community-list expanded C permit no-export|(", "an open ("),
-                ("bgp community-list expanded 7 permit 1", "a number is no name here"),
+                ("bgp large-community-list expanded 7 permit 1", "a number is no name here"),
+                ("ip prefix-list P permit 010.0.0.0/8", "does not take"),
+                ("ip prefix-list P permit 10.0.0.0/08", "does not take"),
+                ("ip prefix-list P permit 10/8", "does not take"),
+                ("ip prefix-list P permit 10.0.0.0/8 ge 0", "length <= ge <= le"),
+                ("ip prefix-list P permit 10.0.0.0/8 le 0", "length <= ge <= le"),
+                ("ip prefix-list P permit 0.0.0.0/0 ge 1 le 0", "length <= ge <= le"),
+                ("ip prefix-list P permit any le 9", "does not take"),
+                ("access-list L permit host 10.0.0.1 0.0.0.0", "does not take"),
+                ("access-list L permit host 10.0.0.0/8", "does not take"),
+                ("banner x", "is no line that is known here"),
+                ("next no bgp ebgp-requires-policy", "is no line that is known here"),
+                ("hostname -x", "begins with a letter or a digit"),
+                ("in community 65001:4 additive", "is no line that is known here"),
+                ("i prefix-list P seq 9 permit any", "ambiguous: ip, ipv6"),
+                ("frr version 7.x", "is no version"),
                 ("bgp large-community-list standard L permit 1:2", "is no community"),
                 ("ip community-list standard C permit 1:1", "'bgp community-list"),
                 ("ip as-path access-list F permit 1", "'bgp as-path"),
@@ -177,27 +213,41 @@ class Refusals(unittest.TestCase):
                 ("set as-path replace any", "this set is not read"),
                 ("set community 1:1 foo", "'foo' is no community"),
                 ("set community additive", "behind communities"),
+                ("set community 1:1 llgr-stale", "less than any other"),
+                ("set community 65535:6 additive", "less than any other"),
+                ("set tag 0", "is no line that is known here"),
+                ("set distance 256", "is no line that is known here"),
+                ("set aggregator as 5", "cut short"),
+                ("set extcommunity foo 1:1", "is no line that is known here"),
                 ("set ip next-hop 10.0.0.1", "a next hop of its own"),
                 ("match peer 10.255.1.1", "this match is not read"),
                 ("match ip next-hop X", "this match is not read"),
                 ("match extcommunity X", "extended communities"),
                 ("match community", "cut short"),
+                ("match i address 38", "ambiguous: ip, ipv6"),
                 ("no set metric", "takes back")):
             self.refused(pair("route-map IN permit 10 / " + line), line, why)
         self.refused(pair("route-map IN deny 10 / on-match next"), "on-match next", "in an entry that denies")
-        self.refused(pair("route-map A permit 10 / call B / route-map B permit 10 / call A"), "route-map A", "called by a map that it calls")
-        self.refused(pair("route-map X permit 10 / set as-path exclude 7", "neighbor 10.255.1.1 sender-as-path-loop-detection"), "loop-detection",
+        self.refused(pair("route-map A permit 10 / call B / route-map B permit 10 / call A"), "route-map A",
+                     "called by a map that it calls")
+        self.refused(pair("route-map X permit 10 / set as-path exclude 7",
+                          "neighbor 10.255.1.1 sender-as-path-loop-detection"), "loop-detection",
                      "which neighbors FRR tells alike")
-        self.refused(pair("ip prefix-list P permit 10.0.0.1/8 / ip prefix-list P  permit 10.0.0.1/8"), "P  permit", "says the same")
-        self.refused(pair("access-list L permit 10.0.0.1/8 / access-list L permit 10.0.0.2/8"), "10.0.0.2", "says the same")
-        self.refused(pair("bgp community-list standard C permit 1:1 / bgp community-list expanded C permit 1"), "expanded", "of the other kind")
+        self.refused(pair("ip prefix-list P permit 10.0.0.1/8 / ip prefix-list P  permit 10.0.0.1/8"), "P  permit",
+                     "says the same")
+        self.refused(pair("access-list L permit 10.0.0.1/8 / access-list L permit 10.0.0.2/8"), "10.0.0.2",
+                     "says the same")
+        self.refused(pair("bgp community-list standard C permit 1:1 / bgp community-list expanded C permit 1"),
+                     "expanded", "of the other kind")
 
     def test_what_is_no_configuration(self):
         good = pair()
-        for text, place, why in (("", 1, "no configuration of a router"), ("hello world\n", 1, "is no line that is known here"),
+        for text, place, why in (("", 1, "no configuration of a router"),
+                                 ("hello world\n", 1, "is no line that is known here"),
                                  ("frr version 8.4.4\n{\"a\": 1}\n", 2, "is no line that is known here"),
                                  ("! nothing\n", 1, "no configuration of a router"),
-                                 ("router bgp 65002\n neighbor 10.255.1.1 remote-as 65001\n", 1, "no line 'bgp router-id'")):
+                                 ("router bgp 65002\n neighbor 10.255.1.1 remote-as 65001\n", 1,
+                                  "no line 'bgp router-id'")):
             with self.subTest(text), self.assertRaises(Refusal) as raised:
                 read_set(dict(good, **{"r2.conf": text}))
             self.assertTrue(str(raised.exception).startswith(f"r2.conf:{place}: "))
@@ -205,11 +255,15 @@ class Refusals(unittest.TestCase):
 
     def test_routers_that_do_not_go_together(self):
         files = line3()
-        self.refused(dict(files, **{"r3.conf": files["r3.conf"].replace("bgp 65003", "bgp 65002").replace("as 65002", "as 65007")}), "router bgp", "that of r2.conf:4 too", "r3.conf")
-        self.refused(dict(files, **{"r3.conf": files["r3.conf"].replace("router-id 10.255.3.1", "router-id 10.255.2.1")}), "router-id",
+        self.refused(dict(files, **{
+            "r3.conf": files["r3.conf"].replace("bgp 65003", "bgp 65002").replace("as 65002", "as 65007")}),
+                     "router bgp", "that of r2.conf:4 too", "r3.conf")
+        self.refused(dict(files, **{
+            "r3.conf": files["r3.conf"].replace("router-id 10.255.3.1", "router-id 10.255.2.1")}), "router-id",
                      "that of r2.conf:5 too", "r3.conf")
         self.refused(dict(files, **{"r4.conf": router(4, ())}), "router bgp", "the network isn't connected", "r4.conf")
-        two = dict(files, **{"r3.conf": files["r3.conf"].replace("exit", " neighbor 10.255.22.1 remote-as 65002\nexit")})
+        two = dict(files, **{
+            "r3.conf": files["r3.conf"].replace("exit", " neighbor 10.255.22.1 remote-as 65002\nexit")})
         self.refused(two, "10.255.22.1", "a second session with 65002", "r3.conf")
         self.refused(line3(networks2=(ONE,)), f"network {ONE}", "has another origin at r1.conf:9")
         many = {f"r{place}.conf": router(place, (1,)) for place in range(2, 19)}
@@ -225,16 +279,33 @@ class Refusals(unittest.TestCase):
             files = {"r1.conf": router(1, (2,), lines=lines1), "r2.conf": router(2, (1,), lines=lines2)}
             self.refused(files, marker, why, name)
 
-        refused("neighbor 10.255.2.1 password one", "neighbor 10.255.1.1 password two", "password one", "the password", "r1.conf")
+        refused("neighbor 10.255.2.1 password one", "neighbor 10.255.1.1 password two", "password one", "the password",
+                "r1.conf")
         refused("", "neighbor 10.255.1.1 password two", "password two", "the password")
-        refused("neighbor 10.255.2.1 passive", "neighbor 10.255.1.1 passive", "passive", "both ends are passive", "r1.conf")
+        refused("neighbor 10.255.2.1 passive", "neighbor 10.255.1.1 passive", "passive", "both ends are passive",
+                "r1.conf")
         refused("", "neighbor 10.255.1.1 update-source 10.9.9.9", "update-source", "names 10.255.2.1")
-        wrong = {"r1.conf": router(1, (2,)), "r2.conf": router(2, (1,)), "r3.conf": router(3, (2,)).replace("65002", "65001")}
+        hops, far = "neighbor 10.255.1.1 ttl-security hops ", "neighbor 10.255.2.1 "
+        refused("", hops + "1", "ttl-security", "takes a TTL from 255, and the other end, r1.conf:8, sends with 1")
+        refused(far + "ebgp-multihop 2", hops + "253", "ttl-security", "TTL from 3, and the other end, r1.conf:8, send")
+        for good, mine in (("ebgp-multihop", "1"), ("ebgp-multihop 2", "254"), ("ttl-security hops 9", "1")):
+            read_set({"r1.conf": router(1, (2,), lines=far + good), "r2.conf": router(2, (1,), lines=hops + mine)})
+        wrong = {"r1.conf": router(1, (2,)), "r2.conf": router(2, (1,)),
+                 "r3.conf": router(3, (2,)).replace("65002", "65001")}
         self.refused(wrong, "remote-as 65001", "is an address of 65001 here", "r3.conf")
+        other = dict(line3(), **{"r3.conf": router(3, (2, 1))})
+        other["r1.conf"] = router(1, (2, 3)).replace("remote-as 65002", "remote-as 65009")
+        self.refused(other, "remote-as 65009",
+                     "10.255.2.1 is AS 65009 here, and its address is one of 65002 at r3.conf:8", "r1.conf")
+        lone = {"r1.conf": router(1, (2,)), "r2.conf": router(2, (1,)).replace("remote-as 65001", "remote-as 65009")}
+        self.refused(lone, "router bgp", "isn't connected; r2.conf:8: neighbor 10.255.1.1: no configuration of AS "
+                                         "65009 is among these")
         top = "interface eth0 / ip address 10.9.9.9/24 / exit"
-        self.refused({"r1.conf": router(1, (2,)), "r2.conf": router(2, (1,), top)}, "neighbor 10.255.2.1", "no address of r2.conf", "r1.conf")
+        self.refused({"r1.conf": router(1, (2,)), "r2.conf": router(2, (1,), top)}, "neighbor 10.255.2.1",
+                     "no address of r2.conf", "r1.conf")
         files = {"r1.conf": router(1, (2, 3)), "r2.conf": router(2, (1,)), "r3.conf": router(3, (1,))}
-        files = {name: text.replace("router-id 10.255", "router-id 10.254").replace("as 6500", "as external\n! ") for name, text in files.items()}
+        files = {name: text.replace("router-id 10.255", "router-id 10.254").replace("as 6500", "as external\n! ")
+                 for name, text in files.items()}
         self.refused(files, "neighbor 10.255.2.1", "which router has this address", "r1.conf")
 
     def test_a_way_that_comes_back(self):
@@ -242,23 +313,34 @@ class Refusals(unittest.TestCase):
         cut = "route-map IN permit 10 / set as-path exclude 65001"
         files = diamond(cut, "neighbor 10.255.2.1 route-map IN in / neighbor 10.255.3.1 route-map IN in")
         Ranks(read_set(files))
-        self.refused(dict(files, **{"r1.conf": files["r1.conf"].replace("exit", " neighbor 10.255.2.1 weight 40000\nexit")}), "10.255.2.1",
+        self.refused(dict(files, **{
+            "r1.conf": files["r1.conf"].replace("exit", " neighbor 10.255.2.1 weight 40000\nexit")}), "10.255.2.1",
                      "likes 65001-65002-65004-65003-65001 better", "r1.conf")
-        self.refused(diamond("route-map IN permit 10 / set as-path exclude 65003", "neighbor 10.255.3.1 route-map IN in"), "exclude 65003",
+        self.refused(diamond("route-map IN permit 10 / set as-path exclude 65003",
+                             "neighbor 10.255.3.1 route-map IN in"), "exclude 65003",
                      "65003-65004-65003-65001 is permitted, and passes 65003 twice", "r4.conf")
+        unused = "route-map A permit 10 / set as-path exclude 65003 65002"
+        self.refused(diamond("route-map IN permit 5 / set as-path exclude 65003 1 / route-map IN permit 10 / "
+                             "set as-path exclude 65003 2", "neighbor 10.255.3.1 route-map IN in",
+                             top1=unused, top3=unused), "exclude 65003 1", "passes 65003 twice", "r4.conf")
 
     def test_no_order(self):
         """Of three the first two begin with one AS: their metric says otherwise than the router ids."""
         same = "set as-path prepend 64999 / "
         files = {"r1.conf": router(1, (2, 3, 4), networks=(ONE,))}
         files.update({f"r{place}.conf": router(place, (1, 5)) for place in (2, 3, 4)})
-        files["r5.conf"] = router(5, (2, 3, 4), f"route-map A permit 10 / {same} set metric 9 / route-map B permit 10 / {same} set metric 5 / "
-                                  "route-map C permit 10 / set as-path prepend 64998", "neighbor 10.255.2.1 route-map A in / "
+        files["r5.conf"] = router(5, (2, 3, 4), f"route-map A permit 10 / {same} set metric 9 / "
+                                                f"route-map B permit 10 / {same} set metric 5 / "
+                                  "route-map C permit 10 / set as-path prepend 64998",
+                                  "neighbor 10.255.2.1 route-map A in / "
                                   "neighbor 10.255.4.1 route-map B in / neighbor 10.255.3.1 route-map C in")
-        self.refused(files, "neighbor 10.255.3.1 remote", "no order: 65005-65003-65001 over 65005-65004-65001 over 65005-65002-65001 over 65005-65003-65001", "r5.conf")
+        self.refused(files, "neighbor 10.255.3.1 remote",
+                     "no order: 65005-65003-65001 over 65005-65004-65001 over 65005-65002-65001 over 65005-65003-65001",
+                     "r5.conf")
 
     def test_too_many_paths(self):
-        full = {f"r{place}.conf": router(place, [peer for peer in range(1, 7) if peer != place], networks=(ONE,) if place == 1 else ())
+        full = {f"r{place}.conf": router(place, [peer for peer in range(1, 7) if peer != place],
+                                         networks=(ONE,) if place == 1 else ())
                 for place in range(1, 7)}
         self.refused(full, "router bgp", "permits 65 paths", "r2.conf")
         lines, said = network_lines(Ranks(read_set(full)), 32)
@@ -267,14 +349,39 @@ class Refusals(unittest.TestCase):
 
     def test_too_many_rules(self):
         prefixes = [f"10.{place}.{place}.0/24" for place in range(70)]
-        other = [f"172.16.{2 * place}.0/24" for place in range(35)] + [f"172.17.{2 * place}.0/24" for place in range(35)]
+        other = [f"172.16.{2 * place}.0/24" for place in range(35)] + [f"172.17.{2 * place}.0/24"
+                                                                       for place in range(35)]
         lines = network_lines(Ranks(read_set(line3(networks1=prefixes))))[0]
         self.assertEqual([line for line in lines if line.startswith("rank")],
                          ["rank 65002 10.0.0.0/9 65002-65001", "rank 65003 10.0.0.0/9 65003-65002-65001"])
         mixed = line3(networks1=[one for place, one in enumerate(other) if place % 2],
-                      lines1=" / ".join(f"network {one} route-map M" for place, one in enumerate(other) if not place % 2),
+                      lines1=" / ".join(f"network {one} route-map M" for place, one in enumerate(other)
+                                        if not place % 2),
                       top1="route-map M permit 10 / set community no-export")
-        self.assertEqual(len([line for line in network_lines(Ranks(read_set(mixed)))[0] if line.startswith("rank 65003")]), 36)
+        self.assertEqual(len([line for line in network_lines(Ranks(read_set(mixed)))[0]
+                              if line.startswith("rank 65003")]), 36)
+        other = [f"172.{20 + place // 70}.{2 * (place % 70)}.0/24" for place in range(140)]
+        mixed = line3(networks1=[one for place, one in enumerate(other) if place % 2],
+                      lines1=" / ".join(f"network {one} route-map M" for place, one in enumerate(other)
+                                        if not place % 2),
+                      top1="route-map M permit 10 / set community no-export")
+        self.refused(mixed, "router bgp",
+                     "65002 needs 71 rules, and a router has at most 64: --prefix takes some prefixes")
+        chosen = [Prefix.read(one) for one in other[:60]]
+        self.assertEqual(len([line for line in network_lines(Ranks(read_set(mixed), chosen))[0]
+                              if line.startswith("rank 65003")]), 60)
+
+    def test_too_much(self):
+        many = {f"r{place}.conf": f"router bgp {place}\n bgp router-id 1.0.0.{place}\n" for place in range(1, 66)}
+        self.refused(many, "router bgp", "65 routers, and a network has at most 64", "r65.conf")
+        prefixes = [f"10.{place // 256}.{place % 256}.0/24" for place in range(257)]
+        self.refused(line3(networks1=prefixes), "router bgp",
+                     "257 prefixes, and a network has at most 256: --prefix takes some", "r1.conf")
+        full = {f"r{place}.conf": router(place, [peer for peer in range(1, 7) if peer != place],
+                                         networks=(ONE,) if place == 1 else ())
+                for place in range(1, 7)}
+        with unittest.mock.patch("configs.ways.MOST_STEPS", 300):
+            self.refused(full, "router bgp", "more than 300 steps of ways were followed", "r3.conf")
 
 
 class Sessions(unittest.TestCase):
@@ -295,27 +402,40 @@ class Sessions(unittest.TestCase):
 
     def test_shut_and_not_activated(self):
         both = {"r1.conf": router(1, (2, 3)), "r2.conf": router(2, (1, 3)), "r3.conf": router(3, (1, 2))}
-        self.noted(dict(both, **{"r3.conf": router(3, (1, 2), lines="neighbor 10.255.1.1 shutdown")}), ("r3.conf", "shutdown", "is shut"))
+        self.noted(dict(both, **{"r3.conf": router(3, (1, 2), lines="neighbor 10.255.1.1 shutdown")}),
+                   ("r3.conf", "shutdown", "is shut"))
         off = "no neighbor 10.255.%d.1 activate"
-        self.noted(dict(both, **{"r3.conf": router(3, (1, 2), lines=off % 1)}), ("r3.conf", "10.255.1.1 remote-as", "carries no routes"))
+        self.noted(dict(both, **{"r3.conf": router(3, (1, 2), lines=off % 1)}),
+                   ("r3.conf", "10.255.1.1 remote-as", "carries no routes"))
         files = dict(both, **{"r3.conf": router(3, (1, 2), lines=off % 1), "r1.conf": router(1, (2, 3), lines=off % 3)})
         self.noted(files, ("r1.conf", "10.255.3.1 remote-as", "nor is the other end"))
         self.assertNotIn(65003, read_set(files).ends[65001])
 
     def test_undefined_names_and_what_is_not_read(self):
-        lines = "neighbor 10.255.1.1 route-map NO in / neighbor 10.255.1.1 filter-list NOT out / neighbor 10.255.1.1 maximum-prefix 9"
-        top = ("route-map M permit 10 / match as-path NONE / match community NOC / set comm-list NOL delete / call NOM / set tag 4 / "
+        lines = ("neighbor 10.255.1.1 route-map NO in / neighbor 10.255.1.1 filter-list NOT out / "
+                 "neighbor 10.255.1.1 maximum-prefix 9")
+        top = ("route-map M permit 10 / match as-path NONE / match community NOC / set comm-list NOL delete / "
+               "call NOM / set tag 4 / "
                "route-map M permit 20 / set metric -3 / set metric 3")
         files = line3(top2=top, lines2=lines)
         self.noted(files, ("r2.conf", "route-map NO in", "there is no route-map NO: it denies everything in"),
-                   ("r2.conf", "filter-list NOT", "there is no as-path NOT: it denies everything out"), ("r2.conf", "maximum-prefix", "is not read"),
-                   ("r2.conf", "NONE", "it fits nothing"), ("r2.conf", "NOC", "it fits nothing"), ("r2.conf", "NOL", "nothing is deleted"),
-                   ("r2.conf", "NOM", "the call does nothing"), ("r2.conf", "set tag", "is not read"), ("r2.conf", "set metric 3", "FRR drops both"))
-        files = {"r1.conf": router(1, (2,), lines="network 10.1.0.0/16 route-map NO"), "r2.conf": router(2, (1,), "ip route 10.0.0.0/8 null0")}
-        self.noted(files, ("r1.conf", "network 10", "there is no route-map NO: the network is not announced"), ("r2.conf", "ip route", "is not read"))
+                   ("r2.conf", "filter-list NOT", "there is no as-path NOT: it denies everything out"),
+                   ("r2.conf", "maximum-prefix", "is not read"),
+                   ("r2.conf", "NONE", "it fits nothing"), ("r2.conf", "NOC", "it fits nothing"),
+                   ("r2.conf", "NOL", "nothing is deleted"),
+                   ("r2.conf", "NOM", "the call does nothing"), ("r2.conf", "set tag", "is not read"),
+                   ("r2.conf", "set metric 3", "FRR drops both"))
+        top = "interface eth0\n ip address 10.255.2.1/24\n shutdown\nexit\n"
+        self.noted({"r1.conf": router(1, (2,)), "r2.conf": top + router(2, (1,), lines="bgp minimum-holdtime 60")},
+                   ("r2.conf", "shutdown", "the interface is shut"), ("r2.conf", "minimum-holdtime", "is not read"))
+        files = {"r1.conf": router(1, (2,), lines="network 10.1.0.0/16 route-map NO"),
+                 "r2.conf": router(2, (1,), "ip route 10.0.0.0/8 null0")}
+        self.noted(files, ("r1.conf", "network 10", "there is no route-map NO: the network is not announced"),
+                   ("r2.conf", "ip route", "is not read"))
 
     def test_import_check_is_told_once(self):
-        files = {name: text.replace(" no bgp network import-check\n", "") for name, text in line3(networks2=(TWO,)).items()}
+        files = {name: text.replace(" no bgp network import-check\n", "") for name,
+                 text in line3(networks2=(TWO,)).items()}
         self.noted(files, ("r1.conf", f"network {ONE}", "taken as announced"))
 
     def test_whose_an_address_is(self):
@@ -331,7 +451,8 @@ class Sessions(unittest.TestCase):
         self.assertEqual(ends(external), wanted)
         other = {name: text.replace("router-id 10.255", "router-id 10.254") for name, text in plain.items()}
         self.assertEqual(ends(dict(other, **{"r1.conf": external["r1.conf"]})), wanted)
-        tops = {name: f"interface lo\n ip address 10.255.{name[1]}.1/32\nexit\n" + text.replace("router-id 10.255", "router-id 10.254")
+        tops = {name: f"interface lo\n ip address 10.255.{name[1]}.1/32\nexit\n"
+                + text.replace("router-id 10.255", "router-id 10.254")
                 for name, text in external.items()}
         self.assertEqual(ends(tops), wanted)
         sources = dict(external)
@@ -343,7 +464,8 @@ class Sessions(unittest.TestCase):
 
     def test_a_router_id_of_the_interfaces(self):
         files = pair()
-        top = "interface lo\n ip address 127.0.0.1/8\n ip address 10.255.2.1/32\nexit\ninterface eth0\n ip address 172.16.0.1/24\nexit\n"
+        top = ("interface lo\n ip address 127.0.0.1/8\n ip address 10.255.2.1/32\nexit\n"
+               "interface eth0\n ip address 172.16.0.1/24\nexit\n")
         files["r2.conf"] = top + files["r2.conf"].replace(" bgp router-id 10.255.2.1\n", "")
         self.assertIn("router 65002 10.255.2.1", network_lines(Ranks(read_set(files)))[0])
         self.noted(files, ("r2.conf", "router bgp", "it is taken to be the address at r2.conf:3"))
@@ -352,8 +474,10 @@ class Sessions(unittest.TestCase):
         """As `show running-config` prints the whole of a router."""
         text = pair()["r2.conf"]
         whole = ("frr version 8.4.4\nfrr defaults traditional\nhostname r2\nlog syslog informational\n"
-                 "no ipv6 forwarding\nservice integrated-vtysh-config\n!\ninterface eth0\n description to r1\n ip address 10.255.2.1/24\n ip ospf cost 4\nexit\n!\n"
-                 "router ospf\n network 10.0.0.0/8 area 0\nexit\n!\n" + text[len(HEAD):] + "!\nline vty\n exec-timeout 0 0\nexit\n!\nend\n! the end\n")
+                 "no ipv6 forwarding\nservice integrated-vtysh-config\n!\ninterface eth0\n description to r1\n ip "
+                 "address 10.255.2.1/24\n ip ospf cost 4\nexit\n!\n"
+                 "router ospf\n network 10.0.0.0/8 area 0\nexit\n!\n" + text[len(HEAD):]
+                 + "!\nline vty\n exec-timeout 0 0\nexit\n!\nend\n! the end\n")
         self.noted(dict(pair(), **{"r2.conf": whole}))
         self.noted(dict(pair(), **{"r2.conf": whole.replace("exit\n", "!\n")}))
         crlf = {name: text.replace("\n", "\r\n") for name, text in pair().items()}
@@ -371,20 +495,36 @@ class Expressions(unittest.TestCase):
         draw, number = random.Random(5), 0
         texts = ["", "0", "1", "12", "0 1", "1 2 0", "10 2", "2 2 2", "12 21 1", "0 0 1 2 2"]
         for _ in range(1500):
-            text = "".join(draw.choice(self.SIGNS if draw.random() < 0.5 else "012_^$") for _ in range(draw.randint(1, 6)))
+            text = "".join(draw.choice(self.SIGNS if draw.random() < 0.5 else "012_^$")
+                           for _ in range(draw.randint(1, 6)))
             compiled = ctypes.create_string_buffer(256)
             is_good = library.regcomp(compiled, text.replace("_", "(^|[,{}() ]|$)").encode(), 1 | 8) == 0
             try:
                 search = expression(text)
             except BadExpression as why:
-                self.assertTrue(not is_good or "\\" in text or "{" in text or "repetition of" in str(why) or "[" in text, (text, why))
+                self.assertTrue(not is_good or "\\" in text or "{" in text or "repetition of" in str(why)
+                                or "[" in text, (text, why))
                 continue
             self.assertTrue(is_good, text)
             number += 1
             for one in texts:
-                self.assertEqual(search(one) is not None, library.regexec(compiled, one.encode(), 0, None, 0) == 0, (text, one))
+                self.assertEqual(search(one) is not None, library.regexec(compiled, one.encode(), 0, None, 0) == 0,
+                                 (text, one))
             library.regfree(compiled)
         self.assertGreater(number, 500)
+
+
+def scanned(order, kept, said, ids, is_sorted):
+    """What is best of routes that are compared one after the other, one of them being selected; `said` has the first AS
+    and the metric of each."""
+    def better(one, other):
+        if said[one][0] == said[other][0] and said[one][1] != said[other][1]:
+            return min(one, other, key=lambda place: said[place][1])
+        return kept if kept in (one, other) else min(one, other, key=ids.get)
+
+    groups = [[place for place in order if said[place][0] == first]
+              for first in (64998, 64999)] if is_sorted else [order]
+    return functools.reduce(better, [functools.reduce(better, group) for group in groups if group])
 
 
 class Printed(unittest.TestCase):
@@ -400,7 +540,8 @@ class Printed(unittest.TestCase):
         return [folder / file for file in sorted(files)]
 
     LISTS = "bgp as-path access-list NO permit _65003_ / "
-    EXPLAINED = diamond(LISTS + "route-map IN permit 10 / set local-preference 200 / route-map IM deny 5 / match as-path NO",
+    EXPLAINED = diamond(LISTS + "route-map IN permit 10 / set local-preference 200 / route-map IM deny 5 / "
+                                "match as-path NO",
                         "neighbor 10.255.2.1 route-map IN in / neighbor 10.255.3.1 route-map IM in")
 
     def test_the_network_and_its_schedule(self):
@@ -424,23 +565,55 @@ class Printed(unittest.TestCase):
         self.assertEqual(out, "1  65004-65002-65001  local-pref 200 (r4.conf:6 route-map IN 10)  length 3\n"
                               "denied  65004-65003-65001  r4.conf:7 route-map IM 5 (as-path list NO)\n")
         self.assertEqual(run("config", "--explain", 65009, ONE, *names), (1, "", "config: there is no router 65009\n"))
-        self.assertEqual(run("config", "--explain", 65004, TWO, *names), (1, "", f"config: no router announces {TWO}\n"))
+        self.assertEqual(run("config", "--explain", 65004, TWO, *names),
+                         (1, "", f"config: no router announces {TWO}\n"))
+
+    def test_explain_names_each_line(self):
+        """An attribute that several lines made is told with all of them."""
+        files = line3(top1="route-map OUT permit 10 / set community 1:1 / set as-path prepend 65001", lines1=OUT1,
+                      top2="route-map OUT permit 10 / set community 2:2 additive / set as-path prepend 65002",
+                      lines2=OUT2,
+                      top3="bgp community-list standard C permit 1:1 / route-map IN permit 10 / set comm-list C delete",
+                      lines3="neighbor 10.255.2.1 route-map IN in", options3="bgp default local-preference 70")
+        self.assertEqual(run("config", "--explain", 65003, ONE, *self.write(files))[1], (
+            "1  65003-65002-65001  local-pref 70 (r3.conf:11 bgp default local-preference)  "
+            "length 5 (r1.conf:6 route-map OUT 10, r2.conf:6 route-map OUT 10)  "
+            "community 2:2 (r1.conf:5 route-map OUT 10, r2.conf:5 route-map OUT 10, r3.conf:6 route-map IN 10)\n"))
 
     def test_check(self):
         old = self.write(self.EXPLAINED, "old")
-        changed = dict(self.EXPLAINED, **{"r4.conf": self.EXPLAINED["r4.conf"].replace("deny 5", "permit 5").replace("preference 200", "preference 50")})
+        text = self.EXPLAINED["r4.conf"].replace("deny 5", "permit 5").replace("preference 200", "preference 50")
+        changed = dict(self.EXPLAINED, **{"r4.conf": text})
         new = self.write(changed, "new")
         status, out, error = run("config", "--check", *old, "--", *new)
         self.assertEqual((status, error), (0, ""))
         at = self.folder
         self.assertEqual(out.splitlines(), [
-            "65002 10.1.0.0/16", f"  + 2 65002-65004-65003-65001  local-pref 100, length 4; before: it does not come here",
-            "65003 10.1.0.0/16"] [:2] + out.splitlines()[2:])
-        self.assertIn(f"  + 1 65004-65003-65001  local-pref 100, length 3; before: denied by {at}/old/r4.conf:7 route-map IM 5 (as-path list NO)", out.splitlines())
-        self.assertIn(f"  = 2 (was 1) 65004-65002-65001  local-pref 50 ({at}/new/r4.conf:6 route-map IN 10), was local-pref 200 "
+            "65002 10.1.0.0/16", "  + 2 65002-65004-65003-65001  local-pref 100, length 4; before: denied at 65004 by "
+            f"{at}/old/r4.conf:7 route-map IM 5 (as-path list NO)", "65003 10.1.0.0/16"][:2] + out.splitlines()[2:])
+        self.assertIn(f"  + 1 65004-65003-65001  local-pref 100, length 3; before: denied by {at}/old/r4.conf:7 "
+                      "route-map IM 5 (as-path list NO)", out.splitlines())
+        self.assertIn(f"  = 2 (was 1) 65004-65002-65001  local-pref 50 ({at}/new/r4.conf:6 route-map IN 10), was "
+                      "local-pref 200 "
                       f"({at}/old/r4.conf:6 route-map IN 10)", out.splitlines())
         self.assertIn("end 65004 10.1.0.0/16 65004-65003-65001, was 65004-65002-65001", out.splitlines())
         self.assertEqual(run("config", "--check", *old, "--", *old)[1], "nothing changes\n")
+
+    def test_each_prefix_is_denied_by_its_own_line(self):
+        old = self.write(line3(networks1=(ONE, TWO)), "old")
+        new = self.write(line3(networks1=(ONE, TWO), lines2="neighbor 10.255.1.1 route-map IN in",
+                               top2=f"{Q} / route-map IN deny 5 / match ip address prefix-list Q / "
+                                    "route-map IN deny 7"), "new")
+        said = run("config", "--check", *old, "--", *new)[1].splitlines()
+        by = f"{self.folder}/new/r2.conf"
+        for prefix, entry in ((ONE, f"{by}:7 route-map IN 7"), (TWO, f"{by}:5 route-map IN 5 (prefix-list Q)")):
+            self.assertEqual(said[said.index(f"65002 {prefix}") + 1], f"  - 1 65002-65001: denied by {entry}")
+            self.assertEqual(said[said.index(f"65003 {prefix}") + 1],
+                             f"  - 1 65003-65002-65001: denied at 65002 by {entry}")
+        one = run("config", "--prefix", TWO, "--check", *old, "--", *new)[1].splitlines()
+        self.assertEqual(one, [line for line in said if f" {ONE}" not in line and "IN 7" not in line])
+        self.assertEqual(run("config", "--prefix", "10.9.0.0/16", "--check", *old, "--", *new)[::2],
+                         (1, "config: no router announces 10.9.0.0/16\n"))
 
     def test_verify(self):
         names = self.write(self.EXPLAINED)
@@ -454,24 +627,117 @@ class Printed(unittest.TestCase):
         status, out, error = run("config", "--verify", routes, *names)
         self.assertEqual((status, error, out.splitlines()[-2:]), (
             1, "", ["unstable 65004 10.1.0.0/16 has none best 65004-65002-65001", "unstable: 1 of 4"]))
-        for path, why in (("65004-65003-65001", "denied by "), ("65004-65002-65003-65001", "no peer has the rest of it")):
+        for path, why in (("65004-65003-65001", "denied by "),
+                          ("65004-65002-65003-65001", "no peer has the rest of it")):
             routes.write_text("\n".join(played).replace("65004-65002-65001", path) + "\n")
-            self.assertIn(f"unstable 65004 10.1.0.0/16 has {path} best 65004-65002-65001: {why}", run("config", "--verify", routes, *names)[1])
+            self.assertIn(f"unstable 65004 10.1.0.0/16 has {path} best 65004-65002-65001: {why}",
+                          run("config", "--verify", routes, *names)[1])
+        self.assertEqual(run("config", "--prefix", TWO, "--verify", routes, *names)[::2],
+                         (1, f"config: no router announces {TWO}\n"))
+        for line, why in (("route 65004 10.1.0.0/16",
+                           ":2: 'route 65004 10.1.0.0/16' is no line 'route ROUTER PREFIX PATH'"),
+                          ("route x 10.1.0.0/16 none",
+                           ":2: 'route x 10.1.0.0/16 none' is no line 'route ROUTER PREFIX PATH'"),
+                          ("route 65004 10.1.0.0/33 none",
+                           ":2: 'route 65004 10.1.0.0/33 none' is no line 'route ROUTER PREFIX PATH'"),
+                          ("route 65004 10.1.0.0/16 1--2",
+                           ":2: 'route 65004 10.1.0.0/16 1--2' is no line 'route ROUTER PREFIX PATH'"),
+                          ("path 65009 10.1.0.0/16 none", ":2: these configurations have no router 65009"),
+                          ("route 65004 10.2.0.0/16 none", ":2: no router announces 10.2.0.0/16"),
+                          ("now", ": no routes, as `play` prints them")):
+            routes.write_text(f"snapshot 1 settled\n{line}\n")
+            self.assertEqual(run("config", "--verify", routes, *names), (1, "", f"config: {routes}{why}\n"))
 
     def test_ties(self):
         names = self.write(diamond())
         status, out, error = run("config", "--ties", *names)
         self.assertEqual(status, 0)
-        self.assertIn("r4.conf:4: 65004 10.1.0.0/16: tie: 65004-65002-65001, 65004-65003-65001: FRR keeps the one", error)
+        self.assertIn("r4.conf:4: 65004 10.1.0.0/16: tie: 65004-65002-65001, 65004-65003-65001: FRR keeps the one",
+                      error)
         self.assertEqual(out, "prefix 10.1.0.0/16 of 65001\n  ties: 1, orders played: 2\n"
                               "    1  settled 65001 65002-65001 65003-65001 65004-65002-65001\n"
                               "    1  settled 65001 65002-65001 65003-65001 65004-65003-65001\n")
+        both = diamond()
+        both["r1.conf"] = both["r1.conf"].replace(f"network {ONE}", f"network {ONE}\n network {TWO}")
+        said = run("config", "--ties", *self.write(both, "both"))[1]
+        self.assertEqual(said, out + out.replace(ONE, TWO))
         names = self.write(diamond(options4="bgp bestpath compare-routerid"), "told")
         self.assertEqual(run("config", "--ties", *names)[2], "")
 
+    def ends_of_ties(self, files):
+        """The head of what --ties says of ONE, and the ends of the last router."""
+        program, ranks = asked_program(), Ranks(read_set(files))
+        lines = list(tie_ends(program, ranks, Prefix.read(ONE)))
+        return lines[0].strip(), sorted(line.split()[-1] for line in lines[1:])
+
+    def test_ties_of_which_metrics_are_compared_in_part(self):
+        """2 has a better MED than 3, and 4 stands between: FRR 8.4.4 kept each of the three, by the order of coming."""
+        files = between({2: "set as-path prepend 64999 / set metric 5", 3: "set as-path prepend 64999 / set metric 9",
+                         4: "set as-path prepend 64998"}, {4: 1, 2: 2, 3: 3})
+        self.assertEqual(self.ends_of_ties(files), ("ties: 1, orders played: 4",
+                                                    ["65005-65002-65001", "65005-65003-65001", "65005-65004-65001"]))
+        (_, said), = Ranks(read_set(files)).tie_notes()
+        self.assertIn("tie: 65005-65004-65001, 65005-65002-65001, 65005-65003-65001 (by MED 65005-65002-65001 above "
+                      "65005-65003-65001): FRR keeps", said)
+        ids = {2: 1, 4: 2, 3: 3}
+        wanted = ("ties: 1, orders played: 3", ["65005-65002-65001", "65005-65004-65001"])
+        self.assertEqual(self.ends_of_ties(between({2: "set as-path prepend 64999 / set metric 5",
+                                                    4: "set as-path prepend 64998",
+                                                    3: "set as-path prepend 64999 / set metric 9"}, ids)), wanted)
+        files["r5.conf"] = files["r5.conf"].replace(" neighbor", " bgp deterministic-med\n neighbor", 1)
+        self.assertEqual(self.ends_of_ties(files), wanted)
+        files["r5.conf"] = files["r5.conf"].replace("deterministic-med", "bestpath compare-routerid")
+        self.assertEqual(self.ends_of_ties(files), ("ties: 0, orders played: 1", ["65005-65004-65001"]))
+
+    def test_ties_of_many_paths(self):
+        """Each of seven comes to be an end."""
+        files = between({place: "set origin egp" for place in range(2, 9)}, {})
+        head, ends = self.ends_of_ties(files)
+        self.assertEqual((head, ends), ("ties: 1, orders played: 64, and there are more",
+                                        [f"65009-6500{place}-65001" for place in range(2, 9)]))
+
+    def test_two_paths_of_a_peer_stand_in_no_table_together(self):
+        """Of the six orders of three paths four differ."""
+        ways = [Way((9, 2, 1), None), Way((9, 2, 3, 1), None), Way((9, 4, 1), None)]
+        orders = [[order.index((way.path,)) for way in ways] for order in Tie({2: ways[:2], 4: ways[2:]}, {}).orders()]
+        self.assertEqual(orders, [[0, 1, 2], [0, 2, 1], [2, 0, 1], [1, 2, 0]])
+
+    def test_what_a_selected_route_outlasts(self):
+        """As FRR does it: route by route in every order of their coming, or first those whose paths begin alike."""
+        draw, counts = random.Random(3), [0, 0]
+        for _ in range(12):
+            places, is_sorted = draw.sample(range(1, 20), 4), draw.random() < 0.3
+            said = {place: (draw.choice((64998, 64999)), draw.choice((1, 2, 3))) for place in (2, 3, 4, 5)}
+            files = between({place: f"set as-path prepend {first} / set metric {metric}" for place,
+                             (first, metric) in said.items()},
+                            dict(zip(said, places)), "bgp deterministic-med" if is_sorted else "")
+            routers = read_set(files)
+            judge = Judge(routers, Prefix.read(ONE), *routers.origins()[Prefix.read(ONE)])
+            for kept in said:
+                chosen = {65001: (65001,), **{65000 + place: (65000 + place, 65001) for place in said}}
+                may = any(scanned(order, kept, said, dict(zip(said, places)), is_sorted) == kept
+                          for order in itertools.permutations(said))
+                counts[may] += 1
+                self.assertEqual(judge.may_keep(65006, (65006, 65000 + kept, 65001), chosen), may,
+                                 (said, places, kept, is_sorted))
+        self.assertGreater(min(counts), 8)
+
+    def test_many_ways_of_which_metrics_are_compared_in_part(self):
+        """They are sorted by their kinds, which are few."""
+        routers = read_set(between({2: "set metric 5", 3: "set metric 9", 4: "set metric 7"}, {}))
+        ways = [Way((65005, 65000 + place, number, 65001), Route(path=(first, number), med=place * 7 % 5, has_med=True))
+                for number in range(1, 1001) for place, first in ((2, 64999), (3, 64999), (4, 64998))]
+        began = time.process_time()
+        order = Order(routers, Prefix.read(ONE), 65005, ways)
+        tried, are_more = orders_of(order.ties, random.Random(1))
+        self.assertLess(time.process_time() - began, 2)
+        self.assertEqual([way.path[1] for way in order.ways[::1000]], [65003, 65002, 65004])
+        self.assertEqual((len(order.ties), len(tried), are_more), (1, 4, True))
+
     def test_words(self):
         names = self.write(self.EXPLAINED)
-        for words in (["--check", *names], [*names, "--", *names], [], ["--explain", "1"], ["--best", "33", *names], ["--ties", "--verify", "x", *names]):
+        for words in (["--check", *names], [*names, "--", *names], [], ["--explain", "1"], ["--best", "33", *names],
+                      ["--ties", "--verify", "x", *names]):
             status, out, error = run("config", *words)
             self.assertEqual((status, out, error.count("\n")), (2, "", 1), words)
         self.assertEqual(run("config", names[0], names[0])[::2], (1, f"config: {names[0]}: the file stands twice\n"))
@@ -480,7 +746,8 @@ class Printed(unittest.TestCase):
         self.assertEqual(run("config", "--prefix", TWO, *names)[::2], (1, f"config: no router announces {TWO}\n"))
         self.assertEqual(run("config", "nowhere.conf")[::2], (1, "config: nowhere.conf: No such file or directory\n"))
         (self.folder / "octets").write_bytes(b"frr version 8.4\n\0\1\2")
-        self.assertEqual(run("config", self.folder / "octets")[::2], (1, f"config: {self.folder}/octets:2: an octet 0: no configuration\n"))
+        self.assertEqual(run("config", self.folder / "octets")[::2],
+                         (1, f"config: {self.folder}/octets:2: an octet 0: no configuration\n"))
 
 
 class Random(unittest.TestCase):
@@ -499,7 +766,8 @@ class Random(unittest.TestCase):
             except Refusal as why:
                 self.assertRegex(str(why), r"^r\d+\.conf:\d+: ")
                 continue
-            said = program.answer(["play"], "".join(line + "\n" for line in lines + schedule_lines(lines)), f"seed {seed}")
+            said = program.answer(["play"], "".join(line + "\n" for line in lines + schedule_lines(lines)),
+                                  f"seed {seed}")
             if said[0].endswith("settled"):
                 taken += 1
                 self.assertEqual([line for is_best, line in verify(routers, routes_of(said)) if not is_best], [], seed)
@@ -547,10 +815,12 @@ def relations_conf(graph, asn, origins):
     lines += [f" network 10.{asn}.0.0/16"] * (asn in origins)
     for peer in peers:
         kind = kinds[graph.kinds[asn, peer]]
-        lines += [f" neighbor 10.255.{peer}.1 route-map FROM-{kind} in", f" neighbor 10.255.{peer}.1 route-map TO-{kind} out"]
+        lines += [f" neighbor 10.255.{peer}.1 route-map FROM-{kind} in",
+                  f" neighbor 10.255.{peer}.1 route-map TO-{kind} out"]
     lines += ["exit", "bgp community-list standard UP permit 65000:2", "bgp community-list standard UP permit 65000:3"]
     for place, (kind, preference) in enumerate((("CUSTOMER", 200), ("PEER", 150), ("PROVIDER", 100)), 1):
-        lines += [f"route-map FROM-{kind} permit 10", f" set local-preference {preference}", f" set community 65000:{place}", "exit"]
+        lines += [f"route-map FROM-{kind} permit 10", f" set local-preference {preference}",
+                  f" set community 65000:{place}", "exit"]
         lines += [f"route-map TO-{kind} deny 10", " match community UP", "exit"] * (kind != "CUSTOMER")
         lines += [f"route-map TO-{kind} permit 20", "exit"]
     return "\n".join(lines) + "\n"
@@ -560,11 +830,17 @@ class Odd(unittest.TestCase):
     def test_numbers_of_any_length(self):
         """What is too long to be a number is a refusal, in each place where a number stands."""
         long = "9" * 5000
-        for top, line in ((f"ip prefix-list P permit 10.0.0.0/{long}", ""), (f"ip prefix-list P permit 10.0.0.0/8 le {long}", ""), (f"ip prefix-list P seq {long} permit any", ""),
-                          (f"route-map M permit {long}", ""), (f"route-map M permit 1 / set metric +{long}", ""), (f"route-map M permit 1 / set local-preference {long}", ""),
-                          (f"route-map M permit 1 / set as-path prepend 1 {long}", ""), (f"route-map M permit 1 / set community 1:{long}", ""), ("", f"network 10.0.0.0/{long}"),
-                          (f"route-map M permit 1 / set large-community 1:2:{long}", ""), ("", f"neighbor 10.255.9.1 remote-as {long}"), ("", f"neighbor 10.255.1.{long} remote-as 1"),
-                          (f"bgp as-path access-list F permit 1{{{long}}}", ""), (f"frr version {long}.{long}", ""), ("", f"neighbor 10.255.1.1 weight {long}")):
+        for top, line in ((f"ip prefix-list P permit 10.0.0.0/{long}", ""),
+                          (f"ip prefix-list P permit 10.0.0.0/8 le {long}", ""),
+                          (f"ip prefix-list P seq {long} permit any", ""),
+                          (f"route-map M permit {long}", ""), (f"route-map M permit 1 / set metric +{long}", ""),
+                          (f"route-map M permit 1 / set local-preference {long}", ""),
+                          (f"route-map M permit 1 / set as-path prepend 1 {long}", ""),
+                          (f"route-map M permit 1 / set community 1:{long}", ""), ("", f"network 10.0.0.0/{long}"),
+                          (f"route-map M permit 1 / set large-community 1:2:{long}", ""),
+                          ("", f"neighbor 10.255.9.1 remote-as {long}"), ("", f"neighbor 10.255.1.{long} remote-as 1"),
+                          (f"bgp as-path access-list F permit 1{{{long}}}", ""), (f"frr version {long}.{long}", ""),
+                          ("", f"neighbor 10.255.1.1 weight {long}")):
             with self.subTest(top[:30] + line[:30]):
                 try:
                     read_set(pair(top, line))
@@ -576,7 +852,8 @@ class Odd(unittest.TestCase):
         text = CASES[30][1]["r2.conf"] + make(3)["r2.conf"].replace("\r", "")
         lines = text.split("\n")
         for at in range(len(lines)):
-            for part in ("\n".join(lines[:at]), "\n".join(lines[:at] + lines[at + 1:]), "\n".join(lines[:at] + [lines[at][:len(lines[at]) // 2]])):
+            for part in ("\n".join(lines[:at]), "\n".join(lines[:at] + lines[at + 1:]),
+                         "\n".join(lines[:at] + [lines[at][:len(lines[at]) // 2]])):
                 try:
                     read_router(part, "r2.conf")
                 except Refusal as why:
