@@ -1,4 +1,5 @@
 """Networks as the program reads them, of texts that it has taken: it alone refuses (`read_network` asks it)."""
+import re
 from collections import namedtuple
 
 from program import Refusal
@@ -72,15 +73,32 @@ def parts_of(text):
     return lines, None, []
 
 
+# How a comment says what one router is to another.
+RELATION = re.compile(r"# (\d+) (customer|peer) of (\d+)\s*")
+TURNED = {"customer": "provider", "peer": "peer"}
+
+
+def relations_of(lines):
+    """What routers are to each other, as comments among the lines say it."""
+    for line in lines:
+        found = RELATION.fullmatch(line)
+        if found:
+            one, relation, other = found.groups()
+            yield (int(other), int(one)), relation
+            yield (int(one), int(other)), TURNED[relation]
+
+
 class Network:
     """The routers, links, origins and rules of a network.
 
     `lines` are its lines without those that are skipped, `peers` the peers of each router, rising, `origins` the
     router of each prefix, by address, then length, `rules` those of each router, `cut` the most octets of a piece,
-    `hold` the hold time in seconds, and `width` the octets of an AS number."""
+    `hold` the hold time in seconds, `width` the octets of an AS number, and `relations` what the second of two routers
+    is to the first, as comments say it: "customer", "provider" or "peer"."""
 
     def __init__(self, lines):
         self.lines, self.routers, self.links, self.peers, self.rules = [], [], [], {}, {}
+        self.relations = dict(relations_of(lines))
         self.cut, self.hold, self.width, origins = 4096, 90, 2, {}
         for number, line in enumerate(lines, 1):
             words = words_of(line)

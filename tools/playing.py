@@ -1,8 +1,9 @@
-"""What the program says of a network behind the first orders of a schedule. Only its words `play` and `check` are
-asked."""
-from network import MOST_LINKS, MOST_PREFIXES, MOST_RULES, Prefix
-from network import path_text, read_number, read_path, routes_of, words_of
+"""What the program says of a network behind the first orders of a schedule, by its words `play`, `trace` and
+`check`."""
+from network import MOST_LINKS, MOST_PREFIXES, MOST_RULES, Network, Prefix
+from network import parts_of, path_text, read_number, read_path, routes_of, words_of
 from program import Refusal
+from tracing import Moment, events_of, orders_of
 
 # A session counts as up where a prefix that one end would originate comes to the other, both ways, in the rounds in
 # which a router tells every prefix to every peer; so many times more as there are pieces in this many octets.
@@ -25,20 +26,23 @@ def chosen_prefix(network, word):
 
 
 class State:
-    """The routes of every router, by router and prefix, the lines of the decided snapshots, and the links, as sets of
-    two routers, whose session is not up."""
+    """The routes of every router, by router and prefix, the lines of the decided snapshots, the links, as sets of two
+    routers, whose session is not up, and those over which nothing came for some seconds."""
 
-    def __init__(self, routes, snapshots, broken):
-        self.routes, self.snapshots, self.broken = routes, snapshots, broken
+    def __init__(self, routes, snapshots, broken, silent):
+        self.routes, self.snapshots, self.broken, self.silent = routes, snapshots, broken, silent
 
 
-def state_behind(program, network, orders, name):
-    """The state behind orders, which are lines of a schedule that the program takes."""
-    text = network.text + "schedule\n" + "".join(order + "\n" for order in orders)
+def state_behind(program, text, name):
+    """The state behind the orders of a text: the routes of `play`, and the sessions as `trace` says."""
     lines = program.answer(["play"], text, name)
+    network = Network(parts_of(text)[0])
+    moment = Moment(network)
+    for event in events_of(program.trace(text, name), orders_of(text)):
+        moment.pass_event(event)
     at = lines.index("now")
     snapshots = [line for line in lines[:at] if line.startswith("snapshot")]
-    return State(routes_of(lines[at + 1:]), snapshots, broken_links(program, network, orders, name))
+    return State(routes_of(lines[at + 1:]), snapshots, moment.broken, moment.silent)
 
 
 def free_block(network):
@@ -94,9 +98,15 @@ def assignment_text(network, prefix, chosen, without=()):
 
 def judgement(program, network, prefix, chosen, without=()):
     """What `check` says of the paths of one prefix in the network without some links, as words and whether it is
-    stable; nothing where the prefix is not originated, or where what is left is not connected."""
+    stable; in its place a path over one of these links, where a router has one; nothing where the prefix is not
+    originated, or where what is left is not connected."""
     if not chosen.get(network.origins[prefix]):
         return None
+    for router in network.routers:
+        path = chosen.get(router, ())
+        gone = next((link for link in zip(path, path[1:]) if frozenset(link) in without), None)
+        if gone:
+            return f"{router} has {path_text(path)}, over the link {gone[0]} {gone[1]} that is down", False
     status, lines = program.ask(["check"], assignment_text(network, prefix, chosen, without))
     if status:
         return None
@@ -164,7 +174,7 @@ def judgements(program, network, routes, without=(), about="check", prefixes=Non
 
 def unstable_of(said):
     """The router, its path and its best one where a judgement is not stable, else nothing."""
-    if not said or said[1]:
+    if not said or said[1] or ": unstable " not in said[0]:
         return None
     _, router, _, path, _, best = said[0].split(": ")[-1].split()
     return int(router), read_path(path), read_path(best)

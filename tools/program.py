@@ -4,6 +4,7 @@ import bz2
 import gzip
 import os
 import pathlib
+import re
 import subprocess
 import sys
 import zlib
@@ -16,22 +17,8 @@ BUILT = os.environ.get("BGPNET") or str(TOP / "crates/bgpnet/out/bgpnet")
 # How the first block of a bzip2 file begins, and the end of an empty one.
 BZIP2_BLOCKS = (bytes.fromhex("314159265359"), bytes.fromhex("177245385090"))
 
-# The codes that the program prints behind `refused LINE`; docs/TEXTS.md says more of each.
-CODES = {
-    "N1": "an unknown first word, a wrong number of words, or an octet past ASCII",
-    "N2": "a number, address or path that can't be read",
-    "N3": "a router that no earlier line names",
-    "N4": "what came before, or a link of a router with itself",
-    "N5": "the network isn't connected",
-    "N6": "a number or count outside its limit",
-    "N7": "a path that isn't simple, or doesn't begin with its router",
-    "N8": "a prefix that can't be read, or without an origin",
-    "S1": "a path that isn't permitted",
-    "E1": "a session with a router that is no peer",
-    "E2": "a router that is not the prefix's origin",
-    "E3": "a snapshot whose number is not above the router's last",
-    "V2": "no link",
-}
+# What the program says on the standard error of a text that it refuses.
+SAID = re.compile(r"bgpnet: line ([0-9]+): (.*)")
 
 
 class Refusal(Exception):
@@ -91,9 +78,9 @@ def write_text(text):
 
 
 def refused(name, said):
-    """The refusal of a text, of what the program said of it: `refused LINE CODE`."""
-    _, line, code = said.split()
-    return Refusal(f"{name}:{line}: {code}: {CODES.get(code, 'docs/TEXTS.md says what it means')}")
+    """The refusal of a text, by what the program said of it on the standard error."""
+    found = SAID.search(said)
+    return Refusal(f"{name}:{found[1]}: {found[2]}" if found else f"{name}: {said.strip() or 'the program refuses it'}")
 
 
 class Program:
@@ -104,28 +91,29 @@ class Program:
             raise Refusal(f"no program at {path}: `rt run -- play < stdin` in crates/bgpnet makes it")
         self.path = os.path.abspath(path)
 
-    def ask(self, words, text):
-        """The status, 0 or 1, and the lines that the program prints for a text."""
+    def run(self, words, text):
+        """The status, 0 or 1, and what the program prints for a text on the standard output and error."""
         done = subprocess.run([self.path, *words], input=text.encode("latin-1"), capture_output=True)
         lines = done.stdout.decode("latin-1").splitlines()
         if done.returncode not in (0, 1):
             said = lines[0] if lines else "nothing"
             raise Refusal(f"bgpnet {' '.join(words)} ends with status {done.returncode}: {said}")
-        return done.returncode, lines
+        return done.returncode, lines, done.stderr.decode("latin-1")
+
+    def ask(self, words, text):
+        """The status, 0 or 1, and the lines that the program prints for a text."""
+        return self.run(words, text)[:2]
 
     def answer(self, words, text, name):
         """The lines that the program prints for a text that it takes; a refusal names the line of the file `name`."""
-        status, lines = self.ask(words, text)
+        status, lines, said = self.run(words, text)
         if status:
-            raise refused(name, lines[0])
+            raise refused(name, said)
         return lines
 
     def trace(self, text, name):
         """The lines that `bgpnet trace` prints for a text that it takes; a refusal names the line of the file `name`."""
-        status, lines = self.ask(["trace"], text)
-        if status:
-            raise refused(name, lines[-1].removeprefix("# "))
-        return lines
+        return self.answer(["trace"], text, name)
 
 
 def run_tool(main):

@@ -1,8 +1,9 @@
-"""What `bgpnet trace` says of a run: where its rounds come to rest, and how many UPDATEs routers told on the way."""
+"""What `bgpnet trace` says of a run: its events, what routers keep and which sessions are up behind each order; where
+its rounds come to rest, and how many UPDATEs routers told on the way."""
 import collections
 import re
 
-from network import Prefix
+from network import Prefix, parts_of, read_path, words_of
 
 # The comment behind a line of rounds.
 ENDED = re.compile(r"# line (\d+): (\d+) events?, (rest behind|no rest by) round (\d+)")
@@ -29,6 +30,99 @@ def rest_bound(network):
     """The rounds within which a network that comes to rest is expected to."""
     return min(MOST_ROUNDS, max(LEAST_BOUND, WAVES * rounds_of_a_wave(network)) * pieces_of(network))
 
+
+# ---- events
+
+# How a comment begins that says what an event did, and not what a line of the schedule, or a round, came to.
+SAID, OF_A_LINE, OF_A_ROUND = "# ", "# line ", "# round "
+# What stands round the events of an order that is more than one.
+BEGUN, DONE = re.compile(r"# line (\d+): (?:rounds|ticks) \d+"), re.compile(r"# line \d+: \d+ events?\b")
+NOTHING = ": nothing to do"
+
+
+class Event:
+    """An event of a run: its number, the words of its order, the line of the input that it is of, and what was said of
+    it."""
+
+    def __init__(self, number, words, line):
+        self.number, self.words, self.line, self.said = number, words, line, []
+
+    @property
+    def router(self):
+        return int(self.words[1])
+
+    def things(self, word):
+        """What was sent, taken, heard or kept, as the word says: `sends`, `takes`, .."""
+        return [said[len(word) + 1:] for said in self.said if said.startswith(word + " ")]
+
+
+def orders_of(text):
+    """The numbers of the lines of a text that are orders."""
+    above, section, rest = parts_of(text)
+    return [number for number, line in enumerate(rest, len(above) + 1) if words_of(line)] if section else []
+
+
+def events_of(lines, orders):
+    """The events of the trace of a text, of whose lines those numbered `orders` are orders."""
+    events, within, orders = [], None, iter(orders)
+    for line in lines[lines.index("schedule") + 1:]:
+        if words_of(line):
+            events.append(Event(len(events) + 1, words_of(line), within or next(orders)))
+        elif line.startswith(OF_A_LINE):
+            begun = BEGUN.fullmatch(line)
+            if begun or line.endswith(NOTHING):
+                next(orders)
+            within = int(begun.group(1)) if begun else None if DONE.match(line) else within
+        elif line.startswith(SAID) and not line.startswith(OF_A_ROUND) and events:
+            events[-1].said.append(line[len(SAID):])
+    return events
+
+
+class Moment:
+    """What stands behind some events of a run: the path that each router keeps, by router and prefix; the ends of
+    sessions that are up, as router and peer; the snapshots that are decided; and for how many seconds nothing was taken
+    from a peer, by router and peer."""
+
+    def __init__(self, network):
+        self.network, self.up, self.decided, self.silence, self.parts = network, set(), [], collections.Counter(), {}
+        self.kept = {(router, prefix): () for router in network.routers for prefix in network.origins}
+
+    def pass_event(self, event):
+        if event.words[0] == "tick":
+            for peer in self.network.peers[event.router]:
+                self.silence[event.router, peer] += 1
+        elif event.words[0] == "take":
+            self.silence[event.router, int(event.words[2])] = 0
+        for said in event.said:
+            word, *words = said.split(" ")
+            if word == "keeps":
+                self.kept[event.router, Prefix.read(words[0])] = read_path(words[1].rstrip(","))
+            elif word == "session":
+                (self.up.add if words[1] == "Established" else self.up.discard)((event.router, int(words[0])))
+            elif word == "offers":
+                self.offer(int(words[1]), words[2:] == ["lost"])
+
+    def offer(self, snapshot, is_lost):
+        """A snapshot is decided at the first loss that is offered, or at the last router's part."""
+        self.parts[snapshot] = self.parts.get(snapshot, 0) + 1
+        if snapshot not in self.decided and (is_lost or self.parts[snapshot] == len(self.network.routers)):
+            self.decided.append(snapshot)
+
+    @property
+    def broken(self):
+        """The links, as sets of two routers, whose session is not up at both ends."""
+        return {frozenset(link) for link in self.network.links
+                if not {link, link[::-1]} <= self.up}
+
+    @property
+    def silent(self):
+        """The links whose session is up, and from which an end took nothing for some seconds: for how many."""
+        seconds = {frozenset((one, other)): max(self.silence[one, other], self.silence[other, one])
+                   for one, other in self.network.links}
+        return {link: number for link, number in seconds.items() if number and link not in self.broken}
+
+
+# ---- rest
 
 class Stage:
     """What rounds came to: the number of those behind which the network rested, or None; the events of theirs; and how

@@ -1,11 +1,13 @@
-"""Tests of `chart`. Charts are read as XML; what they have to show is asked of the program: the items that were taken,
-and the routes at the end."""
+"""Tests of `chart`. Charts are read as XML; what they have to show is asked of the program: what was told, put and
+taken, and the routes at the end."""
+import argparse
+import re
 import unittest
 import xml.etree.ElementTree
 
 from support import TOP, asked_program, load, run
 
-from network import path_text, routes_of, words_of
+from network import path_text, read_network, routes_of, words_of
 
 chart = load("chart")
 
@@ -14,37 +16,73 @@ ITEMS = set(chart.COLOURS)
 
 
 class Seen:
-    """What a reader sees in a chart: the line of each router, arrows as (kind, from, to), the highest first, and
-    kept paths with their routers from the top down, the routers of recordings, and the texts of each class."""
+    """What a reader sees in a chart of one column: the line of each router, arrows as (kind, from, to), the highest
+    first, with their points; kept paths with their routers from the top down; the places of recordings, of puts and of
+    cuts; the texts of each class, their boxes, and the size."""
 
     def __init__(self, text):
         root = xml.etree.ElementTree.fromstring(text)
+        self.width, self.height = float(root.get("width")), float(root.get("height"))
         elements = [element for element in root.iter() if element.get("class")]
-        self.lines = {int(element.get("x")): int(element.text) for element in elements if element.get("class") == "number"}
-        self.arrows, self.paths, self.recordings, self.texts = [], [], [], {}
+        self.lines = {int(element.get("x")): int(element.text) for element in elements
+                      if element.get("class") == "number"}
+        self.arrows, self.ways, self.paths, self.recordings, self.puts, self.cuts = [], [], [], [], [], []
+        self.texts, self.boxes, self.numbers = {}, [], []
+        self.sizes = [float(size) for size in re.findall(r"(\d+)px", text.split("</style>")[0]) if size != "3"]
         for element in elements:
-            kind = element.get("class")
-            if element.tag == SVG + "line" and kind in ITEMS:
-                self.arrows.append((kind, self.router(element, "x1"), self.router(element, "x2")))
+            kind, *more = element.get("class").split(" ")
+            if element.tag == SVG + "path" and kind in ITEMS:
+                points = points_of(element)
+                self.arrows.append((kind, self.near(points[0][0]), self.lines.get(points[-1][0]), points))
+            elif kind == "cut":
+                self.cuts.append(points_of(element))
+            elif element.tag == SVG + "circle" and kind.startswith("put-"):
+                self.puts.append((int(element.get("cx")), int(element.get("cy"))))
             elif kind == "recording":
-                self.recordings.append(self.lines[int(element.get("x")) + 5])
+                self.recordings.append((self.lines[int(element.get("x")) + 5], int(element.get("y")) + 5))
             elif element.tag == SVG + "text":
                 self.texts.setdefault(kind, []).append(element.text)
                 if kind == "path":
-                    self.paths.append((self.router(element, "x"), element.text))
+                    self.paths.append((self.lines[int(element.get("x"))], element.text))
+                if kind == "event":
+                    self.numbers.append((int(element.text), int(element.get("y")) - 4))
+                if kind in ("said", "order", "state"):
+                    self.boxes.append(self.box(element, more))
+        self.arrows.sort(key=lambda arrow: arrow[3][0][1])
 
-    def router(self, element, name):
-        """The router on whose line something stands, None between the lines."""
-        return self.lines.get(int(element.get(name)))
+    @staticmethod
+    def box(element, more):
+        width, x, y = chart.LETTER * len(element.text), float(element.get("x")), float(element.get("y"))
+        left = x - (width if "before" in more else width / 2 if "middle" in more else 0)
+        return left, y - 10, left + width, y + 3
+
+    def near(self, x):
+        """The router on whose line something begins, or beside a box on it."""
+        return self.lines[min(self.lines, key=lambda line: abs(line - x))]
 
     def of(self, kind):
-        return [arrow[1:] for arrow in self.arrows if arrow[0] == kind]
+        return [arrow[1:3] for arrow in self.arrows if arrow[0] == kind]
+
+
+def points_of(element):
+    return [tuple(map(int, point.split())) for point in element.get("d")[1:].split("L")]
 
 
 def charted(*words, given=b""):
     status, out, error = run("chart", *words, given=given)
     assert (status, error) == (0, ""), error
     return Seen(out)
+
+
+def made(path):
+    """The chart of a file, without a start of the tool."""
+    text = (TOP / path).read_text()
+    network = read_network(asked_program(), text, path)[0]
+    events = chart.events_of(asked_program().trace(text, path), chart.orders_of(text))
+    every = chart.MOST_EVENTS
+    asked = argparse.Namespace(first=1, last=every, first_line=1, last_line=every, updates=False, prefix=None,
+                               columns=1, slide=False)
+    return Seen(chart.chart_of(network, events, asked).text([]))
 
 
 def played(path):
@@ -59,13 +97,12 @@ class Chart(unittest.TestCase):
         for path in sorted((TOP / "examples/play").glob("*.txt")):
             lines, routes = played(path)
             orders = [words_of(line) for line in lines if words_of(line)]
-            puts = sum(order[0] == "put" for order in orders)
-            takes = [(int(order[2]), int(order[1])) for order in orders if order[0] == "take"]
+            told = sum(line.startswith("# tells ") for line in lines)
+            others = sum(line.startswith("# sends ") and not line.startswith("# sends update") for line in lines)
             with self.subTest(example=path.name):
-                seen = charted(path)
-                self.assertEqual(len(seen.arrows), puts)
-                ended = [arrow[1:] for arrow in seen.arrows if arrow[2] is not None]
-                self.assertEqual(sorted(ended), sorted(takes))
+                seen = made(path)
+                updates = [arrow for arrow in seen.arrows if arrow[0] in chart.UPDATES]
+                self.assertEqual((len(updates), len(seen.arrows) - len(updates)), (told, others))
                 self.assertEqual(len(seen.texts.get("order", [])), sum(order[0] in chart.COMMANDS for order in orders))
                 kept = {router: "none" for router in seen.lines.values()} | dict(seen.paths)
                 if len({prefix for _, prefix in routes}) == 1:
@@ -77,15 +114,41 @@ class Chart(unittest.TestCase):
         self.assertEqual(sorted(seen.of("open")), [(1, 2), (2, 1)])
         self.assertEqual(sorted(seen.of("keepalive")), [(1, 2), (2, 1)])
         self.assertEqual(seen.of("announce"), [(1, 2), (2, 1)])
-        self.assertEqual(seen.texts["order"], ["start 2", "start 1", "originate 10.1.0.0/16"])
+        self.assertEqual(sorted(seen.texts["order"]), ["originate 10.1.0.0/16", "start 1", "start 2"])
         self.assertEqual(sorted(seen.texts["state"]), ["1 up", "2 up"])
         self.assertEqual(seen.paths, [(1, "1"), (2, "2-1")])
 
     def test_a_snapshot(self):
         seen = charted("examples/play/snapshot.txt")
         self.assertEqual(sorted(seen.of("marker")), [(1, 2), (2, 1)])
-        self.assertEqual(sorted(seen.recordings), [1, 2])
-        self.assertEqual(seen.texts["verdict"], ["snapshot 1 settled"])
+        self.assertEqual(sorted(router for router, _ in seen.recordings), [1, 2])
+        self.assertEqual(sorted(seen.texts["verdict"]), ["cut 1", "snapshot 1 settled"])
+
+    def test_what_is_in_flight_crosses_the_cut(self):
+        """An UPDATE leaves above the recording of its router and ends below that of the other where `cut` says that it
+        is in flight, and nowhere else; it is put where its dot is."""
+        for name, flights in (("in-flight", [("withdraw", 1, 2)]), ("at-rest", []),
+                              ("disagree", [("announce", one, other) for one in (2, 3) for other in (1, 5 - one)])):
+            seen = charted(f"examples/cut/{name}.txt")
+            places = dict(seen.recordings)
+            crossing = [(kind, one, other) for kind, one, other, points in seen.arrows if kind in chart.UPDATES
+                        and points[0][1] < places[one] and other and points[-1][1] > places[other]]
+            self.assertEqual(sorted(crossing), sorted(flights))
+            back = [kind for kind, one, other, points in seen.arrows
+                    if kind != "marker" and points[0][1] > places[one] and other and points[-1][1] < places[other]]
+            self.assertEqual(back, [])
+            (cut,) = seen.cuts
+            self.assertEqual([(seen.lines[x], y) for x, y in cut[1:-1]], sorted(seen.recordings))
+
+    def test_a_put_that_comes_later(self):
+        text = (TOP / "examples/cut/in-flight.txt").read_text().replace("advertise 1\nput 1 2\n", "advertise 1\n")
+        seen = charted("-", given=text.encode())
+        places = dict(seen.recordings)
+        (points,) = [points for kind, one, _, points in seen.arrows if (kind, one) == ("withdraw", 1)]
+        self.assertLess(points[0][1], places[1])
+        put = next(y for x, y in seen.puts if x == points[1][0] and points[0][1] < y)
+        self.assertGreater(put, places[1])
+        self.assertEqual(points[1][0], points[2][0])
 
     def test_seconds_and_notifications(self):
         seen = charted("examples/play/hold-time.txt")
@@ -95,19 +158,71 @@ class Chart(unittest.TestCase):
 
     def test_a_withdrawal_in_octets(self):
         seen = charted("examples/play/withdrawal.txt")
-        self.assertIn("withdraw", [kind for kind, _, _ in seen.arrows])
+        self.assertIn("withdraw", [arrow[0] for arrow in seen.arrows])
         self.assertIn("none", [path for _, path in seen.paths])
-        self.assertIn("octets", [kind for kind, _, _ in charted("examples/play/octets.txt").arrows])
+        self.assertIn("octets", [arrow[0] for arrow in charted("examples/play/octets.txt").arrows])
+
+    def test_the_numbers_of_events(self):
+        lines, _ = played("examples/play/session.txt")
+        orders = [line for line in lines if words_of(line)]
+        seen = charted("examples/play/session.txt")
+        at = {y: number for number, y in seen.numbers}
+        for kind, one, other, points in seen.arrows:
+            if kind == "dial":
+                self.assertEqual(orders[at[points[0][1]] - 1], f"put {one} {other}")
+                self.assertEqual(orders[at[points[-1][1]] - 1], f"take {other} {one}")
+
+    def test_labels_stand_apart(self):
+        for name in ("disagree", "ring", "reset-again", "link-flaps"):
+            boxes = made(f"examples/play/{name}.txt").boxes
+            overlapping = sum(chart.common(one, other) > 20 for at, one in enumerate(boxes) for other in boxes[:at])
+            self.assertLessEqual(overlapping, len(boxes) // 20)
+
+    def test_letters_on_a_slide(self):
+        for words in (["examples/play/session.txt"], ["examples/cut/in-flight.txt", "--from-line", "19"],
+                      ["examples/play/disagree.txt", "--updates", "--to", "100"]):
+            seen = charted(*words, "--slide")
+            self.assertGreaterEqual(min(960 / seen.width, 540 / seen.height) * min(seen.sizes), 12)
+            self.assertGreater(len(seen.arrows), 3)
+        status, out, error = run("chart", "--slide", "examples/play/ring.txt")
+        self.assertEqual((status, out), (1, ""))
+        last = int(re.search(r"--to (\d+) has room", error).group(1))
+        self.assertEqual(run("chart", "--slide", "examples/play/ring.txt", "--to", last)[0], 0)
+
+    def test_columns_have_what_one_has(self):
+        whole = charted("examples/play/disagree.txt")
+        status, out, _ = run("chart", "examples/play/disagree.txt", "--columns", "3")
+        root = xml.etree.ElementTree.fromstring(out)
+        texts = sorted(element.text for element in root.iter(SVG + "text") if element.get("class") != "number")
+        written = [text for kind, own in whole.texts.items() if kind != "number" for text in own]
+        self.assertEqual((status, texts), (0, sorted(written)))
+        self.assertLess(float(root.get("height")) * 2, whole.height)
+        heads = [element for element in root.iter(SVG + "path") if " ends-" in element.get("class", "")]
+        self.assertEqual(len(heads), len(whole.arrows))
+        for element in root.iter(SVG + "path"):
+            if element.get("class", "").split(" ")[0] in ITEMS:
+                self.assertTrue(all(chart.TOP <= y <= float(root.get("height")) for _, y in points_of(element)))
 
     def test_a_part(self):
         whole = charted("examples/play/disagree.txt")
         updates = charted("examples/play/disagree.txt", "--updates")
-        self.assertEqual({kind for kind, _, _ in updates.arrows}, {"announce"} & {kind for kind, _, _ in whole.arrows})
-        self.assertEqual(updates.of("announce"), whole.of("announce"))
+        self.assertEqual({arrow[0] for arrow in updates.arrows}, {"announce"} & {arrow[0] for arrow in whole.arrows})
+        self.assertEqual(sorted(updates.of("announce")), sorted(whole.of("announce")))
         self.assertEqual(updates.paths, whole.paths)
         last = len([line for line in played("examples/play/disagree.txt")[0] if words_of(line)])
-        both = [charted("examples/play/disagree.txt", "--to", last // 2), charted("examples/play/disagree.txt", "--from", last // 2 + 1)]
+        both = [charted("examples/play/disagree.txt", *words)
+                for words in (("--to", last // 2), ("--from", last // 2 + 1))]
         self.assertEqual([path for seen in both for path in seen.paths], whole.paths)
+
+    def test_a_part_by_lines(self):
+        text = (TOP / "examples/cut/in-flight.txt").read_text().splitlines()
+        line = text.index("withdraw 1 10.1.0.0/16") + 1
+        seen = charted("examples/cut/in-flight.txt", "--from-line", line)
+        self.assertEqual(sorted(seen.texts["order"]), ["snapshot 1", "snapshot 1", "withdraw 10.1.0.0/16"])
+        self.assertEqual({arrow[0] for arrow in seen.arrows}, {"withdraw", "marker"})
+        seen = charted("examples/cut/in-flight.txt", "--to-line", line)
+        self.assertEqual(seen.texts["order"][-1], "withdraw 10.1.0.0/16")
+        self.assertEqual((seen.cuts, seen.recordings), ([], []))
 
     def test_one_prefix(self):
         text = ("router 1 10.0.0.1\nrouter 2 10.0.0.2\nlink 1 2\norigin 1 10.1.0.0/16\norigin 2 10.2.0.0/16\nschedule\n"

@@ -9,9 +9,10 @@ import unittest
 
 from support import TOP, program_path
 
-from program import CODES
+from program import SAID, Program
 
-DOCUMENTS = [TOP / "README.md", TOP / "examples/README.md", *sorted((TOP / "docs").glob("*.md"))]
+DOCUMENTS = [TOP / "README.md", TOP / "examples/README.md", TOP / "examples/SOLUTIONS.md",
+             *sorted((TOP / "docs").glob("*.md"))]
 # What is not run here: the kit and the gate, another program, a file of the reader's.
 NOT_RUN = re.compile(r"\brt |^\.ci/run|\btshark\b|\boctets\.bin\b|\bupdates\.|^git ")
 PROGRAM = re.compile(r"(?<![\w/])(crates/bgpnet/out/)?bgpnet(?= )")
@@ -57,17 +58,49 @@ class Documents(unittest.TestCase):
         if PROGRAM.search(command) and " run" in command and printed == ["unsettled"]:
             return  # as the timing of the threads has it
         statuses = (0, 3, 4, 5, 6) if command.startswith("tools/") else (0, 1)
-        self.assertEqual((done.returncode in statuses, printed, done.stderr), (True, wanted, ""))
+        unsaid = SAID.sub("", done.stderr).strip()  # the program says what a refusal means
+        self.assertEqual((done.returncode in statuses, printed, unsaid), (True, wanted, ""))
 
     def test_each_code_is_told(self):
-        """Each code that `check` and `play` print is in docs/TEXTS.md, and the tools have words for it."""
+        """Each code that `check` and `play` print is in docs/TEXTS.md, and the program has words for it."""
         text = (TOP / "docs/TEXTS.md").read_text()
         told = set(re.findall(r"\b([NSEV]\d)\b", text.split("## Statuses")[0] + text.split("## Refusals")[1]))
-        self.assertEqual(told - set(CODES), {"E6", "E8", "V1"})  # no text of a tool comes to these
-        self.assertEqual(set(CODES) - told, set())
+        said = (TOP / "crates/bgpnet/src/said.rt").read_text()
+        self.assertEqual(told, set(re.findall(r'"([A-Z]\d)"', said)))
+
+    def test_the_program_says_what_failed(self):
+        """On the standard error, beside an output and a status that stay as they are."""
+        def said(given, taker=subprocess.PIPE):
+            with tempfile.TemporaryFile() as source:
+                source.write(given)
+                source.seek(0)
+                return ended(source, taker)
+
+        def ended(source, taker=subprocess.PIPE):
+            done = subprocess.run([program_path, "check"], stdin=source, stdout=taker, stderr=subprocess.PIPE)
+            return done.returncode, done.stdout, done.stderr.decode()
+
+        self.assertEqual(said(b"router 1 10.0.0.1\nlink 1 2\n"),
+                         (1, b"refused 2 N3\n", "bgpnet: line 2: N3: a router that no earlier line names\n"))
+        folder = os.open("/", os.O_RDONLY)
+        self.assertEqual(ended(folder), (4, b"", "bgpnet: the standard input can't be read\n"))
+        os.close(folder)
+        with open("/dev/full", "wb") as full:
+            self.assertEqual(said(b"", full)[::2], (4, "bgpnet: the standard output can't be written\n"))
+
+    def test_the_gate_expects_each_row(self):
+        """The gate compares what the run of the rows says with a text, which has the number of cases of each file."""
+        rows = TOP / "crates/program_rows"
+        wanted = {}
+        for line in (rows / "stdout").read_text().splitlines():
+            name, number = re.fullmatch(r"(\S+): (\d+) cases, 0 different", line).groups()
+            wanted[name] = int(number)
+        found = {path.name: sum(line.startswith("== ") for line in path.read_text().splitlines())
+                 for path in (rows / "data").glob("*.rows")}
+        self.assertEqual(wanted, found)
 
     def test_each_tool_has_a_help_with_an_example(self):
-        for tool in ("streams", "topology", "settle", "whatif", "config", "beside_frr", "draw", "film", "chart",
+        for tool in ("streams", "topology", "settle", "lint", "whatif", "config", "beside_frr", "draw", "film", "chart",
                      "pictures", "test"):
             path = TOP / "tools" / tool
             self.assertTrue(os.access(path, os.X_OK))
@@ -75,3 +108,54 @@ class Documents(unittest.TestCase):
             self.assertEqual((done.returncode, done.stderr), (0, ""))
             self.assertIn(f"    tools/{tool}", done.stdout)
             self.assertIn(f"tools/{tool}", (TOP / "docs/TOOLS.md").read_text())
+
+
+class Sheets(unittest.TestCase):
+    """`examples/try FILE ..`, which tries sheets of a reader's own."""
+
+    def tried(self, *texts):
+        with tempfile.TemporaryDirectory() as folder:
+            names = []
+            for number, text in enumerate(texts):
+                names.append(str(pathlib.Path(folder, f"{number}.txt")))
+                pathlib.Path(names[-1]).write_text(text)
+            done = subprocess.run([TOP / "examples/try", *names], env=dict(os.environ, BGPNET=program_path),
+                                  capture_output=True, text=True)
+            return done.returncode, done.stdout.replace(folder + "/", ""), done.stderr
+
+    def test_each_word(self):
+        network = "router 1 10.0.0.1\norigin 1 10.1.0.0/16\n"
+        played = "# answer: now\n# answer: route 1 10.1.0.0/16 1\n" + network
+        played += "schedule\noriginate 1 10.1.0.0/16\ndecide 1\n"
+        self.assertEqual(self.tried(played), (0, "0.txt: bgpnet play: as it says\n", ""))
+        self.assertEqual(self.tried(played.replace("decide 1\n", "")),
+                         (1, "0.txt: bgpnet play: not as it says\n    now\n    route 1 10.1.0.0/16 none\n", ""))
+        judged = network + "assignment\npath 1 10.1.0.0/16 1\n"
+        cut = "# words: 7\n" + network + "schedule\nsnapshot 1 7\noffer 1\n"
+        octets = "# answer: keepalive\nffffffffffffffff ffffffffffffffff 0013 04   # a KEEPALIVE\n"
+        self.assertEqual(self.tried("# answer: stable\n" + judged, judged, cut, octets), (
+            0, "0.txt: bgpnet check: as it says\n1.txt: bgpnet check: no line `# answer:`\n    stable\n"
+               "2.txt: bgpnet cut 7: no line `# answer:`\n    cut 7 after 1 of 2\n    route 1 10.1.0.0/16 none\n"
+               "3.txt: bgpnet decode: as it says\n", ""))
+
+    def test_the_naughty_gadget_goes_round(self):
+        """What stands behind its last order is what stood before the steps, so they can come again and again."""
+        text = (TOP / "examples/play/naughty-gadget.txt").read_text()
+        steps = text[text.index("# From here on"):]
+        program = Program(program_path)
+        ends = [program.answer(["why", number], text + steps * times, "naughty")
+                for times in range(3) for number in "2345"]
+        self.assertEqual(ends[:4], ends[4:8])
+        self.assertEqual(ends[:4], ends[8:])
+        events = [line for line in program.trace(text + steps, "naughty") if not line.startswith("#")]
+        size = len([line for line in steps.splitlines() if line and not line.startswith("#")])
+        self.assertEqual(events[-size:], [line for line in steps.splitlines() if line and not line.startswith("#")])
+
+    def test_each_exercise_has_a_solution(self):
+        solutions = (TOP / "examples/SOLUTIONS.md").read_text()
+        for path in sorted((TOP / "examples").glob("**/*.txt")):
+            if "# Exercise:" in path.read_text():
+                name = str(path.relative_to(TOP / "examples").with_suffix(""))
+                self.assertIn(f"`{name}`: ", solutions)
+        for name in ("`cut/in-flight` ", "`config/wedgie`: ", "`decode/update`: "):
+            self.assertIn(name, solutions)

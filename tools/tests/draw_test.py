@@ -3,6 +3,7 @@ arrows go, and what is written; what they have to show is asked of the program."
 import itertools
 import math
 import random
+import re
 import subprocess
 import unittest
 import xml.etree.ElementTree
@@ -12,12 +13,14 @@ from support import TOP, TOOLS, asked_program, load, program_path, run
 import drawing
 import playing
 import program
+import tracing
 from network import Network, routes_of
 
 film = load("film")
 topology = load("topology")
 
 PREFIX = "10.1.0.0/16"
+WAYS = ("link", "broken", "silent", "route", "left", "wanted")
 SVG = "{http://www.w3.org/2000/svg}"
 
 
@@ -26,35 +29,51 @@ class Seen:
     circles, lines by their class as pairs of routers, and the texts by their class."""
 
     def __init__(self, group):
-        self.spots, self.circles, self.lines, self.texts = {}, {}, {}, {}
+        self.spots, self.circles, self.lines, self.texts, self.curves, self.places = {}, {}, {}, {}, [], []
         elements = [element for element in group.iter() if element.tag != SVG + "g"]
         for element in elements:
             if element.get("class") == "number":
                 self.spots[int(element.text)] = (float(element.get("x")), float(element.get("y")) - 5)
         for element in elements:
             kind = element.get("class")
-            if element.tag == SVG + "circle":
+            if element.tag == SVG + "circle" and kind != "peers":
                 at = float(element.get("cx")), float(element.get("cy"))
                 self.circles.setdefault(kind, []).append(next(router for router, spot in self.spots.items() if spot == at))
-            elif element.tag == SVG + "line":
-                ends = ((float(element.get("x" + end)), float(element.get("y" + end))) for end in "12")
-                self.lines.setdefault(kind, []).append(tuple(map(self.nearest, ends)))
+            elif element.tag == SVG + "line" or element.tag == SVG + "path" and kind in WAYS:
+                curve = curve_of(element)
+                self.curves.append((kind, curve))
+                self.lines.setdefault(kind, []).append(tuple(map(self.nearest, (curve[0], curve[-1]))))
             elif element.tag == SVG + "text":
                 self.texts.setdefault(kind, []).append(element.text)
+                self.places.append((kind, float(element.get("x")), float(element.get("y"))))
 
     def nearest(self, at):
         router = min(self.spots, key=lambda router: math.dist(at, self.spots[router]))
-        assert math.dist(at, self.spots[router]) < 25
+        assert math.dist(at, self.spots[router]) < 33
         return router
 
     def has(self, kind):
         return self.lines.get(kind, [])
 
 
+def curve_of(element):
+    """The ends of a line, with the point between them that it bends to, where it does."""
+    if element.tag == SVG + "path":
+        numbers = list(map(float, re.findall(r"-?[\d.]+", element.get("d"))))
+        return list(zip(numbers[::2], numbers[1::2]))
+    return [(float(element.get("x" + end)), float(element.get("y" + end))) for end in "12"]
+
+
 def seen(text):
     """The pictures of a file, and its root."""
     root = xml.etree.ElementTree.fromstring(text)
-    return [Seen(group) for group in root.findall(SVG + "g")], root
+    return [Seen(group) for group in root.findall(SVG + "g") if group.get("class") != "explained"], root
+
+
+def explained(root):
+    """What the legend of a file says."""
+    return [element.text for group in root.findall(SVG + "g") if group.get("class") == "explained"
+            for element in group.iter(SVG + "text") if element.get("class") == "legend"]
 
 
 def hops(routes):
@@ -102,10 +121,11 @@ class Draw(unittest.TestCase):
     def test_rules_are_written_out(self):
         picture = drawn("examples/good-gadget-direct.txt", "--title", "a <title> & more")
         written = [text for kind, texts in picture.texts.items() if kind.startswith("rule") for text in texts]
-        self.assertEqual(sorted(written), sorted("10.1.0.0/16 2-4-1 2-1 3-2-1 3-1 4-1 5-4-1 5-3-1".split()))
+        self.assertEqual(sorted(written), sorted(["2-4-1 best", *"10.1.0.0/16 2-1 3-2-1 3-1 4-1 5-4-1 5-3-1".split()]))
         kept = [text for kind, texts in picture.texts.items() if kind.endswith(" kept") for text in texts]
         self.assertEqual(sorted(kept), "2-1 3-2-1 4-1 5-4-1".split())
-        self.assertEqual([text for kind, texts in picture.texts.items() if kind.endswith(" best") for text in texts], ["2-4-1"])
+        best = [text for kind, texts in picture.texts.items() if kind.endswith(" best") for text in texts]
+        self.assertEqual(best, ["2-4-1 best"])
         self.assertEqual(picture.texts["title"], ["a <title> & more"])
 
     def test_a_schedule_is_played(self):
@@ -169,6 +189,95 @@ class Draw(unittest.TestCase):
                 for x, y in picture.spots.values():
                     self.assertTrue(18 < x < width - 18 and 18 < y < height - 18)
 
+    def test_links_and_arrows_keep_clear_of_other_routers(self):
+        """Also where routers stand in a row, and links lead past some of them."""
+        row = {1: (0, 0), 2: (1, 0), 3: (2, 0), 4: (3, 0)}
+        for spots, links in ((row, list(itertools.combinations(row, 2))),
+                             ({1: (0, 0), 2: (1, 0.1), 3: (2, 0)}, [(1, 2), (2, 3), (1, 3)])):
+            network = Network(network_text(len(spots), links).splitlines())
+            routes = {router: (router, 1) for router in network.routers if router > 1}
+            shown = drawing.Drawn(next(iter(network.origins)), {1: (1,), **routes})
+            (picture,), _ = seen(drawing.svg([drawing.Picture(drawing.Layout(network, spots, [shown]), shown)]))
+            self.check_clear(picture)
+        for seed in range(40):
+            size = 3 + seed % 10
+            graph = topology.hierarchy(size, seed, size)
+            network = Network(topology.network_lines(graph, graph.routers[-1:], "shortest"))
+            layout = drawing.Layout(network, drawing.places(network, size), [drawing.Drawn(None)])
+            (picture,), _ = seen(drawing.svg([drawing.Picture(layout, drawing.Drawn(None))]))
+            self.check_clear(picture)
+
+    def check_clear(self, picture):
+        for kind, curve in picture.curves:
+            ends = {picture.nearest(curve[0]), picture.nearest(curve[-1])}
+            whole = (curve[0], curve[1], curve[2]) if len(curve) == 3 else (
+                curve[0], tuple((one + other) / 2 for one, other in zip(*curve)), curve[1])
+            for at in range(101):
+                point = drawing.along(whole, at / 100)
+                for router, spot in picture.spots.items():
+                    if router not in ends:
+                        self.assertGreater(math.dist(point, spot), drawing.RADIUS, (kind, ends, router))
+
+    def test_texts_stand_off_the_rings(self):
+        _, out, _ = run("film", "examples/play/wedgie-whole.txt")
+        for picture in seen(out)[0]:
+            for kind, x, y in picture.places:
+                if kind.startswith("rule"):
+                    near = min(abs(x - spot_x) for spot_x, spot_y in picture.spots.values() if abs(spot_y - y) < 30)
+                    self.assertGreater(near, drawing.RADIUS + 7 + 3)
+
+    def test_what_is_kept_and_what_is_best_differ_without_colours(self):
+        picture = drawn("examples/good-gadget-direct.txt")
+        self.assertEqual(picture.texts["rule before best"], ["2-4-1 best"])
+        self.assertIn("2-1", picture.texts["rule before kept"])
+        def style(kind):
+            found = re.search(rf"\n\.{kind} {{([^}}]*)}}", drawing.STYLE)
+            return re.sub(r"(fill|stroke|marker-end): [^;}]*[;}]?", "", found[1])
+
+        for kind, other in (("kept", "best"), ("route", "left"), ("left", "wanted"), ("link", "broken"),
+                            ("good", "bad")):
+            self.assertNotEqual(style(kind), style(other))
+
+    def test_colours_that_a_deuteranope_tells_apart(self):
+        """By the matrix of Machado, Oliveira and Fernandes (2009) for no green cones."""
+        rows = (0.367322, 0.860646, -0.227968), (0.280085, 0.672501, 0.047413), (-0.011820, 0.042940, 0.968881)
+
+        def seen_as(colour):
+            parts = [int(colour[at:at + 2], 16) / 255 for at in (1, 3, 5)]
+            light = [part / 12.92 if part <= 0.04045 else ((part + 0.055) / 1.055) ** 2.4 for part in parts]
+            return [sum(factor * own for factor, own in zip(row, light)) for row in rows]
+
+        chart = load("chart")
+        for one, other in ((drawing.BLUE, drawing.ORANGE), (drawing.BLUE, drawing.YELLOW),
+                           (chart.COLOURS["announce"], chart.COLOURS["withdraw"])):
+            self.assertGreater(math.dist(seen_as(one), seen_as(other)), 0.3)
+        self.assertLess(math.dist(seen_as("#188038"), seen_as("#d93025")), 0.3)
+
+    def test_a_legend_of_what_is_there(self):
+        for words, wanted in ((["draw", "examples/disagree.txt"], ["origin", "route", "the path that it has"]),
+                              (["film", "examples/play/wedgie-whole.txt"],
+                               ["origin", "route", "another route than before", "the path that it has",
+                                "session down"])):
+            _, out, _ = run(*words)
+            self.assertEqual(explained(seen(out)[1]), wanted)
+
+    def test_relations(self):
+        given = network_text(4, [(1, 2), (3, 1), (2, 3), (3, 4)]).replace("link 1 2", "# 2 customer of 1\nlink 1 2")
+        given = given.replace("link 3 1", "# 1 customer of 3\nlink 3 1").replace("link 2 3", "# 3 peer of 2\nlink 2 3")
+        status, out, _ = run("draw", "-", given=given.encode())
+        (picture,), root = seen(out)
+        tips = [list(map(float, re.findall(r"[\d.]+", element.get("d"))))[:2] for group in root.findall(SVG + "g")
+                if group.get("class") != "explained" for element in group.iter(SVG + "path")
+                if element.get("class") == "provider"]
+        for tip, (provider, customer) in zip(tips, ((1, 2), (3, 1))):
+            self.assertLess(math.dist(tip, picture.spots[provider]), math.dist(tip, picture.spots[customer]))
+        self.assertEqual(len(tips), 2)
+        peers = next(element for element in root.iter(SVG + "circle") if element.get("class") == "peers")
+        far = [math.dist((float(peers.get("cx")), float(peers.get("cy"))), picture.spots[router]) for router in (2, 3)]
+        self.assertLess(abs(far[0] - far[1]), 2)
+        self.assertLess(abs(sum(far) - math.dist(picture.spots[2], picture.spots[3])), 2)
+        self.assertEqual(explained(root)[-2:], ["points to the provider", "peers"])
+
     def test_routers_stand_apart(self):
         for size in (2, 3, 5, 8, 12, 20, 40, 64):
             graph = topology.hierarchy(size, size, size)
@@ -181,11 +290,12 @@ class Draw(unittest.TestCase):
     def test_refusals(self):
         text = (TOP / "examples/disagree.txt").read_text()
         path = "path 2 10.1.0.0/16 2-3-1"
-        for wrong, code in ((text.replace("link 2 3", "link 2 9"), "N3"), (text.replace(path, "path 2 10.1.0.0/16 2-4-1"), "N3"),
-                            (text.replace(path, "path 2 10.1.0.0/16 2-1-3"), "S1"), (text + "schedule\n", "N1")):
+        nobody, form = "N3: a router that no earlier line names", "N1: an unknown first word, a wrong number of words, or an octet past ASCII"
+        for wrong, why in ((text.replace("link 2 3", "link 2 9"), nobody), (text.replace(path, "path 2 10.1.0.0/16 2-4-1"), nobody),
+                           (text.replace(path, "path 2 10.1.0.0/16 2-1-3"), "S1: a path that isn't permitted"), (text + "schedule\n", form)):
             pairs = itertools.zip_longest(text.splitlines(), wrong.splitlines())
             line = next(at for at, (was, now) in enumerate(pairs, 1) if was != now)
-            self.assertEqual(run("draw", "-", given=wrong.encode()), (1, "", f"draw: -:{line}: {code}: {program.CODES[code]}\n"))
+            self.assertEqual(run("draw", "-", given=wrong.encode()), (1, "", f"draw: -:{line}: {why}\n"))
         for word in ("10.2.0.0/16", "x", "1.2.3.4/99"):
             self.assertEqual(run("draw", "examples/ring.txt", "--prefix", word), (1, "", f"draw: no origin has the prefix {word}\n"))
         self.assertEqual(run("draw", "nothing"), (1, "", "draw: nothing: No such file or directory\n"))
@@ -243,14 +353,13 @@ class Broken(unittest.TestCase):
     def test_what_leaves_no_room_for_the_question(self):
         origins = "".join(f"origin 1 20.{number}.0.0/16\n" for number in range(253))
         text = network_text(3, [(1, 2), (2, 3)], origins + "schedule\nstart 1 2\n")
-        self.assertEqual(run("film", "-", given=text.encode()),
-                         (1, "", "film: whether sessions are up can't be asked: that takes a prefix more for each router, and a "
-                                 "network has at most 256\n"))
+        asked = asked_program()
+        with self.assertRaisesRegex(program.Refusal, "a prefix more for each router, and a network has at most 256"):
+            playing.broken_links(asked, Network(text.split("schedule")[0].splitlines()), [], "made")
         rules = "".join(f"rank 2 20.{number}.0.0/16\n" for number in range(62))
         text = network_text(3, [(1, 2), (2, 3)], rules + "schedule\nstart 1 2\n")
-        self.assertEqual(run("film", "-", given=text.encode()),
-                         (1, "", "film: whether sessions are up can't be asked: that takes a rule more, and one for each peer, "
-                                 "and 2 has 62 of 64\n"))
+        with self.assertRaisesRegex(program.Refusal, "a rule more, and one for each peer, and 2 has 62 of 64"):
+            playing.broken_links(asked, Network(text.split("schedule")[0].splitlines()), [], "made")
 
 
 class Film(unittest.TestCase):
@@ -291,11 +400,43 @@ class Film(unittest.TestCase):
         orders = [line for line in text.split("\nschedule\n")[1].splitlines() if line and not line.startswith("#")]
         pictures = self.pictures("examples/play/session.txt", "--each")
         self.assertEqual(len(pictures), len(orders))
-        asked, network = asked_program(), Network(text.split("\nschedule\n")[0].splitlines())
+        asked, head = asked_program(), text.split("\nschedule\n")[0] + "\nschedule\n"
         for at, picture in enumerate(pictures, 1):
-            state = playing.state_behind(asked, network, orders[:at], "session")
+            state = playing.state_behind(asked, head + "\n".join(orders[:at]) + "\n", "session")
             self.assertEqual(sorted(picture.has("route")),
                              hops({router: path for (router, _), path in state.routes.items()}))
+
+    def test_a_silent_failure(self):
+        """The session is up while nothing comes over its link, until the hold time is over; other links are heard."""
+        pictures = self.pictures("examples/play/link-fails-silently.txt")
+        self.assertEqual([picture.has("silent") for picture in pictures], [[], [(1, 2)], [(1, 2)], [], []])
+        self.assertEqual([picture.texts.get("seconds") for picture in pictures], [None, ["30 s"], ["60 s"], None, None])
+        self.assertEqual([picture.has("broken") for picture in pictures], [[], [], [], [(1, 2)], [(1, 2)]])
+        self.assertEqual([sorted(picture.has("route"))[0] for picture in pictures], [(2, 1)] * 4 + [(2, 3)])
+        self.assertEqual(pictures[3].texts["bad"], ["2 has 2-1, over the link 2 1 that is down"])
+        self.assertEqual(pictures[4].texts["good"], ["check without 1 2: stable"])
+        self.assertEqual(pictures[1].texts["title"], ["2. the link 1 2 falls silent, and nobody is told"])
+        later = self.pictures("examples/play/link-fails-silently.txt", "--from", 3, "--to", 4)
+        self.assertEqual([picture.texts["title"][0][:2] for picture in later], ["3.", "4."])
+        self.assertEqual(later[1].has("broken"), [(1, 2)])
+
+    def test_a_link_is_up_when_its_session_is(self):
+        text = (TOP / "examples/play/session.txt").read_text()
+        head, orders = text.split("\nschedule\n")[0] + "\nschedule\nstart 1 2\nstart 2 1\n", ["rounds 1"] * 8
+        given = (head + "".join(order + "\n" for order in orders)).encode()
+        pictures = self.pictures("-", "--each", given=given)
+        places = tracing.orders_of(given.decode())
+        events = tracing.events_of(asked_program().trace(given.decode(), "made"), places)
+        came = [event.line for event in events if any(said.endswith(" Established") for said in event.said)]
+        self.assertEqual(len(came), 2)
+        self.assertEqual([bool(picture.has("broken")) for picture in pictures], [place < max(came) for place in places])
+        self.assertTrue(places[2] < max(came) < places[-1])
+
+    def test_one_layout(self):
+        for name in ("wedgie-whole", "link-flaps", "crash"):
+            pictures = self.pictures(f"examples/play/{name}.txt")
+            for picture in pictures[1:]:
+                self.assertEqual(picture.spots, pictures[0].spots)
 
     def test_titles_in_any_letters(self):
         text = network_text(1, []) + "schedule\n# title: Z\u00fcrich \u2192 <Bern> & \x07\ntick 1\n"
@@ -313,7 +454,11 @@ class Film(unittest.TestCase):
                             "-:6: E3: a snapshot whose number is not above the router's last")):
             self.assertEqual(run("film", "-", given=text.encode()), (1, "", f"film: {said}\n"))
         text = network_text(1, []) + "schedule\n" + "tick 1\n" * 61
-        self.assertEqual(run("film", "-", "--each", given=text.encode()), (1, "", "film: 61 steps, and at most 60 are drawn\n"))
+        self.assertEqual(run("film", "-", "--each", given=text.encode()),
+                         (1, "", "film: 61 steps, and at most 60 are drawn: --from and --to\n"))
+        self.assertEqual(run("film", "-", "--each", "--from", 2, given=text.encode())[0], 0)
+        self.assertEqual(run("film", "-", "--each", "--from", 62, given=text.encode()),
+                         (1, "", "film: -: 61 steps, and none of these is asked for\n"))
         self.assertEqual(run("film", "--columns", "0", "x")[0], 2)
         self.assertEqual(run("film", "--help")[0], 0)
 

@@ -4,7 +4,7 @@ import itertools
 import random
 import unittest
 
-from support import asked_program, load, run
+from support import TOP, asked_program, load, run
 
 topology = load("topology")
 
@@ -129,6 +129,79 @@ class Policies(unittest.TestCase):
         given = b"1|2|-1\n2|3|-1\n3|1|-1\n3|4|-1\n"
         self.assertEqual(run("topology", "--from", "as-rel", given=given),
                          (1, "", "topology: 1, 2, 3: among these, providers are customers of their customers\n"))
+
+
+class Wishes(unittest.TestCase):
+    """Backup links and prepends, and the comments that say them and the relations."""
+
+    WEDGIE = b"4|1|-1\n2|1|-1\n3|2|-1\n3|4|0\n"
+
+    def test_relations(self):
+        out = run("topology", "--from", "as-rel", "--network", given=b"18|30|-1\n30|20|0\n")[1]
+        self.assertEqual(out.splitlines()[3:7], ["# 30 customer of 18", "link 18 30", "# 30 peer of 20", "link 20 30"])
+        self.assertEqual(topology.Network(out.splitlines()).relations, {
+            (18, 30): "customer", (30, 18): "provider", (20, 30): "peer", (30, 20): "peer"})
+        out = run("topology", "--from", "edges", "--network", given=b"18 30\n")[1]
+        self.assertEqual(lines_of(out, "#"), [])
+
+    def test_the_wedgie(self):
+        """The backup link of RFC 4264 is one by these words: examples/wedgie.txt."""
+        words = ["topology", "--from", "as-rel", "--origin", 1]
+        out = run(*words, "--backup", "1-2", "--network", given=self.WEDGIE)[1]
+        example = (TOP / "examples/wedgie.txt").read_text()
+        self.assertEqual(lines_of(out, "rank"), lines_of(example, "rank"))
+        self.assertIn("# 1 customer of 2\n# 2 and 1 like this link least: it is a backup\nlink 2 1\n", out)
+        self.assertEqual(run("settle", "-", given=out.encode())[0], 5)
+        self.assertEqual(run("settle", "-", given=run(*words, "--network", given=self.WEDGIE)[1].encode())[0], 0)
+
+    def test_a_prepend(self):
+        given = b"4|1|-1\n4|2|-1\n1|3|-1\n2|3|-1\n"
+        words = ["topology", "--from", "as-rel", "--origin", 3, "--network"]
+        self.assertIn("rank 4 10.1.0.0/16 4-1-3 4-2-3\n", run(*words, given=given)[1])
+        out = run(*words, "--prepend", "3-1:2,1-4:1", given=given)[1]
+        self.assertIn("rank 4 10.1.0.0/16 4-2-3 4-1-3\n", out)
+        self.assertIn("# 3 tells 1 its number 2 times more\nlink 1 3\n", out)
+        self.assertIn("# 1 tells 4 its number 1 times more\nlink 4 1\n", out)
+
+    def test_every_path_of_small_graphs(self):
+        """The rule is all valley-free paths: over no backup first, then customers, then peers, then the shorter."""
+        for seed in range(60):
+            draw = random.Random(seed)
+            graph = topology.hierarchy(3 + seed % 5, seed, seed % 4)
+            providers = {(one, other) for (one, other), kind in graph.kinds.items() if kind == topology.CUSTOMER}
+            backups = {frozenset(draw.choice(sorted(graph.kinds)))}
+            prepends = {draw.choice(sorted(graph.kinds)): draw.randrange(1, 4) for _ in range(2)}
+            wishes, origin = topology.Wishes(backups, prepends), draw.choice(graph.routers)
+
+            def are_peers(one, other):
+                return (one, other) not in providers and (other, one) not in providers
+
+            def order(path):
+                longer = sum(number for (teller, told), number in prepends.items()
+                             for at in range(1, len(path)) if path[at - 1:at + 1] == (told, teller))
+                return (frozenset(path[:2]) in backups, 2 * ((path[1], path[0]) in providers) + are_peers(*path[:2]),
+                        len(path) + longer, path)
+
+            rules, _ = topology.gao_rexford(graph, origin, wishes)
+            for router in set(graph.routers) - {origin}:
+                others = [other for other in graph.routers if other not in (router, origin)]
+                every = [(router, *middle, origin) for size in range(len(others) + 1)
+                         for middle in itertools.permutations(others, size)]
+                every = [path for path in every if all(pair in graph.kinds for pair in zip(path, path[1:]))
+                         and is_valley_free(path, providers, are_peers)]
+                self.assertLessEqual(len(every), 32)
+                self.assertEqual(rules[router], sorted(every, key=order))
+
+    def test_refusals(self):
+        for words, said in ((["--backup", "1-3"], "there is no link 1-3"), (["--backup", "1"], "there is no link 1"),
+                            (["--prepend", "1-2"], "there is no link 1-2"),
+                            (["--prepend", "1-2:20"], "there is no link 1-2:20")):
+            status, out, error = run("topology", "--from", "as-rel", *words, given=self.WEDGIE)
+            self.assertEqual((status, out), (1, ""))
+            self.assertTrue(error.startswith(f"topology: {said}: a link is written as U-V, a prepend as U-V:N"), error)
+        status, out, error = run("topology", "--from", "edges", "--backup", "1-2", given=b"1 2\n")
+        self.assertEqual((status, out, error[:32]), (1, "", "topology: --backup and --prepend"))
+        self.assertEqual(run("topology", "--from", "network", "--backup", "1-2", given=b"")[0], 2)
 
 
 class Forms(unittest.TestCase):

@@ -1,0 +1,98 @@
+"""The paths of a prefix that can come to routers, and what stands in rules that never can."""
+from network import LONGEST_PATH, path_text
+
+# How many paths of a prefix are listed.
+MOST_PATHS_OF_PREFIX = 20000
+
+
+class GaveUp(Exception):
+    """A search has more to try than it may, with what it says of that."""
+
+
+def live_paths(network, prefix):
+    """The paths of each router that can come, best first: permitted at each of their routers, over links that are
+    there. It goes outwards from the origin, so that no other path is looked at."""
+    origin = network.origins[prefix]
+    ranks = {}  # of each router with a rule, the place of each path in it
+    for router in network.routers:
+        ranked = network.ranked(router, prefix)
+        ranks[router] = None if ranked is None else {path: place for place, path in enumerate(ranked)}
+    live, found = {router: [] for router in network.routers}, [(origin,)]
+    for path in found:
+        if len(found) > MOST_PATHS_OF_PREFIX:
+            raise GaveUp(f"more than {MOST_PATHS_OF_PREFIX} paths can come: give routers rank lines")
+        live[path[0]].append(path)
+        if len(path) < LONGEST_PATH:
+            found += [(peer,) + path for peer in network.peers[path[0]]
+                      if peer not in path and (ranks[peer] is None or (peer,) + path in ranks[peer])]
+    for router, paths in live.items():
+        paths.sort(key=ranks[router].get if ranks[router] is not None else lambda path: (len(path), path))
+    return live
+
+
+def shortest_paths(network, prefix):
+    """The path that each router takes where none has a rule for the prefix: the shortest, and of those the least."""
+    origin = network.origins[prefix]
+    found, last = {origin: (origin,)}, [origin]
+    for _ in range(LONGEST_PATH - 1):
+        nearer = {router: path for router, path in found.items() if router in last}
+        last = sorted({peer for router in last for peer in network.peers[router] if peer not in found})
+        for router in last:
+            found[router] = (router,) + nearer[min(peer for peer in network.peers[router] if peer in nearer)]
+    return found
+
+
+def listed_paths(network, prefix):
+    """The paths of each router that can come; of a prefix of no rule one of each. None where these are too many."""
+    if all(network.rule(router, prefix) is None for router in network.routers if router != network.origins[prefix]):
+        shortest = shortest_paths(network, prefix)
+        return {router: [shortest[router]] if router in shortest else [] for router in network.routers}
+    try:
+        return live_paths(network, prefix)
+    except GaveUp:
+        return None
+
+
+def warnings(network, live):
+    """What is said of each path of a rule that can never come, in place of them of each link that is not there, of each
+    rule that is for nothing, and of the routers without a path, with the line of the rule. Nothing is said of a prefix
+    whose paths are not listed."""
+    missing = {}
+    for line, path, why in hopeless_paths(network, live):
+        if isinstance(why, str):
+            yield line, f"{path_text(path) + ' can never come: ' if path else ''}{why}"
+        else:
+            missing.setdefault(frozenset(why), {}).setdefault((line, path), why)
+    for paths in missing.values():
+        ((line, path), link), more = next(iter(paths.items())), len(paths) - 1
+        others = f", nor can {more} other path{'s' * (more > 1)} of rules" if more else ""
+        yield line, f"{path_text(path)} can never come{others}: there is no link {' '.join(map(str, link))}"
+    for prefix in network.origins:
+        without = [router for router in network.routers if live[prefix] and not live[prefix][router]]
+        if without:
+            yield None, f"no path for {prefix} can ever come to: {', '.join(map(str, without))}"
+
+
+def hopeless_paths(network, live):
+    """The line of each rule for nothing, or with a path that can never come: that path, and why, a link where that is
+    not there."""
+    for router in network.routers:
+        for rule in network.rules[router]:
+            served = [prefix for prefix in network.origins if network.rule(router, prefix) is rule]
+            if not served:
+                yield rule.line, None, "no prefix that an origin has goes by this rule"
+            for path in rule.paths if served else []:
+                ended = [prefix for prefix in served if network.origins[prefix] == path[-1]]
+                if not ended:
+                    yield rule.line, None, f"{path_text(path)}: {path[-1]} is no origin of a prefix of this rule"
+                for prefix in ended:
+                    if live[prefix] and path not in live[prefix][router]:
+                        yield rule.line, path, obstacle(network, live[prefix], path)
+
+
+def obstacle(network, live, path):
+    """Why a path can't come: a link that is not there, or a router on the way that does not permit the rest."""
+    at = next(at for at in range(len(path) - 2, -1, -1) if path[at:] not in live[path[at]])
+    if path[at + 1] not in network.peers[path[at]]:
+        return path[at], path[at + 1]
+    return f"router {path[at]} does not permit {path_text(path[at:])}"
