@@ -11,9 +11,6 @@ import zlib
 
 TOP = pathlib.Path(__file__).resolve().parent.parent
 
-# Where the built program stands, if no word names another.
-BUILT = os.environ.get("BGPNET") or str(TOP / "crates/bgpnet/out/bgpnet")
-
 # How the first block of a bzip2 file begins, and the end of an empty one.
 BZIP2_BLOCKS = (bytes.fromhex("314159265359"), bytes.fromhex("177245385090"))
 
@@ -25,13 +22,18 @@ class Refusal(Exception):
     """Why a tool does not do what it was asked for, in one line. The status is 1."""
 
 
+def built():
+    """Where the built program stands, if no word names another."""
+    return os.environ.get("BGPNET") or str(TOP / "crates/bgpnet/out/bgpnet")
+
+
 class Words(argparse.ArgumentParser):
     """The words of a tool. Wrong ones are answered by one line and status 2."""
 
     def __init__(self, text, asks=True):
         super().__init__(description=text, allow_abbrev=False, formatter_class=argparse.RawDescriptionHelpFormatter)
         if asks:
-            self.add_argument("--program", metavar="PATH", default=BUILT,
+            self.add_argument("--program", metavar="PATH", default=built(),
                               help="the built program (crates/bgpnet/out/bgpnet, or what BGPNET names)")
 
     def error(self, message):

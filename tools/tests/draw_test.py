@@ -4,11 +4,10 @@ import itertools
 import math
 import random
 import re
-import subprocess
 import unittest
 import xml.etree.ElementTree
 
-from support import TOP, TOOLS, asked_program, load, program_path, run
+from support import TOP, asked_program, load, run, start
 
 import drawing
 import playing
@@ -468,6 +467,5 @@ class Documents(unittest.TestCase):
         self.assertEqual(run("pictures", "--compare"), (0, "", ""))
 
     def test_a_text_comes_out_the_same_again(self):
-        words = ["python3", str(TOOLS / "draw"), "examples/ring-next.txt", "--program", program_path]
-        first, again = (subprocess.run(words, cwd=TOP, capture_output=True).stdout for _ in range(2))
+        first, again = (start("draw", "examples/ring-next.txt")[1] for _ in range(2))
         self.assertTrue(first and first == again)

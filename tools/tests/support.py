@@ -1,19 +1,23 @@
 """What the tests of the tools share: the tools as modules and as programs, and the program that they ask."""
 import importlib.machinery
 import importlib.util
+import io
 import os
 import pathlib
 import subprocess
 import sys
+import unittest.mock
 
 TOOLS = pathlib.Path(__file__).resolve().parent.parent
 TOP = TOOLS.parent
 sys.path.insert(0, str(TOOLS))
+# Tools that are started as programs run in the Python of the tests.
+os.environ["PATH"] = os.pathsep.join([os.path.dirname(sys.executable), os.environ.get("PATH", os.defpath)])
 
-from program import BUILT, Program  # noqa: E402, for it stands beside the tools
+from program import Program, built, run_tool  # noqa: E402, for it stands beside the tools
 
 # The built program, as the words of tools/test name it.
-program_path = os.environ.get("BGPNET", BUILT)
+program_path = built()
 
 
 def load(name):
@@ -29,8 +33,25 @@ def asked_program():
 
 
 def run(tool, *words, given=b""):
-    """The status of a tool, and what it writes on the standard output and on the standard error."""
-    environment = dict(os.environ, BGPNET=program_path)
-    done = subprocess.run([sys.executable, str(TOOLS / tool), *map(str, words)], input=given, capture_output=True,
-                          env=environment, cwd=TOP)
+    """The status of a tool, and what it writes on the standard output and on the standard error. It is loaded anew and
+    runs in this process, which takes less time than to start another."""
+    streams = [io.TextIOWrapper(io.BytesIO(octets), encoding="utf-8", errors=errors, write_through=True)
+               for octets, errors in ((given, "strict"), (b"", "strict"), (b"", "backslashreplace"))]
+    here = os.getcwd()
+    os.chdir(TOP)
+    try:
+        with unittest.mock.patch.dict(os.environ, BGPNET=program_path), unittest.mock.patch.multiple(
+                sys, argv=[str(TOOLS / tool), *map(str, words)], **dict(zip(("stdin", "stdout", "stderr"), streams))):
+            run_tool(load(tool).main)
+    except SystemExit as ended:
+        status = ended.code
+    finally:
+        os.chdir(here)
+    return status, *(stream.buffer.getvalue().decode() for stream in streams[1:])
+
+
+def start(tool, *words):
+    """The same of a tool that is started as a program of its own."""
+    done = subprocess.run([sys.executable, str(TOOLS / tool), *map(str, words)], stdin=subprocess.DEVNULL,
+                          capture_output=True, env=dict(os.environ, BGPNET=program_path), cwd=TOP)
     return done.returncode, done.stdout.decode(), done.stderr.decode()

@@ -4,7 +4,7 @@ import itertools
 import random
 import unittest
 
-from support import TOP, asked_program, load, run
+from support import TOP, asked_program, load, run, start
 
 topology = load("topology")
 
@@ -49,6 +49,17 @@ def lines_of(out, word):
     return [line for line in out.splitlines() if line.startswith(word)]
 
 
+def paths_between(graph, router, origin):
+    """Every path between two routers that passes none twice."""
+    found, paths = [], [(router,)]
+    for path in paths:
+        if path[-1] == origin:
+            found.append(path)
+        else:
+            paths += [path + (peer,) for peer in graph.routers if peer not in path and (path[-1], peer) in graph.kinds]
+    return found
+
+
 def is_valley_free(path, is_provider, are_peers):
     """Whether a path is announced from its origin up through providers, across one pair of peers at most, and down."""
     falls = False
@@ -76,11 +87,8 @@ class Policies(unittest.TestCase):
             for origin in graph.routers:
                 rules, longer = topology.gao_rexford(graph, origin)
                 for router in graph.routers:
-                    others = [other for other in graph.routers if other not in (router, origin)]
-                    every = [(router, *middle, origin) for size in range(len(others) + 1)
-                             for middle in itertools.permutations(others, size)]
-                    every = [path for path in every if all(pair in graph.kinds for pair in zip(path, path[1:]))
-                             and is_valley_free(path, providers, are_peers)] if router != origin else [(origin,)]
+                    every = [path for path in paths_between(graph, router, origin)
+                             if is_valley_free(path, providers, are_peers)]
                     every.sort(key=lambda path: (len(path) > 1 and 2 * ((path[1], path[0]) in providers)
                                                  + are_peers(*path[:2]), len(path), path))
                     self.assertEqual((rules[router], longer), (every[:32], longer if len(every) > 32 else 0))
@@ -184,11 +192,8 @@ class Wishes(unittest.TestCase):
 
             rules, _ = topology.gao_rexford(graph, origin, wishes)
             for router in set(graph.routers) - {origin}:
-                others = [other for other in graph.routers if other not in (router, origin)]
-                every = [(router, *middle, origin) for size in range(len(others) + 1)
-                         for middle in itertools.permutations(others, size)]
-                every = [path for path in every if all(pair in graph.kinds for pair in zip(path, path[1:]))
-                         and is_valley_free(path, providers, are_peers)]
+                every = [path for path in paths_between(graph, router, origin)
+                         if is_valley_free(path, providers, are_peers)]
                 self.assertLessEqual(len(every), 32)
                 self.assertEqual(rules[router], sorted(every, key=order))
 
@@ -294,7 +299,8 @@ rounds 100
         self.assertEqual(asked_program().answer(["play"], out, "part")[0], "snapshot 1 settled")
 
     def test_the_same_seed_makes_the_same_network(self):
-        first, again, other = (run("topology", "--routers", 30, "--seed", seed)[1] for seed in (4, 4, 5))
+        """In every process, for each orders its sets of texts otherwise."""
+        first, again, other = (start("topology", "--routers", 30, "--seed", seed)[1] for seed in (4, 4, 5))
         self.assertEqual(first, again)
         self.assertNotEqual(first, other)
         for routers in (1, 2, 3, 4):
