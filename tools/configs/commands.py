@@ -48,6 +48,7 @@ REFUSED = {
     "backdoor": "a backdoor or labelled network",
     "alias": "names of communities of one's own",
     "extcommunity": "extended communities are not read",
+    "delay": "no delay: a map acts for a network only where it stands above its line",
 }
 
 # What other parts of a configuration begin with: their blocks are passed over.
@@ -57,7 +58,8 @@ ignored    <log|password|enable|service|debug|dump|agentx> REST...
 ignored    banner motd <default|file WORD|line REST...>
 ignored    no <log|password|enable|service|banner|debug|agentx|hostname> REST...
 ignored    allow-reserved-ranges
-ignored    bgp <no-rib|session-dscp (0-63)|update-delay (0-3600) [(1-3600)]|route-map delay-timer (0-600)>
+ignored    bgp <no-rib|session-dscp (0-63)|update-delay (0-3600) [(1-3600)]|route-map delay-timer (1-600)>
+delay      bgp route-map delay-timer 0
 ignored    bgp <suppress-fib-pending|send-extra-data zebra>
 ignored    [no] route-map WORD optimization
 ignored    no bgp graceful-shutdown
@@ -136,7 +138,8 @@ ignored    [no] bgp graceful-restart <preserve-fw-state|notification>
 ignored    no bgp graceful-restart <stalepath-time|restart-time|select-defer-time|rib-stale-time> [(0-4095)]
 ignored    bgp <cluster-id A.B.C.D|cluster-id (1-4294967295)|listen limit (1-65535)>
 warned     bgp minimum-holdtime (1-65535)
-ignored    bgp route-map delay-timer (0-600)
+ignored    bgp route-map delay-timer (1-600)
+delay      bgp route-map delay-timer 0
 ignored    bgp <long-lived-graceful-restart stale-time (1-4294967295)|conditional-advertisement timer (5-240)>
 ignored    no bgp <cluster-id|cluster-id A.B.C.D|cluster-id (1-4294967295)>
 ignored    no bgp <minimum-holdtime [(1-65535)]|route-map delay-timer [(0-600)]|listen limit [(1-65535)]>

@@ -396,6 +396,10 @@ class Text:
         else:
             body += [" !", " address-family ipv4 unicast"] + ["  " + line for line in family]
             body += [" exit-address-family", draw.of(("exit", "!"))]
+        default = next((line for line in body if line.startswith(" bgp default local-preference")), None)
+        if default and draw.chance(0.5):
+            body.remove(default)
+            body.insert(-1, default)
         heads = [["frr version 8.4.4", "frr defaults traditional"], ["frr version 7.3", "frr defaults traditional"],
                  ["frr version 8.4.4", "frr defaults datacenter"], ["! by hand"]]
         head = draw.of(heads if draw.chance(0.3) else heads[:1])

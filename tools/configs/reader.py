@@ -204,7 +204,8 @@ class Reader:
         if written[0] >> 24 >= 224:
             self.refuse(f"'{line.strip()}': no network of hosts, and FRR's peers pass it over")
         prefix = Prefix(written[0] & mask_of(written[1]), written[1])
-        self.router.networks[prefix] = Network(prefix, rest[1] if rest else None, self.place)
+        self.router.networks[prefix] = Network(prefix, rest[1] if rest else None, self.place,
+                                               self.router.default_preference)
 
     def length_of(self, mask):
         """The length of a netmask."""

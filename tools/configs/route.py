@@ -271,8 +271,10 @@ def without_policy(router, neighbor, direction):
 
 
 def own_route(router, network, notes=None):
-    """The route of a router's own network, or its denial."""
-    route = Route(med=0, has_med=True, preference=router.default_preference, weight=OWN_WEIGHT, notes=notes)
+    """The route of a router's own network, or its denial. Without a map it is made where its line stands, with one
+    again when all lines are read."""
+    preference = router.default_preference if network.map_name else network.preference
+    route = Route(med=0, has_med=True, preference=preference, weight=OWN_WEIGHT, notes=notes)
     if network.map_name:
         if network.map_name not in router.maps:
             return Denial(network.place, f"route-map {network.map_name} (there is no such map)")

@@ -3,8 +3,8 @@ from collections import namedtuple
 
 # A line that names something, or sets a value.
 Line = namedtuple("Line", "name place")
-# A network that a router originates.
-Network = namedtuple("Network", "prefix map_name place")
+# A network that a router originates, with the default of local preference that stood above its line.
+Network = namedtuple("Network", "prefix map_name place preference")
 
 POLICIES = ("distribute-list", "prefix-list", "filter-list", "route-map")
 SENT = {"both": ("standard", "extended"), "all": ("standard", "extended", "large")}

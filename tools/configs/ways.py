@@ -29,7 +29,7 @@ class Follower:
         """What tells prefixes apart: the origin's line, and which entries of lists have them."""
         has = tuple(block.least <= prefix.length <= block.most and prefix.address & block.mask == block.address
                     for block in self.blocks)
-        return router.asn, network.map_name, has
+        return router.asn, network.map_name, network.preference, has
 
     def ways(self, prefix, router, network):
         """The ways of each router for a prefix that its origin announces."""

@@ -177,6 +177,13 @@ CASES = [
      {"r1.conf": router(1, (2,), "route-map N permit 10 / set local-preference +50", "network 10.1.0.0/16 route-map N"),
       "r2.conf": router(2, (1,))},
      {(1, ONE): ["1 w 32768 lp 150 med 0"], (2, ONE): ["2-1 med 0"]}),
+    ("which without a map is that above its line, and with one the last",
+     {"r1.conf": router(1, (2,), "route-map OUT permit 10 / match local-preference 250 / set metric 5 / "
+                                 "route-map OUT permit 20",
+                        f"network {ONE} / network 10.3.0.0/16 route-map N / bgp default local-preference 250 / "
+                        f"network {TWO} / {OUT1}", below="route-map N permit 10"),
+      "r2.conf": router(2, (1,))},
+     {(2, ONE): ["2-1 med 0"], (2, TWO): ["2-1 med 5"], (2, "10.3.0.0/16"): ["2-1 med 5"]}),
     ("and ends at 0", into("route-map IN permit 10 / set local-preference -20"), {(2, ONE): ["2-1 lp 0 med 0"]}),
     ("the default is no attribute",
      diamond("route-map IN permit 10 / set local-preference +50", "neighbor 10.255.3.1 route-map IN in",

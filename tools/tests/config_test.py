@@ -118,6 +118,7 @@ class Refusals(unittest.TestCase):
                 ("neighbor 10.255.1.1 maximum-prefix-out 3", "a limit"),
                 ("bgp graceful-shutdown", "graceful-shutdown"),
                 ("bgp max-med administrative", "max-med"),
+                ("bgp route-map delay-timer 0", "a map acts for a network only where it stands above"),
                 ("neighbor 10.255.1.1 port 1179", "a port"),
                 ("neighbor 10.255.1.1 soo 65001:1", "a site of origin"),
                 ("neighbor 10.255.1.1 unsuppress-map M", "unsuppress-map"),
