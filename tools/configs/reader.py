@@ -21,6 +21,12 @@ def cut_lines(text):
     return [(number, line.rstrip("\r")) for number, line in enumerate(text.split("\n"), 1)]
 
 
+def form_of(text):
+    """Whether the text of an entry of an access-list or a prefix-list is `any`, a prefix, an address, or one with a
+    wildcard."""
+    return text if text == "any" else "prefix" if isinstance(text, tuple) or "/" in text else len(text.split())
+
+
 class Reader:
     """Obeys the lines of one file."""
 
@@ -358,8 +364,9 @@ class Reader:
         block, text = self.block_of(rest)
         found = self.list_of("access-list", words[1])
         entry = Entry(permits, block, text, self.place)
-        doubles = [found.double(permits, text), found.double(permits, text + " exact-match")]
-        doubles = [other for other in doubles if other not in (None, number)]
+        self.check_form(found, number, text, line)
+        same, exact = found.double(permits, text), found.double(permits, text + " exact-match")
+        doubles = [other for other in (same if same != number else None, exact) if other is not None]
         if not doubles:
             found.add(found.next_number() if number is None else number, entry)
         elif prefix_of(rest[0]) and prefix_of(rest[0])[0] != block.address:
@@ -367,6 +374,12 @@ class Reader:
         else:
             self.router.warn(self.place, f"'{line.strip()}': FRR takes it for a double of "
                                          f"{found.entries[doubles[0]].place}, and drops it")
+
+    def check_form(self, found, number, text, line):
+        """Refuses an entry of a number that another form of entry has: of that FRR may leave something."""
+        former = found.entries.get(number)
+        if former and form_of(former.text) != form_of(text):
+            self.refuse(f"'{line.strip()}': {former.place} says something of another form by this number: leave one out")
 
     @staticmethod
     def block_of(rest):
@@ -388,6 +401,7 @@ class Reader:
         block, text, has_hosts = self.span_of(rest, line)
         found = self.list_of("prefix-list", words[2])
         entry = Entry(permits, block, text, self.place)
+        self.check_form(found, number, text, line)
         other = found.double(permits, text)
         if other is None or other == number:
             found.add(found.next_number() if number is None else number, entry)

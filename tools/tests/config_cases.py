@@ -344,6 +344,15 @@ CASES = [
     ("an exact entry, then a wider one of the same prefix: dropped",
      pair("access-list L seq 5 permit 10.0.0.0/8 exact-match / access-list L seq 10 permit 10.0.0.0/8",
           "neighbor 10.255.1.1 distribute-list L in"), {(2, ONE): []}),
+    ("so it is where it has its number",
+     pair("access-list L seq 5 permit 10.0.0.0/8 exact-match / access-list L seq 5 permit 10.0.0.0/8",
+          "neighbor 10.255.1.1 distribute-list L in"), {(2, ONE): []}),
+    ("an entry takes the place of another of its number",
+     pair("access-list L seq 5 permit 10.2.0.0/16 / access-list L seq 5 permit 10.1.0.0/16 / "
+          "ip prefix-list P seq 5 permit 10.0.0.0/8 le 24 / ip prefix-list P seq 5 permit 10.1.0.0/16 / "
+          "route-map IN permit 10 / match ip address prefix-list P",
+          "neighbor 10.255.1.1 distribute-list L in / neighbor 10.255.1.1 route-map IN in"),
+     {(2, ONE): ["2-1 med 0"], (2, TWO): []}),
     ("bits under a wildcard are not cleared",
      pair("access-list 10 permit 10.1.1.0 0.0.255.255", "neighbor 10.255.1.1 distribute-list 10 in"), {(2, ONE): []}),
     ("a wildcard", pair("access-list 10 permit 10.1.0.0 0.0.255.255", "neighbor 10.255.1.1 distribute-list 10 in"),

@@ -238,6 +238,11 @@ class Refusals(unittest.TestCase):
                      "says the same")
         self.refused(pair("access-list L permit 10.0.0.1/8 / access-list L permit 10.0.0.2/8"), "10.0.0.2",
                      "says the same")
+        for one, other in (("access-list L seq 5 permit any", "access-list L seq 5 permit 10.1.0.0/16"),
+                           ("access-list L seq 5 permit host 10.1.0.0", "access-list L seq 5 permit 10.1.0.0/16"),
+                           ("access-list L seq 5 permit 10.1.0.0", "access-list L seq 5 permit 10.1.0.0 0.0.255.255"),
+                           ("ip prefix-list P seq 5 permit any", "ip prefix-list P seq 5 permit 10.1.0.0/16")):
+            self.refused(pair(f"{one} / {other}"), other, "of another form by this number")
         self.refused(pair("bgp community-list standard C permit 1:1 / bgp community-list expanded C permit 1"),
                      "expanded", "of the other kind")
 
