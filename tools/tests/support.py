@@ -1,11 +1,11 @@
 """What the tests of the tools share: the tools as modules and as programs, and the program that they ask."""
-import importlib.machinery
-import importlib.util
+import functools
 import io
 import os
 import pathlib
 import subprocess
 import sys
+import types
 import unittest.mock
 
 TOOLS = pathlib.Path(__file__).resolve().parent.parent
@@ -20,11 +20,16 @@ from program import Program, built, run_tool  # noqa: E402, for it stands beside
 program_path = built()
 
 
+@functools.lru_cache(maxsize=None)
+def compiled(path):
+    return compile(path.read_bytes(), str(path), "exec")
+
+
 def load(name):
     """A tool as a module."""
-    loader = importlib.machinery.SourceFileLoader(name, str(TOOLS / name))
-    module = importlib.util.module_from_spec(importlib.util.spec_from_loader(name, loader))
-    loader.exec_module(module)
+    module = types.ModuleType(name)
+    module.__file__ = str(TOOLS / name)
+    exec(compiled(TOOLS / name), module.__dict__)
     return module
 
 
