@@ -217,7 +217,7 @@ weight     PEER weight (0-65535)
 weight     no PEER weight [(0-65535)]
 policy     [no] PEER <distribute-list|prefix-list|filter-list|route-map> WORD <in|out>
 send       [no] PEER send-community [<both|all|extended|standard|large>]
-ignored    [no] PEER <soft-reconfiguration inbound|next-hop-self|next-hop-self force|disable-addpath-rx>
+ignored    [no] PEER <soft-reconfiguration inbound|next-hop-self [<force|all>]|disable-addpath-rx>
 warned     PEER maximum-prefix (1-4294967295) [(1-100)] [force]
 warned     PEER maximum-prefix (1-4294967295) [(1-100)] <warning-only|restart (1-65535)> [force]
 reflector  PEER route-reflector-client
