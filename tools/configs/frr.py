@@ -109,20 +109,34 @@ class Lab:
                 process.kill()
                 process.wait()
 
-    def ask(self, asn, command):
-        """What a process answers to a command, read as JSON."""
+    def tell(self, asn, commands):
+        """What a process answers to the last of some commands."""
         with socket.socket(socket.AF_UNIX) as channel:
             channel.settimeout(10)
             channel.connect(str(self.folder / str(asn) / "bgpd.vty"))
-            channel.sendall(command.encode() + b"\0")
-            said = b""
-            while not (len(said) >= 4 and said[-4:-1] == b"\0\0\0"):
-                more = channel.recv(65536)
-                if not more:
-                    break
-                said += more
-        text = said[:-4].decode()
+            for command in commands:
+                channel.sendall(command.encode() + b"\0")
+                said = b""
+                while not (len(said) >= 4 and said[-4:-1] == b"\0\0\0"):
+                    more = channel.recv(65536)
+                    if not more:
+                        break
+                    said += more
+        return said[:-4].decode()
+
+    def ask(self, asn, command):
+        """What a process answers to a command, read as JSON."""
+        text = self.tell(asn, [command])
         return json.loads(text) if text.strip() else {}
+
+    def shut(self, link, is_down):
+        """Shuts the session of a link down at both ends, or lets it come up again."""
+        for asn, peer in (link, link[::-1]):
+            word = "" if is_down else "no "
+            line = f"{word}neighbor {self.set.ends[asn][peer].neighbor.key} shutdown"
+            said = self.tell(asn, ["enable", "configure terminal", f"router bgp {asn}", line, "end"])
+            if said.strip():
+                raise Refusal(f"bgpd {asn} says of '{line}': {said.strip()}")
 
     def refusals(self):
         """What FRR refuses: the router, the number of the line, 0 where it says none, and the text."""
@@ -137,13 +151,15 @@ class Lab:
                     found.append((asn, 0, change.group(1)))
         return found
 
-    def are_up(self):
-        """Whether the sessions that carry routes are up."""
+    def are_up(self, down=None):
+        """Whether the sessions that carry routes are up, all but that of the link that is to be down."""
         for asn in self.set.routers:
             peers = self.ask(asn, "show bgp ipv4 unicast summary json").get("peers", {})
             up = {address for address, peer in peers.items() if peer.get("state") == "Established"}
-            if not up >= {self.set.ends[asn][peer].neighbor.key for peer in self.set.up[asn]}:
-                return False
+            for peer in self.set.up[asn]:
+                is_down = down is not None and {asn, peer} == set(down)
+                if is_down == (self.set.ends[asn][peer].neighbor.key in up):
+                    return False
         return True
 
     def look(self):
@@ -167,10 +183,10 @@ class Lab:
             time.sleep(LOOK)
         return False
 
-    def wait(self):
-        """Waits until the set is quiet: `quiet`, `changing`, or `down` where sessions do not come up. A machine that is
-        slow to answer is looked at less often."""
-        if not self.wait_for(self.are_up, NO_SESSION):
+    def wait(self, down=None):
+        """Waits until the set is quiet, the session of a link down or none: `quiet`, `changing`, or `down` where sessions
+        do not come up. A machine that is slow to answer is looked at less often."""
+        if not self.wait_for(lambda: self.are_up(down), NO_SESSION):
             return "down"
         began, last, alike, changes = time.monotonic(), None, 0, 0
         while alike < ALIKE:
@@ -181,7 +197,7 @@ class Lab:
             if at - began > FOR_EVER and changes > CHANGES:
                 return "changing"
             time.sleep(max(LOOK, 2 * (time.monotonic() - at)))
-        return "quiet" if self.are_up() else "down"
+        return "quiet" if self.are_up(down) else "down"
 
     def tables(self, prefixes):
         """What each router has for each prefix."""

@@ -791,9 +791,16 @@ class Random(unittest.TestCase):
                 self.assertEqual(ends[0][1], ends[2][1] if ends[2][0] else ends[0][1], seed)
 
     def test_beside_frr_where_frr_is_not_there(self):
-        status, out, error = run("beside_frr", "--frr", "/nowhere", "examples")
-        self.assertEqual((status, error), (0, ""))
-        self.assertTrue(out.startswith("skipped"))
+        for words in ([], ["--fail-each-link"]):
+            status, out, error = run("beside_frr", "--frr", "/nowhere", "examples", *words)
+            self.assertEqual((status, error), (0, ""))
+            self.assertTrue(out.startswith("skipped"))
+
+    def test_beside_frr_leaves_out_the_paths_over_a_link(self):
+        paths = {1: [(1,)], 2: [(2, 3, 1), (2, 1)], 3: [(3, 1), (3, 2, 1)]}
+        without = load("beside_frr").without
+        self.assertEqual(without(paths, (1, 2)), {1: [(1,)], 2: [(2, 3, 1)], 3: [(3, 1)]})
+        self.assertEqual(without(paths, None), paths)
 
 
 class Large(unittest.TestCase):
