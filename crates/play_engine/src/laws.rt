@@ -1,6 +1,6 @@
 //! What the definitions say together; the contract of each function is the law.
 
-ghost use Rattle.play_engine.specs.Laws.{PlaysToOne, CutsToOne};
+ghost use Rattle.play_engine.specs.Laws.{PlaysToOne, CutsToOne, WhysToOne};
 
 use bgp_codec::Message;
 use net_text::laws::{
@@ -10,6 +10,7 @@ use prefix_lanes::Prefix;
 use ranked_policy::Path;
 use router_runs::each_network_has_a_setting;
 use run_model::outcome_is_one;
+use why_engine::laws::each_router_has_one_text;
 use world_core::laws::played_runs_are_one;
 
 /// What `play` prints, want of memory aside, is a function of what it reads.
@@ -35,4 +36,16 @@ pub fn cut_prints_one_text()
     each_network_has_a_setting();
     played_runs_are_one();
     outcome_is_one::<Message, Prefix, Path>();
+}
+
+/// What `why` prints, want of memory aside, is a function of its number and of what it reads.
+pub fn why_prints_one_text()
+    ensures { WhysToOne }
+{
+    texts_spell_one_network();
+    spelt_settings();
+    what_is_spelt_is_not_refused();
+    texts_are_refused_once();
+    each_network_has_a_setting();
+    each_router_has_one_text();
 }

@@ -1,0 +1,21 @@
+//! The laws of the engines.
+
+use play_engine::laws::{cut_prints_one_text, play_prints_one_text, why_prints_one_text};
+use record_engine::laws::records_play_back;
+use text_engines::laws::{check_prints_one_text, decode_prints_one_text};
+use trace_engine::laws::{traces_play_back, traces_spell_their_runs};
+use why_engine::laws::each_router_has_one_text;
+
+// Calls each law once.
+#[test]
+fn laws_are_called() {
+    decode_prints_one_text();
+    check_prints_one_text();
+    each_router_has_one_text();
+    play_prints_one_text();
+    cut_prints_one_text();
+    why_prints_one_text();
+    traces_spell_their_runs();
+    traces_play_back();
+    records_play_back();
+}
