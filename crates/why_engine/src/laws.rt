@@ -2,7 +2,8 @@
 
 ghost use Rattle.why_engine.specs.Laws.{EachRouterHasOneText};
 
-/// What is printed of the router of a number, or that there is none, is a function of that number and of the world.
+/// What is printed of the router of a number, or that there is none, is a function of that number, of the network and
+/// of the world.
 pub fn each_router_has_one_text()
     ensures { EachRouterHasOneText }
 {}
