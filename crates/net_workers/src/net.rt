@@ -222,9 +222,9 @@ where
 /// A worker ends at its first Stop, or after so many chores. Refused [`RunFault::BadLimits`] where the
 /// chores are not 1 to [`MOST_TURNS`] or there is not one gate for each router, and nowhere else;
 /// [`RunFault::WorkerRefused`] only with the least router that has a fault, where it was refused;
-/// [`RunFault::BoardDiffers`] only where no worker has a fault. [`RunFault::Memory`] is a worker's want of
-/// memory or that of what is done around them: no clause says when. After a fault the other workers go on
-/// to their own end, and nothing is handed back.
+/// [`RunFault::BoardDiffers`] only where no worker has a fault: so the clause says of some workers that were
+/// told the same. [`RunFault::Memory`] is a worker's want of memory or that of what is done around them: no
+/// clause says when. After a fault the other workers go on to their own end, and nothing is handed back.
 ///
 /// What a record says is what the threads did, each router at the word of the gate that was given for it:
 /// it is one run of the network, and its pipes hold what was put into them and not taken.
@@ -241,7 +241,7 @@ where
     requires fresh { AllByRecursion (λ gate. G.given gate ≡ []) gates.items }
     ensures limits { OnOk result (AreLimits network.now limits.turns (length gates.items)) }
     ensures refused { IfErr result (λ why. why ≡ RunFault.BadLimits ↔ (AreLimits network.now limits.turns (length gates.items) → ⊥)) }
-    // The fault of a worker is that of the least router that has one, and it ended for it; those before it did their chores.
+    // Of some workers that were told so: the fault is the least router's that has one, it ended for it, those before it did their chores.
     ensures fault { IfErr result (FaultOf G.given G.told network.now limits.turns (map G.told gates.items)) }
     // Router by router, what the gate that comes back was told is what the one given was told.
     ensures told { IfOk result (λ r. map (λ w. G.told w.gate) r.workers.items ≡ map G.told gates.items) }

@@ -104,8 +104,8 @@ impl<'a, L: Lines, D: Desk, G: Gate> Worker<'a, L, D, G> {
     /// Refused [`WorkerFault::Refused`] only where the router, as it is then, has no stamp or incarnation
     /// left for a call of the last chore; [`WorkerFault::Memory`] only where the next chore was to be
     /// written down and the list of chores has no room left, or a call of the last chore has a step due;
-    /// and either where an offer waits in the router. So where nothing is due, a growth that is refused
-    /// ends no worker. Such a call may be of the item that was taken last from a peer, which is lost.
+    /// and either where an offer waits in the router. So a growth that is refused ends no turn in which
+    /// nothing is due. Such a call may be of the item that was taken last from a peer, which is lost.
     pub fn work<R: Wait>(&mut self, rt: &R, board: &D::Board, turns: u32) -> Result<(), WorkerFault>
         requires fresh { G.given self.old.gate ≡ [] }
         requires blank { self.old.journal.chores.items ≡ [] }
