@@ -94,16 +94,17 @@ class Program:
         self.path = os.path.abspath(path)
 
     def run(self, words, text):
-        """The status, 0 or 1, and what the program prints for a text on the standard output and error."""
+        """The status, 0 or 1, or 5 of `stable`, and what the program prints for a text on the standard output and
+        error."""
         done = subprocess.run([self.path, *words], input=text.encode("latin-1"), capture_output=True)
         lines = done.stdout.decode("latin-1").splitlines()
-        if done.returncode not in (0, 1):
+        if done.returncode not in (0, 1, 5):
             said = lines[0] if lines else "nothing"
             raise Refusal(f"bgpnet {' '.join(words)} ends with status {done.returncode}: {said}")
         return done.returncode, lines, done.stderr.decode("latin-1")
 
     def ask(self, words, text):
-        """The status, 0 or 1, and the lines that the program prints for a text."""
+        """The status, 0 or 1, or 5 of `stable`, and the lines that the program prints for a text."""
         return self.run(words, text)[:2]
 
     def answer(self, words, text, name):

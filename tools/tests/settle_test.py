@@ -10,7 +10,9 @@ import unittest
 from support import TOP, asked_program, load, run
 
 import tracing
+from live import GaveUp
 from network import Network, read_network
+from stable import Answer, network_text, stable_assignments
 
 settle = load("settle")
 
@@ -77,11 +79,11 @@ class RandomPolicies(unittest.TestCase):
         return rules, network, settle.live_paths(network, next(iter(network.origins)))
 
     def test_assignments_and_wheels_of_seven_hundred_policies(self):
-        seen = set()
+        seen, program = set(), asked_program()
         for rule, seed in self.POLICIES:
             rules, network, live = self.made(rule, seed)
             with self.subTest(rule=rule.__name__, seed=seed):
-                found, are_all = settle.stable_assignments(live, 1, 100)
+                found, are_all = stable_assignments(program, live, 1, 100)
                 self.assertTrue(are_all)
                 self.assertEqual(sorted(tuple(chosen[router] for router in network.routers) for chosen in found),
                                  sorted(stable_ones(rules)))
@@ -195,12 +197,13 @@ class Printed(unittest.TestCase):
     def test_a_program_that_does_not_confirm(self):
         with tempfile.TemporaryDirectory() as folder:
             program = pathlib.Path(folder) / "program"
-            program.write_text("#!/bin/sh\nif grep -q assignment; then echo unstable 2 has 2-1 best 2-3-1; else echo stable; fi\n")
+            lists = f"#!/bin/sh\ncase $1 in stable) exec {asked_program().path} \"$@\";; esac\n"
+            program.write_text(lists + "if grep -q assignment; then echo unstable 2 has 2-1 best 2-3-1; else echo stable; fi\n")
             program.chmod(0o755)
             status, out, error = run("settle", "examples/disagree.txt", "--program", program)
             self.assertEqual((status, error), (1, "settle: the program does not confirm what is found here\n"))
             self.assertEqual(out.count("check: unstable 2 has 2-1 best 2-3-1"), 2)
-            program.write_text("#!/bin/sh\ncase $1 in check) echo stable;; trace) exec " + asked_program().path + " trace;;\n"
+            program.write_text(lists + "case $1 in check) echo stable;; trace) exec " + asked_program().path + " trace;;\n"
                                "play) echo snapshot 1 settled; echo now; printf 'route %s 10.1.0.0/16 none\\n' 1 2 3;; esac\n")
             status, out, error = run("settle", "examples/disagree.txt", "--program", program, "--play", 0)
             self.assertEqual((status, error), (1, "settle: the program does not confirm what is found here\n"))
@@ -208,6 +211,36 @@ class Printed(unittest.TestCase):
             program.write_text("#!/bin/sh\necho memory; exit 3\n")
             self.assertEqual(run("settle", "examples/disagree.txt", "--program", program),
                              (1, "", "settle: bgpnet check ends with status 3: memory\n"))
+
+    def test_a_limit_of_the_program(self):
+        with tempfile.TemporaryDirectory() as folder:
+            program = pathlib.Path(folder) / "program"
+            program.write_text("#!/bin/sh\ncase $1 in stable) echo prefix 10.0.0.0/8 unknown steps 2 3; exit 5;; esac\necho stable\n")
+            program.chmod(0o755)
+            self.assertEqual(run("settle", "examples/disagree.txt", "--program", program), (
+                3, f"prefix {PREFIX} of 1\n  `bgpnet stable` met a limit: steps 2 3; nothing is said of the ends\n", ""))
+            program.write_text("#!/bin/sh\ncase $1 in stable) echo refused 3 N3; exit 1;; esac\necho stable\n")
+            self.assertEqual(run("settle", "examples/disagree.txt", "--program", program),
+                             (1, "", "settle: bgpnet stable --most 1000: refused 3 N3\n"))
+
+    def test_what_the_program_is_asked(self):
+        paths = {1: [(1,)], 70000: [(70000, 2, 1), (70000, 1)], 2: [(2, 1)], 3: []}
+        self.assertEqual(network_text(paths, 1).splitlines(), [
+            "asn 4", "router 1 10.0.0.0", "router 2 10.0.0.1", "router 70000 10.0.0.2", "link 1 2", "link 1 70000",
+            "link 2 70000", "origin 1 10.0.0.0/8", "rank 1 10.0.0.0/8 1", "rank 2 10.0.0.0/8 2-1",
+            "rank 70000 10.0.0.0/8 70000-2-1 70000-1"])
+        self.assertEqual(stable_assignments(asked_program(), paths, 1, 1),
+                         ([{1: (1,), 70000: (70000, 2, 1), 2: (2, 1), 3: ()}], True))
+        paths[2] = [(2, *middle, 1) for size in range(3) for middle in itertools.permutations(range(3, 9), size)]
+        self.assertNotIn("rank 2 ", network_text(paths, 1, {2}))
+        with self.assertRaises(GaveUp):
+            network_text(paths, 1)
+        answer = Answer(["prefix 10.0.0.0/8 stable 4", "route 1 10.0.0.0/8 1", "route 9 10.0.0.0/8 none",
+                         "dispute 1 10.0.0.0/8 stable 2 routers 2 3", "choice 2-3-1 3-1", "choice none 3-2-1",
+                         "dispute 2 10.0.0.0/8 stable 2 routers 4", "choice 4-1", "choice none"])
+        self.assertEqual(list(answer.assignments()), [
+            {1: (1,), 9: (), 2: two, 3: three, 4: four}
+            for two, three in (((2, 3, 1), (3, 1)), ((), (3, 2, 1))) for four in ((4, 1), ())])
 
     def test_two_prefixes_and_a_wider_rule(self):
         text = ("router 1 10.0.0.1\nrouter 2 10.0.0.2\nrouter 3 10.0.0.3\nlink 1 2\nlink 2 3\nlink 1 3\n"
@@ -278,16 +311,20 @@ class Answered(unittest.TestCase):
         self.assertIn("  no dispute wheel\n  every fair order settles, and in the same routes\nplayed 2 orders\n"
                       f"    2  settled {PREFIX}: 1 2-1 3-1 ", out)
 
-    def test_no_rules_is_as_the_search_has_it(self):
+    def test_no_rules_is_as_the_program_has_it(self):
+        program, asked = asked_program(), 0
         for seed in range(60):
             draw, lines = random.Random(seed), [f"router {router} 10.0.0.{router}" for router in range(1, 8)]
             links = {(draw.randrange(1, router), router) for router in range(2, 8)}
             links |= {tuple(sorted(draw.sample(range(1, 8), 2))) for _ in range(5)}
             network = Network(lines + [f"link {one} {other}" for one, other in links] + [f"origin 1 {PREFIX}"])
             prefix = next(iter(network.origins))
-            found, live = settle.Found(network, prefix, 9), settle.live_paths(network, prefix)
-            self.assertEqual((found.assignments, found.are_all), settle.stable_assignments(live, 1, 9))
+            found, live = settle.Found(program, network, prefix, 9), settle.live_paths(network, prefix)
+            if max(map(len, live.values())) <= 32:
+                self.assertEqual((found.assignments, found.are_all), stable_assignments(program, live, 1, 9))
+                asked += 1
             self.assertEqual(found.wheel, settle.Spokes(live).wheel())
+        self.assertGreater(asked, 20)
 
     def test_too_many_paths_of_one_prefix(self):
         """The search gives that prefix up, and answers the other."""

@@ -1,14 +1,15 @@
-//! `bgpnet`: decodes BGP-4 messages, says whether paths are a stable assignment, plays schedules of a
-//! network, and runs a network in threads.
+//! `bgpnet`: decodes BGP-4 messages, says whether paths are a stable assignment, lists all that are, plays
+//! schedules of a network, and runs a network in threads.
 //!
 //! The program reads its words, standard input and nothing else, and writes standard output. `main` hands
 //! them to [`command_line::run_with`] and ends with its status. Where a text is refused, or a read or a write
 //! failed, it says so in words on the standard error, which no contract speaks of.
 //!
 //! Its one contract is that of the engine that the words ask for: `text_engines::decode_stream` for
-//! `bgpnet decode`, `text_engines::check_stream` for `bgpnet check`, `play_engine::play_stream` for
-//! `bgpnet play`, `play_engine::cut_stream` for `bgpnet cut`, `play_engine::why_stream` for `bgpnet why`,
-//! `run_engine::run_stream` for `bgpnet run`. The definitions stand in their `specs/`.
+//! `bgpnet decode`, `text_engines::check_stream` for `bgpnet check`, `stable_engine::stable_stream` for
+//! `bgpnet stable`, `play_engine::play_stream` for `bgpnet play`, `play_engine::cut_stream` for `bgpnet cut`,
+//! `play_engine::why_stream` for `bgpnet why`, `run_engine::run_stream` for `bgpnet run`. The definitions
+//! stand in their `specs/`.
 #![tactic(auto)]
 
 mod said;

@@ -7,6 +7,7 @@ use Rattle.play_engine.specs.Cutting.{Cuts, Whys}
 use Rattle.trace_engine.specs.Tracings.{Traces}
 use Rattle.run_engine.specs.Running.{Runs}
 use Rattle.record_engine.specs.Recording.{Records}
+use Rattle.stable_engine.specs.Answers.{Lists}
 use Rattle.command_line.specs.declared.tasks.Task.{Task}
 use Rattle.command_line.specs.declared.tasks.Task.TheVariants as task
 use Rattle.command_line.specs.declared.tasks.ThreadTask.{ThreadTask}
@@ -20,6 +21,7 @@ TaskPrints task.Play = Plays
 TaskPrints task.Trace = Traces
 TaskPrints (task.Cut s) = Cuts s
 TaskPrints (task.Why u) = Whys u
+TaskPrints (task.Stable limits) = Lists limits
 
 -- what a task of threads prints for an input
 abbrev pub ThreadsPrint : ThreadTask → List ℕ → Output → Type 0

@@ -43,7 +43,7 @@ rule and 16 routers a path; an input has at most 16777216 octets.
   G4  a run whose offers are not those that its workers wrote down: no input is known to lead to it
 
 Status 0: done. 1: a fault, a truncated end, or a refused input. 2: other words than these. 3: memory
-was refused ('memory'). 4: a read or a write failed.";
+was refused ('memory'). 4: a read or a write failed. 5: a limit of 'stable' was met.";
 
 /// What the help of `decode` says below its options: an example, and the statuses.
 pub const DECODE_HELP: &str = "\
@@ -101,6 +101,44 @@ output is 'stable'. 'bgpnet --help' has the lines of a network and the codes of 
 
 Status 0: it is judged. 1: a refused input. 2: other words than these. 3: memory was refused ('memory').
 4: a read or a write failed.";
+
+/// What the help of `stable` says below its options: an example, and the statuses.
+pub const STABLE_HELP: &str = "\
+The input is a network; what stands behind a line 'assignment' or 'schedule' is left out:
+
+    router 1 10.0.0.1
+    router 2 10.0.0.2
+    router 3 10.0.0.3
+    link 1 2
+    link 1 3
+    link 2 3
+    origin 1 10.1.0.0/16
+    rank 2 10.1.0.0/16 2-3-1 2-1
+    rank 3 10.1.0.0/16 3-2-1 3-1
+
+Each of 2 and 3 would rather go through the other, so two assignments of paths are stable, and the
+output is
+
+    prefix 10.1.0.0/16 stable 2
+    route 1 10.1.0.0/16 1
+    dispute 1 10.1.0.0/16 stable 2 routers 2 3
+    choice 2-3-1 3-1
+    choice 2-1 3-2-1
+
+'stable K': so many assignments are stable for the prefix, and no other ('many' where they are more
+than 18446744073709551615). 'route': the router has this path in all of them. 'dispute': routers whose
+paths depend on each other; 'choice' has a path for each of them, in their order. An assignment is
+stable exactly where it has the paths of the routes, and of each dispute one of its choices. A dispute
+with 'stable 0' has none, and then no assignment is stable.
+
+'prefix PREFIX unknown WHY': a limit was met, and nothing is said of the prefix. 'paths U': router U has
+no 'rank' line for it, and may have too many paths. 'choices U V ..': the dispute of these routers has
+more than N choices (--most). 'steps U V ..': its search would take more than N steps (--steps).
+'refused LINE CODE' names the first line that can't be read; 'bgpnet --help' has the codes, and the
+lines of a network.
+
+Status 0: done. 1: a refused input. 2: other words than these. 3: memory was refused ('memory').
+4: a read or a write failed. 5: done, and a prefix is unknown.";
 
 /// What the help of `play` says below its options: an example, the orders, and the statuses.
 pub const PLAY_HELP: &str = "\

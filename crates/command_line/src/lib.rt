@@ -2,8 +2,8 @@
 //!
 //! [`read_words`] says what the words ask for: a [`Task`] that starts no thread, a [`ThreadTask`], or a text, which is
 //! a help or what is wrong with the words. [`run_task`] and [`run_thread_task`] hand a task to an engine of
-//! `text_engines`, `play_engine`, `trace_engine`, `run_engine` or `record_engine`, a function over a reader and a
-//! writer that says exactly what it writes for what it reads, and say the same. `run_task` has no bound by which it
+//! `text_engines`, `stable_engine`, `play_engine`, `trace_engine`, `run_engine` or `record_engine`, a function over a
+//! reader and a writer that says exactly what it writes for what it reads, and say the same. `run_task` has no bound by which it
 //! could wait for a thread, so it returns. [`run_with`] does what the words ask for, and may wait: a status is answered
 //! where no read and no write failed, and only there. [`status_of`] is the status that the program ends with.
 #![tactic(auto)]
@@ -16,8 +16,8 @@ mod tasks;
 mod words;
 
 pub use helps::{
-    CHECK_HELP, CUT_HELP, DECODE_HELP, PLAY_HELP, RECORD_HELP, RUN_HELP, TOP_HELP, TRACE_HELP,
-    WHY_HELP,
+    CHECK_HELP, CUT_HELP, DECODE_HELP, PLAY_HELP, RECORD_HELP, RUN_HELP, STABLE_HELP, TOP_HELP,
+    TRACE_HELP, WHY_HELP,
 };
 use std::alloc::{AllocError, Global};
 use std::sync::Wait;

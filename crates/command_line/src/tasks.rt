@@ -8,6 +8,8 @@ use bgp_codec::Rule;
 use play_engine::{cut_stream, play_stream, why_stream};
 use record_engine::record_stream;
 use run_engine::{RunOptions, run_stream};
+use stable_engine::stable_stream;
+use stable_search::Limits;
 use std::alloc::Global;
 use std::sync::Wait;
 use std::thread::Threads;
@@ -29,6 +31,8 @@ pub enum Task {
     Cut(u32),
     /// Show what the router of this number knows.
     Why(u32),
+    /// List all stable assignments, as far as these limits of each dispute let it.
+    Stable(Limits),
 }
 
 /// A task of threads.
@@ -68,6 +72,7 @@ pub fn run_task<S: Source, T: Sink>(
         Task::Trace => trace_stream(alloc, reader, writer),
         Task::Cut(number) => cut_stream(alloc, number, reader, writer),
         Task::Why(number) => why_stream(alloc, number, reader, writer),
+        Task::Stable(limits) => stable_stream(alloc, &limits, reader, writer),
     }
 }
 

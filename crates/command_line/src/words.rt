@@ -5,8 +5,8 @@ ghost use Rattle.std.specs.List.{list_all};
 ghost use Rattle.net_text.specs.Words.{is_digit};
 
 use crate::helps::{
-    CHECK_HELP, CUT_HELP, DECODE_HELP, PLAY_HELP, RECORD_HELP, RUN_HELP, TOP_HELP, TRACE_HELP,
-    WHY_HELP,
+    CHECK_HELP, CUT_HELP, DECODE_HELP, PLAY_HELP, RECORD_HELP, RUN_HELP, STABLE_HELP, TOP_HELP,
+    TRACE_HELP, WHY_HELP,
 };
 use crate::tasks::{Task, ThreadTask};
 use bgp_codec::{NOBODY, Rule};
@@ -14,6 +14,7 @@ use bgp_values::{Width, greatest_asn};
 use clap::error::ErrorKind;
 use clap::{Arg, ArgMatches, Command, Error};
 use run_engine::RunOptions;
+use stable_search::Limits;
 use std::alloc::{AllocError, Global};
 use text_engines::status::{DONE, USAGE};
 
@@ -39,6 +40,12 @@ const TURNS: u32 = 20_000;
 
 // The snapshots where `--snapshots` does not say them.
 const SNAPSHOTS: u32 = 20;
+
+// The most choices of a dispute where `--most` does not say them.
+const MOST_CHOICES: u32 = 1_000;
+
+// The most steps of the search of a dispute where `--steps` does not say them.
+const STEPS: u32 = 10_000_000;
 
 // Whether all octets are decimal digits.
 fn are_digits(text: &[u8]) -> bool
@@ -132,6 +139,21 @@ fn asked_why(alloc: Global, found: &ArgMatches) -> Result<Asked, AllocError> {
     }
 }
 
+fn asked_stable(alloc: Global, found: &ArgMatches) -> Result<Asked, AllocError> {
+    if let Some(text) = sign_of(alloc, found, "most", "--most <N>")? {
+        return Ok(Asked::Text(text, USAGE));
+    }
+    if let Some(text) = sign_of(alloc, found, "steps", "--steps <N>")? {
+        return Ok(Asked::Text(text, USAGE));
+    }
+    let most = found.get_one::<u32>("most").unwrap_or(MOST_CHOICES);
+    let steps = found.get_one::<u32>("steps").unwrap_or(STEPS);
+    Ok(Asked::Task(Task::Stable(Limits {
+        most: most as usize,
+        steps: u64::from(steps),
+    })))
+}
+
 // The options of a run in threads, or what is said of the words.
 fn run_options(
     alloc: Global,
@@ -208,6 +230,24 @@ fn why_command<'a>(alloc: Global) -> Result<Command<'a>, AllocError> {
         .arg(router)
 }
 
+fn stable_command<'a>(alloc: Global) -> Result<Command<'a>, AllocError> {
+    let most = Arg::new(alloc, "most")
+        .long("most")
+        .value_name("N")
+        .value_parser(clap::value_parser!(u32).range(1..))
+        .help("The most choices of a dispute, 1 to 4294967295 [default: 1000]");
+    let steps = Arg::new(alloc, "steps")
+        .long("steps")
+        .value_name("N")
+        .value_parser(clap::value_parser!(u32).range(1..))
+        .help("The most steps of the search of a dispute, 1 to 4294967295 [default: 10000000]");
+    Command::new(alloc, "stable")
+        .about("Lists all stable assignments of a network")
+        .after_help(STABLE_HELP)
+        .arg(most)?
+        .arg(steps)
+}
+
 // A word that runs a network in threads.
 fn threads_command<'a>(
     alloc: Global,
@@ -258,14 +298,15 @@ fn command<'a>(alloc: Global) -> Result<Command<'a>, AllocError> {
         .after_help(TRACE_HELP);
     Command::new(alloc, "bgpnet")
         .about(
-            "Decodes BGP-4 messages, says whether paths are a stable assignment, plays schedules, \
-            runs networks",
+            "Decodes BGP-4 messages, says whether paths are a stable assignment, lists all that are, \
+            plays schedules, runs networks",
         )
         .after_help(TOP_HELP)
         .version(VERSION)
         .subcommand_required(true)
         .subcommand(decode_command(alloc)?)?
         .subcommand(check)?
+        .subcommand(stable_command(alloc)?)?
         .subcommand(play)?
         .subcommand(trace)?
         .subcommand(cut_command(alloc)?)?
@@ -284,6 +325,9 @@ fn asked_by(alloc: Global, matches: &ArgMatches) -> Result<Asked, AllocError> {
     }
     if matches.subcommand_matches("check").is_some() {
         return Ok(Asked::Task(Task::Check));
+    }
+    if let Some(found) = matches.subcommand_matches("stable") {
+        return asked_stable(alloc, found);
     }
     if let Some(found) = matches.subcommand_matches("cut") {
         return asked_cut(alloc, found);

@@ -299,16 +299,18 @@ module _ (seats : List Seat) (sets : List ℕ) (values : AreValues seats sets) (
 
   -- the part's routers differ, its choices have a path for each, and none is listed twice
   pub is_part : ((i : ℕ) (s : Seat) → StandsAt seats i s → AllPairs (λ path later. path ≢ later) s.values.items)
-      → ((i j : ℕ) (s t : Seat) → StandsAt seats i s → StandsAt seats j t → s.router ≡ t.router → i ≡ j) → IsPart part
-  is_part once routers_once = record {
-    apart = λ a b d lt inside e.
+      → ((i j : ℕ) (s t : Seat) → StandsAt seats i s → StandsAt seats j t → i < j → s.router < t.router) → IsPart part
+  is_part once routers_rise = record {
+    some = (let some = is.some in omega (arith, some, of.routers.size));
+    rising = λ a b d lt inside.
         (let alt : a < length group.places = omega (arith, lt, inside, of.routers.size) in
         let blt : b < length group.places = omega (arith, inside, of.routers.size) in
         let s = seat_of a alt in
         let t = seat_of b blt in
-        let same : s.0.router ≡ t.0.router =
-        sym (of.routers.each a s.0 alt s.1) ∙ get_or_default part.routers a 0 d (omega (arith, lt, inside)) ∙ e ∙ get_or_default part.routers b d 0 inside ∙ of.routers.each b t.0 blt t.1 in
-        is.apart a b 0 lt blt (routers_once (get_or group.places a 0) (get_or group.places b 0) s.0 t.0 s.1 t.1 same));
+        let up = routers_rise (get_or group.places a 0) (get_or group.places b 0) s.0 t.0 s.1 t.1 (is.rising a b 0 lt blt) in
+        let one : get_or part.routers a d ≡ s.0.router = get_or_default part.routers a d 0 (omega (arith, lt, inside)) ∙ of.routers.each a s.0 alt s.1 in
+        let other : get_or part.routers b d ≡ t.0.router = get_or_default part.routers b d 0 inside ∙ of.routers.each b t.0 blt t.1 in
+        omega (arith, up, one, other));
     whole = λ j d lt. ap length (get_or_default part.choices j d [] lt) ∙ choice_size j (omega (arith, lt, of.count));
     once = λ a b d lt inside e.
         (let alt : a < length group.picks = omega (arith, lt, inside, of.count) in
@@ -374,7 +376,7 @@ every p is law seats at each ways over sets values groups fall found of = record
   parts = λ g d lt.
       (let group = group_at g (omega (arith, lt, of.size)) in
       let part = get_or found.parts g d in
-      is_part seats sets values group.0 (here (IsGroup sets) groups g group.0 fall.each group.1) part (of.each g group.0 part group.1 (lt, get_or_default found.parts g part d lt)) once routers_once);
+      is_part seats sets values group.0 (here (IsGroup sets) groups g group.0 fall.each group.1) part (of.each g group.0 part group.1 (lt, get_or_default found.parts g part d lt)) once routers_rise);
   routers = λ u. (
     λ router.
         (let r = router_at p is law seats at each ways over sets values u router in
@@ -402,6 +404,18 @@ every p is law seats at each ways over sets values groups fall found of = record
       let apart = fall.apart g h first.0 lt next.1.0 in
       apart r.0 (subst (λ (x : Group). Contains x.places r.0) (sym first.1.1) r.2)
       (subst (λ (x : Group). Contains x.places r.0) (sym (get_or_default groups h first.0 next.0 next.1.0 ∙ next.1.1)) (subst (Contains next.0.places) (sym same) t.2)));
+  order = λ g h d lt inside.
+      (let first = group_at g (omega (arith, lt, inside, of.size)) in
+      let next = group_at h (omega (arith, inside, of.size)) in
+      let part = get_or found.parts g d in
+      let later = get_or found.parts h d in
+      let one = least_of first.0 part (here (IsGroup sets) groups g first.0 fall.each first.1) (of.each g first.0 part first.1 (omega (arith, lt, inside), get_or_default found.parts g part d (omega (arith, lt, inside)))) in
+      let other = least_of next.0 later (here (IsGroup sets) groups h next.0 fall.each next.1) (of.each h next.0 later next.1 (inside, get_or_default found.parts h later d inside)) in
+      let order : get_or first.0.places 0 0 < get_or next.0.places 0 0 =
+      subst (λ (x : Group). get_or x.places 0 0 < get_or next.0.places 0 0) first.1.1
+      (subst (λ (x : Group). get_or (get_or groups g first.0).places 0 0 < get_or x.places 0 0) (get_or_default groups h first.0 next.0 next.1.0 ∙ next.1.1) (fall.order g h first.0 lt next.1.0)) in
+      let up = routers_rise (get_or first.0.places 0 0) (get_or next.0.places 0 0) one.0 other.0 one.1 other.1 order in
+      omega (arith, up, one.2, other.2));
 }
   where
     group_at : (g : ℕ) → g < length groups → (group : Group) × StandsAt groups g group
@@ -420,6 +434,22 @@ every p is law seats at each ways over sets values groups fall found of = record
         let rising : AllPairs (λ u v. u < v) (map f seats) = subst (AllPairs (λ u v. u < v)) (sym at) is.problem.network.plan.rising in
         rising_once (map f seats) i j rising (omega (arith, size, st.0)) (omega (arith, size, to.0))
         (get_or-map f seats i s 0 st.0 ∙ ap f st.1 ∙ e ∙ ap f (sym to.1) ∙ sym (get_or-map f seats j t 0 to.0))
+
+    routers_rise : (i j : ℕ) (s t : Seat) → StandsAt seats i s → StandsAt seats j t → i < j → s.router < t.router
+    routers_rise i j s t st to lt =
+        let f : Seat → ℕ = λ r. r.router in
+        let size = length-map seats f in
+        let rising : AllPairs (λ u v. u < v) (map f seats) = subst (AllPairs (λ u v. u < v)) (sym at) is.problem.network.plan.rising in
+        let up : get_or (map f seats) i 0 < get_or (map f seats) j 0 = rising i j 0 lt (omega (arith, size, to.0)) in
+        let one : get_or (map f seats) i 0 ≡ s.router = get_or-map f seats i s 0 st.0 ∙ ap f st.1 in
+        let other : get_or (map f seats) j 0 ≡ t.router = get_or-map f seats j t 0 to.0 ∙ ap f to.1 in
+        omega (arith, up, one, other)
+
+    -- the seat of a part's least router
+    least_of : (group : Group) (part : Part) → IsGroup sets group → IsPartOf seats group part → (s : Seat) × StandsAt seats (get_or group.places 0 0) s × (get_or part.routers 0 0 ≡ s.router)
+    least_of group part x o =
+        let s = stands seats (get_or group.places 0 0) (let inside = x.inside 0 0 x.some in omega (arith, inside, values.0)) in
+        (s.0, s.1, o.routers.each 0 s.0 x.some s.1)
 
     has_all : (paths : ℕ → List ℕ) → All (HasChoice paths) found.parts → (i : ℕ) (s : Seat) → StandsAt seats i s → Contains s.values.items (paths s.router)
     has_all paths chosen i s st =

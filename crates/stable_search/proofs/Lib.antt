@@ -6,3 +6,4 @@ pub mod RelateLemmas
 pub mod EveryLemmas
 pub mod GroupLemmas
 pub mod PartLemmas
+pub mod CountLemmas

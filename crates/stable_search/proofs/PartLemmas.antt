@@ -13,7 +13,7 @@ use Rattle.stable_search.specs.declared.group.Group.{Group}
 use Rattle.stable_search.specs.declared.way.Way.{Way}
 use Rattle.stable_search.specs.Picks.{Has, IsIn, FitsWay, IsWithin, AreWithin, Solves, AreAll, Narrows}
 use Rattle.stable_search.specs.Groups.{at_places, IsPickOf, IsGroup, AreGroups}
-use Rattle.stable_search.specs.Parting.{IsFree, Joins, AreLabels, InPart, KeepsPart, IsPartSets, IsPartGroup, AreGrouped}
+use Rattle.stable_search.specs.Parting.{IsFree, AreLeast, Joins, AreLabels, InPart, KeepsPart, IsPartSets, IsPartGroup, AreGrouped}
 use Rattle.stable_search.proofs.NarrowLemmas.{in_before}
 
 pub in_all : (a b v : ℕ) → bit_and a b ≡ a → Has a v → Has b v
@@ -34,6 +34,7 @@ labels_on sets ways i way labels new within lt is size joins are = record {
       (let more : take (i + 1) ways ≡ take i ways ++ way ∷ [] = take_more ways i way lt ∙ ap (λ (w : Way). take i ways ++ w ∷ []) (sym is) in
       subst (λ (ws : List Way). k < length ws → IsFree sets (get_or ws k d) ⊎ (get_or new (get_or ws k d).from 0 ≡ get_or new (get_or ws k d).to 0)) (sym more)
       (λ l. All-push (λ (w : Way). IsFree sets w ⊎ (get_or new w.from 0 ≡ get_or new w.to 0)) (take i ways) way before joins.joined k d l) klt);
+  least = joins.least are.least;
 }
   where
     before : All (λ (w : Way). IsFree sets w ⊎ (get_or new w.from 0 ≡ get_or new w.to 0)) (take i ways)
@@ -45,11 +46,95 @@ labels_on sets ways i way labels new within lt is size joins are = record {
           inr (joins.kept (get_or (take i ways) k d).from (get_or (take i ways) k d).to (omega (arith, w_in.from, are.size)) (omega (arith, w_in.to, are.size)) e)
     ]
 
+pub labels_start : (sets : List ℕ) (labels : List ℕ) → length labels ≡ length sets → ((k : ℕ) → k < length sets → get_or labels k 0 ≡ k) → AreLabels sets [] labels
+labels_start sets labels size own = record {
+  size = size;
+  low = λ i lt. (let e = own i lt in omega (arith, e, lt));
+  joined = λ k d lt. absurd (omega (arith, lt));
+  least = λ i lt.
+      (let e = own i (omega (arith, lt, size)) in
+      (omega (arith, e), ap (λ (n : ℕ). get_or labels n 0) e));
+}
+
+module _ (sets : List ℕ) (way : Way) (old new : List ℕ) (one other : ℕ) (up : one ≤ other) (size : length new ≡ length old)
+    (is : (i : ℕ) → i < length old → get_or new i 0 ≡ cond (get_or old i 0 == other) one (get_or old i 0)) where
+  is_or : (a b : ℕ) → (a ≡ b) ⊎ (a ≢ b)
+  is_or a b = elim (cases_order a b) [
+    | inl e ↦ inl e
+    | inr differ ↦ inr (λ e. elim differ [ inl l ↦ omega (arith, l, e) | inr m ↦ omega (arith, m, e) ])
+  ]
+
+  at_other : (i : ℕ) → i < length old → get_or old i 0 ≡ other → get_or new i 0 ≡ one
+  at_other i lt e = is i lt ∙ ap (λ (b : Bool). cond b one (get_or old i 0)) (eq-eqb (get_or old i 0) other e)
+
+  at_rest : (i : ℕ) → i < length old → (get_or old i 0 ≢ other) → get_or new i 0 ≡ get_or old i 0
+  at_rest i lt not = is i lt ∙ ap (λ (b : Bool). cond b one (get_or old i 0)) (ne_eqb (get_or old i 0) other not)
+
+  at_one : (i : ℕ) → i < length old → get_or old i 0 ≡ one → get_or new i 0 ≡ one
+  at_one i lt e = elim (is_or (get_or old i 0) other) [ inl here ↦ at_other i lt here | inr not ↦ at_rest i lt not ∙ e ]
+
+  module _ (a b : ℕ) (alt : a < length old) (blt : b < length old) (a_is : get_or old a 0 ≡ one) (b_is : get_or old b 0 ≡ other) where
+    merged_kept : (i j : ℕ) → i < length old → j < length old → get_or old i 0 ≡ get_or old j 0 → get_or new i 0 ≡ get_or new j 0
+    merged_kept i j ilt jlt e = elim (is_or (get_or old i 0) other) [
+      | inl here ↦ at_other i ilt here ∙ sym (at_other j jlt (sym e ∙ here))
+      | inr not ↦ at_rest i ilt not ∙ e ∙ sym (at_rest j jlt (λ same. not (e ∙ same)))
+    ]
+
+    merged_low : (n : ℕ) → ((i : ℕ) → i < length old → get_or old i 0 < n) → (i : ℕ) → i < length old → get_or new i 0 < n
+    merged_low n all i lt = elim (is_or (get_or old i 0) other) [
+      | inl here ↦ (let e = at_other i lt here in let low = all a alt in omega (arith, e, low, a_is))
+      | inr not ↦ (let e = at_rest i lt not in let low = all i lt in omega (arith, e, low))
+    ]
+
+    merged_least : AreLeast old → AreLeast new
+    merged_least least i nlt =
+        let lt : i < length old = omega (arith, nlt, size) in
+        elim (is_or (get_or old i 0) other) [
+          | inl here ↦
+              let e = at_other i lt here in
+              let mine = least i lt in
+              let first = least a alt in
+              let low : one < length old = omega (arith, first.0, alt, a_is) in
+              let one_is : get_or old one 0 ≡ one = ap (λ (n : ℕ). get_or old n 0) (sym a_is) ∙ first.1 ∙ a_is in
+              (omega (arith, e, here, up, mine.0), ap (λ (n : ℕ). get_or new n 0) e ∙ at_one one low one_is ∙ sym e)
+          | inr not ↦
+              let e = at_rest i lt not in
+              let mine = least i lt in
+              let low : get_or old i 0 < length old = omega (arith, mine.0, lt) in (
+                omega (arith, e, mine.0),
+                ap (λ (n : ℕ). get_or new n 0) e ∙ at_rest (get_or old i 0) low (λ same. not (sym mine.1 ∙ same)) ∙ mine.1 ∙ sym e,
+              )
+        ]
+
+    pub joins_up : way.from ≡ a → way.to ≡ b → Joins sets way old new
+    joins_up from to = record {
+      kept = merged_kept;
+      low = merged_low;
+      joined = inr (ap (λ (n : ℕ). get_or new n 0) from ∙ at_one a alt a_is ∙ sym (at_other b blt b_is) ∙ ap (λ (n : ℕ). get_or new n 0) (sym to));
+      least = merged_least;
+    }
+
+    pub joins_down : way.from ≡ b → way.to ≡ a → Joins sets way old new
+    joins_down from to = record {
+      kept = merged_kept;
+      low = merged_low;
+      joined = inr (ap (λ (n : ℕ). get_or new n 0) from ∙ at_other b blt b_is ∙ sym (at_one a alt a_is) ∙ ap (λ (n : ℕ). get_or new n 0) (sym to));
+      least = merged_least;
+    }
+
+pub joins_free : (sets : List ℕ) (way : Way) (labels : List ℕ) → IsFree sets way → Joins sets way labels labels
+joins_free sets way labels free = record {
+  kept = λ i j ilt jlt e. e;
+  low = λ n all i lt. all i lt;
+  joined = inl free;
+  least = λ least. least;
+}
+
 -- ---- places of a label
 
 abbrev pub HasPlaces : List ℕ → ℕ → ℕ → List ℕ → Type 0
 HasPlaces labels label n places =
-    ((place : ℕ) → (Contains places place ↔ (place < n) × (get_or labels place 0 ≡ label))) × AllPairs (λ place later. place ≢ later) places
+    ((place : ℕ) → (Contains places place ↔ (place < n) × (get_or labels place 0 ≡ label))) × AllPairs (λ place later. place < later) places
 
 pub places_add : (labels : List ℕ) (label n : ℕ) (places new : List ℕ) → get_or labels n 0 ≡ label → new ≡ places ++ n ∷ [] → HasPlaces labels label n places → HasPlaces labels label (n + 1) new
 places_add labels label n places new here e inv = (
@@ -63,8 +148,8 @@ places_add labels label n places new here e inv = (
       | inr differ ↦ Contains-append_left places (n ∷ []) place ((inv.0 place).1 (elim differ [ inl l ↦ l | inr m ↦ absurd (omega (arith, x.0, m)) ], x.1))
     ]),
   ),
-  subst (AllPairs (λ (a b : ℕ). a ≢ b)) (sym e) (all_pairs_push (λ (a b : ℕ). a ≢ b) places n inv.1 (λ k d lt same.
-      (let x = (inv.0 (get_or places k d)).0 (Contains-get_or places k d lt) in omega (arith, x.0, same)))),
+  subst (AllPairs (λ (a b : ℕ). a < b)) (sym e) (all_pairs_push (λ (a b : ℕ). a < b) places n inv.1 (λ k d lt.
+      ((inv.0 (get_or places k d)).0 (Contains-get_or places k d lt)).0)),
 )
 
 pub places_skip : (labels : List ℕ) (label n : ℕ) (places new : List ℕ) → (get_or labels n 0 ≡ label → ⊥) → new ≡ places → HasPlaces labels label n places → HasPlaces labels label (n + 1) new
@@ -135,7 +220,7 @@ module _ (labels : List ℕ) (label : ℕ) (ways : List Way) (i : ℕ) (way : Wa
 
 module _ (ways : List Way) (sets labels : List ℕ) (label : ℕ) (size : length labels ≡ length sets) (within : AreWithin (length labels) ways) (part_ways : List Way) (keeps : KeepsPart labels label ways part_ways)
     (part_sets : List ℕ) (of : IsPartSets sets labels label part_sets) (places : List ℕ) (exact : (place : ℕ) → (Contains places place ↔ (place < length labels) × (get_or labels place 0 ≡ label)))
-    (apart : AllPairs (λ place later. place ≢ later) places) (found : List (List ℕ)) (all : AreAll part_ways part_sets found) where
+    (rising : AllPairs (λ place later. place < later) places) (some : 0 < length places) (found : List (List ℕ)) (all : AreAll part_ways part_sets found) where
   set_in : (i : ℕ) → i < length sets → get_or labels i 0 ≡ label → get_or part_sets i 0 ≡ get_or sets i 0
   set_in i lt e = of.each i lt ∙ ap (λ (b : Bool). cond b (get_or sets i 0) 1) (eq-eqb (get_or labels i 0) label e)
 
@@ -298,7 +383,8 @@ module _ (ways : List Way) (sets labels : List ℕ) (label : ℕ) (size : length
   part_group group pe fe = record {
     group = record {
       inside = subst (All (λ place. place < length sets)) (sym pe) (λ k d lt. (let p = place_of k lt in let e = get_or_default places k d 0 lt in omega (arith, e, p.0, size)));
-      apart = subst (AllPairs (λ (a b : ℕ). a ≢ b)) (sym pe) apart;
+      some = subst (λ (ps : List ℕ). 0 < length ps) (sym pe) some;
+      rising = subst (AllPairs (λ (a b : ℕ). a < b)) (sym pe) rising;
       picks = subst (λ (ps : List ℕ). All (IsPickOf sets ps) group.picks) (sym pe) (subst (All (IsPickOf sets places)) (sym fe) (λ j d lt.
           (let jlt : j < length found = (let s = length-map found (λ (f : List ℕ). at_places f places) in omega (arith, s, lt)) in
           subst (IsPickOf sets places) (sym (get_or-map (λ (g : List ℕ). at_places g places) found j [] d jlt)) (part_pick (get_or found j []) (Contains-get_or found j [] jlt)))));
@@ -325,7 +411,8 @@ module _ (sets labels : List ℕ) (ways : List Way) (n : ℕ) (groups : List Gro
       | inl same ↦ absurd (none place lt same)
       | inr differ ↦ are.all place lt (elim differ [ inl l ↦ l | inr m ↦ absurd (omega (arith, under, m)) ])
     ];
-    apart = are.apart;
+    some = are.some;
+    order = are.order;
   }
 
   pub grouped_add : (new : List Group) (group : Group) → new ≡ groups ++ group ∷ [] → IsPartGroup sets labels n ways group → AreGrouped sets labels ways n groups → AreGrouped sets labels ways (n + 1) new
@@ -336,10 +423,11 @@ module _ (sets labels : List ℕ) (ways : List Way) (n : ℕ) (groups : List Gro
       | inl same ↦ Any-push (λ (g : Group). Contains g.places place) groups group ((is.places place).1 (lt, same))
       | inr differ ↦ any_more place (are.all place lt (elim differ [ inl l ↦ l | inr m ↦ absurd (omega (arith, under, m)) ]))
     ];
-    apart = all_pairs_push (λ (a b : Group). (place : ℕ) → Contains a.places place → Contains b.places place → ⊥) groups group are.apart (λ k d lt place one other.
+    some = All-push (λ (g : Group). 0 < length g.places) groups group are.some is.group.some;
+    order = all_pairs_push (λ (a b : Group). (place behind : ℕ) → Contains a.places place → Contains b.places behind → get_or labels place 0 < get_or labels behind 0) groups group are.order (λ k d lt place behind one other.
         (let x = are.each k d lt in
         let a = (x.2.places place).0 one in
-        let b = (is.places place).0 other in
+        let b = (is.places behind).0 other in
         omega (arith, x.1, a.1, b.1)));
   })
     where
@@ -352,7 +440,8 @@ pub grouped_start : (sets labels : List ℕ) (ways : List Way) (groups : List Gr
 grouped_start sets labels ways groups e = subst (AreGrouped sets labels ways 0) (sym e) (record {
   each = λ k d lt. absurd (omega (arith, lt));
   all = λ place lt under. absurd (omega (arith, under));
-  apart = λ i j d lt inside. absurd (omega (arith, inside));
+  some = λ k d lt. absurd (omega (arith, lt));
+  order = λ i j d lt inside. absurd (omega (arith, inside));
 })
 
 pub grouped_all : (sets labels : List ℕ) (ways : List Way) (n : ℕ) (groups : List Group) → AreWithin (length sets) ways → AreLabels sets ways labels → length sets ≤ n → AreGrouped sets labels ways n groups → AreGroups ways sets groups
@@ -365,11 +454,34 @@ grouped_all sets labels ways n groups within of le are = record {
   );
   each = λ k d lt. (are.each k d lt).2.group;
   places = λ place lt. group_of place lt;
-  apart = are.apart;
+  apart = λ i j d lt inside place one other. (let up = are.order i j d lt inside place place one other in omega (arith, up));
+  order = λ i j d lt inside.
+      (let ilt : i < length groups = omega (arith, lt, inside) in
+      let one = are.each i d ilt in
+      let other = are.each j d inside in
+      let first = first_label one.2 in
+      let next = first_label other.2 in
+      let up = are.order i j d lt inside (get_or (get_or groups i d).places 0 0) (get_or (get_or groups j d).places 0 0) (Contains-get_or (get_or groups i d).places 0 0 one.2.group.some)
+      (Contains-get_or (get_or groups j d).places 0 0 other.2.group.some) in
+      omega (arith, up, first, next));
 }
   where
     group_of : (place : ℕ) → place < length sets → Any (λ group. Contains group.places place) groups
     group_of place lt = are.all place (omega (arith, lt, of.size)) (let low = of.low place lt in omega (arith, low, le))
+
+    -- the least place of a label is its first
+    first_label : {label : ℕ} {group : Group} → IsPartGroup sets labels label ways group → get_or labels (get_or group.places 0 0) 0 ≡ get_or group.places 0 0
+    first_label {label} {group} x =
+        let a = get_or group.places 0 0 in
+        let mine = (x.places a).0 (Contains-get_or group.places 0 0 x.group.some) in
+        let least = of.least a mine.0 in
+        let here : get_or labels (get_or labels a 0) 0 ≡ label = least.1 ∙ mine.1 in
+        let c = (x.places (get_or labels a 0)).1 (omega (arith, least.0, mine.0), here) in
+        let is : get_or group.places c.0 0 ≡ get_or labels a 0 = get_or_default group.places c.0 0 (get_or labels a 0) c.1 ∙ c.2 in
+        elim (cases_lt 0 c.0) [
+          | inl behind ↦ (let up : a < get_or group.places c.0 0 = x.group.rising 0 c.0 0 behind c.1 in omega (arith, up, is, least.0))
+          | inr first ↦ (let zero_is : get_or group.places c.0 0 ≡ a = ap (λ (n : ℕ). get_or group.places n 0) (omega (arith, first)) in sym is ∙ zero_is)
+        ]
 
     has_at : (pick : List ℕ) → All (λ group. Contains group.picks (at_places pick group.places)) groups → (i : ℕ) → i < length sets → Has (get_or sets i 0) (get_or pick i 0)
     has_at pick chosen i lt =
@@ -405,12 +517,14 @@ groups_before ways old new groups narrows are = record {
   );
   each = λ k d lt. (let g = are.each k d lt in record {
     inside = λ i e ilt. (let x = g.inside i e ilt in omega (arith, x, narrows.size));
-    apart = g.apart;
+    some = g.some;
+    rising = g.rising;
     picks = λ i e ilt. (let x = g.picks i e ilt in record { size = x.size; each = λ m mlt. narrows.fewer _ _ (x.each m mlt) });
     once = g.once;
   });
   places = λ place lt. are.places place (omega (arith, lt, narrows.size));
   apart = are.apart;
+  order = are.order;
 }
 
 pub within_copy : (n : ℕ) (way copy : Way) → copy.from ≡ way.from → copy.to ≡ way.to → copy.fits.items ≡ way.fits.items → IsWithin n way → IsWithin n copy

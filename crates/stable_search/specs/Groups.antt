@@ -17,14 +17,15 @@ pub record IsPickOf (sets places pick : List ℕ) : Type 0 where
   pub size : length pick ≡ length places
   pub each : (k : ℕ) → k < length places → Has (slice_index sets (slice_index places k)) (slice_index pick k)
 
--- different places, with picks out of their sets, none listed twice
+-- places, rising, with picks out of their sets, none listed twice
 pub record IsGroup (sets : List ℕ) (group : Group) : Type 0 where
   pub inside : All (λ place. place < length sets) group.places
-  pub apart : AllPairs (λ place later. place ≢ later) group.places
+  pub some : 0 < length group.places
+  pub rising : AllPairs (λ place later. place < later) group.places
   pub picks : All (IsPickOf sets group.places) group.picks
   pub once : AllPairs (λ pick later. pick ≢ later) group.picks
 
--- a pick solves exactly where it is one of each group's; each place is in one group
+-- a pick solves exactly where it is one of each group's; each place is in one group; groups stand by their least places
 pub record AreGroups (ways : List Way) (sets : List ℕ) (groups : List Group) : Type 0 where
   pub exact : (pick : List ℕ) → length pick ≡ length sets → ((i : ℕ) → slice_index pick i < 64)
       → (Solves ways sets pick ↔ All (λ group. Contains group.picks (at_places pick group.places)) groups)
@@ -32,6 +33,7 @@ pub record AreGroups (ways : List Way) (sets : List ℕ) (groups : List Group) :
   pub places : (place : ℕ) → place < length sets → Any (λ group. Contains group.places place) groups
   pub apart : AllPairs (λ group later. (place : ℕ) → Contains group.places place → Contains later.places place
       → ⊥) groups
+  pub order : AllPairs (λ group later. slice_index group.places 0 < slice_index later.places 0) groups
 
 -- the sets have the values of each seat
 abbrev pub AreValues : List Seat → List ℕ → Type 0

@@ -1,5 +1,5 @@
 -- Places that bear on each other have one label.
-use Rattle.std.specs.Prelude.{ℕ, ◌≡◌, ◌↔◌, ◌<◌, ◌==◌, List, length, slice_index, if◌then◌else◌}
+use Rattle.std.specs.Prelude.{ℕ, ◌≡◌, ◌↔◌, ◌<◌, ◌≤◌, ◌==◌, List, length, slice_index, if◌then◌else◌}
 use Rattle.std.specs.List.{All, AllPairs, Any, Contains}
 use mathlib.Core.Logic.{◌⊎◌}
 use Rattle.stable_search.specs.declared.group.Group.{Group}
@@ -13,6 +13,11 @@ IsFree sets way =
     (a b : ℕ) → a < 64 → Has (slice_index sets way.from) a → Has (slice_index sets way.to) b
     → Has (slice_index way.fits.items a) b
 
+-- each label is the least place that has it
+abbrev pub AreLeast : List ℕ → Type 0
+AreLeast labels =
+    (i : ℕ) → i < length labels → (slice_index labels i ≤ i) × (slice_index labels (slice_index labels i) ≡ slice_index labels i)
+
 -- places with one label keep one, no label is new, and the places of the way have one, or it is free
 pub record Joins (sets : List ℕ) (way : Way) (old new : List ℕ) : Type 0 where
   pub kept : (i j : ℕ) → i < length old → j < length old → slice_index old i ≡ slice_index old j
@@ -20,12 +25,14 @@ pub record Joins (sets : List ℕ) (way : Way) (old new : List ℕ) : Type 0 whe
   pub low : (n : ℕ) → ((i : ℕ) → i < length old → slice_index old i < n) → (i : ℕ) → i < length old
       → slice_index new i < n
   pub joined : IsFree sets way ⊎ (slice_index new way.from ≡ slice_index new way.to)
+  pub least : AreLeast old → AreLeast new
 
 -- the ways that aren't free join places with one label
 pub record AreLabels (sets : List ℕ) (ways : List Way) (labels : List ℕ) : Type 0 where
   pub size : length labels ≡ length sets
   pub low : (i : ℕ) → i < length sets → slice_index labels i < length sets
   pub joined : All (λ way. IsFree sets way ⊎ (slice_index labels way.from ≡ slice_index labels way.to)) ways
+  pub least : AreLeast labels
 
 -- both places of the way have the label
 abbrev pub InPart : List ℕ → ℕ → Way → Type 0
@@ -54,5 +61,6 @@ pub record AreGrouped (sets labels : List ℕ) (ways : List Way) (labels_below :
   pub each : All (λ group. (label : ℕ) × (label < labels_below) × IsPartGroup sets labels label ways group) groups
   pub all : (place : ℕ) → place < length labels → slice_index labels place < labels_below
       → Any (λ group. Contains group.places place) groups
-  pub apart : AllPairs (λ group later. (place : ℕ) → Contains group.places place → Contains later.places place
-      → ⊥) groups
+  pub some : All (λ group. 0 < length group.places) groups
+  pub order : AllPairs (λ group later. (place behind : ℕ) → Contains group.places place → Contains later.places behind
+      → slice_index labels place < slice_index labels behind) groups

@@ -26,6 +26,7 @@ mod relating;
 mod searching;
 mod seat;
 mod stable;
+mod stop;
 mod way;
 
 pub use every::{Every, Part};

@@ -64,7 +64,7 @@ fn merge(labels: &mut [usize], one: usize, other: usize)
     }
 }
 
-// Gives the two places of a way one label, unless all their values fit.
+// Gives the two places of a way one label, the lesser, unless all their values fit.
 fn join(way: &Way, sets: &[u64], labels: &mut [usize])
     requires within { IsWithin (length sets.now) way.now }
     requires size { length labels.old ≡ length sets.now }
@@ -73,12 +73,17 @@ fn join(way: &Way, sets: &[u64], labels: &mut [usize])
     if is_free(way, sets) {
         return;
     }
-    let one = labels[way.from];
-    let other = labels[way.to];
-    merge(labels, one, other);
+    let mine = labels[way.from];
+    let theirs = labels[way.to];
+    if mine <= theirs {
+        merge(labels, mine, theirs);
+    } else {
+        merge(labels, theirs, mine);
+    }
 }
 
-/// A label for each place, the same for two places of which some values don't fit.
+/// A label for each place, the same for two places of which some values don't fit: the least place
+/// with that label.
 pub(crate) fn labels_of(alloc: Global, ways: &[Way], sets: &[u64]) -> Result<Vec<usize>, AllocError>
     requires { AreWithin (length sets.now) ways.now }
     ensures { IfOk result (λ labels. AreLabels sets.now ways.now labels.items) }
@@ -93,7 +98,7 @@ pub(crate) fn labels_of(alloc: Global, ways: &[Way], sets: &[u64]) -> Result<Vec
     Ok(labels)
 }
 
-/// The places with a label.
+/// The places with a label, rising.
 pub(crate) fn places_with(
     alloc: Global,
     labels: &[usize],
@@ -101,7 +106,7 @@ pub(crate) fn places_with(
 ) -> Result<Vec<usize>, AllocError>
     ensures exact { IfOk result (λ places. (place : ℕ) → (Contains places.items place ↔ (place < length labels.now)
         × (slice_index labels.now place ≡ label))) }
-    ensures apart { IfOk result (λ places. AllPairs (λ place later. place ≢ later) places.items) }
+    ensures rising { IfOk result (λ places. AllPairs (λ place later. place < later) places.items) }
 {
     let mut places = Vec::new(alloc);
     for (place, has) in labels.iter().enumerate() {

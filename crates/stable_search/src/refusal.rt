@@ -1,10 +1,11 @@
 //! Why a search refuses.
 
+use ranked_policy::{Asn, Items};
 use std::alloc::{AllocError, AllocFailed};
 use thiserror::Error;
 
 /// Why the stable assignments were not found. What the call was lent is as it was.
-#[derive(Clone, Copy, Debug, PartialEq, Eq, Error)]
+#[derive(Debug, Drop, Error)]
 pub enum SearchError {
     /// The router may have more paths than are listed: no rule of it covers the prefix.
     #[error("router {router} may have too many paths")]
@@ -12,12 +13,18 @@ pub enum SearchError {
         /// The router.
         router: u32,
     },
-    /// There are more choices than were asked for.
+    /// These routers have more choices than were asked for.
     #[error("too many choices")]
-    TooManyChoices,
-    /// The search took as many steps as it may.
+    TooManyChoices {
+        /// The routers, by rising number.
+        routers: Items<Asn>,
+    },
+    /// The search of these routers took as many steps as it may.
     #[error("too many steps")]
-    TooManySteps,
+    TooManySteps {
+        /// The routers, by rising number.
+        routers: Items<Asn>,
+    },
     /// A growth was refused.
     #[error("out of memory")]
     Memory,

@@ -6,7 +6,7 @@ ghost use Rattle.stable_search.specs.Picks.{IsOnlyPick, AreWithin, AddsAll, Narr
 
 use crate::narrowing::narrow_all;
 use crate::picking::{first_apart, fits_all, is_dead, only_pick, place_to_split};
-use crate::refusal::SearchError;
+use crate::stop::Stop;
 use crate::way::Way;
 use ranked_policy::Items;
 use std::alloc::Global;
@@ -17,7 +17,7 @@ fn add_fitting(
     pick: Items<usize>,
     most: usize,
     found: &mut Vec<Items<usize>>,
-) -> Result<(), SearchError>
+) -> Result<(), Stop>
     requires within { AreWithin (length pick) ways.now }
     requires low { All (λ value. value < 64) pick }
     ensures { (sets : List ℕ) → IsOnlyPick sets pick
@@ -27,7 +27,7 @@ fn add_fitting(
         return Ok(());
     }
     if found.len() >= most {
-        return Err(SearchError::TooManyChoices);
+        return Err(Stop::TooManyChoices);
     }
     found.push(pick)?;
     Ok(())
@@ -41,7 +41,7 @@ fn settle(
     sets: &mut [u64],
     most: usize,
     found: &mut Vec<Items<usize>>,
-) -> Result<Option<usize>, SearchError>
+) -> Result<Option<usize>, Stop>
     requires { AreWithin (length sets.old) ways.now }
     ensures { IfOk result (λ next. MatchOption next
         (AddsAll ways.now sets.old found.old.items found.new.items)
@@ -69,7 +69,7 @@ pub(crate) fn search(
     most: usize,
     steps: &mut u64,
     found: &mut Vec<Items<usize>>,
-) -> Result<(), SearchError>
+) -> Result<(), Stop>
     requires { AreWithin (length sets.items) ways.now }
     ensures steps { steps.new ≤ steps.old }
     ensures all { OnOk result (AddsAll ways.now sets.items found.old.items found.new.items) }
@@ -77,7 +77,7 @@ pub(crate) fn search(
     let mut sets = sets;
     loop {
         if *steps == 0 {
-            return Err(SearchError::TooManySteps);
+            return Err(Stop::TooManySteps);
         }
         *steps -= 1;
         let Some(place) = settle(alloc, ways, sets.as_mut_slice(), most, found)? else {

@@ -5,12 +5,13 @@ ghost use Rattle.std.specs.List.{All, AllPairs, Contains};
 ghost use Rattle.ranked_policy.specs.Choosing.{chosen_permits};
 ghost use Rattle.ranked_policy.specs.Plans.{IsRouter, numbers};
 ghost use Rattle.stable_search.specs.Fits.{GoesOver};
+ghost use Rattle.stable_search.specs.Groups.{AreRoutersAt};
 ghost use Rattle.stable_search.specs.Seats.{IsSeat};
 
 use crate::refusal::SearchError;
-use ranked_policy::{Asn, Chosen, MOST_PATHS, Network, Path, Policy};
+use ranked_policy::{Asn, Chosen, Items, MOST_PATHS, Network, Path, Policy};
 use stable_paths::Instance;
-use std::alloc::Global;
+use std::alloc::{AllocError, Global};
 
 /// A router in a search.
 #[derive(Debug, Drop)]
@@ -155,4 +156,20 @@ pub(crate) fn seats<'a>(
         seats.push(seat_of(alloc, instance, router.asn)?)?;
     }
     Ok(seats)
+}
+
+/// The routers at these places.
+pub(crate) fn routers_at(
+    alloc: Global,
+    seats: &[Seat],
+    places: &[usize],
+) -> Result<Items<Asn>, AllocError>
+    requires { All (λ place. place < length seats.now) places.now }
+    ensures { IfOk result (AreRoutersAt seats.now places.now) }
+{
+    let mut routers = Vec::with_capacity(alloc, places.len())?;
+    for place in places {
+        routers.push(seats[*place].router)?;
+    }
+    Ok(Items::from_vec(routers))
 }

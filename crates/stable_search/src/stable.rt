@@ -3,7 +3,7 @@
 ghost use Rattle.std.specs.Prelude.{◌≡◌, ◌↔◌, ◌<◌, ◌≤◌, ℕ, List, [], IfOk, length, slice_index, slice_index_or};
 ghost use Rattle.std.specs.List.{All};
 ghost use Rattle.stable_search.specs.Every.{IsEveryStable};
-ghost use Rattle.stable_search.specs.Groups.{IsShown, AreRoutersAt, IsPartOf, ArePartsOf, IsGroup, AreValues};
+ghost use Rattle.stable_search.specs.Groups.{IsShown, IsPartOf, ArePartsOf, IsGroup, AreValues};
 ghost use Rattle.stable_search.specs.Picks.{Has};
 ghost use Rattle.stable_search.specs.Seats.{StandsAt};
 ghost use Rattle.stable_search.specs.declared.seat.Seat.{Seat};
@@ -14,22 +14,10 @@ use crate::laws::stable_is_fitting;
 use crate::limits::Limits;
 use crate::refusal::SearchError;
 use crate::relating::ways_between;
-use crate::seat::{Seat, seats};
-use ranked_policy::{Asn, Items, Path};
+use crate::seat::{Seat, routers_at, seats};
+use ranked_policy::{Items, Path};
 use stable_paths::Instance;
 use std::alloc::{AllocError, Global};
-
-// The routers at these places.
-fn routers_at(alloc: Global, seats: &[Seat], places: &[usize]) -> Result<Items<Asn>, AllocError>
-    requires { All (λ place. place < length seats.now) places.now }
-    ensures { IfOk result (AreRoutersAt seats.now places.now) }
-{
-    let mut routers = Vec::with_capacity(alloc, places.len())?;
-    for place in places {
-        routers.push(seats[*place].router)?;
-    }
-    Ok(Items::from_vec(routers))
-}
 
 // The paths that the values of a pick stand for.
 fn shown(
@@ -125,7 +113,13 @@ pub fn stable_assignments(
     let seats = seats(alloc, instance)?;
     let ways = ways_between(alloc, network, seats.as_slice())?;
     let mut sets = all_values(alloc, seats.as_slice())?;
-    let groups = groups(alloc, ways.as_slice(), sets.as_mut_slice(), limits)?;
+    let groups = groups(
+        alloc,
+        seats.as_slice(),
+        ways.as_slice(),
+        sets.as_mut_slice(),
+        limits,
+    )?;
     let parts = parts_of(alloc, seats.as_slice(), groups.as_slice())?;
     Ok(Every { parts })
 }

@@ -4,6 +4,7 @@ use bgp_codec::Rule;
 use bgp_values::Width;
 use command_line::{Asked, Task, ThreadTask, read_words, run_task, run_thread_task};
 use run_engine::RunOptions;
+use stable_search::Limits;
 use std::alloc::Global;
 use std::sync::Wait;
 use std::test::Fail;
@@ -19,7 +20,7 @@ struct Row {
 }
 
 // The same router in all: what one word writes is what no other does.
-static ROWS: [Row; 6] = [
+static ROWS: [Row; 7] = [
     Row {
         words: &["decode", "--asn", "4"],
         input: "ffffffff ffffffff ffffffff ffffffff 0013 04",
@@ -30,6 +31,12 @@ static ROWS: [Row; 6] = [
         words: &["check"],
         input: "router 1 10.0.0.1\norigin 1 10.0.0.0/8\nassignment\npath 1 10.0.0.0/8 1\n",
         text: "stable\n",
+        status: 0,
+    },
+    Row {
+        words: &["stable"],
+        input: "router 1 10.0.0.1\norigin 1 10.0.0.0/8\n",
+        text: "prefix 10.0.0.0/8 stable 1\nroute 1 10.0.0.0/8 1\n",
         status: 0,
     },
     Row {
@@ -95,6 +102,22 @@ fn numbers_of_words(rt: HostRuntime) -> Result<(), Fail> {
     );
     assert!(rt; matches!(read_words(alloc, &["cut", "7"])?, Asked::Task(Task::Cut(7))));
     assert!(rt; matches!(read_words(alloc, &["why", "8"])?, Asked::Task(Task::Why(8))));
+    assert!(rt;
+        matches!(
+            read_words(alloc, &["stable"])?,
+            Asked::Task(Task::Stable(Limits {
+                most: 1_000,
+                steps: 10_000_000
+            }))
+        )
+    );
+    let stable = ["stable", "--most", "9", "--steps", "10"];
+    assert!(rt;
+        matches!(
+            read_words(alloc, &stable)?,
+            Asked::Task(Task::Stable(Limits { most: 9, steps: 10 }))
+        )
+    );
     let run = ["run", "--turns", "300", "--snapshots", "5"];
     assert!(rt;
         matches!(

@@ -167,15 +167,6 @@ fn agrees(alloc: Global, plan: &Plan, instance: &Instance, every: &Every, code: 
         || is_stable(alloc, instance, &assignment) == is_listed(every, &assignment)
 }
 
-// How many assignments are listed.
-fn count(every: &Every) -> usize {
-    let mut product = 1usize;
-    for part in every.parts.as_slice() {
-        product = product.wrapping_mul(part.choices.len());
-    }
-    product
-}
-
 fn searched(alloc: Global, instance: &Instance, limits: &Limits) -> Result<Every, SearchError> {
     stable_assignments(alloc, instance, limits)
 }
@@ -189,7 +180,7 @@ fn all_agree(rt: &impl Abort, alloc: Global, plan: &Plan, instance: &Instance, e
     }
 }
 
-fn lists(rt: &impl Abort, alloc: Global, plan: &Plan, net: &Network, stable: usize) {
+fn lists(rt: &impl Abort, alloc: Global, plan: &Plan, net: &Network, stable: u64) {
     let Some(prefix) = prefix() else {
         return;
     };
@@ -197,7 +188,7 @@ fn lists(rt: &impl Abort, alloc: Global, plan: &Plan, net: &Network, stable: usi
     let instance = Instance::new(net, &prefix);
     match searched(alloc, &instance, &LIMITS) {
         Ok(every) => {
-            assert!(rt; count(&every) == stable);
+            assert!(rt; every.count() == Some(stable));
             all_agree(rt, alloc, plan, &instance, &every);
         }
         Err(_) => panic!(rt; "refused"),
@@ -205,7 +196,7 @@ fn lists(rt: &impl Abort, alloc: Global, plan: &Plan, net: &Network, stable: usi
 }
 
 // The search of the network of a plan lists so many assignments, and those that are stable.
-fn finds(rt: &impl Abort, alloc: Global, plan: &Plan, stable: usize) -> Result<(), NetError> {
+fn finds(rt: &impl Abort, alloc: Global, plan: &Plan, stable: u64) -> Result<(), NetError> {
     match network(alloc, plan) {
         Ok(net) => lists(rt, alloc, plan, &net, stable),
         Err(error) => return Err(error),
@@ -213,24 +204,49 @@ fn finds(rt: &impl Abort, alloc: Global, plan: &Plan, stable: usize) -> Result<(
     Ok(())
 }
 
-fn answers(rt: &impl Abort, alloc: Global, net: &Network, limits: &Limits, error: SearchError) {
+/// Which limit a search met.
+#[derive(Clone, Copy)]
+enum Limit {
+    Paths,
+    Choices,
+    Steps,
+}
+
+// Whether a refusal is of this limit, at these routers.
+fn is_refusal(error: &SearchError, limit: Limit, at: &[Asn]) -> bool {
+    match (error, limit) {
+        (SearchError::TooManyPaths { router }, Limit::Paths) => at == [*router].as_slice(),
+        (SearchError::TooManyChoices { routers }, Limit::Choices) => routers.as_slice() == at,
+        (SearchError::TooManySteps { routers }, Limit::Steps) => routers.as_slice() == at,
+        _ => false,
+    }
+}
+
+fn answers(
+    rt: &impl Abort,
+    alloc: Global,
+    net: &Network,
+    limits: &Limits,
+    limit: Limit,
+    at: &[Asn],
+) {
     let Some(prefix) = prefix() else {
         return;
     };
     assert!(rt; net.names(&prefix));
     match searched(alloc, &Instance::new(net, &prefix), limits) {
         Ok(_) => panic!(rt; "not refused"),
-        Err(met) => assert!(rt; met == error),
+        Err(error) => assert!(rt; is_refusal(&error, limit, at)),
     }
 }
 
-fn parts_have_few(rt: &impl Abort, alloc: Global, net: &Network, limits: &Limits, stable: usize) {
+fn parts_have_few(rt: &impl Abort, alloc: Global, net: &Network, limits: &Limits, stable: u64) {
     let Some(prefix) = prefix() else {
         return;
     };
     assert!(rt; net.names(&prefix));
     match searched(alloc, &Instance::new(net, &prefix), limits) {
-        Ok(every) => assert!(rt; count(&every) == stable),
+        Ok(every) => assert!(rt; every.count() == Some(stable)),
         Err(_) => panic!(rt; "refused"),
     }
 }
@@ -241,10 +257,11 @@ fn refuses(
     alloc: Global,
     plan: &Plan,
     limits: &Limits,
-    error: SearchError,
+    limit: Limit,
+    at: &[Asn],
 ) -> Result<(), NetError> {
     match network(alloc, plan) {
-        Ok(net) => answers(rt, alloc, &net, limits, error),
+        Ok(net) => answers(rt, alloc, &net, limits, limit, at),
         Err(error) => return Err(error),
     }
     Ok(())
@@ -303,32 +320,26 @@ fn paths_that_no_peer_has(rt: HostRuntime) -> Result<(), NetError> {
 
 #[test]
 fn a_router_without_a_rule(rt: HostRuntime) -> Result<(), NetError> {
-    let error = SearchError::TooManyPaths { router: 2 };
-    refuses(&rt, rt.alloc(), &PAIR, &LIMITS, error)
+    refuses(&rt, rt.alloc(), &PAIR, &LIMITS, Limit::Paths, &[2])
 }
 
 #[test]
 fn more_choices_than_asked_for(rt: HostRuntime) -> Result<(), NetError> {
     let limits = Limits { most: 1, ..LIMITS };
-    refuses(
-        &rt,
-        rt.alloc(),
-        &DISAGREE,
-        &limits,
-        SearchError::TooManyChoices,
-    )
+    refuses(&rt, rt.alloc(), &DISAGREE, &limits, Limit::Choices, &[2, 3])
 }
 
 #[test]
 fn no_step(rt: HostRuntime) -> Result<(), NetError> {
     let limits = Limits { steps: 0, ..LIMITS };
-    refuses(
-        &rt,
-        rt.alloc(),
-        &DISAGREE,
-        &limits,
-        SearchError::TooManySteps,
-    )
+    refuses(&rt, rt.alloc(), &DISAGREE, &limits, Limit::Steps, &[1])
+}
+
+// The origin's part takes one step, the next part more.
+#[test]
+fn too_few_steps(rt: HostRuntime) -> Result<(), NetError> {
+    let limits = Limits { steps: 1, ..LIMITS };
+    refuses(&rt, rt.alloc(), &DISAGREE, &limits, Limit::Steps, &[2, 3])
 }
 
 // Calls the law once.

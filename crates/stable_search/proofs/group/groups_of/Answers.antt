@@ -26,4 +26,4 @@ pub returns : goal.returns
 returns c =
     let labels = c.as_slice-labels.result.now in
     let of : AreLabels c.args.sets.now c.args.ways.now labels = subst (AreLabels c.args.sets.now c.args.ways.now) (sym c.as_slice-labels.ensures.value) c.in_ok-all_labels.ensures in
-    grouped_all c.args.sets.now labels c.args.ways.now c.loop-label.label c.loop-label.groups.items c.requires of c.loop-label-test.false c.loop-label.invariant
+    grouped_all c.args.sets.now labels c.args.ways.now c.loop-label.label c.loop-label.groups.items c.requires.within of c.loop-label-test.false c.loop-label.invariant

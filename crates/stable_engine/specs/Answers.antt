@@ -1,0 +1,99 @@
+-- What is printed of all stable assignments of a network, prefix by prefix.
+use Rattle.std.specs.Prelude.{◌≡◌, ◌≢◌, ℕ, ◌<◌, ◌≤◌, Bool, true, false, List, [], ◌∷◌, ◌++◌, length, map, codes, Result, Ok, Err, MatchResult, is_ok, if◌then◌else◌, ◌⊎◌}
+use Rattle.std.specs.List.{All, flat_map, list_all}
+use Rattle.prefix_lanes.specs.Bits.{PrefixView}
+use Rattle.ranked_policy.specs.Plans.{Plan}
+use Rattle.ranked_policy.specs.declared.network.Origin.{Origin}
+use Rattle.net_text.specs.declared.code.Code.{Code}
+use Rattle.net_text.specs.declared.code.Code.TheVariants as kinds
+use Rattle.net_text.specs.Lexing.{Text, lines_of, before_section}
+use Rattle.net_text.specs.Networks.{SpellsNetwork, RefusesNetwork}
+use Rattle.net_text.specs.Printing.{code_text}
+use Rattle.stable_search.specs.declared.every.Every.{Every}
+use Rattle.stable_search.specs.declared.limits.Limits.{Limits}
+use Rattle.stable_search.specs.declared.refusal.SearchError.{SearchError}
+use Rattle.stable_search.specs.declared.refusal.SearchError.TheVariants as search
+use Rattle.stable_search.specs.Every.{IsEveryStable}
+use Rattle.text_engines.specs.Checking.{at_prefix}
+use Rattle.text_engines.specs.Decoding.{Output, output, refused, memory_output}
+use Rattle.text_engines.specs.declared.status.TheConstants.{DONE}
+use Rattle.text_engines.specs.declared.transfer.TheConstants.{INPUT_LIMIT}
+use Rattle.stable_engine.specs.declared.status.TheConstants.{UNKNOWN}
+use Rattle.stable_engine.specs.Listing.{every_text, unknown_line}
+
+-- ---- what is answered for a prefix
+
+abbrev pub Found : Type 0
+Found = Result Every SearchError
+
+-- all stable assignments, or that a limit was met; want of memory is no answer
+abbrev pub IsFound : Limits → Plan → PrefixView → Found → Type 0
+IsFound limits net q (Ok every) = IsEveryStable (at_prefix net q) every
+IsFound limits net q (Err why) = why ≢ search.Memory
+
+abbrev pub refusal_text : PrefixView → SearchError → List ℕ
+refusal_text q (search.TooManyPaths u) = unknown_line q (codes "paths") (u ∷ [])
+refusal_text q (search.TooManyChoices us) = unknown_line q (codes "choices") us
+refusal_text q (search.TooManySteps us) = unknown_line q (codes "steps") us
+refusal_text q search.Memory = []
+
+abbrev pub found_text : Plan → PrefixView → Found → List ℕ
+found_text net q (Ok every) = every_text q net.routers every.parts
+found_text net q (Err why) = refusal_text q why
+
+-- ---- what is printed for a network
+
+pub record Answer : Type 0 where
+  pub prefix : PrefixView
+  pub found : Found
+
+abbrev pub answers_text : Plan → List Answer → List ℕ
+answers_text net answers = flat_map (λ a. found_text net a.prefix a.found) answers
+
+abbrev pub are_known : List Answer → Bool
+are_known answers = list_all (λ a. is_ok a.found) answers
+
+-- for the prefix of each origin an answer, with its text; and whether each is known
+pub record AreAnswered (limits : Limits) (net : Plan) (origins : List Origin) (text : List ℕ) (known : Bool) : Type 0 where
+  pub answers : List Answer
+  pub prefixes : map (λ a. a.prefix) answers ≡ map (λ o. o.prefix) origins
+  pub each : All (λ a. IsFound limits net a.prefix a.found) answers
+  pub printed : text ≡ answers_text net answers
+  pub all_known : known ≡ are_known answers
+
+-- at the end of a text stands what is found for a prefix
+abbrev pub PutsFound : Limits → Plan → PrefixView → List ℕ → List ℕ → Bool → Type 0
+PutsFound limits net q old new known =
+    (found : Found) × IsFound limits net q found × (new ≡ old ++ found_text net q found) × (known ≡ is_ok found)
+
+-- and what is found for the prefix of each of these origins
+abbrev pub PutsAnswers : Limits → Plan → List Origin → List ℕ → List ℕ → Bool → Type 0
+PutsAnswers limits net origins old new known = (text : List ℕ) × AreAnswered limits net origins text known × (new ≡ old ++ text)
+
+abbrev pub status_of : Bool → ℕ
+status_of known = if known then DONE else UNKNOWN
+
+-- an answer for each origin's prefix, by address, then by length, and the status that says whether all are known
+abbrev pub StablesGive : Limits → Plan → Output → Type 0
+StablesGive limits net out =
+    (text : List ℕ) × (known : Bool) × AreAnswered limits net net.origins text known × (out ≡ output text (status_of known))
+
+-- ---- what is printed for an input
+
+-- its lines up to one that begins an assignment or a schedule
+abbrev pub network_lines : List ℕ → List Text
+network_lines input = before_section (codes "schedule") (before_section (codes "assignment") (lines_of input))
+
+abbrev pub LinesList : Limits → List Text → Output → Type 0
+LinesList limits lines out =
+    ((at : ℕ) × (code : Code) × (code ≢ kinds.Memory) × RefusesNetwork lines at code × (out ≡ refused at (code_text code)))
+    ⊎ ((net : Plan) × SpellsNetwork lines net × StablesGive limits net out)
+
+-- for an input, which may be too long
+abbrev pub InputLists : Limits → List ℕ → Output → Type 0
+InputLists limits input out =
+    (INPUT_LIMIT < length input × (out ≡ refused 0 (code_text kinds.OutOfLimit))) ⊎ ((length input ≤ INPUT_LIMIT) × LinesList limits (network_lines input) out)
+
+-- what the program prints: that, or that memory ran out
+abbrev pub Lists : Limits → List ℕ → Output → Type 0
+Lists limits input out = InputLists limits input out ⊎ (out ≡ memory_output)

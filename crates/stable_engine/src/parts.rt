@@ -1,0 +1,136 @@
+//! The parts of an answer: the routers that have the same path in all stable assignments, and the disputes.
+
+ghost use Rattle.std.specs.Prelude.{◌≡◌, ◌++◌, ◌+◌, ◌<◌, ◌^◌, length, filter, IfOk, OnOk};
+ghost use Rattle.std.specs.List.{All};
+ghost use Rattle.stable_search.specs.Every.{IsPart};
+ghost use Rattle.stable_engine.specs.Listing.{route_text, only_text, routes_of, routes_text, is_dispute, choices_text, dispute_text, disputes_text, every_text};
+
+use crate::lines::{put_choice_line, put_dispute_line, put_prefix_line};
+use net_text::path_line;
+use prefix_lanes::Prefix;
+use ranked_policy::{Asn, Items, Path, Router};
+use stable_search::{Every, Part};
+use std::alloc::{AllocError, Global};
+
+// Appends the path of a router, where it is among these, which have these paths.
+fn put_route(
+    prefix: &Prefix,
+    router: Asn,
+    routers: &[Asn],
+    paths: &[Path],
+    out: &mut Vec<u8>,
+) -> Result<(), AllocError>
+    requires { length paths.now ≡ length routers.now }
+    ensures { OnOk result (out.new.items ≡ out.old.items ++ route_text prefix.now router routers.now paths.now) }
+{
+    for (k, other) in routers.iter().enumerate() {
+        if *other == router {
+            return path_line(b"route ", router, prefix, paths[k].as_slice(), out);
+        }
+    }
+    Ok(())
+}
+
+// Appends the path of a router, where it is in a part that has one choice.
+fn put_only(prefix: &Prefix, router: Asn, part: &Part, out: &mut Vec<u8>) -> Result<(), AllocError>
+    requires { IsPart part.now }
+    ensures { OnOk result (out.new.items ≡ out.old.items ++ only_text prefix.now router part.now.routers part.now.choices) }
+{
+    match part.choices.as_slice() {
+        [choice] => put_route(
+            prefix,
+            router,
+            part.routers.as_slice(),
+            choice.as_slice(),
+            out,
+        ),
+        _ => Ok(()),
+    }
+}
+
+// Appends the path of a router that has the same in all.
+fn put_routes_of(
+    prefix: &Prefix,
+    router: Asn,
+    parts: &[Part],
+    out: &mut Vec<u8>,
+) -> Result<(), AllocError>
+    requires { All IsPart parts.now }
+    ensures { OnOk result (out.new.items ≡ out.old.items ++ routes_of prefix.now router parts.now) }
+{
+    for part in parts {
+        put_only(prefix, router, part, out)?;
+    }
+    Ok(())
+}
+
+// Appends the paths of the routers that have the same in all.
+fn put_routes(
+    prefix: &Prefix,
+    routers: &[Router],
+    parts: &[Part],
+    out: &mut Vec<u8>,
+) -> Result<(), AllocError>
+    requires { All IsPart parts.now }
+    ensures { OnOk result (out.new.items ≡ out.old.items ++ routes_text prefix.now routers.now parts.now) }
+{
+    for router in routers {
+        put_routes_of(prefix, router.asn, parts, out)?;
+    }
+    Ok(())
+}
+
+// Appends the choices of a dispute.
+fn put_choices(choices: &[Items<Path>], out: &mut Vec<u8>) -> Result<(), AllocError>
+    ensures { OnOk result (out.new.items ≡ out.old.items ++ choices_text choices.now) }
+{
+    for choice in choices {
+        put_choice_line(choice.as_slice(), out)?;
+    }
+    Ok(())
+}
+
+// Appends a dispute and its choices.
+fn put_dispute(
+    number: usize,
+    prefix: &Prefix,
+    part: &Part,
+    out: &mut Vec<u8>,
+) -> Result<(), AllocError>
+    ensures { OnOk result (out.new.items ≡ out.old.items ++ dispute_text number prefix.now part.now) }
+{
+    let choices = part.choices.as_slice();
+    put_dispute_line(number, prefix, choices.len(), part.routers.as_slice(), out)?;
+    put_choices(choices, out)
+}
+
+// Appends the disputes among these parts.
+fn put_disputes(prefix: &Prefix, parts: &[Part], out: &mut Vec<u8>) -> Result<(), AllocError>
+    ensures { OnOk result (out.new.items ≡ out.old.items ++ disputes_text 1 prefix.now (filter is_dispute parts.now)) }
+{
+    let mut number = 1usize;
+    for part in parts {
+        if part.choices.len() != 1 {
+            put_dispute(number, prefix, part, out)?;
+            number += 1;
+        }
+    }
+    Ok(())
+}
+
+/// Appends all stable assignments for a prefix: how many there are, the paths of the routers that have the same in
+/// all, and the disputes.
+pub(crate) fn put_every(
+    prefix: &Prefix,
+    routers: &[Router],
+    every: &Every,
+    out: &mut Vec<u8>,
+) -> Result<(), AllocError>
+    requires { All IsPart every.now.parts }
+    ensures { OnOk result (out.new.items ≡ out.old.items ++ every_text prefix.now routers.now every.now.parts) }
+{
+    let parts = every.parts.as_slice();
+    put_prefix_line(prefix, every, out)?;
+    put_routes(prefix, routers, parts, out)?;
+    put_disputes(prefix, parts, out)
+}

@@ -1,0 +1,80 @@
+//! `bgpnet stable`: all stable assignments of a network.
+
+ghost use Rattle.std.specs.Prelude.{◌≡◌, ◌⊎◌, IfOk, OnOk, OnErr, true, false};
+ghost use Rattle.net_text.specs.Lexing.{lines_of};
+ghost use Rattle.text_engines.specs.Decoding.{output};
+ghost use Rattle.text_engines.specs.Engine.{PrintedBy, PrintedFrontBy};
+ghost use Rattle.stable_engine.specs.Answers.{network_lines, LinesList, InputLists, Lists};
+
+use crate::prefixes::stables_output;
+use net_text::{Code, read_network, split_at_section};
+use stable_search::Limits;
+use std::alloc::{AllocError, Global};
+use text_engines::{
+    INPUT_LIMIT, InputError, IoStopped, Sink, Source, read_input, refused_output, text_output,
+    want_of_memory, write_out,
+};
+
+// The lines of a network, without those of an assignment or a schedule behind it.
+fn network_part(input: &[u8]) -> &[u8]
+    ensures { lines_of result.now ≡ network_lines input.now }
+{
+    let split = split_at_section(input, b"assignment");
+    split_at_section(split.front, b"schedule").front
+}
+
+// What is printed for the lines of a network, and the status.
+fn lines_output(alloc: Global, limits: &Limits, text: &[u8]) -> Result<(Vec<u8>, u8), AllocError>
+    ensures { IfOk result (λ printed. LinesList limits.now (lines_of text.now) (output printed.0.items printed.1)) }
+{
+    match read_network(alloc, text) {
+        Ok(network) => stables_output(alloc, &network, limits),
+        Err(refused) => text_output(alloc, &refused),
+    }
+}
+
+// What is printed for an input, and the status.
+fn input_output(alloc: Global, limits: &Limits, input: Vec<u8>) -> Result<(Vec<u8>, u8), AllocError>
+    ensures { IfOk result (λ printed. InputLists limits.now input.items (output printed.0.items printed.1)) }
+{
+    if input.len() > INPUT_LIMIT {
+        return refused_output(alloc, 0, Code::OutOfLimit.text());
+    }
+    lines_output(alloc, limits, network_part(input.as_slice()))
+}
+
+/// Reads a network, and writes all of its stable assignments, prefix by prefix; or the first line that is refused.
+/// What stands behind a line `assignment` or `schedule` is left out. It answers the status:
+/// [`UNKNOWN`](crate::status::UNKNOWN) where of a prefix a limit was met.
+///
+/// Where memory is refused it writes `memory` alone and answers 3. It stops only where a read or a
+/// write failed, and then what was written is a beginning of the text.
+pub fn stable_stream<S: Source, T: Sink>(
+    alloc: Global,
+    limits: &Limits,
+    source: &mut S,
+    sink: &mut T,
+) -> Result<u8, IoStopped>
+    // What is written is what is printed for what was read, and nothing else.
+    ensures done { IfOk result (λ status. PrintedBy (Lists limits.now) (S.remaining source.old) (T.contents sink.old) (T.contents sink.new) status) }
+    // It answers a status only where no read and no write failed, and stops only where one did.
+    ensures unfailed { OnOk result ((S.failed source.new ≡ S.failed source.old) × (T.failed sink.new ≡ T.failed sink.old)) }
+    ensures failed { OnErr result ((S.failed source.new ≡ true) ⊎ (T.failed sink.new ≡ true)) }
+    // Where a read failed nothing is written.
+    ensures silent { S.failed source.old ≡ false → S.failed source.new ≡ true → T.contents sink.new ≡ T.contents sink.old }
+    // A failed read or write leaves a beginning of the text.
+    ensures stopped { OnErr result (PrintedFrontBy (Lists limits.now) (S.remaining source.old) (T.contents sink.old) (T.contents sink.new)) }
+{
+    let input = match read_input(alloc, source) {
+        Ok(input) => input,
+        Err(InputError::Memory) => return want_of_memory(sink),
+        Err(InputError::Stopped) => return Err(IoStopped),
+    };
+    match input_output(alloc, limits, input) {
+        Ok((text, status)) => {
+            write_out(sink, text.as_slice())?;
+            Ok(status)
+        }
+        Err(_) => want_of_memory(sink),
+    }
+}
