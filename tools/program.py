@@ -14,8 +14,8 @@ TOP = pathlib.Path(__file__).resolve().parent.parent
 # How the first block of a bzip2 file begins, and the end of an empty one.
 BZIP2_BLOCKS = (bytes.fromhex("314159265359"), bytes.fromhex("177245385090"))
 
-# What the program says on the standard error of a text that it refuses.
-SAID = re.compile(r"bgpnet: line ([0-9]+): (.*)")
+# What the program says on the standard error: of a line that it refuses, else of the whole text or of what failed.
+SAID = re.compile(r"^bgpnet: (?:line ([0-9]+): )?(.*)$", re.MULTILINE)
 
 
 class Refusal(Exception):
@@ -80,9 +80,9 @@ def write_text(text):
 
 
 def refused(name, said):
-    """The refusal of a text, by what the program said of it on the standard error."""
-    found = SAID.search(said)
-    return Refusal(f"{name}:{found[1]}: {found[2]}" if found else f"{name}: {said.strip() or 'the program refuses it'}")
+    """The refusal of a text, by what the program said of it on the standard error: why, and what may have been meant."""
+    (line, why), *hints = SAID.findall(said) or [("", said.strip() or "the program refuses it")]
+    return Refusal("; ".join([f"{name}:{line}: {why}" if line else f"{name}: {why}", *(hint for _, hint in hints)]))
 
 
 class Program:
@@ -99,8 +99,8 @@ class Program:
         done = subprocess.run([self.path, *words], input=text.encode("latin-1"), capture_output=True)
         lines = done.stdout.decode("latin-1").splitlines()
         if done.returncode not in (0, 1, 5):
-            said = lines[0] if lines else "nothing"
-            raise Refusal(f"bgpnet {' '.join(words)} ends with status {done.returncode}: {said}")
+            said = [text for _, text in SAID.findall(done.stderr.decode("latin-1"))] or lines[:1] or ["nothing"]
+            raise Refusal(f"bgpnet {' '.join(words)} ends with status {done.returncode}: {'; '.join(said)}")
         return done.returncode, lines, done.stderr.decode("latin-1")
 
     def ask(self, words, text):

@@ -239,7 +239,7 @@ class Chart(unittest.TestCase):
     def test_refusals(self):
         network = b"router 1 10.0.0.1\nrouter 2 10.0.0.2\nlink 1 2\n"
         self.assertEqual(run("chart", "-", given=network + b"schedule\nstart 1 1\n"),
-                         (1, "", "chart: -:5: E1: a session with a router that is no peer\n"))
+                         (1, "", "chart: -:5: E1: a session with a router that is no peer: start 1 1\n"))
         self.assertEqual(run("chart", "-", "--prefix", "x", given=network), (1, "", "chart: 'x' is no prefix\n"))
         long = b"start 1 2\n" * (chart.MOST_ROWS + 1)
         status, out, error = run("chart", "-", given=network + b"schedule\n" + long)

@@ -64,8 +64,8 @@ class Documents(unittest.TestCase):
     def test_each_code_is_told(self):
         """Each code that `check` and `play` print is in docs/TEXTS.md, and the program has words for it."""
         text = (TOP / "docs/TEXTS.md").read_text()
-        told = set(re.findall(r"\b([NSEV]\d)\b", text.split("## Statuses")[0] + text.split("## Refusals")[1]))
-        said = (TOP / "crates/bgpnet/src/said.rt").read_text()
+        told = set(re.findall(r"\b([NSEVG]\d)\b", text.split("## Statuses")[0] + text.split("## Refusals")[1]))
+        said = (TOP / "crates/error_words/src/meanings.rt").read_text()
         self.assertEqual(told, set(re.findall(r'"([A-Z]\d)"', said)))
 
     def test_the_program_says_what_failed(self):
@@ -81,7 +81,7 @@ class Documents(unittest.TestCase):
             return done.returncode, done.stdout, done.stderr.decode()
 
         self.assertEqual(said(b"router 1 10.0.0.1\nlink 1 2\n"),
-                         (1, b"refused 2 N3\n", "bgpnet: line 2: N3: a router that no earlier line names\n"))
+                         (1, b"refused 2 N3\n", "bgpnet: line 2: N3: a router that no earlier line names: link 1 2\n"))
         folder = os.open("/", os.O_RDONLY)
         self.assertEqual(ended(folder), (4, b"", "bgpnet: the standard input can't be read\n"))
         os.close(folder)

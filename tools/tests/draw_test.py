@@ -294,7 +294,7 @@ class Draw(unittest.TestCase):
                            (text.replace(path, "path 2 10.1.0.0/16 2-1-3"), "S1: a path that isn't permitted"), (text + "schedule\n", form)):
             pairs = itertools.zip_longest(text.splitlines(), wrong.splitlines())
             line = next(at for at, (was, now) in enumerate(pairs, 1) if was != now)
-            self.assertEqual(run("draw", "-", given=wrong.encode()), (1, "", f"draw: -:{line}: {why}\n"))
+            self.assertEqual(run("draw", "-", given=wrong.encode()), (1, "", f"draw: -:{line}: {why}: {wrong.splitlines()[line - 1]}\n"))
         for word in ("10.2.0.0/16", "x", "1.2.3.4/99"):
             self.assertEqual(run("draw", "examples/ring.txt", "--prefix", word), (1, "", f"draw: no origin has the prefix {word}\n"))
         self.assertEqual(run("draw", "nothing"), (1, "", "draw: nothing: No such file or directory\n"))
@@ -448,9 +448,9 @@ class Film(unittest.TestCase):
     def test_refusals(self):
         for text, said in ((network_text(1, []), "-: no schedule"), (network_text(1, []) + "schedule\n", "-: no schedule"),
                            ("router 1 10.0.0.1\nschedule\ntick 1\n", "-: no origin, so no routes"),
-                           (network_text(1, []) + "schedule\ntick 1\nstart 1 2\n", "-:5: N3: a router that no earlier line names"),
+                           (network_text(1, []) + "schedule\ntick 1\nstart 1 2\n", "-:5: N3: a router that no earlier line names: start 1 2"),
                            (network_text(1, []) + "schedule\nsnapshot 1 2\n# more\nsnapshot 1 2\n",
-                            "-:6: E3: a snapshot whose number is not above the router's last")):
+                            "-:6: E3: a snapshot whose number is not above the router's last: snapshot 1 2")):
             self.assertEqual(run("film", "-", given=text.encode()), (1, "", f"film: {said}\n"))
         text = network_text(1, []) + "schedule\n" + "tick 1\n" * 61
         self.assertEqual(run("film", "-", "--each", given=text.encode()),

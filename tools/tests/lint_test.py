@@ -88,7 +88,10 @@ class Lint(unittest.TestCase):
 
     def test_refusals(self):
         self.assertEqual(run("lint", "-", given=(NETWORK + "schedule\nstart 1 3\n").encode()),
-                         (1, "", "lint: -:8: E1: a session with a router that is no peer\n"))
+                         (1, "", "lint: -:8: E1: a session with a router that is no peer: start 1 3\n"))
+        self.assertEqual(run("lint", "-", given=(NETWORK + "schedule\ndecide 1 # it chooses\n").encode())[2],
+                         "lint: -:8: N1: an unknown first word, a wrong number of words, or an octet past ASCII: "
+                         "decide 1 # it chooses; a remark stands on a line of its own, '#' in front\n")
         self.assertEqual(run("lint")[0], 2)
         self.assertEqual(run("lint", "nothing"), (1, "", "lint: nothing: No such file or directory\n"))
 

@@ -284,7 +284,7 @@ class Warnings(unittest.TestCase):
     def test_refusals(self):
         text = (TOP / "examples/disagree.txt").read_text().replace("link 2 3", "link 2 9")
         line = text.splitlines().index("link 2 9") + 1
-        self.assertEqual(run("settle", "-", given=text.encode()), (1, "", f"settle: -:{line}: N3: a router that no earlier line names\n"))
+        self.assertEqual(run("settle", "-", given=text.encode()), (1, "", f"settle: -:{line}: N3: a router that no earlier line names: link 2 9\n"))
         self.assertEqual(run("settle", "-", given=b"router 1 10.0.0.1\n"), (1, "", "settle: -: no origin, so no routes\n"))
         for words in ([], ["x", "--play", "-1"], ["x", "--write", "falling"], ["x", "y"]):
             status, out, error = run("settle", *words)

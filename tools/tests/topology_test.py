@@ -285,7 +285,7 @@ rounds 100
         self.assertEqual(out, "# \xe9\nrouter 5 10.0.0.5\nrouter 2 10.0.0.2\nlink 5 2\norigin 5 10.1.0.0/16\nschedule\n"
                               "start 5 2\nstart 2 5\noriginate 5 10.1.0.0/16\nrounds 40\nsnapshot 2 1\nrounds 100\n")
         self.assertEqual(run("topology", "--from", "network", given=given.replace(b"5 2", b"5 3")),
-                         (1, "", "topology: -:4: N3: a router that no earlier line names\n"))
+                         (1, "", "topology: -:4: N3: a router that no earlier line names: link 5 3\n"))
 
     def test_a_part(self):
         """Of a star of stars only what a network takes is kept, and what is left out is said."""

@@ -326,4 +326,4 @@ class Printed(unittest.TestCase):
         self.assertEqual(run("whatif", "-", "--crash", 1, given=b"router 1 10.0.0.1\n"),
                          (1, "", "whatif: -: no origin, so no routes\n"))
         self.assertEqual(run("whatif", "-", "--crash", 1, given=b"router 1 1\n"),
-                         (1, "", "whatif: -:1: N2: a number, address or path that can't be read\n"))
+                         (1, "", "whatif: -:1: N2: a number, address or path that can't be read: router 1 1\n"))

@@ -2,8 +2,8 @@
 //! schedules of a network, and runs a network in threads.
 //!
 //! The program reads its words, standard input and nothing else, and writes standard output. `main` hands
-//! them to [`command_line::run_with`] and ends with its status. Where a text is refused, or a read or a write
-//! failed, it says so in words on the standard error, which no contract speaks of.
+//! them to [`command_line::run_with`], and ends with its status. What a refusal means, and what failed, it says in words
+//! on the standard error: those that [`error_words::said`] answers.
 //!
 //! Its one contract is that of the engine that the words ask for: `text_engines::decode_stream` for
 //! `bgpnet decode`, `text_engines::check_stream` for `bgpnet check`, `stable_engine::stable_stream` for
@@ -12,12 +12,11 @@
 //! stand in their `specs/`.
 #![tactic(auto)]
 
-mod said;
-
 use command_line::{run_with, status_of};
-use said::{Ending, refusal_of};
+use error_words::{End, Ending, Kept, bound_of, said};
 use std::alloc::Global;
 use std::process::ExitCode;
+use std::str::from_utf8;
 use std::sync::Wait;
 use std::thread::Threads;
 use std::{env, io};
@@ -42,11 +41,23 @@ fn words_of(rt: &HostRuntime) -> Result<Vec<String>, WordsError> {
     }
 }
 
+// The first of the words and the last, where there are any.
+fn ends_of(words: &Result<Vec<String>, WordsError>) -> (&[u8], &[u8]) {
+    let Ok(words) = words else {
+        return (b"", b"");
+    };
+    match words.as_slice() {
+        [] => (b"", b""),
+        [word] => (word.as_bytes(), b""),
+        [word, .., name] => (word.as_bytes(), name.as_bytes()),
+    }
+}
+
 // Runs the program on these words.
 fn run<R, S, T>(
     rt: &R,
     alloc: Global,
-    words: Result<Vec<String>, WordsError>,
+    words: &Result<Vec<String>, WordsError>,
     reader: &mut S,
     writer: &mut T,
 ) -> Result<u8, IoStopped>
@@ -70,28 +81,31 @@ where
     }
 }
 
-// Says on the standard error what a refusal means, or what failed.
-fn say(rt: &HostRuntime, status: u8, line: Option<&str>, unread: bool) -> io::Result<()> {
-    if status == status::STOPPED && unread {
-        return eprintln!(rt; "bgpnet: the standard input can't be read");
-    }
-    if status == status::STOPPED {
-        return eprintln!(rt; "bgpnet: the standard output can't be written");
-    }
-    if status == status::REFUSED {
-        if let Some((at, code, meaning)) = line.and_then(refusal_of) {
-            return eprintln!(rt; "bgpnet: line {at}: {code}: {meaning}");
+// Says on the standard error how a run ended. Where that can't be written, or memory is refused, nobody is told.
+fn say(rt: &HostRuntime, end: &End<'_>) {
+    if let Ok(text) = said(rt.alloc(), end) {
+        if let Ok(text) = from_utf8(text.as_slice()) {
+            let _ = eprint!(rt; "{text}");
         }
     }
-    Ok(())
 }
 
 fn main(rt: HostRuntime) -> ExitCode {
-    let mut reader = Watched::new(rt.stdin());
+    let alloc = rt.alloc();
+    let words = words_of(&rt);
+    let (word, name) = ends_of(&words);
+    let mut reader = Kept::new(alloc, Watched::new(rt.stdin()), bound_of(word));
     let mut writer = Ending::new(Watched::new(io::writer(&rt)));
-    let ended = run(&rt, rt.alloc(), words_of(&rt), &mut reader, &mut writer);
+    let ended = run(&rt, alloc, &words, &mut reader, &mut writer);
     let status = status_of(ended);
-    // Where the standard error can't be written either, nobody is told.
-    let _ = say(&rt, status, writer.line(), reader.has_failed());
+    let end = End {
+        word,
+        name,
+        status,
+        read_failed: reader.inner().has_failed(),
+        last: writer.line(),
+        input: reader.text(),
+    };
+    say(&rt, &end);
     ExitCode::from(status)
 }

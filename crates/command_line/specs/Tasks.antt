@@ -18,7 +18,7 @@ abbrev pub TaskPrints : Task → List ℕ → Output → Type 0
 TaskPrints (task.Decode rule) = Prints rule
 TaskPrints task.Check = Checks
 TaskPrints task.Play = Plays
-TaskPrints task.Trace = Traces
+TaskPrints (task.Trace shows_octets) = Traces
 TaskPrints (task.Cut s) = Cuts s
 TaskPrints (task.Why u) = Whys u
 TaskPrints (task.Stable limits) = Lists limits

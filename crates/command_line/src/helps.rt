@@ -192,9 +192,10 @@ at rest:
     # keeps 10.1.0.0/16 1, kept none
     # line 7: 1 events, rest behind round 1
 
-Behind 'put' it says what that sends, behind 'take' what it takes, behind 'handle' what it hears,
-behind 'decide' what it keeps, behind 'advertise' whom it tells, behind 'offer' which snapshot it
-offers; then which session came to another state, and which snapshot the router records.
+Behind 'put' it says what that sends, with --octets also in hex, behind 'take' what it takes, behind
+'handle' what it hears, behind 'decide' what it keeps, behind 'advertise' whom it tells, behind
+'offer' which snapshot it offers; then which session came to another state, and which snapshot the
+router records.
 
 A 'rounds' line ends as soon as a round does nothing. 'no rest by round N': each of them did
 something. 'nothing to do': the order of that line found nothing to do. Where an order is refused the
@@ -318,7 +319,7 @@ line 'schedule', and each event that the threads did as an order, so that it is 
 
 What comes behind differs from run to run. 'play' leads to where the threads ended, each time, and says
 how each snapshot came out; with '--turns 2000' and '--snapshots 4' the output is short. 'refused LINE
-CODE' is as for 'run'. An output of more than 16777216 octets is no input.
+CODE' is as for 'run'. An output of more than 16777216 octets is no input: its last line says so.
 
 Status 0: done. 1: a refused input. 2: other words than these. 3: memory was refused ('memory').
 4: a read or a write failed.";

@@ -25,8 +25,8 @@ pub enum Task {
     Check,
     /// Play a schedule.
     Play,
-    /// Write the run of a schedule as a schedule.
-    Trace,
+    /// Write the run of a schedule as a schedule, with the octets of what is sent, or without.
+    Trace(bool),
     /// Show the cut of the snapshot of this number.
     Cut(u32),
     /// Show what the router of this number knows.
@@ -69,7 +69,7 @@ pub fn run_task<S: Source, T: Sink>(
         Task::Decode(rule) => decode_stream(alloc, &rule, reader, writer),
         Task::Check => check_stream(alloc, reader, writer),
         Task::Play => play_stream(alloc, reader, writer),
-        Task::Trace => trace_stream(alloc, reader, writer),
+        Task::Trace(shows_octets) => trace_stream(alloc, shows_octets, reader, writer),
         Task::Cut(number) => cut_stream(alloc, number, reader, writer),
         Task::Why(number) => why_stream(alloc, number, reader, writer),
         Task::Stable(limits) => stable_stream(alloc, &limits, reader, writer),

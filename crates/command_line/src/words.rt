@@ -12,7 +12,7 @@ use crate::tasks::{Task, ThreadTask};
 use bgp_codec::{NOBODY, Rule};
 use bgp_values::{Width, greatest_asn};
 use clap::error::ErrorKind;
-use clap::{Arg, ArgMatches, Command, Error};
+use clap::{Arg, ArgAction, ArgMatches, Command, Error};
 use run_engine::RunOptions;
 use stable_search::Limits;
 use std::alloc::{AllocError, Global};
@@ -206,6 +206,17 @@ fn decode_command<'a>(alloc: Global) -> Result<Command<'a>, AllocError> {
         .arg(asn)
 }
 
+fn trace_command<'a>(alloc: Global) -> Result<Command<'a>, AllocError> {
+    let octets = Arg::new(alloc, "octets")
+        .long("octets")
+        .action(ArgAction::SetTrue)
+        .help("Say what is sent in hex, too, as 'decode' takes it");
+    Command::new(alloc, "trace")
+        .about("Plays a schedule, and prints the run as a schedule of its events")
+        .after_help(TRACE_HELP)
+        .arg(octets)
+}
+
 fn cut_command<'a>(alloc: Global) -> Result<Command<'a>, AllocError> {
     let number = Arg::new(alloc, "number")
         .value_name("S")
@@ -293,9 +304,6 @@ fn command<'a>(alloc: Global) -> Result<Command<'a>, AllocError> {
     let play = Command::new(alloc, "play")
         .about("Plays a schedule of a network's routers")
         .after_help(PLAY_HELP);
-    let trace = Command::new(alloc, "trace")
-        .about("Plays a schedule, and prints the run as a schedule of its events")
-        .after_help(TRACE_HELP);
     Command::new(alloc, "bgpnet")
         .about(
             "Decodes BGP-4 messages, says whether paths are a stable assignment, lists all that are, \
@@ -308,7 +316,7 @@ fn command<'a>(alloc: Global) -> Result<Command<'a>, AllocError> {
         .subcommand(check)?
         .subcommand(stable_command(alloc)?)?
         .subcommand(play)?
-        .subcommand(trace)?
+        .subcommand(trace_command(alloc)?)?
         .subcommand(cut_command(alloc)?)?
         .subcommand(why_command(alloc)?)?
         .subcommand(run_command(alloc)?)?
@@ -320,8 +328,8 @@ fn asked_by(alloc: Global, matches: &ArgMatches) -> Result<Asked, AllocError> {
     if matches.subcommand_matches("play").is_some() {
         return Ok(Asked::Task(Task::Play));
     }
-    if matches.subcommand_matches("trace").is_some() {
-        return Ok(Asked::Task(Task::Trace));
+    if let Some(found) = matches.subcommand_matches("trace") {
+        return Ok(Asked::Task(Task::Trace(found.get_flag("octets"))));
     }
     if matches.subcommand_matches("check").is_some() {
         return Ok(Asked::Task(Task::Check));

@@ -19,6 +19,8 @@
 //!   line says that no line end stands there.
 //! - Where one of several outputs will do, each stands behind its own `-- STATUS`.
 //! - A last line `...` of an output says that more follows, whatever it is.
+//! - Lines `!! TEXT` behind an output are what is said on the standard error, and `!!` alone that nothing is; without
+//!   them it is not looked at.
 //! - A line `++ TITLE` and the lines behind it stand in front of the input of each case that follows, up to the next
 //!   such line.
 //! - Lines that are empty or begin with `#` say nothing at the start of a file, behind an output, and behind the

@@ -1,6 +1,6 @@
 //! The cases of a file of rows.
 
-use crate::lines::{Line, RowError, lines_of, push_lines, trimmed};
+use crate::lines::{Line, RowError, lines_of, push_line, push_lines, trimmed};
 use std::alloc::Global;
 
 /// What may be written, and the status.
@@ -12,6 +12,8 @@ pub struct Answer {
     pub text: Vec<u8>,
     /// Whether more follows it.
     pub goes_on: bool,
+    /// What is said on the standard error, where it is looked at.
+    pub said: Option<Vec<u8>>,
 }
 
 /// What is read, and what may be written for it.
@@ -36,18 +38,49 @@ fn is_status(line: &Line<'_>) -> bool {
     line.text.starts_with("-- ")
 }
 
+// Whether a line is said on the standard error.
+fn is_said(line: &Line<'_>) -> bool {
+    line.text.starts_with("!!")
+}
+
+// What lines that are said spell, each without its mark; none where there is no line.
+fn read_said(alloc: Global, lines: &[Line<'_>]) -> Result<Option<Vec<u8>>, RowError> {
+    if lines.is_empty() {
+        return Ok(None);
+    }
+    let mut said = Vec::new(alloc);
+    for line in lines {
+        match line.text.strip_prefix("!! ") {
+            Some(text) => push_line(
+                &mut said,
+                &Line {
+                    number: line.number,
+                    text,
+                },
+            )?,
+            None if line.text == "!!" => {}
+            None => return Err(line.is_no_row()),
+        }
+    }
+    Ok(Some(said))
+}
+
 // What stands behind a status.
 fn read_answer(alloc: Global, status: &Line<'_>, lines: &[Line<'_>]) -> Result<Answer, RowError> {
     let number = status.text.strip_prefix("-- ").unwrap_or("").parse::<u8>();
     let Ok(number) = number else {
         return Err(status.is_no_row());
     };
+    let lines = trimmed(lines);
+    let count = lines.iter().position(|line| is_said(line));
+    let count = count.unwrap_or(lines.len());
+    let (mut wanted, said) = lines.split_at(count.min(lines.len()));
     let mut answer = Answer {
         status: number,
         text: Vec::new(alloc),
         goes_on: false,
+        said: read_said(alloc, said)?,
     };
-    let mut wanted = trimmed(lines);
     if let [front @ .., last] = wanted
         && last.text == "..."
     {

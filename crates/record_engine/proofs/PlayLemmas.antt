@@ -34,7 +34,7 @@ use Rattle.text_engines.specs.Inputs.{NetworkGives}
 use Rattle.trace_engine.specs.Tracing.{head_of_trace}
 use Rattle.trace_engine.proofs.EventLemmas.{MaySay}
 use Rattle.play_engine.proofs.OneText.{refused_at, no_fault, no_halt}
-use Rattle.trace_engine.proofs.LawLemmas.{all_of, front_is, rest_is, trace_parted, same_events, not_done}
+use Rattle.trace_engine.proofs.LawLemmas.{all_of, front_is, rest_is, trace_parted, same_events, not_done, short_text}
 use Rattle.trace_engine.proofs.LineLemmas.{order_of, as_orders, Says, one_lines}
 use Rattle.run_engine.specs.declared.chores.RunOptions.{RunOptions}
 use Rattle.run_engine.specs.declared.gates.RunGate.{RunGate}
@@ -93,7 +93,7 @@ module _ (hold : HoldTimesFit) (feeds : LinesEndByLineFeeds) (one : OneNetwork) 
     events = events_of threads.gathered
 
     printed : text ≡ record_text (lines_of input) events
-    printed = ap (λ (o : Output). o.text) t.prints.printed
+    printed = short_text (record_text (lines_of input) events) text short (ap (λ (o : Output). o.text) t.prints.printed)
 
     abbrev RanIn : Setting → Type 0
     RanIn g = IsRunOfThreads g (passed_in threads.ways) threads.workers threads.gathered

@@ -12,7 +12,7 @@ use Rattle.net_workers.specs.declared.record.RunFault.TheVariants as fault
 use Rattle.text_engines.specs.declared.status.TheConstants.{DONE}
 use Rattle.text_engines.specs.declared.transfer.TheConstants.{INPUT_LIMIT}
 use Rattle.text_engines.specs.Decoding.{Output, output, refused, memory_output}
-use Rattle.trace_engine.specs.Tracing.{head_of_trace}
+use Rattle.trace_engine.specs.Tracing.{head_of_trace, limited}
 use Rattle.run_engine.specs.declared.chores.RunOptions.{RunOptions}
 use Rattle.run_engine.specs.Gates.{HasRoom}
 use Rattle.run_engine.specs.Running.{RunRecord, RunRefused, faulty, LinesPrint}
@@ -31,8 +31,9 @@ events_text events = flat_map event_line events
 abbrev pub record_text : List Text → List Event → List ℕ
 record_text lines events = head_of_trace lines ++ events_text events
 
+-- with a comment behind it where it is longer than an input may be
 abbrev pub record_output : List Text → List Event → Output
-record_output lines events = output (record_text lines events) DONE
+record_output lines events = output (limited (record_text lines events)) DONE
 
 -- ---- what is printed of a run
 

@@ -19,9 +19,10 @@ use text_engines::{
     INPUT_LIMIT, InputError, IoStopped, Sink, Source, read_input, refused_output, text_output,
     want_of_memory, write_out,
 };
+use trace_engine::put_limit;
 
 /// What is printed of a record, and the status: the lines of its network, the line `schedule`, and each event of the
-/// record as an order, as they stand there.
+/// record as an order, as they stand there; and a comment where that is longer than an input may be.
 ///
 /// It answers an error where memory is refused.
 pub fn record_output<G>(
@@ -31,7 +32,9 @@ pub fn record_output<G>(
 ) -> Result<(Vec<u8>, u8), AllocError>
     ensures { IfOk result (λ printed. output printed.0.items printed.1 ≡ record_output (lines_of lines.now) (events_of made.now.gathered.items)) }
 {
-    Ok((record_text(alloc, lines, made.gathered.as_slice())?, DONE))
+    let mut text = record_text(alloc, lines, made.gathered.as_slice())?;
+    put_limit(&mut text)?;
+    Ok((text, DONE))
 }
 
 // What is printed for a network of these lines, and the status.
@@ -75,7 +78,7 @@ where
 
 /// Reads a network, runs it in threads as `bgpnet run` does, and writes what they did as a schedule: the network's
 /// lines, the line `schedule`, and each event as an order, by its stamp, then by its router; or the first line that
-/// is refused, or why the run was. Answers the status.
+/// is refused, or why the run was. Where that is longer than an input may be a comment says so. Answers the status.
 ///
 /// Where memory is refused it writes `memory` alone and answers 3. It stops only where a read or a
 /// write failed, and then what was written is a beginning of the text.

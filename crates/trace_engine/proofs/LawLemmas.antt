@@ -199,7 +199,7 @@ short_by limit comment true t text long short is =
     absurd (omega (arith, ap length is, length-append t comment, short, more))
 short_by limit comment false t text long short is = is ∙ append-nil t
 
-short_text : (t text : List ℕ) → length text ≤ INPUT_LIMIT → text ≡ limited t → text ≡ t
+pub short_text : (t text : List ℕ) → length text ≤ INPUT_LIMIT → text ≡ limited t → text ≡ t
 short_text t text short is = short_by INPUT_LIMIT limit_comment (nat_lt INPUT_LIMIT (length t)) t text refl short is
 
 module _ (feeds : LinesEndByLineFeeds) (read : LinesAreReadAsTheySay) (one : OneNetwork) (spelt : SpeltIsNotRefused) (exists : EachNetworkHasASetting) (again : WhatIsPlayedIsReplayed) where

@@ -1,6 +1,6 @@
 //! The comments of a trace: what an order orders and how it ended, what an event did, and that a trace is too long.
 
-ghost use Rattle.std.specs.Prelude.{◌≡◌, ◌++◌, length, OnOk};
+ghost use Rattle.std.specs.Prelude.{◌≡◌, ◌++◌, length, OnOk, OnErr};
 ghost use Rattle.net_text.specs.Lexing.{lines_of};
 ghost use Rattle.trace_engine.specs.Tracing.{place_text, head_line, head_text, idle_line, counted_line, ticked_line, tail_text, stop_comment, comment_line, comments_text, limit_text};
 
@@ -170,9 +170,11 @@ pub(crate) fn put_comments(text: &[u8], out: &mut Vec<u8>) -> Result<(), AllocEr
     Ok(())
 }
 
-/// Appends that a trace is longer than an input may be, where it is.
-pub(crate) fn put_limit(out: &mut Vec<u8>) -> Result<(), AllocError>
-    ensures { OnOk result (out.new.items ≡ out.old.items ++ limit_text (length out.old.items)) }
+/// Appends a comment that what is there is longer than an input may be, where it is. It is refused only where memory
+/// was, and then changes nothing.
+pub fn put_limit(out: &mut Vec<u8>) -> Result<(), AllocError>
+    ensures ok { OnOk result (out.new.items ≡ out.old.items ++ limit_text (length out.old.items)) }
+    ensures err { OnErr result (out.new.items ≡ out.old.items) }
 {
     if out.len() <= INPUT_LIMIT {
         return Ok(());

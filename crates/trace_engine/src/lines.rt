@@ -1,6 +1,7 @@
 //! The lines that say what an event did.
 
 use bgp_codec::Fault;
+use hex::encode;
 use net_text::{Tail, path_line, put_path};
 use prefix_lanes::Prefix;
 use ranked_policy::Asn;
@@ -31,13 +32,33 @@ pub(crate) fn say_number(
 fn write_count(out: &mut Tail, word: &[u8], count: usize) -> Result<(), AllocError> {
     out.put_text(word)?;
     out.put_len(count)?;
-    out.put_text(b" octets\n")
+    out.put_text(if count == 1 {
+        b" octet\n"
+    } else {
+        b" octets\n"
+    })
 }
 
 /// Says how many octets are sent.
 pub(crate) fn say_count(word: &[u8], count: usize, text: &mut Vec<u8>) -> Result<(), AllocError> {
     let mut tail = Tail::behind(text);
     let result = write_count(&mut tail, word, count);
+    *text = tail.finish(result.is_ok());
+    result
+}
+
+// Writes digits of octets.
+fn write_digits(out: &mut Tail, digits: &[u8]) -> Result<(), AllocError> {
+    out.put_text(b"octets ")?;
+    out.put_text(digits)?;
+    out.put_text(b"\n")
+}
+
+/// Says octets that are sent, in hex.
+pub(crate) fn say_hex(octets: &[u8], text: &mut Vec<u8>) -> Result<(), AllocError> {
+    let digits = encode(*text.allocator(), octets)?;
+    let mut tail = Tail::behind(text);
+    let result = write_digits(&mut tail, digits.as_bytes());
     *text = tail.finish(result.is_ok());
     result
 }

@@ -1,6 +1,6 @@
 //! What is noted of an event: what it will send, take, hear, tell or offer, and what changed by it.
 
-use crate::lines::{say_change, say_count, say_fault, say_item, say_number, say_path};
+use crate::lines::{say_change, say_count, say_fault, say_hex, say_item, say_number, say_path};
 use bgp_codec::{Message, Rule};
 use bgp_framing::{Next, next_message};
 use bgp_values::{HEADER_LEN, MESSAGE_LIMIT};
@@ -26,6 +26,8 @@ struct Seen {
 /// What is noted of an event.
 #[derive(Drop)]
 pub(crate) struct Notes {
+    // Whether the octets of what is sent are said, too.
+    shows_octets: bool,
     // What is said of it, line by line.
     text: Vec<u8>,
     // The sessions that it may move, as they were.
@@ -71,10 +73,20 @@ fn say_message(word: &[u8], message: &Message, text: &mut Vec<u8>) -> Result<(),
     message_line(message, text)
 }
 
+// Says octets in hex, where they are to be said.
+fn say_shown(shows_octets: bool, octets: &[u8], text: &mut Vec<u8>) -> Result<(), AllocError> {
+    if shows_octets {
+        say_hex(octets, text)
+    } else {
+        Ok(())
+    }
+}
+
 // Says what a piece has: its messages, as far as they are whole, and how many octets stand behind them.
 fn say_octets(
     alloc: Global,
     rule: &Rule,
+    shows_octets: bool,
     octets: &[u8],
     text: &mut Vec<u8>,
 ) -> Result<(), AllocError> {
@@ -84,18 +96,27 @@ fn say_octets(
             break;
         };
         say_message(b"sends ", &message, text)?;
+        let (frame, _) = left.split_at(left.len().saturating_sub(rest.len()));
+        say_shown(shows_octets, frame, text)?;
         left = rest;
     }
     if left.is_empty() {
         return Ok(());
     }
-    say_count(b"sends ", left.len(), text)
+    say_count(b"sends ", left.len(), text)?;
+    say_shown(shows_octets, left, text)
 }
 
 // Says the item that is put.
-fn say_sent(alloc: Global, rule: &Rule, what: &What, text: &mut Vec<u8>) -> Result<(), AllocError> {
+fn say_sent(
+    alloc: Global,
+    rule: &Rule,
+    shows_octets: bool,
+    what: &What,
+    text: &mut Vec<u8>,
+) -> Result<(), AllocError> {
     match what {
-        What::Piece(_, octets) => say_octets(alloc, rule, octets.as_slice(), text),
+        What::Piece(_, octets) => say_octets(alloc, rule, shows_octets, octets.as_slice(), text),
         What::Dial(_) | What::Shut(_) | What::Mark(..) => say_item(b"sends ", what, text),
     }
 }
@@ -105,6 +126,7 @@ fn say_put(
     network: &Network,
     router: &Router<'_>,
     peer: Asn,
+    shows_octets: bool,
     text: &mut Vec<u8>,
 ) -> Result<(), AllocError> {
     let alloc = *text.allocator();
@@ -114,7 +136,7 @@ fn say_put(
         own: Some(peer),
     };
     match router.next_item(peer) {
-        Ok(Some(item)) => say_sent(alloc, &rule, &item.what, text),
+        Ok(Some(item)) => say_sent(alloc, &rule, shows_octets, &item.what, text),
         Err(RouterError::Memory) => Err(AllocError),
         Ok(None) | Err(_) => Ok(()),
     }
@@ -150,9 +172,10 @@ fn say_offer(router: &Router<'_>, text: &mut Vec<u8>) -> Result<(), AllocError> 
 }
 
 impl Notes {
-    /// No notes.
-    pub fn new(alloc: Global) -> Notes {
+    /// No notes; whether the octets of what is sent are to be said, too.
+    pub fn new(alloc: Global, shows_octets: bool) -> Notes {
         Notes {
+            shows_octets,
             text: Vec::new(alloc),
             sessions: Vec::new(alloc),
             snapshot: 0,
@@ -223,7 +246,10 @@ impl Notes {
         match *event {
             Event::Command(_, command) => self.watch_command(router, command),
             Event::Tick(_) => self.watch_all(router),
-            Event::Put(_, peer) => say_put(world.network(), router, peer, &mut self.text),
+            Event::Put(_, peer) => {
+                let shows_octets = self.shows_octets;
+                say_put(world.network(), router, peer, shows_octets, &mut self.text)
+            }
             Event::Take(number, peer) => match world.next_to_take(number, peer) {
                 Some(item) => {
                     self.watch(router, peer)?;

@@ -110,24 +110,27 @@ fn world_output(
     network: &Network,
     mut world: World<'_>,
     orders: &[ScheduledOrder],
+    shows_octets: bool,
     mut out: Vec<u8>,
 ) -> Result<(Vec<u8>, u8), AllocError>
     requires { Opens network.now world }
     ensures { IfOk result (λ printed. OrdersTrace network.now out.items orders.now (output printed.0.items printed.1)) }
 {
-    let mut notes = Notes::new(alloc);
+    let mut notes = Notes::new(alloc, shows_octets);
     match trace_all(alloc, &mut world, orders, &mut notes, &mut out) {
         Ok(()) => end_output(out, DONE),
         Err(stop) => stop_output(stop, out),
     }
 }
 
-/// What is printed for a network of these lines and the orders of a schedule, and the status.
+/// What is printed for a network of these lines and the orders of a schedule, and the status; with the octets of what is
+/// sent, or without.
 pub(crate) fn orders_output(
     alloc: Global,
     lines: &[u8],
     network: &Network,
     orders: &[ScheduledOrder],
+    shows_octets: bool,
 ) -> Result<(Vec<u8>, u8), AllocError>
     ensures { IfOk result (λ printed. OrdersTrace network.now (head_of_trace (lines_of lines.now)) orders.now (output printed.0.items printed.1)) }
 {
@@ -135,7 +138,7 @@ pub(crate) fn orders_output(
     put_network(lines, &mut out)?;
     out.extend_from_slice(b"schedule\n")?;
     match World::new(alloc, network) {
-        Ok(world) => world_output(alloc, network, world, orders, out),
+        Ok(world) => world_output(alloc, network, world, orders, shows_octets, out),
         Err(_) => Err(AllocError),
     }
 }

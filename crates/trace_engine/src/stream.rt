@@ -15,6 +15,7 @@ use text_engines::{INPUT_LIMIT, refused_output, text_output};
 // What is printed for a schedule behind a network of these lines, so many lines standing before it.
 fn schedule_output(
     alloc: Global,
+    shows_octets: bool,
     lines: &[u8],
     network: &Network,
     before: usize,
@@ -24,29 +25,44 @@ fn schedule_output(
     ensures { IfOk result (λ printed. ScheduleTraces (lines_of lines.now) network.now before (lines_of text.now) (output printed.0.items printed.1)) }
 {
     match read_schedule(alloc, text, before, network) {
-        Ok(orders) => orders_output(alloc, lines, network, orders.as_slice()),
+        Ok(orders) => orders_output(alloc, lines, network, orders.as_slice(), shows_octets),
         Err(refused) => text_output(alloc, &refused),
     }
 }
 
 // What is printed for a network and a schedule behind it.
-fn network_output(alloc: Global, split: &Split) -> Result<(Vec<u8>, u8), AllocError>
+fn network_output(
+    alloc: Global,
+    shows_octets: bool,
+    split: &Split,
+) -> Result<(Vec<u8>, u8), AllocError>
     requires { split.now.before + length split.now.behind.now < 2 ^ 64 }
     ensures { IfOk result (λ printed. LinesTrace (lines_of split.now.front.now) split.now.before (lines_of split.now.behind.now) (output printed.0.items printed.1)) }
 {
     match read_network(alloc, split.front) {
-        Ok(network) => schedule_output(alloc, split.front, &network, split.before, split.behind),
+        Ok(network) => schedule_output(
+            alloc,
+            shows_octets,
+            split.front,
+            &network,
+            split.before,
+            split.behind,
+        ),
         Err(refused) => text_output(alloc, &refused),
     }
 }
 
-/// What is printed for an input, and the status.
-pub(crate) fn input_output(alloc: Global, input: Vec<u8>) -> Result<(Vec<u8>, u8), AllocError>
+/// What is printed for an input, with the octets of what is sent, or without, and the status.
+pub(crate) fn input_output(
+    alloc: Global,
+    shows_octets: bool,
+    input: Vec<u8>,
+) -> Result<(Vec<u8>, u8), AllocError>
     ensures { IfOk result (λ printed. InputTraces input.items (output printed.0.items printed.1)) }
 {
     if input.len() > INPUT_LIMIT {
         return refused_output(alloc, 0, Code::OutOfLimit.text());
     }
     let split = split_at_section(input.as_slice(), b"schedule");
-    network_output(alloc, &split)
+    network_output(alloc, shows_octets, &split)
 }

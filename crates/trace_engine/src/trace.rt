@@ -10,13 +10,15 @@ use text_engines::{InputError, IoStopped, Sink, Source, read_input, want_of_memo
 
 /// Reads a network and a schedule, and writes the run that the schedule leads to as a schedule: the network's
 /// lines, the line `schedule`, and the order of each event that was done, with comments of what it did and of what
-/// stood for many events; or the first line that is refused. Answers the status.
+/// stood for many events; or the first line that is refused. Answers the status. With `shows_octets` the comments of a
+/// put have the octets that go, in hex.
 ///
 /// Where an order is refused its trace ends with a comment that says so. Where memory is refused it writes `memory`
 /// alone and answers 3. It stops only where a read or a write failed, and then what was written is a beginning of
 /// the text.
 pub fn trace_stream<S: Source, T: Sink>(
     alloc: Global,
+    shows_octets: bool,
     source: &mut S,
     sink: &mut T,
 ) -> Result<u8, IoStopped>
@@ -35,7 +37,7 @@ pub fn trace_stream<S: Source, T: Sink>(
         Err(InputError::Memory) => return want_of_memory(sink),
         Err(InputError::Stopped) => return Err(IoStopped),
     };
-    match input_output(alloc, input) {
+    match input_output(alloc, shows_octets, input) {
         Ok((text, status)) => {
             write_out(sink, text.as_slice())?;
             Ok(status)

@@ -16,6 +16,8 @@ use std::alloc::{AllocError, Global};
 use std::sync::Wait;
 use std::test::Fail;
 use std::thread::Threads;
+use text_engines::INPUT_LIMIT;
+use trace_engine::put_limit;
 use world_core::World;
 
 // Two routers and a link; and DISAGREE, where 2 and 3 prefer the way through each other.
@@ -163,5 +165,30 @@ fn the_text_of_a_record(rt: HostRuntime) -> Result<(), Fail> {
         }
         Err(_) => Err("a network")?,
     }
+    Ok(())
+}
+
+// What is said of a text of so many octets more than an input may have.
+fn said_of(alloc: Global, more: usize) -> Result<Vec<u8>, AllocError> {
+    let block = [b'\n'; 4096];
+    let mut text = Vec::new(alloc);
+    for _ in 0..INPUT_LIMIT / 4096 {
+        text.extend_from_slice(&block)?;
+    }
+    for _ in 0..more {
+        text.extend_from_slice(b"\n")?;
+    }
+    let len = text.len();
+    put_limit(&mut text)?;
+    let (_, said) = text.as_slice().split_at(len.min(text.len()));
+    said.to_vec(alloc)
+}
+
+#[test]
+fn a_text_that_is_too_long_says_so(rt: HostRuntime) -> Result<(), Fail> {
+    let alloc = rt.alloc();
+    assert!(rt; said_of(alloc, 0)?.is_empty());
+    let said = b"# too long to be played: an input has at most 16777216 octets\n";
+    assert!(rt; said_of(alloc, 1)?.as_slice() == said.as_slice());
     Ok(())
 }

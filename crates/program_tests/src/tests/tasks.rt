@@ -118,6 +118,18 @@ fn numbers_of_words(rt: HostRuntime) -> Result<(), Fail> {
             Asked::Task(Task::Stable(Limits { most: 9, steps: 10 }))
         )
     );
+    assert!(rt;
+        matches!(
+            read_words(alloc, &["trace"])?,
+            Asked::Task(Task::Trace(false))
+        )
+    );
+    assert!(rt;
+        matches!(
+            read_words(alloc, &["trace", "--octets"])?,
+            Asked::Task(Task::Trace(true))
+        )
+    );
     let run = ["run", "--turns", "300", "--snapshots", "5"];
     assert!(rt;
         matches!(

@@ -1,0 +1,4 @@
+pub mod Meanings
+pub mod Refusals
+pub mod Hints
+pub mod Saying

@@ -1,0 +1,111 @@
+-- What the program says on the standard error: lines that each begin with its name.
+use Rattle.std.specs.Prelude.{ℕ, zero, suc, ◌==◌, ◌||◌, nat_le, ◌&&◌, not, Bool, [], ◌++◌, length, take, map, Option, None, Some, unwrap_or, codes, decimal, if◌then◌else◌}
+use Rattle.text_engines.specs.declared.status.TheConstants.{REFUSED, USAGE, STOPPED}
+use Rattle.net_text.specs.Lexing.{Text, words_of, same, begins_with}
+use Rattle.net_text.specs.Printing.{line}
+use Rattle.error_words.specs.declared.saying.TheConstants.{MOST_SHOWN}
+use Rattle.text_engines.specs.declared.transfer.TheConstants.{INPUT_LIMIT}
+use Rattle.error_words.specs.declared.hints.Hint.{Hint}
+use Rattle.error_words.specs.declared.saying.End.{End}
+use Rattle.error_words.specs.Meanings.{meaning_at}
+use Rattle.error_words.specs.Refusals.{Refused, refusal_in, without_mark, line_at}
+use Rattle.error_words.specs.Hints.{hint_text, hint_of_line, hint_of_hex, has}
+
+-- ---- refusals
+
+-- an octet as it is shown: a question mark for one that is no printed one of ASCII, a space for a tab
+abbrev pub shown_octet : ℕ → ℕ
+shown_octet x = if nat_le 32 x && nat_le x 126 then x else if x == 9 then 32 else 63
+
+-- a line as it is shown, up to a bound
+abbrev pub shown : Text → Text
+shown text =
+    if nat_le (length text) MOST_SHOWN then map shown_octet text
+    else map shown_octet (take MOST_SHOWN text) ++ codes " .."
+
+abbrev pub place_text : ℕ → Text
+place_text zero = []
+place_text (suc before) = codes "line " ++ (decimal (suc before) ++ codes ": ")
+
+-- the line that is refused, where it is known
+abbrev pub found_text : Option Text → Text
+found_text None = []
+found_text (Some text) = codes ": " ++ shown text
+
+unfoldable pub refusal_text : ℕ → Text → Option Text → Text
+refusal_text at code found = line (codes "bgpnet: " ++ (place_text at ++ (code ++ (codes ": " ++ (meaning_at at code ++ found_text found)))))
+
+-- ---- hints
+
+unfoldable pub remark_text : Text → Text
+remark_text text = line (codes "bgpnet: " ++ text)
+
+abbrev pub hint_said : Option Hint → Text
+hint_said None = []
+hint_said (Some hint) = remark_text (hint_text hint)
+
+-- ---- what is said where this line was printed last, for an input that begins so
+
+abbrev pub no_hex : Text
+no_hex = codes "the input has an octet that is no hex digit and no blank, or half an octet"
+
+abbrev pub first_line : Text → Text
+first_line input = unwrap_or (line_at input 1) []
+
+abbrev pub named_said : Text → Option Refused → Text
+named_said input None = []
+named_said input (Some refused) =
+    refusal_text refused.at refused.code (line_at input refused.at)
+    ++ hint_said (hint_of_line input (unwrap_or (line_at input refused.at) []))
+
+abbrev pub refused_said : Text → Text → Text
+refused_said last input =
+    if same last (codes "bad hex") then remark_text no_hex ++ hint_said (hint_of_hex input (first_line input))
+    else named_said input (refusal_in (without_mark (words_of last)))
+
+abbrev pub stopped_said : Bool → Text
+stopped_said read_failed = remark_text (if read_failed then codes "the standard input can't be read" else codes "the standard output can't be written")
+
+-- ---- words that are not taken
+
+-- a word that reads an input, with no number behind it
+abbrev pub reads_alone : Text → Bool
+reads_alone word =
+    same word (codes "decode") || same word (codes "check") || same word (codes "play") || same word (codes "trace")
+    || same word (codes "run") || same word (codes "record") || same word (codes "stable")
+
+-- a word that reads an input, and what stands behind it
+abbrev pub usage_of : Text → Option Text
+usage_of word =
+    if same word (codes "cut") then Some (codes " S < ")
+    else if same word (codes "why") then Some (codes " U < ")
+    else if reads_alone word then Some (codes " < ")
+    else None
+
+-- a name of a file: no option, with a dot or a slash
+abbrev pub is_file : Text → Bool
+is_file name = not (begins_with 45 name) && (has 46 name || has 47 name)
+
+unfoldable pub file_text : Text → Text → Text → Text
+file_text word usage name = line (codes "bgpnet: the input is the standard input: bgpnet " ++ (word ++ (usage ++ shown name)))
+
+abbrev pub used_said : Text → Option Text → Text → Text
+used_said word None name = []
+used_said word (Some usage) name = if is_file name then file_text word usage name else []
+
+-- of the first and the last word
+abbrev pub words_said : Text → Text → Text
+words_said word name = used_said word (usage_of word) name
+
+-- how many octets of an input are kept for what is said of it
+abbrev pub bound_of : Text → ℕ
+bound_of word = if same word (codes "decode") then 512 else INPUT_LIMIT
+
+-- ---- all that is said
+
+abbrev pub said : End → Text
+said end =
+    if end.status == STOPPED then stopped_said end.read_failed
+    else if end.status == REFUSED then refused_said end.last.now end.input.now
+    else if end.status == USAGE then words_said end.word.now end.name.now
+    else []
