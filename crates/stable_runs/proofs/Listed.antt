@@ -83,7 +83,7 @@ module _ (stable : SettledIsStable) (decided : DecidedRunsPassThrough) (g : Sett
     none = λ s u q named origin part made own every all none settled.
         (let d = decided g set order state run s (inl settled) in
         is_in_none (λ w. (with_part s u part made d.0 d.1 w).kept q) every none
-            (is_listed s settled (with_part s u part made d.0 d.1) (have_made s u part made d.0 d.1) q named (originates s u part made d.0 d.1 q origin own) every all));
+        (is_listed s settled (with_part s u part made d.0 d.1) (have_made s u part made d.0 d.1) q named (originates s u part made d.0 d.1 q origin own) every all));
     one = λ s settled parts made q named own every all one paths is_stable u router.
         same_in_one (λ w. (parts w).kept q) paths every one (is_listed s settled parts made q named own every all) ((all.exact paths).0 is_stable) u ((all.routers u).0 router);
   }

@@ -1,7 +1,9 @@
-//! The laws of the engines.
+//! The laws of the engines, and of settled snapshots.
 
+use net_workers::ScriptGate;
 use play_engine::laws::{cut_prints_one_text, play_prints_one_text, why_prints_one_text};
 use record_engine::laws::records_play_back;
+use stable_runs::laws::{printed_are_listed, settled_are_listed};
 use text_engines::laws::{check_prints_one_text, decode_prints_one_text};
 use trace_engine::laws::{traces_play_back, traces_spell_their_runs};
 use why_engine::laws::each_router_has_one_text;
@@ -18,4 +20,6 @@ fn laws_are_called() {
     traces_spell_their_runs();
     traces_play_back();
     records_play_back();
+    settled_are_listed::<ScriptGate>();
+    printed_are_listed();
 }
