@@ -7,7 +7,7 @@ use Rattle.ranked_policy.specs.declared.network.Link.{Link}
 use Rattle.ranked_policy.specs.Paths.{BeginsWith}
 use Rattle.ranked_policy.specs.Plans.{Linked, IsRouter, numbers}
 use Rattle.ranked_policy.specs.Policies.{IsTableOf, Originates}
-use Rattle.stable_paths.specs.Stable.{Problem, IsInstance}
+use Rattle.stable_paths.specs.Stable.{Problem, IsInstance, IsStable}
 use Rattle.stable_paths.proofs.TableLemmas.{one_table, linked_is}
 use Rattle.stable_search.specs.declared.every.Every.{Every}
 use Rattle.stable_search.specs.declared.every.Part.{Part}
@@ -20,17 +20,10 @@ use Rattle.stable_search.specs.Picks.{FitsWay, Solves}
 use Rattle.stable_search.specs.Seats.{IsSeat, FitsBy, FitsEnd, FitsBoth, StandsAt, IsWayOf, AreWaysOf}
 use Rattle.stable_search.specs.Groups.{at_places, IsPickOf, IsGroup, AreGroups, AreValues, IsPartOf, ArePartsOf}
 use Rattle.stable_search.proofs.FitLemmas.{not_nil}
+use Rattle.stable_search.proofs.PlaceLemmas.{stands, here}
 use Rattle.stable_search.proofs.RelateLemmas.{same_seat}
 
 -- ---- lists
-
-pub stands : {X : Type 0} (xs : List X) (i : ℕ) → i < length xs → (x : X) × StandsAt xs i x
-stands [] i lt = absurd (omega (arith, lt))
-stands (x ∷ xs) zero lt = (x, (lt, refl))
-stands (x ∷ xs) (suc i) lt = let s = stands xs i (omega (arith, lt)) in (s.0, (lt, s.1.1))
-
-pub here : {X : Type 0} (P : X → Type 0) (xs : List X) (i : ℕ) (x : X) → All P xs → StandsAt xs i x → P x
-here P xs i x all at = subst P at.1 (all i x at.0)
 
 linked_back : (links : List Link) (u v : ℕ) → Linked links u v → Linked links v u
 linked_back links u v l = (l.0, l.1, l.2, l.3, elim l.4 [ inl a ↦ inr (a.0, a.1) | inr a ↦ inl (a.0, a.1) ])
@@ -39,7 +32,7 @@ linked_back links u v l = (l.0, l.1, l.2, l.3, elim l.4 [ inl a ↦ inr (a.0, a.
 
 module _ (p : Problem) (seat : Seat) (x : IsSeat p seat) where
   begins : (path : List ℕ) → Contains seat.values.items path → (path ≡ []) ⊎ BeginsWith path x.table.router
-  begins path c = elim ((x.exact path).0 c) [
+  begins path c = elim (x.may path c) [
     | inl own ↦ inr ([], own.1)
     | inr other ↦ elim other.1 [
       | inl none ↦ inl none
@@ -135,15 +128,13 @@ module _ (p : Problem) (is : IsInstance p) (law : StableIsFitting) (seats : List
         let f = fitting s.router (is_router i s st) in
         subst (FitsPeers p paths) (one_table p.net s.router f.0 (seat_at i s st).table is.problem.network f.1 (seat_at i s st).of) f.2
 
-    has_paths : IsFitting p paths → (i : ℕ) (s : Seat) → StandsAt seats i s → Contains s.values.items (paths s.router)
-    has_paths fitting i s st =
-        let x = seat_at i s st in
-        (x.exact (paths s.router)).1 (subst (λ (n : ℕ). MayStand p.net.links p.prefix x.table (paths n)) x.of.0 (fits_seat fitting i s st).may)
+    has_paths : IsStable p paths → (i : ℕ) (s : Seat) → StandsAt seats i s → Contains s.values.items (paths s.router)
+    has_paths stable i s st = (seat_at i s st).has paths stable
 
     fits_end : IsFitting p paths → (i : ℕ) (s : Seat) → StandsAt seats i s → (v : ℕ) → Linked p.net.links s.router v → FitsEnd s v (paths s.router) (paths v)
     fits_end fitting i s st v linked =
         let x = seat_at i s st in
-        at_end p s x v (paths s.router) (paths v) (begins p s x (paths s.router) (has_paths fitting i s st))
+        at_end p s x v (paths s.router) (paths v) (begins p s x (paths s.router) (has_paths ((law p is paths).1 fitting) i s st))
         (λ not. subst (λ (n : ℕ). FitsAt x.table p.prefix v (paths n) (paths v)) x.of.0
         ((fits_seat fitting i s st).fits v (subst (λ (n : ℕ). Linked p.net.links n v) (sym x.of.0) linked) not))
 
@@ -185,7 +176,7 @@ module _ (p : Problem) (is : IsInstance p) (law : StableIsFitting) (seats : List
           x.table,
           subst (λ (n : ℕ). IsTableOf p.net n x.table) r.3 x.of,
           record {
-            may = subst (λ (n : ℕ). MayStand p.net.links p.prefix x.table (paths n)) (sym x.of.0) ((x.exact (paths s.router)).0 (has i s r.2));
+            may = subst (λ (n : ℕ). MayStand p.net.links p.prefix x.table (paths n)) (sym x.of.0) (x.may (paths s.router) (has i s r.2));
             fits = λ v linked not. fits_at i s r.2 v (subst (λ (n : ℕ). Linked p.net.links n v) x.of.0 linked) not;
           },
         )
@@ -356,7 +347,7 @@ every p is law seats at each ways over sets values groups fall found of = record
   exact = λ paths. (
     λ stable g d lt.
         (let fitting : IsFitting p paths = (law p is paths).0 stable in
-        let k = picked seats paths (has_paths p is law seats at each ways over sets values paths fitting) in
+        let k = picked seats paths (has_paths p is law seats at each ways over sets values paths stable) in
         let solved = solves p is law seats at each ways over sets values paths fitting k in
         let all = (fall.exact k.pick (k.size ∙ sym values.0) (low p is law seats at each ways over sets values paths k)).0 solved in
         let group = group_at g (omega (arith, lt, of.size)) in

@@ -7,3 +7,5 @@ pub mod EveryLemmas
 pub mod GroupLemmas
 pub mod PartLemmas
 pub mod CountLemmas
+pub mod PlaceLemmas
+pub mod FixLemmas

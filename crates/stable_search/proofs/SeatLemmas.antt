@@ -1,6 +1,6 @@
 -- What a router may have, path by path.
 use Rattle.std.proofs.Common.{◌≡◌, ◌≢◌, ℕ, zero, suc, ◌<◌, ◌+◌, List, [], ◌∷◌, ◌++◌, length, take, get_or, sym, ap, subst, ◌∙◌, arith, inl, inr, ◌⊎◌}
-use Rattle.std.specs.Prelude.{◌↔◌, IsTrue, Bool, true}
+use Rattle.std.specs.Prelude.{◌↔◌, IsTrue, Result, Ok, Err, IfOk}
 use Rattle.std.proofs.Common.{Vec, Global}
 use Rattle.std.specs.List.{AllPairs, Contains}
 use Rattle.std.proofs.lemmas.List.{take_more, get_or_default}
@@ -9,10 +9,14 @@ use Rattle.std.proofs.lemmas.List.Quantifiers.{all_pairs_push}
 use Rattle.ranked_policy.specs.declared.network.Link.{Link}
 use Rattle.ranked_policy.specs.declared.policy.Chosen.{Chosen}
 use Rattle.ranked_policy.specs.Choosing.{chosen_permits}
-use Rattle.ranked_policy.specs.Policies.{Table, IsTableOf, Originates}
-use Rattle.stable_paths.specs.Stable.{Problem, Speaks}
+use Rattle.ranked_policy.specs.Promises.{EachPolicyIsAnOrder}
+use Rattle.stable_paths.specs.Stable.{Problem, IsInstance, IsStable}
+use Rattle.stable_search.specs.declared.chooser.Chooser.{Chooser}
+use Rattle.stable_search.specs.Choosers.{IsChooser, MayChoose}
 use Rattle.stable_search.specs.Fits.{GoesOver}
-use Rattle.stable_search.specs.Seats.{IsSeat}
+use Rattle.stable_search.specs.Fixing.{IsFixed}
+use Rattle.stable_search.specs.Seats.{IsSeat, AreValuesOf}
+use Rattle.stable_search.proofs.FixLemmas.{own_fixed, stable_may}
 
 pub record Lists (links : List Link) (policy : Chosen) (router : ℕ) (passed values : List (List ℕ)) : Type 0 where
   pub exact : (path : List ℕ) → (Contains values path ↔ (Contains passed path × chosen_permits policy path × GoesOver links router path))
@@ -108,48 +112,59 @@ one_path path other = ((λ c. at c), (λ e. (0, omega arith, sym e)))
 one_pairs : (path : List ℕ) → AllPairs {X = List ℕ} (λ a b. a ≢ b) (path ∷ [])
 one_pairs path i j d lt inside = absurd (omega (arith, lt, inside))
 
-module _ (p : Problem) (r : ℕ) (table : Table) (of : IsTableOf p.net r table) (policy : Chosen) (speaks : Speaks policy table p.prefix) (flag : Bool) (origin : IsTrue flag ↔ Originates table p.prefix table.router) where
-  pub origin_seat : (values : List (List ℕ)) (vec : Vec (List ℕ) Global) → vec.items ≡ values → flag ≡ true → values ≡ (r ∷ []) ∷ [] → IsSeat p (record { router = r; is_origin = flag; policy = policy; values = vec })
-  origin_seat values vec at own e = record {
-    table = table;
-    of = of;
-    origin = origin;
-    speaks = speaks;
-    exact = λ path. (
-      λ c. inl (origin.0 own, (one_path (r ∷ []) path).0 (subst (λ (xs : List (List ℕ)). Contains xs path) (at ∙ e) c) ∙ ap (λ (n : ℕ). n ∷ []) (sym of.0)),
-      λ may. subst (λ (xs : List (List ℕ)). Contains xs path) (sym (at ∙ e)) ((one_path (r ∷ []) path).1 (elim may [
-        | inl mine ↦ mine.1 ∙ ap (λ (n : ℕ). n ∷ []) of.0
-        | inr other ↦ absurd (other.0 (origin.0 own))
-      ])),
-    );
-    distinct = subst (AllPairs (λ a b. a ≢ b)) (sym (at ∙ e)) (one_pairs (r ∷ []));
-    few = (let size = ap length (at ∙ e) in omega (arith, size));
-  }
+one_list : (p : Problem) (it : Chooser) (path : List ℕ) (values : List (List ℕ)) → values ≡ path ∷ [] → MayChoose p.net.links it path → ((paths : ℕ → List ℕ) → IsStable p paths → paths it.router ≡ path) → AreValuesOf p it values
+one_list p it path values e may always = record {
+  may = λ other c. subst (MayChoose p.net.links it) (sym ((one_path path other).0 (subst (λ (xs : List (List ℕ)). Contains xs other) e c))) may;
+  has = λ paths stable. subst (λ (xs : List (List ℕ)). Contains xs (paths it.router)) (sym e) ((one_path path (paths it.router)).1 (always paths stable));
+  distinct = subst (AllPairs (λ a b. a ≢ b)) (sym e) (one_pairs path);
+  few = (let size = ap length e in omega (arith, size));
+}
 
-  pub other_seat : (vec : Vec (List ℕ) Global) → (Originates table p.prefix table.router → ⊥)
-      → ((path : List ℕ) → (Contains vec.items path ↔ (chosen_permits policy path × GoesOver p.net.links r path) ⊎ ([] ≡ path)))
-      → AllPairs (λ a b. a ≢ b) vec.items → length vec.items < 64 → IsSeat p (record { router = r; is_origin = flag; policy = policy; values = vec })
-  other_seat vec not exact apart few = record {
-    table = table;
-    of = of;
-    origin = origin;
-    speaks = speaks;
-    exact = λ path. (
-      λ c. inr (
-        not,
-        elim ((exact path).0 c) [
-          | inl may ↦ inr ((speaks.permits path).0 may.0, subst (λ (n : ℕ). GoesOver p.net.links n path) (sym of.0) may.1)
-          | inr none ↦ inl (sym none)
-        ],
-      ),
-      λ may. (exact path).1 (elim may [
-        | inl mine ↦ absurd (not mine.0)
-        | inr other ↦ elim other.1 [
-          | inl none ↦ inr (sym none)
-          | inr on ↦ inl ((speaks.permits path).1 on.0, subst (λ (n : ℕ). GoesOver p.net.links n path) of.0 on.1)
-        ]
-      ]),
-    );
+-- a router with one path in every stable assignment
+pub fixed_values : (p : Problem) (it : Chooser) (path : List ℕ) (values : List (List ℕ)) → values ≡ path ∷ [] → IsFixed p it path → AreValuesOf p it values
+fixed_values p it path values e fixed = one_list p it path values e fixed.may fixed.always
+
+module _ (law : EachPolicyIsAnOrder) (p : Problem) (is : IsInstance p) (it : Chooser) (x : IsChooser p it) where
+  -- an origin
+  pub own_values : (values : List (List ℕ)) → values ≡ (it.router ∷ []) ∷ [] → IsTrue it.is_origin → AreValuesOf p it values
+  own_values values e own = fixed_values p it (it.router ∷ []) values e (own_fixed law p is it x own)
+
+  -- another router, by all that it permits
+  pub listed_values : (values : List (List ℕ)) → (IsTrue it.is_origin → ⊥)
+      → ((path : List ℕ) → (Contains values path ↔ (chosen_permits it.policy path × GoesOver p.net.links it.router path) ⊎ ([] ≡ path)))
+      → AllPairs (λ a b. a ≢ b) values → length values < 64 → AreValuesOf p it values
+  listed_values values not exact apart few = record {
+    may = λ path c. inr (not, elim ((exact path).0 c) [ inl may ↦ inr may | inr none ↦ inl (sym none) ]);
+    has = λ paths stable. (exact (paths it.router)).1 (elim (stable_may law p is it x paths stable) [
+      | inl own ↦ absurd (not own.0)
+      | inr other ↦ elim other.1 [ inl none ↦ inr (sym none) | inr may ↦ inl may ]
+    ]);
     distinct = apart;
     few = few;
   }
+
+-- a router with its values
+pub seat_is : (p : Problem) (it : Chooser) (x : IsChooser p it) (vec : Vec (List ℕ) Global) → AreValuesOf p it vec.items → IsSeat p (record { router = it.router; is_origin = it.is_origin; policy = it.policy; values = vec })
+seat_is p it x vec values = record {
+  table = x.table;
+  of = x.of;
+  origin = x.origin;
+  speaks = x.speaks;
+  may = λ path c. elim (values.may path c) [
+    | inl own ↦ inl (x.origin.0 own.0, own.1 ∙ ap (λ (n : ℕ). n ∷ []) (sym x.of.0))
+    | inr other ↦ inr (
+      λ o. other.0 (x.origin.1 o),
+      elim other.1 [
+        | inl none ↦ inl none
+        | inr may ↦ inr ((x.speaks.permits path).0 may.0, subst (λ (n : ℕ). GoesOver p.net.links n path) (sym x.of.0) may.1)
+      ],
+    )
+  ];
+  has = values.has;
+  distinct = values.distinct;
+  few = values.few;
+}
+
+pub if_all_ok : {T E : Type 0} {A B C D : T → Type 0} (r : Result T E) → ((x : T) → A x → B x → C x → D x) → IfOk r A → IfOk r B → IfOk r C → IfOk r D
+if_all_ok (Ok x) f a b c = f x a b c
+if_all_ok (Err e) f a b c = a

@@ -8,21 +8,31 @@ use Rattle.ranked_policy.specs.Choosing.{chosen_permits, chosen_prefers}
 use Rattle.ranked_policy.specs.Paths.{BeginsWith}
 use Rattle.ranked_policy.specs.Plans.{Linked}
 use Rattle.ranked_policy.specs.Policies.{Table, IsTableOf, Originates}
-use Rattle.stable_paths.specs.Stable.{Problem, Speaks}
+use Rattle.stable_paths.specs.Stable.{Problem, IsStable, Speaks}
+use Rattle.stable_search.specs.Choosers.{MayChoose}
 use Rattle.stable_search.specs.Fits.{MayStand}
 use Rattle.stable_search.specs.Picks.{Has}
+use Rattle.stable_search.specs.declared.chooser.Chooser.{Chooser}
 use Rattle.stable_search.specs.declared.seat.Seat.{Seat}
 use Rattle.stable_search.specs.declared.way.Way.{Way}
 
--- a router with what it may have, each once
+-- a router with what it may have, each once: all that it has in a stable assignment
 pub record IsSeat (p : Problem) (seat : Seat) : Type 0 where
   pub table : Table
   pub of : IsTableOf p.net seat.router table
   pub origin : IsTrue seat.is_origin ↔ Originates table p.prefix table.router
   pub speaks : Speaks seat.policy table p.prefix
-  pub exact : (path : List ℕ) → (Contains seat.values.items path ↔ MayStand p.net.links p.prefix table path)
+  pub may : (path : List ℕ) → Contains seat.values.items path → MayStand p.net.links p.prefix table path
+  pub has : (paths : ℕ → List ℕ) → IsStable p paths → Contains seat.values.items (paths seat.router)
   pub distinct : AllPairs (λ path later. path ≢ later) seat.values.items
   pub few : length seat.values.items < 64
+
+-- paths that a router may have, each once: all that it has in a stable assignment
+pub record AreValuesOf (p : Problem) (it : Chooser) (values : List (List ℕ)) : Type 0 where
+  pub may : (path : List ℕ) → Contains values path → MayChoose p.net.links it path
+  pub has : (paths : ℕ → List ℕ) → IsStable p paths → Contains values (paths it.router)
+  pub distinct : AllPairs (λ path later. path ≢ later) values
+  pub few : length values < 64
 
 -- what a router has fits what its peer has, by the router's policy
 pub record FitsBy (policy : Chosen) (router peer : ℕ) (path theirs : List ℕ) : Type 0 where

@@ -8,13 +8,21 @@
 //! other, or not. Values that nothing fits go; routers that do not bear on each other any more fall
 //! into parts; in a part the values of one router are tried in turn.
 //!
-//! The definitions stand in `specs/`: `Fits` (what fits, and that stable is fitting), `Every` (what is
-//! answered), `Picks`, `Seats`, `Groups` and `Parting` (what the functions inside say).
+//! A router without a rule permits too many paths to list. Before the search, routers are fixed outwards
+//! from the origin: one whose best path over a fixed peer is better than all that another peer could
+//! bring has it in every stable assignment. So a network without rules is answered by that alone.
 //!
-//! Left out: routers that no rule covers, whose paths are too many to list; texts.
+//! The definitions stand in `specs/`: `Fits` (what fits, and that stable is fitting), `Every` (what is
+//! answered), `Choosers` and `Fixing` (routers that have one path in every stable assignment), `Picks`,
+//! `Seats`, `Groups` and `Parting` (what the functions inside say).
+//!
+//! Left out: routers without a rule that aren't fixed; texts.
 #![tactic(auto)]
 
+mod chooser;
+mod distance;
 mod every;
+mod fixing;
 mod group;
 pub mod laws;
 mod limits;

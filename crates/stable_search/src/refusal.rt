@@ -7,7 +7,8 @@ use thiserror::Error;
 /// Why the stable assignments were not found. What the call was lent is as it was.
 #[derive(Debug, Drop, Error)]
 pub enum SearchError {
-    /// The router may have more paths than are listed: no rule of it covers the prefix.
+    /// The router may have more paths than are listed: no rule of it covers the prefix, and it is not
+    /// seen to have one path in every stable assignment.
     #[error("router {router} may have too many paths")]
     TooManyPaths {
         /// The router.

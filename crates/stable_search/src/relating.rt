@@ -32,8 +32,8 @@ fn is_onward(path: &[Asn], router: Asn, rest: &[Asn]) -> bool
     }
 }
 
-// Whether a path goes on from the router over the peer.
-fn is_over(path: &[Asn], router: Asn, peer: Asn) -> bool
+/// Whether a path goes on from the router over the peer.
+pub(crate) fn is_over(path: &[Asn], router: Asn, peer: Asn) -> bool
     ensures { IsTrue result ↔ ((rest : List ℕ) × (path.now ≡ router ∷ peer ∷ rest)) }
 {
     match path {
@@ -42,8 +42,8 @@ fn is_over(path: &[Asn], router: Asn, peer: Asn) -> bool
     }
 }
 
-// Whether a path of the router is preferred to the one that goes on along other numbers.
-fn is_preferred(policy: &Chosen, path: &[Asn], router: Asn, rest: &[Asn]) -> bool
+/// Whether a path of the router is preferred to the one that goes on along other numbers.
+pub(crate) fn is_preferred(policy: &Chosen, path: &[Asn], router: Asn, rest: &[Asn]) -> bool
     ensures { IsTrue result ↔ (BeginsWith path.now router × chosen_prefers policy.now path.now (router ∷ rest.now)) }
 {
     match path {
@@ -52,8 +52,8 @@ fn is_preferred(policy: &Chosen, path: &[Asn], router: Asn, rest: &[Asn]) -> boo
     }
 }
 
-// Whether a path of the router fits that of a peer, by the router's policy.
-fn fits_by(policy: &Chosen, router: Asn, peer: Asn, path: &[Asn], theirs: &[Asn]) -> bool
+/// Whether a path of the router fits that of a peer, by the router's policy.
+pub(crate) fn fits_by(policy: &Chosen, router: Asn, peer: Asn, path: &[Asn], theirs: &[Asn]) -> bool
     ensures { IsTrue result ↔ FitsBy policy.now router peer path.now theirs.now }
 {
     if is_onward(path, router, theirs) {

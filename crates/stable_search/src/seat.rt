@@ -1,14 +1,17 @@
 //! Routers with what they may have in a stable assignment.
 
-ghost use Rattle.std.specs.Prelude.{◌≡◌, ◌≢◌, ◌↔◌, ◌<◌, ◌⊎◌, ℕ, List, [], ◌∷◌, IsTrue, IfOk, OnOk, length, map};
+ghost use Rattle.std.specs.Prelude.{◌≡◌, ◌≢◌, ◌↔◌, ◌<◌, ◌⊎◌, ℕ, List, [], ◌∷◌, IsTrue, IfOk, IfSome, OnOk, length, map};
 ghost use Rattle.std.specs.List.{All, AllPairs, Contains};
 ghost use Rattle.ranked_policy.specs.Choosing.{chosen_permits};
-ghost use Rattle.ranked_policy.specs.Plans.{IsRouter, numbers};
+ghost use Rattle.stable_search.specs.Choosers.{IsChooser};
 ghost use Rattle.stable_search.specs.Fits.{GoesOver};
+ghost use Rattle.stable_search.specs.Fixing.{IsFixed, AreFixed};
 ghost use Rattle.stable_search.specs.Groups.{AreRoutersAt};
-ghost use Rattle.stable_search.specs.Seats.{IsSeat};
+ghost use Rattle.stable_search.specs.Seats.{IsSeat, AreValuesOf};
 
+use crate::chooser::Chooser;
 use crate::refusal::SearchError;
+use ranked_policy::laws::each_policy_is_an_order;
 use ranked_policy::{Asn, Chosen, Items, MOST_PATHS, Network, Path, Policy};
 use stable_paths::Instance;
 use std::alloc::{AllocError, Global};
@@ -119,41 +122,72 @@ fn values_by(
     Ok(values)
 }
 
+// A list of the path of these numbers.
+fn one_path(alloc: Global, numbers: &[Asn]) -> Result<Vec<Path>, SearchError>
+    ensures { IfOk result (λ values. values.items ≡ numbers.now ∷ []) }
+{
+    let path = Path::from_slice(alloc, numbers)?;
+    Ok(vec![in alloc; path]?)
+}
+
+// What a router may have: the path that it has in every stable assignment, where that was seen, or all.
+fn values_of(
+    alloc: Global,
+    instance: &Instance,
+    it: &Chooser,
+    fixed: Option<&Path>,
+) -> Result<Vec<Path>, SearchError>
+    requires chooser { IsChooser instance.now it.now }
+    requires fixed { IfSome fixed (λ path. IsFixed instance.now it.now path.now) }
+    ensures { IfOk result (λ values. AreValuesOf instance.now it.now values.items) }
+{
+    each_policy_is_an_order();
+    let network = instance.network();
+    if let Some(path) = fixed {
+        return one_path(alloc, path.as_slice());
+    }
+    if it.is_origin {
+        return one_path(alloc, &[it.router]);
+    }
+    values_by(alloc, network, &it.policy, it.router)
+}
+
 // A router with what it may have.
-fn seat_of<'a>(alloc: Global, instance: &Instance<'a>, router: Asn) -> Result<Seat<'a>, SearchError>
-    requires { IsRouter instance.now.net.routers router }
-    ensures router { IfOk result (λ seat. seat.router ≡ router) }
+fn seat_of<'a>(
+    alloc: Global,
+    instance: &Instance,
+    it: &Chooser<'a>,
+    fixed: Option<&Path>,
+) -> Result<Seat<'a>, SearchError>
+    requires chooser { IsChooser instance.now it.now }
+    requires fixed { IfSome fixed (λ path. IsFixed instance.now it.now path.now) }
+    ensures router { IfOk result (λ seat. seat.router ≡ it.now.router) }
     ensures seat { IfOk result (IsSeat instance.now) }
 {
-    let network = instance.network();
-    let prefix = instance.prefix();
-    let policy = network.policies(router).unwrap().for_prefix(prefix);
-    let is_origin = network.is_origin(router, prefix);
-    let values = if is_origin {
-        vec![in alloc; Path::from_slice(alloc, &[router])?]?
-    } else {
-        values_by(alloc, network, &policy, router)?
-    };
+    let values = values_of(alloc, instance, it, fixed)?;
     Ok(Seat {
-        router,
-        is_origin,
-        policy,
+        router: it.router,
+        is_origin: it.is_origin,
+        policy: it.policy,
         values,
     })
 }
 
-/// The routers of an instance with what they may have, by rising number.
+/// The routers of an instance with what they may have.
 pub(crate) fn seats<'a>(
     alloc: Global,
-    instance: &Instance<'a>,
+    instance: &Instance,
+    choosers: &[Chooser<'a>],
+    fixed: &[Option<Path>],
 ) -> Result<Vec<Seat<'a>>, SearchError>
-    ensures routers { IfOk result (λ seats. map (λ seat. seat.router) seats.items ≡ numbers instance.now.net.routers) }
+    requires choosers { All (IsChooser instance.now) choosers.now }
+    requires fixed { AreFixed instance.now choosers.now fixed.now }
+    ensures routers { IfOk result (λ seats. map (λ seat. seat.router) seats.items ≡ map (λ it. it.router) choosers.now) }
     ensures seats { IfOk result (λ seats. All (IsSeat instance.now) seats.items) }
 {
-    let network = instance.network();
-    let mut seats = Vec::with_capacity(alloc, network.routers().len())?;
-    for router in network.routers() {
-        seats.push(seat_of(alloc, instance, router.asn)?)?;
+    let mut seats = Vec::with_capacity(alloc, choosers.len())?;
+    for (place, it) in choosers.iter().enumerate() {
+        seats.push(seat_of(alloc, instance, it, fixed[place].as_ref())?)?;
     }
     Ok(seats)
 }

@@ -1,14 +1,18 @@
 //! The search for all stable assignments.
 
-ghost use Rattle.std.specs.Prelude.{◌≡◌, ◌↔◌, ◌<◌, ◌≤◌, ℕ, List, [], IfOk, length, slice_index, slice_index_or};
+ghost use Rattle.std.specs.Prelude.{◌≡◌, ◌↔◌, ◌<◌, ◌≤◌, ℕ, List, [], IfOk, length, slice_index, slice_index_or, map};
 ghost use Rattle.std.specs.List.{All};
+ghost use Rattle.ranked_policy.specs.Plans.{numbers};
 ghost use Rattle.stable_search.specs.Every.{IsEveryStable};
 ghost use Rattle.stable_search.specs.Groups.{IsShown, IsPartOf, ArePartsOf, IsGroup, AreValues};
 ghost use Rattle.stable_search.specs.Picks.{Has};
-ghost use Rattle.stable_search.specs.Seats.{StandsAt};
+ghost use Rattle.stable_search.specs.Seats.{StandsAt, IsSeat};
 ghost use Rattle.stable_search.specs.declared.seat.Seat.{Seat};
 
+use crate::chooser::choosers;
+use crate::distance::distances;
 use crate::every::{Every, Part};
+use crate::fixing::fixed_paths;
 use crate::group::{Group, groups};
 use crate::laws::stable_is_fitting;
 use crate::limits::Limits;
@@ -93,11 +97,25 @@ fn parts_of(alloc: Global, seats: &[Seat], groups: &[Group]) -> Result<Items<Par
     Ok(Items::from_vec(parts))
 }
 
+// The routers with what they may have: where one path is seen to be the only one, that alone.
+fn all_seats<'a>(alloc: Global, instance: &Instance<'a>) -> Result<Vec<Seat<'a>>, SearchError>
+    ensures routers { IfOk result (λ seats. map (λ seat. seat.router) seats.items ≡ numbers instance.now.net.routers) }
+    ensures seats { IfOk result (λ seats. All (IsSeat instance.now) seats.items) }
+{
+    let all_choosers = choosers(alloc, instance)?;
+    let choosers = all_choosers.as_slice();
+    let distances = distances(alloc, instance, choosers)?;
+    let fixed = fixed_paths(alloc, instance, choosers, distances.as_slice())?;
+    let seats = seats(alloc, instance, choosers, fixed.as_slice())?;
+    Ok(seats)
+}
+
 /// All stable assignments of an instance: an assignment is stable exactly where of each part it has
 /// one of its choices.
 ///
 /// Nothing is answered that isn't all. It refuses [`SearchError::TooManyPaths`] with the least router
-/// that isn't the origin and that has no rule for the prefix; [`SearchError::TooManyChoices`] where a
+/// that isn't the origin, has no rule for the prefix, and isn't seen to have one path in every stable
+/// assignment; [`SearchError::TooManyChoices`] where a
 /// part has more choices than the limit; [`SearchError::TooManySteps`] where the search of a part
 /// would take more steps than the limit; [`SearchError::Memory`] where a growth was refused. What the
 /// call was lent is as it was.
@@ -110,7 +128,7 @@ pub fn stable_assignments(
 {
     stable_is_fitting();
     let network = instance.network();
-    let seats = seats(alloc, instance)?;
+    let seats = all_seats(alloc, instance)?;
     let ways = ways_between(alloc, network, seats.as_slice())?;
     let mut sets = all_values(alloc, seats.as_slice())?;
     let groups = groups(

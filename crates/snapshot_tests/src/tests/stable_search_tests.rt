@@ -1,7 +1,7 @@
 //! Which assignments a search says are stable (`stable_search`), beside a check of each assignment of
 //! listed paths.
 
-use super::networks::{DISAGREE, PAIR, Plan, RING, network, prefix};
+use super::networks::{DISAGREE, PAIR, Plan, RING, SQUARE, network, prefix};
 use ranked_policy::{Asn, NetError, Network, Path};
 use stable_paths::{Assignment, Check, Instance, check};
 use stable_search::laws::stable_is_fitting;
@@ -78,6 +78,70 @@ static NONE_PERMITTED: Plan = Plan {
     routers: 3,
     links: &[(1, 3), (2, 3)],
     rules: &[&[&[2, 3, 1]], &[&[3, 2, 1]]],
+};
+
+/// 4 hangs on one of two that disagree.
+static BEHIND_DISAGREE: Plan = Plan {
+    routers: 4,
+    links: &[(1, 2), (1, 3), (2, 3), (2, 4)],
+    rules: &[&[&[2, 3, 1], &[2, 1]], &[&[3, 2, 1], &[3, 1]]],
+};
+
+/// 4 is linked with the origin and with one of two that disagree.
+static BESIDE_DISAGREE: Plan = Plan {
+    routers: 4,
+    links: &[(1, 2), (1, 3), (2, 3), (2, 4), (1, 4)],
+    rules: &[&[&[2, 3, 1], &[2, 1]], &[&[3, 2, 1], &[3, 1]]],
+};
+
+/// 2 has a rule, 3 and 4 have none.
+static BEHIND_A_RULE: Plan = Plan {
+    routers: 4,
+    links: &[(1, 2), (1, 3), (2, 3), (2, 4)],
+    rules: &[&[&[2, 3, 1], &[2, 1]]],
+};
+
+/// Each of five is linked with each other.
+static COMPLETE: Plan = Plan {
+    routers: 5,
+    links: &[
+        (1, 2),
+        (1, 3),
+        (1, 4),
+        (1, 5),
+        (2, 3),
+        (2, 4),
+        (2, 5),
+        (3, 4),
+        (3, 5),
+        (4, 5),
+    ],
+    rules: &[],
+};
+
+/// A line of 18.
+static LINE: Plan = Plan {
+    routers: 18,
+    links: &[
+        (1, 2),
+        (2, 3),
+        (3, 4),
+        (4, 5),
+        (5, 6),
+        (6, 7),
+        (7, 8),
+        (8, 9),
+        (9, 10),
+        (10, 11),
+        (11, 12),
+        (12, 13),
+        (13, 14),
+        (14, 15),
+        (15, 16),
+        (16, 17),
+        (17, 18),
+    ],
+    rules: &[],
 };
 
 // What is listed for a router of a plan, and at the end the empty path.
@@ -204,6 +268,54 @@ fn finds(rt: &impl Abort, alloc: Global, plan: &Plan, stable: u64) -> Result<(),
     Ok(())
 }
 
+// Whether the first choice of a part gives the router these numbers.
+fn gives(part: &Part, router: Asn, numbers: &[Asn]) -> bool {
+    let Some(choice) = part.choices.as_slice().first() else {
+        return false;
+    };
+    for (other, path) in part.routers.as_slice().iter().zip(choice.as_slice()) {
+        if *other == router && path.as_slice() == numbers {
+            return true;
+        }
+    }
+    false
+}
+
+fn has_path(every: &Every, router: Asn, numbers: &[Asn]) -> bool {
+    for part in every.parts.as_slice() {
+        if gives(part, router, numbers) {
+            return true;
+        }
+    }
+    false
+}
+
+fn lists_one(rt: &impl Abort, alloc: Global, net: &Network, paths: &[&[Asn]]) {
+    let Some(prefix) = prefix() else {
+        return;
+    };
+    assert!(rt; net.names(&prefix));
+    match searched(alloc, &Instance::new(net, &prefix), &LIMITS) {
+        Ok(every) => {
+            assert!(rt; every.count() == Some(1));
+            for (i, numbers) in paths.iter().enumerate() {
+                let router = (i as u32).wrapping_add(1);
+                assert!(rt; has_path(&every, router, numbers), "router {router}");
+            }
+        }
+        Err(_) => panic!(rt; "refused"),
+    }
+}
+
+// The search of the network of a plan lists one assignment, and it has these paths, by router.
+fn has_one(rt: &impl Abort, alloc: Global, plan: &Plan, paths: &[&[Asn]]) -> Result<(), NetError> {
+    match network(alloc, plan) {
+        Ok(net) => lists_one(rt, alloc, &net, paths),
+        Err(error) => return Err(error),
+    }
+    Ok(())
+}
+
 /// Which limit a search met.
 #[derive(Clone, Copy)]
 enum Limit {
@@ -318,9 +430,81 @@ fn paths_that_no_peer_has(rt: HostRuntime) -> Result<(), NetError> {
     finds(&rt, rt.alloc(), &NONE_PERMITTED, 1)
 }
 
+// 4 has no rule, and what it has hangs on 2 alone, which has one of two.
 #[test]
 fn a_router_without_a_rule(rt: HostRuntime) -> Result<(), NetError> {
-    refuses(&rt, rt.alloc(), &PAIR, &LIMITS, Limit::Paths, &[2])
+    refuses(
+        &rt,
+        rt.alloc(),
+        &BEHIND_DISAGREE,
+        &LIMITS,
+        Limit::Paths,
+        &[4],
+    )
+}
+
+#[test]
+fn without_rules(rt: HostRuntime) -> Result<(), NetError> {
+    has_one(&rt, rt.alloc(), &PAIR, &[&[1], &[2, 1]])?;
+    has_one(
+        &rt,
+        rt.alloc(),
+        &SQUARE,
+        &[&[1], &[2, 1], &[3, 1], &[4, 2, 1]],
+    )?;
+    has_one(
+        &rt,
+        rt.alloc(),
+        &COMPLETE,
+        &[&[1], &[2, 1], &[3, 1], &[4, 1], &[5, 1]],
+    )
+}
+
+// A path has at most 16 routers.
+#[test]
+fn a_long_line_without_rules(rt: HostRuntime) -> Result<(), NetError> {
+    has_one(
+        &rt,
+        rt.alloc(),
+        &LINE,
+        &[
+            &[1],
+            &[2, 1],
+            &[3, 2, 1],
+            &[4, 3, 2, 1],
+            &[5, 4, 3, 2, 1],
+            &[6, 5, 4, 3, 2, 1],
+            &[7, 6, 5, 4, 3, 2, 1],
+            &[8, 7, 6, 5, 4, 3, 2, 1],
+            &[9, 8, 7, 6, 5, 4, 3, 2, 1],
+            &[10, 9, 8, 7, 6, 5, 4, 3, 2, 1],
+            &[11, 10, 9, 8, 7, 6, 5, 4, 3, 2, 1],
+            &[12, 11, 10, 9, 8, 7, 6, 5, 4, 3, 2, 1],
+            &[13, 12, 11, 10, 9, 8, 7, 6, 5, 4, 3, 2, 1],
+            &[14, 13, 12, 11, 10, 9, 8, 7, 6, 5, 4, 3, 2, 1],
+            &[15, 14, 13, 12, 11, 10, 9, 8, 7, 6, 5, 4, 3, 2, 1],
+            &[16, 15, 14, 13, 12, 11, 10, 9, 8, 7, 6, 5, 4, 3, 2, 1],
+            &[],
+            &[],
+        ],
+    )
+}
+
+// 2 prefers the longer way through 3; 4 has no rule and follows 2.
+#[test]
+fn behind_a_rule(rt: HostRuntime) -> Result<(), NetError> {
+    has_one(
+        &rt,
+        rt.alloc(),
+        &BEHIND_A_RULE,
+        &[&[1], &[2, 3, 1], &[3, 1], &[4, 2, 3, 1]],
+    )
+}
+
+// 4 has no rule and is linked with the origin, so it has one path whatever 2 and 3 have.
+#[test]
+fn beside_two_that_disagree(rt: HostRuntime) -> Result<(), NetError> {
+    finds(&rt, rt.alloc(), &BESIDE_DISAGREE, 2)
 }
 
 #[test]
