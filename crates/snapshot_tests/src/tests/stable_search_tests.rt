@@ -298,9 +298,10 @@ fn lists_one(rt: &impl Abort, alloc: Global, net: &Network, paths: &[&[Asn]]) {
     match searched(alloc, &Instance::new(net, &prefix), &LIMITS) {
         Ok(every) => {
             assert!(rt; every.count() == Some(1));
-            for (i, numbers) in paths.iter().enumerate() {
-                let router = (i as u32).wrapping_add(1);
+            let mut router: Asn = 1;
+            for numbers in paths {
                 assert!(rt; has_path(&every, router, numbers), "router {router}");
+                router = router.wrapping_add(1);
             }
         }
         Err(_) => panic!(rt; "refused"),

@@ -3,4 +3,4 @@ use Rattle.stable_runs.proofs.Printed.{printed_settled_are_listed}
 use Rattle.stable_runs.proofs.laws.printed_are_listed.Goals as goal
 
 pub returns : goal.returns
-returns = printed_settled_are_listed
+returns c = printed_settled_are_listed
