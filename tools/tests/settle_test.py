@@ -218,7 +218,9 @@ class Printed(unittest.TestCase):
             program.write_text("#!/bin/sh\ncase $1 in stable) echo prefix 10.0.0.0/8 unknown steps 2 3; exit 5;; esac\necho stable\n")
             program.chmod(0o755)
             self.assertEqual(run("settle", "examples/disagree.txt", "--program", program), (
-                3, f"prefix {PREFIX} of 1\n  `bgpnet stable` met a limit: steps 2 3; nothing is said of the ends\n", ""))
+                3, f"prefix {PREFIX} of 1\n  dispute wheel of 2:\n    2 would rather have 2-3-1 than 2-1, through 3\n"
+                "    3 would rather have 3-2-1 than 3-1, through 2\n"
+                "  `bgpnet stable` met a limit: steps 2 3; nothing is said of the ends\n", ""))
             program.write_text("#!/bin/sh\ncase $1 in stable) echo refused 3 N3; exit 1;; esac\necho stable\n")
             self.assertEqual(run("settle", "examples/disagree.txt", "--program", program),
                              (1, "", "settle: bgpnet stable --most 1000: refused 3 N3\n"))
