@@ -16,6 +16,7 @@ mod net;
 mod place;
 mod record;
 mod running;
+mod sleepers;
 
 pub use ends::{Ends, Lane};
 pub use net::{record_of, run_net};
@@ -23,4 +24,5 @@ pub use offer_board::Made;
 pub use place::{Board, Place};
 pub use record::{Journal, Limits, MOST_TURNS, Record, RunFault, Worked};
 pub use running::Ended;
-pub use worker_loop::{Chore, Entry, Gate, ScriptGate};
+pub use sleepers::Sleepers;
+pub use worker_loop::{Between, Chore, Entry, Gate, ScriptGate};

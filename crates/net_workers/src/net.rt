@@ -23,7 +23,7 @@ use offer_board::{BoardState, Made, made_by_same};
 use ranked_policy::Network;
 use snap_collector::Collector;
 use std::alloc::{AllocError, Global};
-use std::sync::{Mutex, Wait};
+use std::sync::Wait;
 use std::thread::Threads;
 use worker_loop::laws::what_follows_is_done;
 use worker_loop::{Gate, WorkerFault};
@@ -211,9 +211,9 @@ where
     ensures recorded { IfOk result (λ r. IsRecord G.given network.now turns (passed_in r.ways.items) r.workers.items r.collector r.gathered.items) }
     ensures promises { IfOk result (λ r. RunKeepsPromises network.now (passed_in r.ways.items) r.workers.items r.collector r.gathered.items) }
 {
-    let board: Board = Mutex::new(BoardState::new(alloc, network)?);
+    let board = Board::new(alloc, network)?;
     let workers = ended_workers(rt, alloc, network, gates, turns, &board)?;
-    record_of(rt, alloc, network, board.into_inner(), workers)
+    record_of(rt, alloc, network, board.into_state(), workers)
 }
 
 /// Runs a network: each router in a thread of its own, at the word of its gate, and ends as all

@@ -8,14 +8,35 @@ ghost use Rattle.offer_board.specs.Boards.{collected_in};
 ghost use Rattle.worker_loop.specs.Acts.{with_offer};
 ghost use Rattle.net_workers.specs.Offering.{ended_by, OffersAt};
 
+use crate::sleepers::Sleepers;
 use offer_board::{BoardState, CollectError, Made};
+use ranked_policy::Network;
 use snap_marker::Offer;
-use std::alloc::AllocError;
+use std::alloc::{AllocError, Global};
 use std::sync::{Mutex, Wait};
-use worker_loop::{Desk, WorkerFault};
+use worker_loop::{Between, Desk, WorkerFault};
 
-/// The board that all workers share.
-pub type Board = Mutex<BoardState>;
+/// What all workers share: the board, and which of them sleep.
+#[derive(Drop)]
+pub struct Board {
+    state: Mutex<BoardState>,
+    pub(crate) sleepers: Sleepers,
+}
+
+impl Board {
+    /// A board without an offer, and workers that are awake.
+    pub(crate) fn new(alloc: Global, network: &Network) -> Result<Board, AllocError> {
+        Ok(Board {
+            state: Mutex::new(BoardState::new(alloc, network)?),
+            sleepers: Sleepers::new(alloc, network)?,
+        })
+    }
+
+    /// The board, once no worker has it.
+    pub(crate) fn into_state(self) -> BoardState {
+        self.state.into_inner()
+    }
+}
 
 /// A worker's place at the board, with the offers that it made there.
 #[derive(Drop)]
@@ -98,7 +119,11 @@ impl Desk for Place {
         offer: &Offer,
         room: Result<(), AllocError>,
     ) -> Result<u64, WorkerFault> {
-        let mut board = board.lock(rt);
+        let mut board = board.state.lock(rt);
         self.offer_at(&mut board, stamp, offer, room)
+    }
+
+    fn pause<R: Wait>(&self, rt: &R, board: &Board, between: &Between<'_>) {
+        board.sleepers.pause(rt, between);
     }
 }

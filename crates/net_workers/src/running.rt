@@ -113,6 +113,7 @@ fn run_one<R: Wait, G: Gate>(rt: &R, board: &Board, turns: u32, ended: &mut Ende
     ensures ended { IfSome ended.new.fault (Ceased G.given turns ended.new.worker) }
 {
     ended.fault = ended.worker.work(rt, board, turns).err();
+    board.sleepers.leave();
 }
 
 // Runs each of these in a thread of its own.

@@ -63,6 +63,21 @@ fn chore_at(opening: &[Chore], spacing: u32, snapshots: u32, turn: u32) -> Chore
     }
 }
 
+// How many chores from so far behind the opening on are Turns, at least: all up to the next snapshot, where one comes.
+fn turns_from(spacing: u32, snapshots: u32, behind: u32) -> u32 {
+    if spacing == 0 {
+        return u32::MAX;
+    }
+    if !later_chore(spacing, snapshots, behind).is_turn() {
+        return 0;
+    }
+    let number = behind / spacing;
+    if number >= snapshots {
+        return u32::MAX;
+    }
+    spacing - behind % spacing
+}
+
 impl Gate for RunGate {
     ghost use Rattle.run_engine.specs.Gates.{Told};
 
@@ -75,5 +90,14 @@ impl Gate for RunGate {
     fn next<R: Wait>(&mut self, _rt: &R, _router: Asn, turn: u32) -> Chore {
         self.count = u64::from(turn) + 1;
         chore_at(self.opening.as_slice(), self.spacing, self.snapshots, turn)
+    }
+
+    fn turns_from(&self, turn: u32) -> u32 {
+        let at = turn as usize;
+        let opening = self.opening.len();
+        if at < opening {
+            return 0;
+        }
+        turns_from(self.spacing, self.snapshots, (at - opening) as u32)
     }
 }

@@ -1,4 +1,4 @@
-//! What a worker meets: its gate, its lines, and the desk at which it makes offers.
+//! What a worker meets: its gate, its lines, and the desk at which it makes offers and waits for the others.
 
 ghost use Rattle.std.specs.Prelude.{◌≡◌, ◌<◌, ◌≤◌, ◌++◌, ◌∷◌, [], List, ℕ, length, OnOk, OnErr, IfErr, IsErr, IsTrue, IfOk, MatchOption};
 ghost use Rattle.outbox.specs.declared.item.Item.{Item};
@@ -10,6 +10,7 @@ ghost use Rattle.worker_loop.specs.declared.chore.Chore.{Chore};
 ghost use Rattle.worker_loop.specs.Acts.{grown, with_offer};
 
 use crate::chore::Chore;
+use crate::journal::Entry;
 use crate::worker::WorkerFault;
 use outbox::Item;
 use ranked_policy::Asn;
@@ -32,6 +33,12 @@ pub trait Gate {
         requires { turn ≡ length (given self.old) }
         ensures given { given self.new ≡ given self.old ++ result ∷ [] }
         ensures told { told self.new ≡ told self.old };
+
+    /// How many of its chores from a turn on are Turns, at least, as far as it can say: for so long its worker may
+    /// wait for the others. A gate that waits for another one answers 0.
+    fn turns_from(&self, _turn: u32) -> u32 {
+        0
+    }
 }
 
 /// The lines between a worker and those of its router's peers.
@@ -77,7 +84,24 @@ pub trait Lines {
         ensures wiring { wiring self.new ≡ wiring self.old };
 }
 
-/// Where a worker makes its offers.
+/// Where a worker stands between two chores.
+#[derive(Clone, Copy)]
+pub struct Between<'a> {
+    /// Its router.
+    pub router: Asn,
+    /// The events that it did for the last chore.
+    pub done: &'a [Entry],
+    /// Whether an item waits to be put.
+    pub is_blocked: bool,
+    /// How many chores it was given.
+    pub given: u32,
+    /// How many of the next chores are Turns, at least; 0 where the last chore was none.
+    pub turns: u32,
+    /// The most chores that it is given.
+    pub most: u32,
+}
+
+/// Where a worker makes its offers, and waits for the others.
 pub trait Desk {
     /// What the desks of all workers share.
     type Board;
@@ -101,4 +125,8 @@ pub trait Desk {
         ensures later { IfOk result (λ at. stamp < at) }
         ensures few { IfOk result (λ at. at ≤ GREATEST_STAMP) }
         ensures full { OnErr room (IsErr result) };
+
+    /// Lets the workers of its peers know what a worker did for a chore. Where it did nothing, and Turns are next, it
+    /// may wait for them. A desk that says nothing of it lets nobody know, and never waits.
+    fn pause<R: Wait>(&self, _rt: &R, _board: &Self::Board, _between: &Between<'_>) {}
 }

@@ -1,5 +1,8 @@
 //! What a worker is told to do.
 
+ghost use Rattle.std.specs.Prelude.{◌≡◌, IsTrue};
+ghost use Rattle.worker_loop.specs.declared.chore.Chore.TheVariants.{Turn};
+
 use router_model::Command;
 
 /// What a worker is told to do.
@@ -14,4 +17,16 @@ pub enum Chore {
     Command(Command),
     /// To end.
     Stop,
+}
+
+impl Chore {
+    /// Whether it is a Turn.
+    pub fn is_turn(&self) -> bool
+        ensures { IsTrue result → self.now ≡ Turn }
+    {
+        match self {
+            Chore::Turn => true,
+            Chore::Tick | Chore::Command(_) | Chore::Stop => false,
+        }
+    }
 }

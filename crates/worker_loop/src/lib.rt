@@ -15,7 +15,7 @@ pub mod laws;
 mod script;
 mod worker;
 
-pub use around::{Desk, Gate, Lines};
+pub use around::{Between, Desk, Gate, Lines};
 pub use chore::Chore;
 pub use journal::{Entry, Journal};
 pub use script::ScriptGate;

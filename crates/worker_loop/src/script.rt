@@ -37,6 +37,17 @@ fn chore_at(script: &[(u32, Chore)], turn: u32) -> Chore
     Chore::Turn
 }
 
+// How far behind a turn the next one stands that a line names.
+fn turns_from(script: &[(u32, Chore)], turn: u32) -> u32 {
+    let mut least = u32::MAX;
+    for line in script {
+        if line.0 >= turn && line.0 - turn < least {
+            least = line.0 - turn;
+        }
+    }
+    least
+}
+
 impl Gate for ScriptGate {
     ghost use Rattle.std.specs.Prelude.{List, ℕ};
     ghost use Rattle.worker_loop.specs.declared.chore.Chore.{Chore};
@@ -50,5 +61,9 @@ impl Gate for ScriptGate {
     fn next<R: Wait>(&mut self, _rt: &R, _router: Asn, turn: u32) -> Chore {
         self.count = u64::from(turn) + 1;
         chore_at(self.script.as_slice(), turn)
+    }
+
+    fn turns_from(&self, turn: u32) -> u32 {
+        turns_from(self.script.as_slice(), turn)
     }
 }

@@ -8,10 +8,9 @@ mod pipes;
 ghost use Rattle.std.specs.Prelude.{◌≡◌, ◌<◌, ◌++◌, ◌∷◌, [], vec_len, vec_capacity};
 ghost use Rattle.worker_loop.specs.Whole.{entry, passing};
 
-use crate::around::{Desk, Gate, Lines};
+use crate::around::{Between, Desk, Gate, Lines};
 use crate::chore::Chore;
 use crate::journal::{Entry, Journal};
-use crossbeam_utils::Backoff;
 use ranked_policy::Asn;
 use router_core::Router;
 use router_model::RouterError;
@@ -82,12 +81,11 @@ fn note(events: &mut Vec<Entry>, stamp: u64, event: Event)
     events.extend_from_slice(&[Entry { stamp, event }]).unwrap();
 }
 
-// Backs off after a chore in which no event was done, the longer the more of them there were.
-fn pause(backoff: &Backoff, idle: bool) {
-    if idle {
-        backoff.snooze();
-    } else {
-        backoff.reset();
+// The events of a journal behind the first so many.
+fn events_behind(events: &[Entry], before: usize) -> &[Entry] {
+    match events.split_at_checked(before) {
+        Some((_, behind)) => behind,
+        None => &[],
     }
 }
 
@@ -98,8 +96,42 @@ impl<'a, L: Lines, D: Desk, G: Gate> Worker<'a, L, D, G> {
     ghost use Rattle.worker_loop.specs.Whole.{seen_of, IsLaterWorker, IsWhole};
     ghost use Rattle.std.specs.Prelude.{[]};
 
-    /// Does the chores that the gate gives: so many, or up to the first Stop. It backs off after a
-    /// chore in which no event was done.
+    // Whether an item waits to be put towards a peer.
+    fn is_blocked(&self) -> bool {
+        let mut peers = self.peers.iter();
+        peers.any(|peer| !self.router.puts_nothing(*peer))
+    }
+
+    // Lets others know what was done for the last of so many chores, and may wait for them where that was a Turn and
+    // nothing was.
+    fn pause<R: Wait>(
+        &self,
+        rt: &R,
+        board: &D::Board,
+        chore: &Chore,
+        before: usize,
+        given: u32,
+        most: u32,
+    ) {
+        let done = events_behind(self.journal.events.as_slice(), before);
+        let is_idle = done.is_empty() && chore.is_turn();
+        let between = Between {
+            router: self.router.number(),
+            done,
+            is_blocked: is_idle && self.is_blocked(),
+            given,
+            turns: if is_idle {
+                self.gate.turns_from(given)
+            } else {
+                0
+            },
+            most,
+        };
+        self.desk.pause(rt, board, &between);
+    }
+
+    /// Does the chores that the gate gives: so many, or up to the first Stop. After each it tells its desk what it
+    /// did, and may wait there where it did nothing.
     ///
     /// Refused [`WorkerFault::Refused`] only where the router, as it is then, has no stamp or incarnation
     /// left for a call of the last chore; [`WorkerFault::Memory`] only where the next chore was to be
@@ -116,7 +148,6 @@ impl<'a, L: Lines, D: Desk, G: Gate> Worker<'a, L, D, G> {
         ensures told { G.told self.new.gate ≡ G.told self.old.gate }
         ensures ended { IfErr result (EndsFor L.taken_from turns (G.given self.new.gate) self.new) }
     {
-        let backoff = Backoff::new();
         for turn in 0..turns {
             let chore = self.next_chore(rt, turn)?;
             let before = self.journal.events.len();
@@ -124,7 +155,7 @@ impl<'a, L: Lines, D: Desk, G: Gate> Worker<'a, L, D, G> {
             if let Chore::Stop = chore {
                 return Ok(());
             }
-            pause(&backoff, self.journal.events.len() == before);
+            self.pause(rt, board, &chore, before, turn + 1, turns);
         }
         Ok(())
     }

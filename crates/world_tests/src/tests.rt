@@ -7,6 +7,7 @@ use std::test::Fail;
 mod pipes;
 mod playing;
 mod scripts;
+mod sleepers;
 mod threads;
 mod through;
 

@@ -12,7 +12,7 @@ use net_workers::{Chore, Gate, Limits, ScriptGate, run_net};
 use prefix_lanes::Prefix;
 use ranked_policy::{Asn, Network};
 use router_model::Command;
-use run_engine::run_gated;
+use run_engine::{new_gates, run_gated};
 use std::alloc::{AllocError, Global};
 use std::sync::Wait;
 use std::sync::atomic::{AtomicU64, Ordering};
@@ -196,6 +196,35 @@ fn gate_lockstep(rt: HostRuntime) -> Result<(), Fail> {
         let network = read_pair(rt.alloc(), text)?;
         let (text, status) = in_lockstep(&rt, rt.alloc(), &network, prefix)?;
         assert!(rt; (text.as_slice(), status) == (BOTH.as_bytes(), Some(0)));
+    }
+    Ok(())
+}
+
+// How often each network is run.
+const RUNS: u32 = 10;
+
+// Whether a run at the word of the gates of `bgpnet run`, with one snapshot, writes the routes of both.
+fn settles<R: Threads + Wait + Sync>(
+    rt: &R,
+    alloc: Global,
+    network: &Network,
+) -> Result<bool, AllocError> {
+    let gates = new_gates(alloc, network, 1000, 1)?;
+    let mut writer = Watched::new(Vec::new(alloc));
+    let limits = Limits { turns: 2000 };
+    let status = run_gated(rt, alloc, network, gates, limits, 1, &mut writer).ok();
+    Ok((writer.into_inner().as_slice(), status) == (BOTH.as_bytes(), Some(0)))
+}
+
+// A worker without work waits for the other, so that the snapshot finds both at rest, on a busy machine too.
+#[test]
+fn each_run_settles(rt: HostRuntime) -> Result<(), Fail> {
+    for text in [WIDE, NARROW] {
+        let network = read_pair(rt.alloc(), text)?;
+        for run in 0..RUNS {
+            let _ = run;
+            assert!(rt; settles(&rt, rt.alloc(), &network)?);
+        }
     }
     Ok(())
 }

@@ -1,0 +1,343 @@
+//! Which workers sleep, and who wakes them.
+//!
+//! A worker is awake as it begins. Where a Turn did nothing it is drowsy, and where the next one did nothing either it
+//! falls asleep, until one of these comes:
+//! - a peer has put an item towards it, or has taken one of a pipe for whose room it waits
+//! - a worker has ended
+//! - all workers sleep: then those go on that have a chore before them which is no Turn, through their Turns to it; where
+//!   none has one nothing is to come, and all go on to their last chore
+//! - another worker did something behind as many chores as stand in front of that chore
+//! - no worker did anything for a second: from then on none sleeps
+//!
+//! No clause speaks of it: a worker that sleeps does nothing, and what it does later is what its chores say.
+
+use crossbeam_utils::Backoff;
+use ranked_policy::{Asn, Network};
+use std::alloc::{AllocError, Global};
+use std::sync::Wait;
+use std::sync::atomic::{AtomicBool, AtomicU64, Ordering};
+use std::thread;
+use std::thread::Parker;
+use std::time::Duration;
+use worker_loop::{Between, Entry};
+use world_core::Event;
+
+// How a worker is: it has work; it found none, and looks once more; it sleeps; it goes on to what is due.
+const AWAKE: u64 = 0;
+
+const DROWSY: u64 = 1;
+
+const ASLEEP: u64 = 2;
+
+const GOING: u64 = 3;
+
+// What workers do that find no work: they sleep; they yield, since it was not worth waiting; they go on, since nothing
+// is to come.
+const RESTING: u64 = 0;
+
+const HURRIED: u64 = 1;
+
+const OVER: u64 = 2;
+
+// Of a worker for which nothing is due: its chores are Turns up to its last.
+const NEVER: u64 = u64::MAX;
+
+// How often a worker that fell asleep looks whether it was woken, before its first nap: some microseconds, in which it
+// does not leave its processor.
+const LOOKS: u32 = 7;
+
+// How long a nap is, in milliseconds, and how many are taken while no worker does anything.
+const NAP: u64 = 4;
+
+const NAPS: u32 = 250;
+
+// What others know of a worker.
+#[derive(Drop)]
+struct Bed {
+    state: AtomicU64,
+    // Whether it waits for room in a pipe, as it fell asleep.
+    is_blocked: AtomicBool,
+    // How many chores stand in front of its next that is no Turn, as it fell asleep.
+    due: AtomicU64,
+    // How many chores it was given as it last did something.
+    given: AtomicU64,
+    parker: Parker,
+}
+
+fn new_bed() -> Bed {
+    Bed {
+        state: AtomicU64::new(AWAKE),
+        is_blocked: AtomicBool::new(false),
+        due: AtomicU64::new(NEVER),
+        given: AtomicU64::new(0),
+        parker: Parker::new(),
+    }
+}
+
+// How many chores stand in front of the next that is no Turn, where one comes.
+fn due_of(between: &Between<'_>) -> u64 {
+    let due = u64::from(between.given) + u64::from(between.turns);
+    if due < u64::from(between.most) {
+        due
+    } else {
+        NEVER
+    }
+}
+
+fn yield_where(idle: bool) {
+    if idle {
+        thread::yield_now();
+    }
+}
+
+/// The workers of a network, and which of them sleep.
+#[derive(Drop)]
+pub struct Sleepers {
+    // The numbers of the routers, rising, and what others know of their workers.
+    routers: Vec<Asn>,
+    beds: Vec<Bed>,
+    // How many workers have not ended and do not sleep.
+    awake: AtomicU64,
+    mode: AtomicU64,
+}
+
+impl Sleepers {
+    /// The workers of a network, each awake.
+    pub fn new(alloc: Global, network: &Network) -> Result<Sleepers, AllocError> {
+        let mut routers = Vec::new(alloc);
+        let mut beds = Vec::new(alloc);
+        for router in network.routers() {
+            routers.push(router.asn)?;
+            beds.push(new_bed())?;
+        }
+        let awake = AtomicU64::new(beds.len() as u64);
+        Ok(Sleepers {
+            routers,
+            beds,
+            awake,
+            mode: AtomicU64::new(RESTING),
+        })
+    }
+
+    fn bed(&self, router: Asn) -> Option<&Bed> {
+        let place = self.routers.as_slice().binary_search(&router).ok()?;
+        self.beds.as_slice().get(place)
+    }
+
+    /// Whether workers still sleep where they find no work.
+    pub fn are_resting(&self) -> bool {
+        self.mode.load(Ordering::SeqCst) == RESTING
+    }
+
+    /// Whether a router's worker sleeps.
+    pub fn sleeps(&self, router: Asn) -> bool {
+        match self.bed(router) {
+            Some(bed) => bed.state.load(Ordering::SeqCst) == ASLEEP,
+            None => false,
+        }
+    }
+
+    // Makes a worker awake, however it is. It counts before it is awake, and no longer where it did not sleep: so the
+    // count is never less than those that are awake.
+    fn wake(&self, bed: &Bed) {
+        self.awake.fetch_add(1, Ordering::SeqCst);
+        if bed.state.swap(AWAKE, Ordering::SeqCst) == ASLEEP {
+            bed.parker.unpark();
+        } else {
+            self.awake.fetch_sub(1, Ordering::SeqCst);
+        }
+    }
+
+    // Lets a worker that sleeps go on to what is due; answers whether it slept. It counts as in `wake`.
+    fn let_go(&self, bed: &Bed) -> bool {
+        self.awake.fetch_add(1, Ordering::SeqCst);
+        let state = &bed.state;
+        let was = state.compare_exchange(ASLEEP, GOING, Ordering::SeqCst, Ordering::SeqCst);
+        if was.is_ok() {
+            bed.parker.unpark();
+        } else {
+            self.awake.fetch_sub(1, Ordering::SeqCst);
+        }
+        was.is_ok()
+    }
+
+    // Lets all go on for whom something is due; answers whether any was let.
+    fn let_go_to_due(&self) -> bool {
+        let mut any = false;
+        for bed in self.beds.as_slice() {
+            if bed.due.load(Ordering::SeqCst) != NEVER && self.let_go(bed) {
+                any = true;
+            }
+        }
+        any
+    }
+
+    // From here on no worker sleeps.
+    fn end_rest(&self, mode: u64) {
+        self.mode.store(mode, Ordering::SeqCst);
+        for bed in self.beds.as_slice() {
+            self.let_go(bed);
+        }
+    }
+
+    // A worker is awake no longer. The last one lets others go on; it counts while it does, so that no other does so
+    // meanwhile.
+    fn one_less(&self) {
+        for _ in 0..u32::MAX {
+            if self.awake.fetch_sub(1, Ordering::SeqCst) != 1 {
+                return;
+            }
+            self.awake.fetch_add(1, Ordering::SeqCst);
+            if !self.let_go_to_due() {
+                self.end_rest(OVER);
+                return;
+            }
+        }
+    }
+
+    // Wakes whoever an event may have given work: an item was put towards it, or it has room for one.
+    fn wake_for(&self, event: &Event) {
+        let (router, is_put) = match *event {
+            Event::Put(_, peer) => (peer, true),
+            Event::Take(_, peer) => (peer, false),
+            Event::Command(_, _)
+            | Event::Tick(_)
+            | Event::Handle(_, _)
+            | Event::Decide(_)
+            | Event::Advertise(_)
+            | Event::Offer(_) => return,
+        };
+        let Some(bed) = self.bed(router) else {
+            return;
+        };
+        if bed.state.load(Ordering::SeqCst) == AWAKE {
+            return;
+        }
+        if is_put || bed.is_blocked.load(Ordering::SeqCst) {
+            self.wake(bed);
+        }
+    }
+
+    // The chores of all workers, each as it last did something.
+    fn given_in_all(&self) -> u64 {
+        let mut all = 0u64;
+        for bed in self.beds.as_slice() {
+            all = all.wrapping_add(bed.given.load(Ordering::SeqCst));
+        }
+        all
+    }
+
+    // Whether a worker did something behind as many chores.
+    fn is_passed(&self, due: u64) -> bool {
+        let mut beds = self.beds.iter();
+        beds.any(|bed| bed.given.load(Ordering::SeqCst) >= due)
+    }
+
+    // Whether a worker that fell asleep sleeps on.
+    fn is_asleep(&self, bed: &Bed) -> bool {
+        bed.state.load(Ordering::SeqCst) == ASLEEP && self.are_resting()
+    }
+
+    // Naps until another worker has done something, and answers whether this one sleeps on. Where none does anything it
+    // ends the rest of all.
+    fn naps<R: Wait>(&self, rt: &R, bed: &Bed, due: u64) -> bool {
+        let before = self.given_in_all();
+        for _ in 0..NAPS {
+            if !self.is_asleep(bed) || self.is_passed(due) {
+                return false;
+            }
+            bed.parker.park_timeout(rt, Duration::from_millis(NAP));
+            if self.given_in_all() != before {
+                return true;
+            }
+        }
+        self.end_rest(HURRIED);
+        false
+    }
+
+    fn sleep<R: Wait>(&self, rt: &R, bed: &Bed, due: u64) {
+        let backoff = Backoff::new();
+        for _ in 0..LOOKS {
+            if !self.is_asleep(bed) {
+                return;
+            }
+            backoff.snooze();
+        }
+        for _ in rt.forever() {
+            if !self.naps(rt, bed, due) {
+                return;
+            }
+        }
+    }
+
+    // A drowsy worker falls asleep, unless it was woken meanwhile, and is awake again as the call returns.
+    fn fall_asleep<R: Wait>(&self, rt: &R, bed: &Bed, due: u64) {
+        bed.due.store(due, Ordering::SeqCst);
+        let state = &bed.state;
+        let was = state.compare_exchange(DROWSY, ASLEEP, Ordering::SeqCst, Ordering::SeqCst);
+        if was.is_err() {
+            return;
+        }
+        self.one_less();
+        self.sleep(rt, bed, due);
+        self.let_go(bed);
+    }
+
+    // A Turn did nothing, and Turns are next.
+    fn rest<R: Wait>(&self, rt: &R, bed: &Bed, between: &Between<'_>) {
+        match bed.state.load(Ordering::SeqCst) {
+            AWAKE => {
+                bed.is_blocked.store(between.is_blocked, Ordering::SeqCst);
+                bed.state.store(DROWSY, Ordering::SeqCst);
+            }
+            DROWSY => self.fall_asleep(rt, bed, due_of(between)),
+            _ => {}
+        }
+    }
+
+    // It did something, or what is next may be no Turn.
+    fn go_on(&self, bed: &Bed, between: &Between<'_>) {
+        bed.given.store(u64::from(between.given), Ordering::SeqCst);
+        if bed.state.load(Ordering::SeqCst) != AWAKE {
+            bed.state.store(AWAKE, Ordering::SeqCst);
+        }
+        yield_where(between.done.is_empty());
+    }
+
+    /// Between two chores of a worker: wakes those to whom the last one may have given work, and waits where it did
+    /// nothing and Turns are next.
+    pub fn pause<R: Wait>(&self, rt: &R, between: &Between<'_>) {
+        match self.mode.load(Ordering::SeqCst) {
+            RESTING => {}
+            HURRIED => {
+                yield_where(between.done.is_empty());
+                return;
+            }
+            _ => return,
+        }
+        for entry in between.done {
+            self.wake_for(&entry.event);
+        }
+        let Some(bed) = self.bed(between.router) else {
+            return;
+        };
+        if between.turns > 0 {
+            self.rest(rt, bed, between);
+        } else {
+            self.go_on(bed, between);
+        }
+    }
+
+    /// A worker has ended: it wakes the others, and is awake no longer.
+    pub fn leave(&self) {
+        if !self.are_resting() {
+            return;
+        }
+        for bed in self.beds.as_slice() {
+            if bed.state.load(Ordering::SeqCst) != AWAKE {
+                self.wake(bed);
+            }
+        }
+        self.one_less();
+    }
+}
