@@ -186,7 +186,7 @@ class Replay:
                 self.add("pipe", *self.ends(1, 2), more=((),))
             return
         words = line.split()
-        if words[1] in ("line", "title:") or self.is_outside:
+        if words[1] in ("line", "round", "title:") or self.is_outside:
             return
         if words[1] == "session" and frozenset((int(self.event[1]), int(words[2]))) in self.closed:
             self.is_touched = True

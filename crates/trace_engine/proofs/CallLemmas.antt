@@ -1,5 +1,5 @@
 -- What calls give and leave, one behind the other.
-use Rattle.std.proofs.Common.{◌≡◌, ◌≢◌, ℕ, zero, suc, ◌+◌, ◌-◌, ◌==◌, ◌<◌, List, [], ◌∷◌, ◌++◌, length, take, drop, get_or, refl, ap, sym, subst, ◌∙◌, inl, inr, Ok, Err, append_assoc}
+use Rattle.std.proofs.Common.{◌≡◌, ◌≢◌, ℕ, suc, ◌+◌, ◌-◌, ◌==◌, ◌<◌, List, [], ◌∷◌, ◌++◌, length, take, drop, get_or, refl, ap, sym, subst, ◌∙◌, inl, inr, Ok, Err, append_assoc}
 use Rattle.std.specs.Prelude.{Option, None, Some, false, codes}
 use Rattle.std.proofs.lemmas.List.{append-nil, length-append, take_more}
 use Rattle.std.specs.Io.KnownBytes.{Appends}
@@ -16,7 +16,6 @@ use Rattle.world_core.specs.World.{World, played, world_answer}
 use Rattle.world_core.specs.Orders.{IsRefused, StopsAt, events_of, repeated, round, second}
 use Rattle.world_core.specs.Views.{WorldView, plain_world, Answers, Opens}
 use Rattle.world_core.proofs.Orders.{on_to, repeated_one, repeated_among}
-use Rattle.world_core.proofs.Resting.{rests}
 use Rattle.text_engines.specs.declared.status.TheConstants.{DONE, REFUSED}
 use Rattle.text_engines.specs.Decoding.{output}
 use Rattle.text_engines.specs.declared.transfer.TheConstants.{INPUT_LIMIT}
@@ -27,9 +26,9 @@ use Rattle.play_engine.specs.declared.schedules.Stop.{Stop}
 use Rattle.play_engine.specs.Playing.{LeadTo, IsFirstRefused}
 use Rattle.play_engine.proofs.PlayLemmas.{lead_on}
 use Rattle.schedule_text.specs.Events.{event_line}
-use Rattle.trace_engine.specs.Tracing.{AreComments, EventsText, rest_in, rest_of, head_text, tail_text, count_of, OrderText, OrdersText, StoppedText, stop_comment, limited, OrdersTrace, Adds, HaltsAt, TracesOne, TracesEvents, TracesRounds, TracesWork, TracesOrder, TracesAll}
+use Rattle.trace_engine.specs.Tracing.{AreComments, EventsText, rest_in, rest_of, head_text, tail_text, count_of, OrderText, OrdersText, StoppedText, stop_comment, limited, OrdersTrace, Adds, HaltsAt, HaltsIn, TracesOne, TracesEvents, TracesWork, TracesOrder, TracesAll}
 use Rattle.trace_engine.specs.Tracings.{ScheduleTraces, network_lines, InputTraces, Traces}
-use Rattle.trace_engine.proofs.TextLemmas.{text_behind, silent, halted_text, reached_is, did, idled, failed, orders_behind, rested, moved}
+use Rattle.trace_engine.proofs.TextLemmas.{text_behind, halted_text, reached_is, did, idled, failed, orders_behind, rested, moved}
 
 -- ---- one event
 
@@ -124,26 +123,6 @@ pub again_halts : (x y z : WorldView) (once : List Event) (n left all : ℕ) (ol
 again_halts x y z once n left all old mid new why is same h k =
     subst (λ (l : List Event). TracesEvents (Err why) x l old z new) (repeated_among n left all once is) (halts x y z (repeated n once) once (repeated left once) old mid new why same h k)
 
-again : (g : Setting) (xs : List Event) (w : World) → played g w 0 xs ≡ Ok w → (n : ℕ) → played g w 0 (repeated n xs) ≡ Ok w
-again g xs w h zero = refl
-again g xs w h (suc n) = on_to g xs (repeated n xs) w w w h (again g xs w h n)
-
--- what did nothing does nothing however often it is done
-still : (y z : WorldView) (once : List Event) (left : ℕ) (mid new : List ℕ) → z.net ≡ y.net → TracesEvents (Ok tt) y once mid z new → length z.run ≡ length y.run → TracesEvents (Ok tt) z (repeated left once) new z new
-still y z once left mid new same k long = λ g e ranks.
-    let wy = plain_world y in
-    let wz = plain_world z in
-    let a = k g (e ∙ same) ranks in
-    let rest : wz ≡ wy = rests g once wy wz 0 a.0 long in
-    let more = again g once wz (subst (λ (w : World). played g w 0 once ≡ Ok wz) (sym rest) a.0) left in
-    (more, ([], silent g (repeated left once) wz wz 0 more refl, sym (append-nil new)))
-
-pub still_on : (x y z : WorldView) (once : List Event) (n left all : ℕ) (old mid new : List ℕ) → (n + 1) + left ≡ all → y.net ≡ x.net → z.net ≡ y.net
-    → TracesEvents (Ok tt) x (repeated n once) old y mid → TracesEvents (Ok tt) y once mid z new → length z.run ≡ length y.run → TracesEvents (Ok tt) x (repeated all once) old z new
-still_on x y z once n left all old mid new is same net h k long =
-    subst (λ (l : List Event). TracesEvents (Ok tt) x l old z new) (repeated_among n left all once is)
-    (joined x z z (repeated n once ++ once) (repeated left once) old new new (net ∙ same) (joined x y z (repeated n once) once old mid new same h k) (still y z once left mid new net k long))
-
 -- ---- rounds
 
 -- the rest of all rounds is that of those that are left
@@ -164,20 +143,23 @@ rest_on x y z n passed left mid new same is rest h other = λ g e ranks.
     let k : played g (plain_world y) 0 (round g.net) ≡ Ok (plain_world z) = subst (λ (p : Plan). played g (plain_world y) 0 (round p) ≡ Ok (plain_world z)) (sym here) (h g here ranks).0 in
     rest g e ranks ∙ ap (λ (m : ℕ). rest_in g (plain_world y) passed m) is ∙ moved g (plain_world y) (plain_world z) passed (n - (passed + 1)) k other
 
-pub rounds_done : (x y : WorldView) (n : ℕ) (old new : List ℕ) (rest : Option ℕ) → TracesEvents (Ok tt) x (repeated n (round x.net)) old y new
-    → ((g : Setting) → g.net ≡ x.net → ChoosesByRank g → rest ≡ rest_in g (plain_world x) 0 n) → TracesRounds (Ok rest) x n old y new
-rounds_done x y n old new rest h found = λ g e ranks.
-    let k = subst (λ (p : Plan). (played g (plain_world x) 0 (repeated n (round p)) ≡ Ok (plain_world y)) × Adds old new (EventsText g (plain_world x) (repeated n (round p)))) (sym e) (h g e ranks) in
-    (k.0, k.1, found g e ranks)
+-- ---- events that are an order's
 
-pub rounds_halt : (x y : WorldView) (n : ℕ) (old new : List ℕ) (why : StepFault) → TracesEvents (Err why) x (repeated n (round x.net)) old y new → TracesRounds (Err why) x n old y new
-rounds_halt x y n old new why h = λ g e ranks kind.
-    subst (λ (p : Plan). HaltsAt g (plain_world x) (repeated n (round p)) why (plain_world y) old new) (sym e) (h g e ranks kind)
+-- one of them is refused: what is written up to it is the text of all
+halts_in : (g : Setting) (w y : World) (events : List Event) (old new : List ℕ) (why : StepFault) → why ≢ Memory → HaltsAt g w events why y old new → HaltsIn g w events why y old new (EventsText g w events)
+halts_in g w y events old new why kind k = (k.0, k.1, (k.2.0, halted_text g w y events k.0 why k.2.0 kind k.1 k.2.1, k.2.2))
+
+pub one_halts_order : (x y : WorldView) (event : Event) (old new : List ℕ) (why : StepFault) → TracesEvents (Err why) x (event ∷ []) old y new → TracesWork (Err why) x (order.One event) old y new
+one_halts_order x y event old new why h = λ g e ranks kind. halts_in g (plain_world x) (plain_world y) (event ∷ []) old new why kind (h g e ranks kind)
+
+pub one_done_order : (x y : WorldView) (event : Event) (old new : List ℕ) → TracesEvents (Ok tt) x (event ∷ []) old y new → TracesWork (Ok None) x (order.One event) old y new
+one_done_order x y event old new h = λ g e ranks. (let k = h g e ranks in (k.0, k.1, refl))
 
 -- seconds that are refused are the order's
 pub ticks_halt : (x y : WorldView) (n : ℕ) (once : List Event) (old new : List ℕ) (why : StepFault) → once ≡ second x.net → TracesEvents (Err why) x (repeated n once) old y new → TracesWork (Err why) x (order.Ticks n) old y new
 ticks_halt x y n once old new why is h = λ g e ranks kind.
-    subst (λ (es : List Event). HaltsAt g (plain_world x) (repeated n es) why (plain_world y) old new) (is ∙ ap second (sym e)) (h g e ranks kind)
+    halts_in g (plain_world x) (plain_world y) (repeated n (second g.net)) old new why kind
+    (subst (λ (es : List Event). HaltsAt g (plain_world x) (repeated n es) why (plain_world y) old new) (is ∙ ap second (sym e)) (h g e ranks kind))
 
 -- seconds that are all done are the order's
 pub ticks_done : (x y : WorldView) (n : ℕ) (once : List Event) (old new : List ℕ) → once ≡ second x.net → TracesEvents (Ok tt) x (repeated n once) old y new → TracesWork (Ok None) x (order.Ticks n) old y new
@@ -212,7 +194,7 @@ order_halts x y o old one new why first work = λ g e ranks kind.
     let head = head_text o.line o.order in
     let a = work g e ranks kind in
     let t = a.2.0 in
-    (a.0, a.1, (head ++ t, (t, halted_text g (plain_world x) (plain_world y) (events_of g.net o.order) a.0 why t kind a.1 a.2.1, refl), a.2.2 ∙ ap (λ (s : List ℕ). s ++ t) first ∙ append_assoc old head t))
+    (a.0, a.1, (head ++ t, (t, a.2.1, refl), a.2.2 ∙ ap (λ (s : List ℕ). s ++ t) first ∙ append_assoc old head t))
 
 -- ---- orders
 

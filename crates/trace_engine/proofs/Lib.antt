@@ -3,5 +3,6 @@ pub mod EventLemmas
 pub mod LawLemmas
 pub mod LineLemmas
 pub mod RoundLemmas
+pub mod RoundTexts
 pub mod RunLemmas
 pub mod TextLemmas

@@ -1,5 +1,5 @@
 -- What a trace prints of events and orders says the events that were done.
-use Rattle.std.proofs.Common.{◌≡◌, ℕ, zero, suc, ◌+◌, ◌-◌, ◌^◌, ◌==◌, Bool, true, false, cond, List, [], ◌∷◌, ◌++◌, map, refl, ap, sym, subst, ◌∙◌, arith, append_assoc, Option, Some, None, Result, Ok, Err}
+use Rattle.std.proofs.Common.{◌≡◌, ℕ, zero, suc, ◌+◌, ◌-◌, ◌^◌, ◌==◌, Bool, true, false, cond, List, [], ◌∷◌, ◌++◌, length, map, refl, ap, sym, subst, ◌∙◌, arith, append_assoc, Option, Some, None, Result, Ok, Err}
 use Rattle.std.specs.Prelude.{◌&&◌, ◌||◌, not, max, nat_le, slice_get, codes, decimal, if◌then◌else◌}
 use Rattle.std.specs.List.{All, AllByRecursion, flat_map, list_any}
 use Rattle.std.proofs.lemmas.Bool.{eqb-true, eq-eqb, and_parts, or_right, le-leb}
@@ -20,7 +20,7 @@ use Rattle.world_core.specs.declared.schedule.Event.TheVariants as event
 use Rattle.world_core.specs.declared.schedule.Order.{Order}
 use Rattle.world_core.specs.declared.schedule.Order.TheVariants as order
 use Rattle.world_core.specs.declared.schedule.StepFault.TheVariants.{NoSuchRouter, NoSuchLink}
-use Rattle.world_core.specs.World.{World, WorldAnswer, Does, Nothing, Stops, of_offer, called, taking_of, where_linked, world_answer, world_after, world_of, onward, played}
+use Rattle.world_core.specs.World.{World, WorldAnswer, Does, Nothing, Stops, Played, of_offer, called, taking_of, where_linked, world_answer, world_after, world_of, onward, played}
 use Rattle.world_core.specs.Orders.{events_of, with_peer, turn, round, second, repeated}
 use Rattle.net_text.specs.declared.code.Code.{Code}
 use Rattle.net_text.specs.declared.code.Code.TheVariants.{BadPrefix}
@@ -33,7 +33,7 @@ use Rattle.schedule_text.specs.Schedules.{is_within, line_order, order_at, order
 use Rattle.schedule_text.specs.Sayings.{NamesRouter, NamesPeers, NamesPrefix, NamesNumber, Say, LinesAreReadAsTheySay}
 use Rattle.play_engine.specs.Playing.{all_events, LeadTo}
 use Rattle.schedule_text.specs.Events.{event_line}
-use Rattle.trace_engine.specs.Tracing.{StepText, EventsText, reached, place_text, head_line, head_text, idle_line, counted_line, ticked_line, tail_text, count_of, rest_of, OrderText, OrdersText}
+use Rattle.trace_engine.specs.Tracing.{StepText, EventsText, BehindRound, RoundsText, WorkText, round_line, round_text, reached, place_text, head_line, head_text, idle_line, counted_line, ticked_line, tail_text, count_of, rest_of, OrderText, OrdersText}
 use Rattle.trace_engine.proofs.LineLemmas.{both_true, shown_both, decimal_shown, are_shown, IsNamed, named_from, number_from, Says, says_none, says_both, says_nothing, says_comments}
 use Rattle.trace_engine.proofs.EventLemmas.{IsOriginated, MaySay, event_said}
 use Rattle.play_engine.proofs.OneText.{played_parts}
@@ -71,6 +71,17 @@ module _ (feeds : LinesEndByLineFeeds) (net : Plan) where
   tails_say at (order.Rounds n) count (Some passed) = counted_says at count (codes " events, rest behind round " ++ decimal passed) (shown_both (codes " events, rest behind round ") (decimal passed) refl (decimal_shown passed))
   tails_say at (order.Rounds n) count None = counted_says at count (codes " events, no rest by round " ++ decimal n) (shown_both (codes " events, no rest by round ") (decimal n) refl (decimal_shown n))
   tails_say at (order.Ticks n) count rest = counted_says at count (codes " events") refl
+
+  round_says : (number count : ℕ) (b : Bool) → Says net (if b then [] else round_line number count) []
+  unfolding round_line
+  round_says number count true = says_none net
+  round_says number count false =
+      let spent = decimal count ++ codes " events" in
+      let behind = codes ": " ++ spent in
+      let said = decimal number ++ behind in
+      says_nothing feeds net (codes "# round " ++ said)
+      (shown_both (codes "# round ") said refl (shown_both (decimal number) behind (decimal_shown number) (shown_both (codes ": ") spent refl (shown_both (decimal count) (codes " events") (decimal_shown count) refl))))
+      refl
 
 -- ---- what is done names routers of the network
 
@@ -208,6 +219,30 @@ module _ (g : Setting) (network : IsNetwork g.net) where
     events_say [] w y at text all h s = (let same : w ≡ y = cc in nothing_done w y text same s)
     events_say (x ∷ xs) w y at text all h s = done_by (world_answer g w x) w y x xs at text refl all.0 (λ next t k l. events_say xs next y (at + 1) t all.1 k l) h s
 
+    -- so many rounds
+    rounds_say : (n : ℕ) (w y : World) (passed : ℕ) (text : List ℕ) → played g w 0 (repeated n (round g.net)) ≡ Ok y → RoundsText g w passed n text → SaysDone w y text
+    rounds_say zero w y passed text h s = (let same : w ≡ y = cc in nothing_done w y text same s)
+    rounds_say (suc n) w y passed text h s =
+        let k = played_parts g (round g.net) (repeated n (round g.net)) w y 0 h in
+        let behind = subst (λ (p : Played). BehindRound w (passed + 1) p (λ next rest. RoundsText g next (passed + 1) n rest) s.1) k.1 s.3 in
+        let one = events_say (round g.net) w k.0 0 s.0 (all_flat Speaks (turn g.net) (numbers g.net.routers) turn_speaks) k.1 s.2 in
+        let more = rounds_say n k.0 y (passed + 1) behind.0 k.2 behind.1 in
+        let spent = length k.0.run - length w.run in
+        let line = round_text (passed + 1) spent in
+        let said = says_both g.net line behind.0 [] more.done (round_says feeds g.net (passed + 1) spent (spent == 0)) more.says in
+        record {
+          done = one.done ++ more.done;
+          run = more.run ∙ ap (λ (l : List Event). l ++ more.done) one.run ∙ append_assoc w.run one.done more.done;
+          says =
+              subst (λ (t : List ℕ). Says g.net t (one.done ++ more.done)) (sym (s.4 ∙ ap (λ (t : List ℕ). s.0 ++ t) behind.2))
+              (says_both g.net s.0 (line ++ behind.0) one.done more.done one.says said);
+        }
+
+    work_says : (o : Order) (w y : World) (text : List ℕ) → MayOrder o → played g w 0 (events_of g.net o) ≡ Ok y → WorkText g w o text → SaysDone w y text
+    work_says (order.One e) w y text may h s = events_say (e ∷ []) w y 0 text (order_speaks (order.One e) may) h s
+    work_says (order.Rounds n) w y text may h s = rounds_say n w y 0 text h s
+    work_says (order.Ticks n) w y text may h s = events_say (repeated n (second g.net)) w y 0 text (order_speaks (order.Ticks n) may) h s
+
     -- a text of comments, then events, then comments
     around : (front text end : List ℕ) (w y : World) → Says g.net front [] → SaysDone w y text → Says g.net end [] → SaysDone w y ((front ++ text) ++ end)
     around front text end w y h k l =
@@ -220,7 +255,7 @@ module _ (g : Setting) (network : IsNetwork g.net) where
         let begun = s.1 in
         let end = tail_text o.line o.order (count_of g w (events_of g.net o.order)) (rest_of g w o.order) in
         subst (SaysDone w y) (sym (s.2 ∙ ap (λ (t : List ℕ). t ++ end) begun.2))
-        (around (head_text o.line o.order) begun.0 end w y (heads_say feeds g.net o.line o.order) (events_say (events_of g.net o.order) w y 0 begun.0 (order_speaks o.order may) h begun.1)
+        (around (head_text o.line o.order) begun.0 end w y (heads_say feeds g.net o.line o.order) (work_says o.order w y begun.0 may h begun.1)
         (tails_say feeds g.net o.line o.order (count_of g w (events_of g.net o.order)) (rest_of g w o.order)))
 
     pub orders_say : (os : List ScheduledOrder) (w y : World) (text : List ℕ) → AllByRecursion (λ o. MayOrder o.order) os → LeadTo g w os y → OrdersText g w os text → SaysDone w y text

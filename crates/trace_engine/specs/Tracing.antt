@@ -9,7 +9,7 @@ use Rattle.world_core.specs.declared.schedule.Order.TheVariants as order
 use Rattle.world_core.specs.declared.schedule.StepFault.{StepFault}
 use Rattle.world_core.specs.declared.schedule.StepFault.TheVariants.{Memory}
 use Rattle.world_core.specs.World.{World, WorldAnswer, Does, Nothing, Stops, Played, new_world, world_answer, world_after, played}
-use Rattle.world_core.specs.Orders.{events_of, repeated, round, StopsAt}
+use Rattle.world_core.specs.Orders.{events_of, repeated, round, second, StopsAt}
 use Rattle.world_core.specs.Views.{WorldView, plain_world}
 use Rattle.net_text.specs.Lexing.{Text}
 use Rattle.net_text.specs.Layout.{IsOneLine}
@@ -68,6 +68,35 @@ StepText g w event (Stops fault) More text = text ≡ []
 abbrev pub EventsText : Setting → World → List Event → List ℕ → Type 0
 EventsText g w [] text = text ≡ []
 EventsText g w (event ∷ events) text = StepText g w event (world_answer g w event) (λ next rest. EventsText g next events rest) text
+
+-- ---- rounds
+
+-- the events of a round were so many
+unfoldable pub round_line : ℕ → ℕ → List ℕ
+round_line number count = line (codes "# round " ++ (decimal number ++ (codes ": " ++ (decimal count ++ codes " events"))))
+
+-- of one that did nothing it is not said
+abbrev pub round_text : ℕ → ℕ → List ℕ
+round_text number count = if count == 0 then [] else round_line number count
+
+-- behind a round that is done stand its number and how many events it did, and then the others; behind one that is refused
+-- nothing is done
+abbrev pub BehindRound : World → ℕ → Played → (World → List ℕ → Type 0) → List ℕ → Type 0
+BehindRound w number (Ok y) More text = (rest : List ℕ) × More y rest × (text ≡ round_text number (length y.run - length w.run) ++ rest)
+BehindRound w number (Err fault) More text = text ≡ []
+
+-- so many rounds, behind so many others
+abbrev pub RoundsText : Setting → World → ℕ → ℕ → List ℕ → Type 0
+RoundsText g w passed zero text = text ≡ []
+RoundsText g w passed (suc n) text =
+    (events : List ℕ) × (behind : List ℕ) × EventsText g w (round g.net) events
+    × BehindRound w (passed + 1) (played g w 0 (round g.net)) (λ next rest. RoundsText g next (passed + 1) n rest) behind × (text ≡ events ++ behind)
+
+-- what an order orders
+abbrev pub WorkText : Setting → World → Order → List ℕ → Type 0
+WorkText g w (order.One e) text = EventsText g w (e ∷ []) text
+WorkText g w (order.Rounds n) text = RoundsText g w 0 n text
+WorkText g w (order.Ticks n) text = EventsText g w (repeated n (second g.net)) text
 
 -- the world that they lead to, where all are done
 abbrev pub end_of : World → Played → World
@@ -134,7 +163,7 @@ count_of g w events = length (reached g w events).run - length w.run
 
 -- an order up to the event that is refused, and one of which none is
 abbrev pub BegunText : Setting → World → ScheduledOrder → List ℕ → Type 0
-BegunText g w o text = (events : List ℕ) × EventsText g w (events_of g.net o.order) events × (text ≡ head_text o.line o.order ++ events)
+BegunText g w o text = (work : List ℕ) × WorkText g w o.order work × (text ≡ head_text o.line o.order ++ work)
 
 abbrev pub OrderText : Setting → World → ScheduledOrder → List ℕ → Type 0
 OrderText g w o text =
@@ -194,21 +223,25 @@ TracesEvents r x events old y new =
     (λ _. (played g (plain_world x) 0 events ≡ Ok (plain_world y)) × Adds old new (EventsText g (plain_world x) events))
     (λ why. why ≢ Memory → HaltsAt g (plain_world x) events why (plain_world y) old new)
 
+-- the first event that is refused, and a text up to it
+abbrev pub HaltsIn : Setting → World → List Event → StepFault → World → List ℕ → List ℕ → (List ℕ → Type 0) → Type 0
+HaltsIn g w events why y old new Is = (at : ℕ) × StopsAt g w events at why y × Adds old new Is
+
 -- so many rounds
 abbrev pub TracesRounds : Result (Option ℕ) StepFault → WorldView → ℕ → List ℕ → WorldView → List ℕ → Type 0
 TracesRounds r x n old y new =
     (g : Setting) → g.net ≡ x.net → ChoosesByRank g
     → MatchResult r
-    (λ rest. (played g (plain_world x) 0 (repeated n (round g.net)) ≡ Ok (plain_world y)) × Adds old new (EventsText g (plain_world x) (repeated n (round g.net))) × (rest ≡ rest_in g (plain_world x) 0 n))
-    (λ why. why ≢ Memory → HaltsAt g (plain_world x) (repeated n (round g.net)) why (plain_world y) old new)
+    (λ rest. (played g (plain_world x) 0 (repeated n (round g.net)) ≡ Ok (plain_world y)) × Adds old new (RoundsText g (plain_world x) 0 n) × (rest ≡ rest_in g (plain_world x) 0 n))
+    (λ why. why ≢ Memory → HaltsIn g (plain_world x) (repeated n (round g.net)) why (plain_world y) old new (RoundsText g (plain_world x) 0 n))
 
 -- the events of an order
 abbrev pub TracesWork : Result (Option ℕ) StepFault → WorldView → Order → List ℕ → WorldView → List ℕ → Type 0
 TracesWork r x order old y new =
     (g : Setting) → g.net ≡ x.net → ChoosesByRank g
     → MatchResult r
-    (λ rest. (played g (plain_world x) 0 (events_of g.net order) ≡ Ok (plain_world y)) × Adds old new (EventsText g (plain_world x) (events_of g.net order)) × (rest ≡ rest_of g (plain_world x) order))
-    (λ why. why ≢ Memory → HaltsAt g (plain_world x) (events_of g.net order) why (plain_world y) old new)
+    (λ rest. (played g (plain_world x) 0 (events_of g.net order) ≡ Ok (plain_world y)) × Adds old new (WorkText g (plain_world x) order) × (rest ≡ rest_of g (plain_world x) order))
+    (λ why. why ≢ Memory → HaltsIn g (plain_world x) (events_of g.net order) why (plain_world y) old new (WorkText g (plain_world x) order))
 
 -- an order
 abbrev pub TracesOrder : Result (Unit {0}) StepFault → WorldView → ScheduledOrder → List ℕ → WorldView → List ℕ → Type 0
@@ -216,7 +249,7 @@ TracesOrder r x o old y new =
     (g : Setting) → g.net ≡ x.net → ChoosesByRank g
     → MatchResult r
     (λ _. (played g (plain_world x) 0 (events_of g.net o.order) ≡ Ok (plain_world y)) × Adds old new (OrderText g (plain_world x) o))
-    (λ why. why ≢ Memory → (at : ℕ) × StopsAt g (plain_world x) (events_of g.net o.order) at why (plain_world y) × Adds old new (BegunText g (plain_world x) o))
+    (λ why. why ≢ Memory → HaltsIn g (plain_world x) (events_of g.net o.order) why (plain_world y) old new (BegunText g (plain_world x) o))
 
 -- orders
 abbrev pub TracesAll : Result (Unit {0}) Stop → WorldView → List ScheduledOrder → List ℕ → WorldView → List ℕ → Type 0

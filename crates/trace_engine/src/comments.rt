@@ -1,8 +1,9 @@
-//! The comments of a trace: what an order orders and how it ended, what an event did, and that a trace is too long.
+//! The comments of a trace: what an order orders and how it ended, which events were those of a round, what an event
+//! did, and that a trace is too long.
 
-ghost use Rattle.std.specs.Prelude.{◌≡◌, ◌++◌, length, OnOk, OnErr};
+ghost use Rattle.std.specs.Prelude.{◌≡◌, ◌++◌, length, take, OnOk, OnErr};
 ghost use Rattle.net_text.specs.Lexing.{lines_of};
-ghost use Rattle.trace_engine.specs.Tracing.{place_text, head_line, head_text, idle_line, counted_line, ticked_line, tail_text, stop_comment, comment_line, comments_text, limit_text};
+ghost use Rattle.trace_engine.specs.Tracing.{place_text, head_line, head_text, idle_line, counted_line, ticked_line, tail_text, round_line, stop_comment, comment_line, comments_text, limit_text};
 
 use net_text::Tail;
 use net_text::lexing::next_line;
@@ -114,6 +115,18 @@ fn write_tail(
     }
 }
 
+#[tactic(auto, unfolding(crate::specs::Tracing::round_line))]
+fn write_round(out: &mut Tail, number: u32, count: usize) -> Result<(), AllocError>
+    ensures text { OnOk result (out.new.text ≡ out.old.text ++ round_line number count) }
+    ensures front { out.new.front ≡ out.old.front }
+{
+    out.put_text(b"# round ")?;
+    out.put_decimal(number)?;
+    out.put_text(b": ")?;
+    out.put_len(count)?;
+    out.put_text(b" events\n")
+}
+
 /// Appends what an order orders, where it stands for many events.
 pub(crate) fn put_head(scheduled: &ScheduledOrder, out: &mut Vec<u8>) -> Result<(), AllocError>
     ensures { OnOk result (out.new.items ≡ out.old.items ++ head_text scheduled.now.line scheduled.now.order) }
@@ -140,6 +153,16 @@ pub(crate) fn put_tail(
     result
 }
 
+/// Appends that the events above were so many, and those of the round of this number.
+pub(crate) fn put_round(number: u32, count: usize, out: &mut Vec<u8>) -> Result<(), AllocError>
+    ensures { OnOk result (out.new.items ≡ out.old.items ++ round_line number count) }
+{
+    let mut tail = Tail::behind(out);
+    let result = write_round(&mut tail, number, count);
+    *out = tail.finish(result.is_ok());
+    result
+}
+
 /// Appends that an order was refused, as a comment.
 pub(crate) fn put_stop(line: usize, why: StepFault, out: &mut Vec<u8>) -> Result<(), AllocError>
     ensures { OnOk result (out.new.items ≡ out.old.items ++ stop_comment line why) }
@@ -148,18 +171,21 @@ pub(crate) fn put_stop(line: usize, why: StepFault, out: &mut Vec<u8>) -> Result
     stop_line(line, why, out)
 }
 
-// Appends a line as a comment.
+// Appends a line as a comment. Where memory is refused, a beginning of it stands behind what the buffer had.
 fn put_comment(line: &[u8], out: &mut Vec<u8>) -> Result<(), AllocError>
-    ensures { OnOk result (out.new.items ≡ out.old.items ++ comment_line line.now) }
+    ensures kept { take (length out.old.items) out.new.items ≡ out.old.items }
+    ensures ok { OnOk result (out.new.items ≡ out.old.items ++ comment_line line.now) }
 {
     out.extend_from_slice(b"# ")?;
     out.extend_from_slice(line)?;
     out.extend_from_slice(b"\n")
 }
 
-/// Appends each line of a text as a comment.
-pub(crate) fn put_comments(text: &[u8], out: &mut Vec<u8>) -> Result<(), AllocError>
-    ensures { OnOk result (out.new.items ≡ out.old.items ++ comments_text (lines_of text.now)) }
+// Appends each line of a text as a comment. Where memory is refused, a beginning of them stands behind what the
+// buffer had.
+fn put_each_comment(text: &[u8], out: &mut Vec<u8>) -> Result<(), AllocError>
+    ensures kept { take (length out.old.items) out.new.items ≡ out.old.items }
+    ensures ok { OnOk result (out.new.items ≡ out.old.items ++ comments_text (lines_of text.now)) }
 {
     let mut left = text;
     'lines: while !left.is_empty() {
@@ -168,6 +194,19 @@ pub(crate) fn put_comments(text: &[u8], out: &mut Vec<u8>) -> Result<(), AllocEr
         left = rest;
     }
     Ok(())
+}
+
+/// Appends each line of a text as a comment. It is refused only where memory was, and then leaves what the buffer had.
+pub fn put_comments(text: &[u8], out: &mut Vec<u8>) -> Result<(), AllocError>
+    ensures ok { OnOk result (out.new.items ≡ out.old.items ++ comments_text (lines_of text.now)) }
+    ensures err { OnErr result (out.new.items ≡ out.old.items) }
+{
+    let start = out.len();
+    let result = put_each_comment(text, out);
+    if result.is_err() {
+        out.truncate(start);
+    }
+    result
 }
 
 /// Appends a comment that what is there is longer than an input may be, where it is. It is refused only where memory

@@ -19,6 +19,6 @@ mod steps;
 mod stream;
 mod trace;
 
-pub use comments::put_limit;
+pub use comments::{put_comments, put_limit};
 pub use network::put_network;
 pub use trace::trace_stream;

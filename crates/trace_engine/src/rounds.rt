@@ -13,6 +13,7 @@ ghost use Rattle.world_core.specs.Orders.{with_peer, turn, round};
 ghost use Rattle.world_core.specs.Resting.{AreResting, AreRestingBeside};
 ghost use Rattle.trace_engine.specs.Tracing.{TracesOne, TracesEvents, TracesRounds};
 
+use crate::comments::put_round;
 use crate::notes::Notes;
 use crate::steps::{trace_event, trace_events};
 use ranked_policy::Asn;
@@ -169,8 +170,8 @@ fn trace_round(
     Ok(())
 }
 
-/// Does so many rounds, and answers how many of them did something before one did nothing, where one did nothing.
-/// Behind that one all others do nothing.
+/// Does so many rounds, and appends behind the events of each how many these were. Answers how many of the rounds did
+/// something before one did nothing, where one did nothing. Behind that one all others do nothing.
 pub(crate) fn trace_rounds(
     alloc: Global,
     world: &mut World<'_>,
@@ -185,9 +186,11 @@ pub(crate) fn trace_rounds(
     for passed in 0..times {
         let before = world.run().len();
         trace_round(world, &mut marks, notes, out)?;
-        if world.run().len() == before {
+        let after = world.run().len();
+        if after == before {
             return Ok(Some(passed));
         }
+        put_round(passed + 1, after.saturating_sub(before), out)?;
     }
     Ok(None)
 }

@@ -66,11 +66,11 @@ fn schedule(alloc: Global, seed: u32) -> Result<String, Fail> {
     Ok(text)
 }
 
-// The lines of a trace that are no comments on an order.
+// The lines of a trace that are no comments on an order or on a round.
 fn events_of(alloc: Global, trace: &[u8]) -> Result<Vec<u8>, Fail> {
     let mut kept = Vec::new(alloc);
     for line in trace.split(|octet: &u8| *octet == b'\n') {
-        if !line.starts_with(b"# line ") {
+        if !line.starts_with(b"# line ") && !line.starts_with(b"# round ") {
             kept.extend_from_slice(line)?;
             kept.push(b'\n')?;
         }

@@ -14,7 +14,7 @@ returns-in_err-step-clause-traces c =
 pub returns-in_ok-put_comments-in-Did-clause-traces : goal.returns-in_ok-put_comments-in-Did-clause-traces
 returns-in_ok-put_comments-in-Did-clause-traces c =
     one_did c.args.world.now c.step.new.self c.args.event.now c.args.out.now.items c.event_line.new.out.items (comments_text (lines_of c.text.result.now)) c.put_comments.new.out.items (rw c.in-Did.is at c.in_ok-step.ensures.answers) c.in_ok-event_line-in-Did.ensures.ok
-    (all_comments c.text.result.now (comments_text (lines_of c.text.result.now)) refl) c.in_ok-put_comments-in-Did.ensures
+    (all_comments c.text.result.now (comments_text (lines_of c.text.result.now)) refl) c.in_ok-put_comments-in-Did.ensures.ok
 
 pub returns-in-Nothing-clause-traces : goal.returns-in-Nothing-clause-traces
 returns-in-Nothing-clause-traces c = one_idled c.args.world.now c.step.new.self c.args.event.now c.args.out.now.items (rw c.in-Nothing.is at c.in_ok-step.ensures.answers)
