@@ -183,13 +183,14 @@ The input is a network, a line 'schedule', and the orders of the schedule, as 'p
 
 The output is the network's lines, the line 'schedule', and each event that was done as an order, so
 that it is an input for 'play' again, and 'play' prints the same for both; comments say what an event
-did, what stood for many events, how many of them were done, and behind which round the network was
-at rest:
+did, what stood for many events, how many of them were done, also in each round, and behind which round
+the network was at rest:
 
     originate 1 10.1.0.0/16
     # line 7: rounds 2
     decide 1
     # keeps 10.1.0.0/16 1, kept none
+    # round 1: 1 events
     # line 7: 1 events, rest behind round 1
 
 Behind 'put' it says what that sends, with --octets also in hex, behind 'take' what it takes, behind
@@ -307,8 +308,8 @@ The input is a network:
     origin 1 10.1.0.0/16
 
 Each router runs in a thread of its own, as 'run --help' says. The output is the network's lines, the
-line 'schedule', and each event that the threads did as an order, so that it is an input for 'play',
-'trace' and 'cut'. It begins so:
+line 'schedule', each event that the threads did as an order, and as comments what they ended in, so
+that it is an input for 'play', 'trace' and 'cut'. It begins so:
 
     router 1 10.0.0.1
     router 2 10.0.0.2
@@ -317,9 +318,10 @@ line 'schedule', and each event that the threads did as an order, so that it is 
     schedule
     start 1 2
 
-What comes behind differs from run to run. 'play' leads to where the threads ended, each time, and says
-how each snapshot came out; with '--turns 2000' and '--snapshots 4' the output is short. 'refused LINE
-CODE' is as for 'run'. An output of more than 16777216 octets is no input: its last line says so.
+What comes behind differs from run to run; it ends with '# snapshot S ..', how each snapshot came out,
+'# now', and '# route U Q PATH', the paths that the routers keep. 'play' leads there each time, and says
+the same; with '--turns 2000' and '--snapshots 4' the output is short. 'refused LINE CODE' is as for
+'run'. An output of more than 16777216 octets is no input: its last line says so.
 
 Status 0: done. 1: a refused input. 2: other words than these. 3: memory was refused ('memory').
 4: a read or a write failed.";

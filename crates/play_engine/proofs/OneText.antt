@@ -270,7 +270,7 @@ rising_one (x ∷ xs) (y ∷ ys) rx ry go back =
     (λ s h. tail_has y x s ys xs ry (sym same) (back s (behind y s ys h)) h) in
     ap (λ z. z ∷ xs) same ∙ ap (λ zs. y ∷ zs) more
 
-decided_one : (members : List Member) (made : ℕ → List MadeOffer) (xs ys : List ℕ) → AreDecided members made xs → AreDecided members made ys → xs ≡ ys
+pub decided_one : (members : List Member) (made : ℕ → List MadeOffer) (xs ys : List ℕ) → AreDecided members made xs → AreDecided members made ys → xs ≡ ys
 decided_one members made xs ys a b =
     rising_one xs ys a.rising b.rising (λ s h. (b.exact s).1 ((a.exact s).0 h)) (λ s h. (a.exact s).1 ((b.exact s).0 h))
 

@@ -1,6 +1,6 @@
 //! What is printed for a network and the orders of a schedule.
 
-ghost use Rattle.std.specs.Prelude.{◌≡◌, ◌≢◌, ◌++◌, IfOk, OnOk, MatchResult};
+ghost use Rattle.std.specs.Prelude.{◌≡◌, ◌≢◌, ◌++◌, IfOk, OnOk, OnErr, MatchResult, length, take};
 ghost use Rattle.router_core.specs.Views.{plain_of};
 ghost use Rattle.world_core.specs.Views.{plain_world, Opens, KeepsPromises};
 ghost use Rattle.text_engines.specs.Decoding.{output};
@@ -28,20 +28,43 @@ pub struct Stop {
     pub why: StepFault,
 }
 
-// Appends the path that a router keeps for the prefix of each origin.
-fn put_router(
+// Appends the path that a router keeps for the prefix of each origin. Where memory is refused, some of the lines stand
+// behind what the buffer had.
+fn put_each_path(
     number: Asn,
     router: &Router<'_>,
     origins: &[Origin],
     out: &mut Vec<u8>,
 ) -> Result<(), AllocError>
-    ensures { OnOk result (out.new.items ≡ out.old.items ++ router_text (plain_of router.now).router.kept number origins.now) }
+    ensures kept { take (length out.old.items) out.new.items ≡ out.old.items }
+    ensures ok { OnOk result (out.new.items ≡ out.old.items ++ router_text (plain_of router.now).router.kept number origins.now) }
 {
     for origin in origins {
         let prefix = &origin.prefix;
         route_line(number, prefix, router.kept(prefix), out)?;
     }
     Ok(())
+}
+
+/// Appends the routes of a router: a line for the prefix of each origin, with this number and the path that the router
+/// keeps for the prefix, or `none`.
+///
+/// It is refused only where memory was, and then leaves what the buffer had.
+pub fn put_router(
+    number: Asn,
+    router: &Router<'_>,
+    origins: &[Origin],
+    out: &mut Vec<u8>,
+) -> Result<(), AllocError>
+    ensures ok { OnOk result (out.new.items ≡ out.old.items ++ router_text (plain_of router.now).router.kept number origins.now) }
+    ensures err { OnErr result (out.new.items ≡ out.old.items) }
+{
+    let start = out.len();
+    let result = put_each_path(number, router, origins, out);
+    if result.is_err() {
+        out.truncate(start);
+    }
+    result
 }
 
 // Appends the path that each router keeps for the prefix of each origin.

@@ -1,4 +1,5 @@
 pub mod ChoreLemmas
+pub mod EndLemmas
 pub mod LineLemmas
 pub mod PlayLemmas
 pub mod RecordLemmas

@@ -1,11 +1,14 @@
 -- A record is played to where the threads ended.
-use Rattle.std.proofs.Common.{◌≡◌, ℕ, suc, ◌-◌, ◌^◌, ◌≤◌, arith, List, [], ◌∷◌, ◌++◌, length, map, refl, ap, sym, subst, ◌∙◌, inl, inr, Ok}
+use Rattle.std.proofs.Common.{◌≡◌, ℕ, suc, ◌-◌, ◌^◌, ◌≤◌, arith, List, [], ◌∷◌, ◌++◌, length, map, refl, ap, sym, subst, ◌∙◌, inl, inr, Ok, append_assoc}
 use Rattle.std.specs.Prelude.{codes}
 use Rattle.std.specs.List.{All, AllByRecursion, Contains}
 use Rattle.std.proofs.lemmas.List.{append-nil, length-append, length-map}
 use Rattle.ranked_policy.specs.Plans.{Plan, IsRouter, numbers}
 use Rattle.run_model.specs.Network as runs
 use Rattle.run_model.specs.declared.stamps.TheConstants.{GREATEST_STAMP}
+use Rattle.snap_marker.specs.Recordings.{MadeOffer}
+use Rattle.snap_collector.specs.Collecting.{member_of}
+use Rattle.snap_collector.specs.Collector.{made_for}
 use Rattle.router_model.specs.declared.command.Command.TheVariants as command
 use Rattle.router_model.specs.Settings.{Setting, IsSetting}
 use Rattle.router_model.specs.Laws.{LinkedRoutersArePeers}
@@ -15,6 +18,7 @@ use Rattle.router_core.specs.Views.{plain_of}
 use Rattle.world_core.specs.declared.schedule.Event.{Event}
 use Rattle.world_core.specs.World.{World, new_world, played, AgreesWith}
 use Rattle.world_core.specs.Replays.{CalledRunsArePlayed}
+use Rattle.world_core.specs.Verdicts.{members_of, MembersAreTheRouters}
 use Rattle.net_text.specs.Laws.{OneNetwork, HoldTimesFit, SpeltIsNotRefused}
 use Rattle.net_text.specs.Layout.{LinesEndByLineFeeds}
 use Rattle.net_text.specs.Lexing.{Text, lines_of, before_section, behind_section}
@@ -31,18 +35,19 @@ use Rattle.text_engines.specs.declared.status.TheConstants.{DONE}
 use Rattle.text_engines.specs.declared.transfer.TheConstants.{INPUT_LIMIT}
 use Rattle.text_engines.specs.Decoding.{Output, output}
 use Rattle.text_engines.specs.Inputs.{NetworkGives}
-use Rattle.trace_engine.specs.Tracing.{head_of_trace}
+use Rattle.trace_engine.specs.Tracing.{head_of_trace, comments_text}
 use Rattle.trace_engine.proofs.EventLemmas.{MaySay}
 use Rattle.play_engine.proofs.OneText.{refused_at, no_fault, no_halt}
 use Rattle.trace_engine.proofs.LawLemmas.{all_of, front_is, rest_is, trace_parted, same_events, not_done, short_text}
-use Rattle.trace_engine.proofs.LineLemmas.{order_of, as_orders, Says, one_lines}
+use Rattle.trace_engine.proofs.LineLemmas.{order_of, as_orders, Says, says_both, says_comments, one_lines, all_comments}
 use Rattle.run_engine.specs.declared.chores.RunOptions.{RunOptions}
 use Rattle.run_engine.specs.declared.gates.RunGate.{RunGate}
 use Rattle.run_engine.specs.Gates.{HasRoom, spacing_of}
 use Rattle.run_engine.specs.Running.{RunRecord, RunRefused}
-use Rattle.record_engine.specs.Recording.{events_of, events_text, record_text, RecordGives, PrintsRecord, Records}
-use Rattle.record_engine.specs.Laws.{EndsAsRecorded, PlaysAsRecorded, RecordsPlayBack}
+use Rattle.record_engine.specs.Recording.{events_of, events_text, record_text, ending_text, RecordGives, PrintsRecord, Records}
+use Rattle.record_engine.specs.Laws.{ends_of, EndsAsRecorded, PlaysAsRecorded, RecordsPlayBack}
 use Rattle.record_engine.proofs.ChoreLemmas.{few_snapshots, numbers_low}
+use Rattle.record_engine.proofs.EndLemmas.{ends_alike}
 use Rattle.record_engine.proofs.LineLemmas.{plain_lines, run_may, events_said, few_events}
 
 -- ---- the record that was printed
@@ -84,7 +89,7 @@ same_routers g w state agrees [] known same = tt
 same_routers g w state agrees (k ∷ ks) known same = (agrees.routers k.router.number known.0 ∙ same.0, same_routers g w state agrees ks known.1 same.1)
 
 module _ (hold : HoldTimesFit) (feeds : LinesEndByLineFeeds) (one : OneNetwork) (spelt : SpeltIsNotRefused) (links : LinkedRoutersArePeers) (exists : EachNetworkHasASetting) (read : LinesAreReadAsTheySay)
-    (again : CalledRunsArePlayed) where
+    (again : CalledRunsArePlayed) (the_routers : MembersAreTheRouters) where
   module _ (options : RunOptions) (input text : List ℕ) (short : length text ≤ INPUT_LIMIT) (t : IsRecorded options input text) where
     abbrev threads : RunRecord options t.net
     threads = t.prints.threads
@@ -92,14 +97,21 @@ module _ (hold : HoldTimesFit) (feeds : LinesEndByLineFeeds) (one : OneNetwork) 
     abbrev events : List Event
     events = events_of threads.gathered
 
-    printed : text ≡ record_text (lines_of input) events
-    printed = short_text (record_text (lines_of input) events) text short (ap (λ (o : Output). o.text) t.prints.printed)
+    -- the comments behind them
+    abbrev comments : List ℕ
+    comments = comments_text (lines_of (ending_text t.net threads.collector threads.workers))
+
+    printed : text ≡ record_text (lines_of input) events ++ comments
+    printed = short_text (record_text (lines_of input) events ++ comments) text short (ap (λ (o : Output). o.text) t.prints.printed)
 
     abbrev RanIn : Setting → Type 0
     RanIn g = IsRunOfThreads g (passed_in threads.ways) threads.workers threads.gathered
 
-    ran : (g : Setting) → g.net ≡ t.net → IsSetting g → RanIn g
+    abbrev ran : (g : Setting) → g.net ≡ t.net → IsSetting g → RanIn g
     ran g e set = (t.prints.threads.promises g e set).run
+
+    numbered : (g : Setting) → g.net ≡ t.net → map (λ w. w.router.number) threads.workers ≡ numbers g.net.routers
+    numbered g e = threads.recorded.routers ∙ ap (λ (n : Plan). numbers n.routers) (sym e)
 
     -- they may stand in lines
     may : (g : Setting) → g.net ≡ t.net → IsSetting g → AllByRecursion (MaySay t.net) events
@@ -114,22 +126,32 @@ module _ (hold : HoldTimesFit) (feeds : LinesEndByLineFeeds) (one : OneNetwork) 
         (run_may links g set.network (chores_of threads.workers) low r.order (runs.opening (λ u. new_logged g)) r.state r.called r.ordered))
 
     -- what is done leads to where the threads ended
-    to_the_end : (g : Setting) → g.net ≡ t.net → (set : IsSetting g) → (w : World) × (played g (new_world g) 0 events ≡ Ok w) × (w.run ≡ events)
-        × AllByRecursion (λ k. (w.routers k.router.number).router ≡ (plain_of k.router).router) threads.workers
+    to_the_end : (g : Setting) → (e : g.net ≡ t.net) → (set : IsSetting g) → (w : World) × (played g (new_world g) 0 events ≡ Ok w) × (w.run ≡ events)
+        × AllByRecursion (λ k. (w.routers k.router.number).router ≡ (plain_of k.router).router) threads.workers × AgreesWith g w (ran g e set).state
     to_the_end g e set =
         let r = ran g e set in
         let head = head_of_trace (lines_of input) in
         let as_long : length r.order ≡ length events = sym (length-map r.order _) ∙ ap length r.events in
-        let whole : length text ≡ length (head ++ events_text events) = ap length printed in
-        let all : length r.order ≤ GREATEST_STAMP = omega (arith, as_long, few_events events, whole, length-append head (events_text events), short) in
+        let whole : length text ≡ length ((head ++ events_text events) ++ comments) = ap length printed in
+        let all : length r.order ≤ GREATEST_STAMP =
+        omega (arith, as_long, few_events events, whole, length-append (head ++ events_text events) comments, length-append head (events_text events), short) in
         let to = again g set r.order r.state r.called all in
-        let numbers_are : map (λ w. w.router.number) threads.workers ≡ numbers g.net.routers = threads.recorded.routers ∙ ap (λ (n : Plan). numbers n.routers) (sym e) in
-        let known = all_known (numbers g.net.routers) threads.workers (λ u c. subst (λ (ns : List ℕ). Contains ns u) numbers_are c) in (
+        let known = all_known (numbers g.net.routers) threads.workers (λ u c. subst (λ (ns : List ℕ). Contains ns u) (numbered g e) c) in (
           to.world,
           subst (λ (es : List Event). played g (new_world g) 0 es ≡ Ok to.world) r.events to.plays,
           to.did ∙ r.events,
           same_routers g to.world r.state to.agrees threads.workers known r.routers,
+          to.agrees,
         )
+
+    -- and is reported as the comments say
+    same_ending : (g : Setting) (e : g.net ≡ t.net) (set : IsSetting g) (w : World) → AgreesWith g w (ran g e set).state → AllByRecursion (λ k. (w.routers k.router.number).router ≡ (plain_of k.router).router) threads.workers
+        → (out : Output) (report : IsReport g w out) → ends_of g w report.decided ≡ ending_text t.net threads.collector threads.workers
+    same_ending g e set w agrees same out report =
+        let c = threads.collector in
+        let members : map member_of c.members ≡ members_of g.net = the_routers t.net t.spells.network c.members threads.recorded.members ∙ ap members_of (sym e) in
+        let offers : (s : ℕ) → w.made s ≡ made_for c s = (λ s. agrees.offers_made s ∙ sym (ap (λ (made : ℕ → List MadeOffer). made s) (t.prints.threads.promises g e set).offered)) in
+        ends_alike g w report.decided t.net c threads.workers e members offers report.are_decided t.prints.are_decided (numbered g e) same
 
     ends : (g : Setting) (e : g.net ≡ t.net) (set : IsSetting g) (n : ℕ) (os : List ScheduledOrder) (out : Output) → map order_of os ≡ as_orders events → OrdersGive IsReport t.net os out
         → EndsAsRecorded options t.net threads g out
@@ -139,12 +161,13 @@ module _ (hold : HoldTimesFit) (feeds : LinesEndByLineFeeds) (one : OneNetwork) 
         elim (gives g e set.chooses) [
           | inl r ↦ (
               let same : r.0 ≡ z.0 = (let q = sym r.1 ∙ leads in cc) in
-              record { world = z.0; plays = z.1; did = z.2; routers = z.3; report = subst (λ (w : World). IsReport g w out) same r.3 }
+              let report = subst (λ (w : World). IsReport g w out) same r.3 in
+              record { world = z.0; plays = z.1; did = z.2; routers = z.3; report = report; ending = same_ending g e set z.0 z.4 z.3 out report }
               )
           | inr s ↦ absurd (no_halt g (new_world g) z.0 os s.0 s.1 s.2 leads)
         ]
 
-    plays_lines : (said : Says t.net (events_text events) events) (n : ℕ) (out : Output) → NetworkGives (ScheduleGives IsReport) (lines_of input) n said.lines out → PlaysAsRecorded options input text out
+    plays_lines : (said : Says t.net (events_text events ++ comments) events) (n : ℕ) (out : Output) → NetworkGives (ScheduleGives IsReport) (lines_of input) n said.lines out → PlaysAsRecorded options input text out
     plays_lines said n out (inl r) = absurd (r.2 (spelt (lines_of input) t.net r.0 r.1 t.spells r.3))
     plays_lines said n out (inr k) =
         let same : k.0 ≡ t.net = one (lines_of input) k.0 t.net k.1 t.spells in
@@ -165,12 +188,19 @@ module _ (hold : HoldTimesFit) (feeds : LinesEndByLineFeeds) (one : OneNetwork) 
       let s = exists t.net t.spells.network in
       let set = s.is (hold (lines_of input) t.net t.spells) in
       let es = events_of t.prints.threads.gathered in
-      let said = events_said feeds read t.net es (may options input text short t s.setting s.over set) in
+      let orders = events_said feeds read t.net es (may options input text short t s.setting s.over set) in
+      let ending = ending_text t.net t.prints.threads.collector t.prints.threads.workers in
+      let behind_them = comments_text (lines_of ending) in
+      let texts = events_text es ++ behind_them in
+      let said : Says t.net texts es =
+      subst (λ (k : List Event). Says t.net texts k) (append-nil es)
+      (says_both t.net (events_text es) behind_them es [] orders (says_comments feeds t.net behind_them (all_comments ending behind_them refl))) in
       let front = lines_of input in
       let plain = plain_lines front t.net t.spells in
-      let body : lines_of (events_text es) ≡ said.lines = ap lines_of (sym (append-nil (events_text es))) ∙ said.parted [] ∙ append-nil said.lines in
+      let body : lines_of texts ≡ said.lines = ap lines_of (sym (append-nil texts)) ∙ said.parted [] ∙ append-nil said.lines in
       let lines : lines_of text ≡ front ++ codes "schedule" ∷ said.lines =
-      ap lines_of (printed options input text short t) ∙ trace_parted feeds front (events_text es) (one_lines input) ∙ ap (λ (k : List Text). front ++ codes "schedule" ∷ k) body in
+      ap lines_of (printed options input text short t ∙ append_assoc (head_of_trace front) (events_text es) behind_them) ∙ trace_parted feeds front texts (one_lines input)
+      ∙ ap (λ (k : List Text). front ++ codes "schedule" ∷ k) body in
       let before = ap (before_section (codes "schedule")) lines ∙ front_is (codes "schedule") (codes "schedule") front said.lines plain refl in
       let behind = ap (behind_section (codes "schedule")) lines ∙ rest_is (codes "schedule") (codes "schedule") front said.lines plain refl in
       let n = length (lines_of text) - length (behind_section (codes "schedule") (lines_of text)) in

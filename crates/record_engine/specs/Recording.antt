@@ -1,18 +1,25 @@
 -- What is printed of what the threads of a network did.
 use Rattle.std.specs.Prelude.{◌≡◌, ℕ, ◌<◌, ◌≤◌, ◌⊎◌, List, ◌++◌, length, map}
 use Rattle.std.specs.List.{flat_map}
+use Rattle.ranked_policy.specs.declared.network.Origin.{Origin}
 use Rattle.ranked_policy.specs.Plans.{Plan}
+use Rattle.snap_collector.specs.Collector.{CollectorView, AreDecided}
+use Rattle.router_core.specs.Views.{plain_of}
 use Rattle.net_text.specs.declared.code.Code.TheVariants as kinds
 use Rattle.net_text.specs.Lexing.{Text, lines_of}
 use Rattle.net_text.specs.Printing.{code_text}
 use Rattle.world_core.specs.declared.schedule.Event.{Event}
+use Rattle.world_core.specs.Verdicts.{judged}
 use Rattle.schedule_text.specs.Events.{event_line}
+use Rattle.schedule_text.specs.Reports.{snapshot_line, now_line}
 use Rattle.worker_loop.specs.declared.journal.Entry.{Entry}
 use Rattle.net_workers.specs.declared.record.RunFault.TheVariants as fault
+use Rattle.net_workers.specs.declared.record.Worked.{Worked}
 use Rattle.text_engines.specs.declared.status.TheConstants.{DONE}
 use Rattle.text_engines.specs.declared.transfer.TheConstants.{INPUT_LIMIT}
 use Rattle.text_engines.specs.Decoding.{Output, output, refused, memory_output}
-use Rattle.trace_engine.specs.Tracing.{head_of_trace, limited}
+use Rattle.play_engine.specs.Reporting.{router_text}
+use Rattle.trace_engine.specs.Tracing.{head_of_trace, comments_text, limited}
 use Rattle.run_engine.specs.declared.chores.RunOptions.{RunOptions}
 use Rattle.run_engine.specs.Gates.{HasRoom}
 use Rattle.run_engine.specs.Running.{RunRecord, RunRefused, faulty, LinesPrint}
@@ -31,17 +38,35 @@ events_text events = flat_map event_line events
 abbrev pub record_text : List Text → List Event → List ℕ
 record_text lines events = head_of_trace lines ++ events_text events
 
--- with a comment behind it where it is longer than an input may be
-abbrev pub record_output : List Text → List Event → Output
-record_output lines events = output (limited (record_text lines events)) DONE
+-- ---- what the threads ended in
+
+-- how each of these snapshots came out
+abbrev pub verdicts_text : CollectorView → List ℕ → List ℕ
+verdicts_text c numbers = flat_map (λ s. snapshot_line s (judged c s)) numbers
+
+-- the path that each router keeps for the prefix of each origin
+abbrev pub kept_text : {G : Type 0} → List Origin → List (Worked G) → List ℕ
+kept_text origins workers = flat_map (λ w. router_text (plain_of w.router).router.kept w.router.number origins) workers
+
+-- how the snapshots that are decided came out, and the paths that the routers keep: the lines of a report, but for the routes of
+-- settled snapshots
+abbrev pub ending_text : {G : Type 0} → Plan → CollectorView → List (Worked G) → List ℕ
+ending_text net c workers = (verdicts_text c c.decided ++ now_line) ++ kept_text net.origins workers
+
+-- ---- both
+
+-- what they did, with comments behind it of what they ended in; and one more where that is longer than an input may be
+abbrev pub record_output : List Text → List Event → List ℕ → Output
+record_output lines events ending = output (limited (record_text lines events ++ comments_text (lines_of ending))) DONE
 
 -- ---- what is printed of a run
 
--- the text of what some threads did: a record of them, in which each router was told what `run` tells it, and which is one of a run
--- of the network that keeps the promises of runs
+-- the text of what some threads did and ended in: a record of them, in which each router was told what `run` tells it, and which is
+-- one of a run of the network that keeps the promises of runs
 pub record PrintsRecord (options : RunOptions) (lines : List Text) (net : Plan) (out : Output) : Type 0 where
   pub threads : RunRecord options net
-  pub printed : out ≡ record_output lines (events_of threads.gathered)
+  pub are_decided : AreDecided threads.collector threads.collector.decided
+  pub printed : out ≡ record_output lines (events_of threads.gathered) (ending_text net threads.collector threads.workers)
 
 -- for the network that these lines spell
 abbrev pub RecordGives : RunOptions → List Text → Plan → Output → Type 0

@@ -8,11 +8,11 @@ use net_text::laws::{
 use router_model::laws::linked_routers_are_peers;
 use router_runs::each_network_has_a_setting;
 use schedule_text::laws::lines_are_read_as_they_say;
-use world_core::laws::called_runs_are_played;
+use world_core::laws::{called_runs_are_played, members_are_the_routers};
 
 /// What is printed of a record, within the limit of an input, is played to where the threads ended: the world of `play`
 /// does just the events of the record, in their order, and its routers are those of the record, with the paths that
-/// they keep.
+/// they keep. What `play` prints says of the snapshots, and of the routes now, what the comments of the record say.
 ///
 /// It says nothing of want of memory, nor that two runs are alike.
 pub fn records_play_back()
@@ -26,4 +26,5 @@ pub fn records_play_back()
     each_network_has_a_setting();
     lines_are_read_as_they_say();
     called_runs_are_played();
+    members_are_the_routers();
 }

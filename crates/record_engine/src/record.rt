@@ -4,9 +4,9 @@ ghost use Rattle.std.specs.Prelude.{◌≡◌, ◌⊎◌, IfOk, OnOk, OnErr, tru
 ghost use Rattle.net_text.specs.Lexing.{lines_of};
 ghost use Rattle.text_engines.specs.Decoding.{output};
 ghost use Rattle.text_engines.specs.Engine.{PrintedBy, PrintedFrontBy};
-ghost use Rattle.record_engine.specs.Recording.{events_of, record_output, RecordGives, InputRecords, Records};
+ghost use Rattle.record_engine.specs.Recording.{events_of, ending_text, record_output, RecordGives, InputRecords, Records};
 
-use crate::text::record_text;
+use crate::text::{ending_text, record_text};
 use net_text::{Code, read_network};
 use net_workers::Record;
 use ranked_policy::Network;
@@ -19,20 +19,25 @@ use text_engines::{
     INPUT_LIMIT, InputError, IoStopped, Sink, Source, read_input, refused_output, text_output,
     want_of_memory, write_out,
 };
-use trace_engine::put_limit;
+use trace_engine::{put_comments, put_limit};
 
-/// What is printed of a record, and the status: the lines of its network, the line `schedule`, and each event of the
-/// record as an order, as they stand there; and a comment where that is longer than an input may be.
+/// What is printed of a record of a network of these lines, and the status: the lines, the line `schedule`, and each
+/// event of the record as an order, as they stand there; behind them, as comments, how each snapshot that is decided
+/// came out, the line `now` and the routes that the routers of the record keep; and a comment where that is longer than
+/// an input may be.
 ///
 /// It answers an error where memory is refused.
 pub fn record_output<G>(
     alloc: Global,
     lines: &[u8],
+    network: &Network,
     made: &Record<'_, G>,
 ) -> Result<(Vec<u8>, u8), AllocError>
-    ensures { IfOk result (λ printed. output printed.0.items printed.1 ≡ record_output (lines_of lines.now) (events_of made.now.gathered.items)) }
+    ensures { IfOk result (λ printed. output printed.0.items printed.1 ≡ record_output (lines_of lines.now) (events_of made.now.gathered.items) (ending_text network.now made.now.collector made.now.workers.items)) }
 {
+    let ending = ending_text(alloc, network, made)?;
     let mut text = record_text(alloc, lines, made.gathered.as_slice())?;
+    put_comments(ending.as_slice(), &mut text)?;
     put_limit(&mut text)?;
     Ok((text, DONE))
 }
@@ -50,7 +55,10 @@ where
     ensures { IfOk result (λ printed. RecordGives options.now (lines_of lines.now) network.now (output printed.0.items printed.1)) }
 {
     match run_network(rt, alloc, options, network) {
-        Ok(record) => record_output(alloc, lines, &record),
+        Ok(record) => {
+            let _ = record.collector.decided();
+            record_output(alloc, lines, network, &record)
+        }
         Err(fault) => fault_output(alloc, fault),
     }
 }
@@ -77,8 +85,9 @@ where
 }
 
 /// Reads a network, runs it in threads as `bgpnet run` does, and writes what they did as a schedule: the network's
-/// lines, the line `schedule`, and each event as an order, by its stamp, then by its router; or the first line that
-/// is refused, or why the run was. Where that is longer than an input may be a comment says so. Answers the status.
+/// lines, the line `schedule`, and each event as an order, by its stamp, then by its router, with comments behind them
+/// of how the snapshots came out and of the routes that the routers keep in the end; or the first line that is refused,
+/// or why the run was. Where that is longer than an input may be a comment says so. Answers the status.
 ///
 /// Where memory is refused it writes `memory` alone and answers 3. It stops only where a read or a
 /// write failed, and then what was written is a beginning of the text.

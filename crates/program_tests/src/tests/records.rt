@@ -8,7 +8,7 @@ use net_text::read_network;
 use net_workers::{Chore, Limits, Record, ScriptGate, run_net};
 use prefix_lanes::Prefix;
 use ranked_policy::Network;
-use record_engine::record_text;
+use record_engine::record_output;
 use router_core::Router;
 use router_model::{Command, Stepped};
 use run_engine::new_gates;
@@ -109,8 +109,11 @@ fn a_record_plays_back(rt: HostRuntime) -> Result<(), Fail> {
     Ok(())
 }
 
-// What two routers do that hear nothing of each other: both start, router 1 originates, and takes one turn.
-const DONE: &str = "schedule\nstart 1 2\nstart 2 1\noriginate 1 10.1.0.0/16\nput 1 2\ndecide 1\n";
+// What two routers do that hear nothing of each other: both start, router 1 originates, takes a snapshot and has one
+// turn; and what they end in: the session was not up as the snapshot was taken, and router 2 has no path.
+const DONE: &str =
+    "schedule\nstart 1 2\nstart 2 1\noriginate 1 10.1.0.0/16\nsnapshot 1 1\nput 1 2\ndecide 1\noffer 1\n\
+    # snapshot 1 abandoned 1 2 notup\n# now\n# route 1 10.1.0.0/16 1\n# route 2 10.1.0.0/16 none\n";
 
 // The gates of both.
 fn lone_gates(alloc: Global, prefix: Prefix) -> Result<Vec<ScriptGate>, AllocError>
@@ -119,7 +122,8 @@ fn lone_gates(alloc: Global, prefix: Prefix) -> Result<Vec<ScriptGate>, AllocErr
     let one = ScriptGate::new(vec![in alloc;
         (0, Chore::Command(Command::Start(2))),
         (1, Chore::Command(Command::Originate(prefix))),
-        (3, Chore::Stop),
+        (2, Chore::Command(Command::Snapshot(1))),
+        (4, Chore::Stop),
     ]?);
     let other = ScriptGate::new(vec![in alloc;
         (0, Chore::Command(Command::Start(1))),
@@ -144,8 +148,8 @@ fn has_text<R: Threads + Wait + Sync>(
 {
     match run_net(rt, alloc, network, gates, Limits { turns: 10 }) {
         Ok(record) => {
-            let got = record_text(alloc, lines.as_bytes(), record.gathered.as_slice())?;
-            Ok(got.as_slice() == text.as_bytes())
+            let (got, status) = record_output(alloc, lines.as_bytes(), network, &record)?;
+            Ok(got.as_slice() == text.as_bytes() && status == 0)
         }
         Err(_) => Ok(false),
     }

@@ -13,6 +13,6 @@ loop-member-preserved c =
     let old = c.loop-member.out.items in
     text_on (λ r. router_text (w.routers r.asn).router.kept r.asn c.args.network.now.origins) c.routers-member-items.result.now c.loop-member.member-index c.member-item.result old c.put_router.new.out.items _
     c.loop-member-test.true c.member-item.is
-    (c.in_ok-put_router-in-Some.ensures ∙ ap (λ (x : Stamped). old ++ router_text x.router.kept u c.origins.result.now) c.in-Some.ensures.state
+    (c.in_ok-put_router-in-Some.ensures.ok ∙ ap (λ (x : Stamped). old ++ router_text x.router.kept u c.origins.result.now) c.in-Some.ensures.state
     ∙ ap (λ (origins : List Origin). old ++ router_text (w.routers u).router.kept u origins) c.origins.ensures.value)
     c.loop-member.invariant

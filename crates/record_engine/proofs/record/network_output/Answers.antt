@@ -1,4 +1,5 @@
-use Rattle.std.proofs.Common.{inr}
+use Rattle.std.proofs.Common.{ℕ, List, inr, subst}
+use Rattle.snap_collector.specs.Collector.{AreDecided}
 use Rattle.net_text.specs.Lexing.{lines_of}
 use Rattle.text_engines.specs.Decoding.{output}
 use Rattle.text_engines.proofs.CheckLemmas.{if_ok, both_ok}
@@ -22,6 +23,7 @@ returns-in-Ok g c =
           gates = c.in-Ok.ensures.told;
           promises = c.in-Ok.ensures.promises;
         };
+        are_decided = subst (λ (ns : List ℕ). AreDecided r.collector ns) c.decided.ensures.value c.decided.ensures.decided;
         printed = is;
       }),
     ))
