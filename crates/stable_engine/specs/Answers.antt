@@ -1,5 +1,5 @@
 -- What is printed of all stable assignments of a network, prefix by prefix.
-use Rattle.std.specs.Prelude.{◌≡◌, ◌≢◌, ℕ, ◌<◌, ◌≤◌, Bool, true, false, List, [], ◌∷◌, ◌++◌, length, map, codes, Result, Ok, Err, MatchResult, is_ok, if◌then◌else◌, ◌⊎◌}
+use Rattle.std.specs.Prelude.{◌≡◌, ◌≢◌, ℕ, ◌<◌, ◌≤◌, Bool, List, [], ◌∷◌, ◌++◌, length, map, codes, Result, Ok, Err, is_ok, if◌then◌else◌, ◌⊎◌}
 use Rattle.std.specs.List.{All, flat_map, list_all}
 use Rattle.prefix_lanes.specs.Bits.{PrefixView}
 use Rattle.ranked_policy.specs.Plans.{Plan}
@@ -14,6 +14,7 @@ use Rattle.stable_search.specs.declared.limits.Limits.{Limits}
 use Rattle.stable_search.specs.declared.refusal.SearchError.{SearchError}
 use Rattle.stable_search.specs.declared.refusal.SearchError.TheVariants as search
 use Rattle.stable_search.specs.Every.{IsEveryStable}
+use Rattle.stable_search.specs.Refusals.{AreFew, IsRefusal}
 use Rattle.text_engines.specs.Checking.{at_prefix}
 use Rattle.text_engines.specs.Decoding.{Output, output, refused, memory_output}
 use Rattle.text_engines.specs.declared.status.TheConstants.{DONE}
@@ -26,10 +27,11 @@ use Rattle.stable_engine.specs.Listing.{every_text, unknown_line}
 abbrev pub Found : Type 0
 Found = Result Every SearchError
 
--- all stable assignments, or that a limit was met; want of memory is no answer
+-- all stable assignments, no part with more choices than the limit; or a refusal, which says what it means; want of
+-- memory is no answer
 abbrev pub IsFound : Limits → Plan → PrefixView → Found → Type 0
-IsFound limits net q (Ok every) = IsEveryStable (at_prefix net q) every
-IsFound limits net q (Err why) = why ≢ search.Memory
+IsFound limits net q (Ok every) = IsEveryStable (at_prefix net q) every × AreFew limits.most every.parts
+IsFound limits net q (Err why) = (why ≢ search.Memory) × IsRefusal (at_prefix net q) limits why
 
 abbrev pub refusal_text : PrefixView → SearchError → List ℕ
 refusal_text q (search.TooManyPaths u) = unknown_line q (codes "paths") (u ∷ [])

@@ -40,7 +40,7 @@ module _ (p : Problem) (seat : Seat) (x : IsSeat p seat) where
     ]
   ]
 
-  end_at : (v : ℕ) (path theirs : List ℕ) → (Originates x.table p.prefix x.table.router → ⊥) → FitsEnd seat v path theirs → FitsAt x.table p.prefix v path theirs
+  pub end_at : (v : ℕ) (path theirs : List ℕ) → (Originates x.table p.prefix x.table.router → ⊥) → FitsEnd seat v path theirs → FitsAt x.table p.prefix v path theirs
   end_at v path theirs not (inl own) = absurd (not (x.origin.0 own))
   end_at v path theirs not (inr fits) =
       let by : FitsBy seat.policy x.table.router v path theirs = subst (λ (n : ℕ). FitsBy seat.policy n v path theirs) (sym x.of.0) fits in
@@ -96,7 +96,7 @@ picked (t ∷ ts) paths has =
         subst (λ (r : Seat). get_or r.values.items first.0 [] ≡ paths r.router) at.1 (get_or_default t.values.items first.0 [] (paths t.router) first.1 ∙ first.2)
     is_at first rest (suc i) s at = rest.is i s (omega (arith, at.0), at.1)
 
-one_value : (values : List (List ℕ)) (a b : ℕ) → AllPairs (λ path later. path ≢ later) values → a < length values → b < length values → get_or values a [] ≡ get_or values b [] → a ≡ b
+pub one_value : (values : List (List ℕ)) (a b : ℕ) → AllPairs (λ path later. path ≢ later) values → a < length values → b < length values → get_or values a [] ≡ get_or values b [] → a ≡ b
 one_value values a b apart lt also e = elim (cases_order a b) [
   | inl same ↦ same
   | inr differ ↦ elim differ [
@@ -218,6 +218,29 @@ rising_once xs i j rising lt also e = elim (cases_order i j) [
     | inr more ↦ (let up : get_or xs j 0 < get_or xs i 0 = rising j i 0 more lt in absurd (omega (arith, up, e)))
   ]
 ]
+
+-- ---- routers of seats
+
+module _ (p : Problem) (is : IsInstance p) (seats : List Seat) (at : map (λ (s : Seat). s.router) seats ≡ numbers p.net.routers) where
+  pub routers_once : (i j : ℕ) (s t : Seat) → StandsAt seats i s → StandsAt seats j t → s.router ≡ t.router → i ≡ j
+  routers_once i j s t st to e =
+      let f : Seat → ℕ = λ r. r.router in
+      let size = length-map seats f in
+      let rising : AllPairs (λ u v. u < v) (map f seats) = subst (AllPairs (λ u v. u < v)) (sym at) is.problem.network.plan.rising in
+      rising_once (map f seats) i j rising (omega (arith, size, st.0)) (omega (arith, size, to.0))
+      (get_or-map f seats i s 0 st.0 ∙ ap f st.1 ∙ e ∙ ap f (sym to.1) ∙ sym (get_or-map f seats j t 0 to.0))
+
+  pub routers_rise : (i j : ℕ) (s t : Seat) → StandsAt seats i s → StandsAt seats j t → i < j → s.router < t.router
+  routers_rise i j s t st to lt =
+      let f : Seat → ℕ = λ r. r.router in
+      let size = length-map seats f in
+      let rising : AllPairs (λ u v. u < v) (map f seats) = subst (AllPairs (λ u v. u < v)) (sym at) is.problem.network.plan.rising in
+      let up : get_or (map f seats) i 0 < get_or (map f seats) j 0 = rising i j 0 lt (omega (arith, size, to.0)) in
+      let one : get_or (map f seats) i 0 ≡ s.router = get_or-map f seats i s 0 st.0 ∙ ap f st.1 in
+      let other : get_or (map f seats) j 0 ≡ t.router = get_or-map f seats j t 0 to.0 ∙ ap f to.1 in
+      omega (arith, up, one, other)
+
+-- ---- a part
 
 module _ (seats : List Seat) (sets : List ℕ) (values : AreValues seats sets) (group : Group) (is : IsGroup sets group) (part : Part) (of : IsPartOf seats group part) where
   seat_of : (k : ℕ) → k < length group.places → (s : Seat) × StandsAt seats (get_or group.places k 0) s
@@ -367,7 +390,7 @@ every p is law seats at each ways over sets values groups fall found of = record
   parts = λ g d lt.
       (let group = group_at g (omega (arith, lt, of.size)) in
       let part = get_or found.parts g d in
-      is_part seats sets values group.0 (here (IsGroup sets) groups g group.0 fall.each group.1) part (of.each g group.0 part group.1 (lt, get_or_default found.parts g part d lt)) once routers_rise);
+      is_part seats sets values group.0 (here (IsGroup sets) groups g group.0 fall.each group.1) part (of.each g group.0 part group.1 (lt, get_or_default found.parts g part d lt)) once (routers_rise p is seats at));
   routers = λ u. (
     λ router.
         (let r = router_at p is law seats at each ways over sets values u router in
@@ -391,7 +414,7 @@ every p is law seats at each ways over sets values groups fall found of = record
       let later = get_or found.parts h d in
       let r = router_in seats sets values first.0 (here (IsGroup sets) groups g first.0 fall.each first.1) part (of.each g first.0 part first.1 (omega (arith, lt, inside), get_or_default found.parts g part d (omega (arith, lt, inside)))) u one in
       let t = router_in seats sets values next.0 (here (IsGroup sets) groups h next.0 fall.each next.1) later (of.each h next.0 later next.1 (inside, get_or_default found.parts h later d inside)) u other in
-      let same : r.0 ≡ t.0 = routers_once r.0 t.0 r.1 t.1 r.3 t.3 (r.4 ∙ sym t.4) in
+      let same : r.0 ≡ t.0 = routers_once p is seats at r.0 t.0 r.1 t.1 r.3 t.3 (r.4 ∙ sym t.4) in
       let apart = fall.apart g h first.0 lt next.1.0 in
       apart r.0 (subst (λ (x : Group). Contains x.places r.0) (sym first.1.1) r.2)
       (subst (λ (x : Group). Contains x.places r.0) (sym (get_or_default groups h first.0 next.0 next.1.0 ∙ next.1.1)) (subst (Contains next.0.places) (sym same) t.2)));
@@ -405,7 +428,7 @@ every p is law seats at each ways over sets values groups fall found of = record
       let order : get_or first.0.places 0 0 < get_or next.0.places 0 0 =
       subst (λ (x : Group). get_or x.places 0 0 < get_or next.0.places 0 0) first.1.1
       (subst (λ (x : Group). get_or (get_or groups g first.0).places 0 0 < get_or x.places 0 0) (get_or_default groups h first.0 next.0 next.1.0 ∙ next.1.1) (fall.order g h first.0 lt next.1.0)) in
-      let up = routers_rise (get_or first.0.places 0 0) (get_or next.0.places 0 0) one.0 other.0 one.1 other.1 order in
+      let up = routers_rise p is seats at (get_or first.0.places 0 0) (get_or next.0.places 0 0) one.0 other.0 one.1 other.1 order in
       omega (arith, up, one.2, other.2));
 }
   where
@@ -417,24 +440,6 @@ every p is law seats at each ways over sets values groups fall found of = record
 
     once : (i : ℕ) (s : Seat) → StandsAt seats i s → AllPairs (λ path later. path ≢ later) s.values.items
     once i s st = (here (IsSeat p) seats i s each st).distinct
-
-    routers_once : (i j : ℕ) (s t : Seat) → StandsAt seats i s → StandsAt seats j t → s.router ≡ t.router → i ≡ j
-    routers_once i j s t st to e =
-        let f : Seat → ℕ = λ r. r.router in
-        let size = length-map seats f in
-        let rising : AllPairs (λ u v. u < v) (map f seats) = subst (AllPairs (λ u v. u < v)) (sym at) is.problem.network.plan.rising in
-        rising_once (map f seats) i j rising (omega (arith, size, st.0)) (omega (arith, size, to.0))
-        (get_or-map f seats i s 0 st.0 ∙ ap f st.1 ∙ e ∙ ap f (sym to.1) ∙ sym (get_or-map f seats j t 0 to.0))
-
-    routers_rise : (i j : ℕ) (s t : Seat) → StandsAt seats i s → StandsAt seats j t → i < j → s.router < t.router
-    routers_rise i j s t st to lt =
-        let f : Seat → ℕ = λ r. r.router in
-        let size = length-map seats f in
-        let rising : AllPairs (λ u v. u < v) (map f seats) = subst (AllPairs (λ u v. u < v)) (sym at) is.problem.network.plan.rising in
-        let up : get_or (map f seats) i 0 < get_or (map f seats) j 0 = rising i j 0 lt (omega (arith, size, to.0)) in
-        let one : get_or (map f seats) i 0 ≡ s.router = get_or-map f seats i s 0 st.0 ∙ ap f st.1 in
-        let other : get_or (map f seats) j 0 ≡ t.router = get_or-map f seats j t 0 to.0 ∙ ap f to.1 in
-        omega (arith, up, one, other)
 
     -- the seat of a part's least router
     least_of : (group : Group) (part : Part) → IsGroup sets group → IsPartOf seats group part → (s : Seat) × StandsAt seats (get_or group.places 0 0) s × (get_or part.routers 0 0 ≡ s.router)

@@ -1,5 +1,6 @@
 pub mod FitLemmas
 pub mod NarrowLemmas
+pub mod KeepLemmas
 pub mod PickLemmas
 pub mod SeatLemmas
 pub mod RelateLemmas
@@ -9,3 +10,5 @@ pub mod PartLemmas
 pub mod CountLemmas
 pub mod PlaceLemmas
 pub mod FixLemmas
+pub mod RefusalLemmas
+pub mod CombineLemmas

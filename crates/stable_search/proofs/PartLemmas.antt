@@ -1,6 +1,6 @@
 -- Places that bear on each other have one label, and each label's places have their own picks.
 use Rattle.std.proofs.Common.{◌≡◌, ◌≢◌, ℕ, zero, suc, ◌<◌, ◌≤◌, ◌+◌, ◌==◌, Bool, true, cond, List, [], ◌∷◌, ◌++◌, length, take, get_or, map, refl, sym, ap, subst, ◌∙◌, eq-eqb, ne_eqb, arith, inl, inr, ◌⊎◌}
-use Rattle.std.specs.Prelude.{◌↔◌, Result, Ok, Err, IfOk}
+use Rattle.std.specs.Prelude.{◌↔◌, Result, Ok, Err, IfOk, IfErr, IsErrAnd}
 use Rattle.std.specs.List.{All, AllPairs, Any, Contains}
 use Rattle.std.specs.Int.{bit_at}
 use lib.Bits.{bit_and}
@@ -10,9 +10,13 @@ use Rattle.std.proofs.lemmas.List.Elements.{All-push, Contains-append_left, Cont
 use Rattle.std.proofs.lemmas.List.Quantifiers.{all_pairs_push, Any-push}
 use Rattle.std.proofs.lemmas.Nat.Bits.{bit_at_and, bit_at-lt, bit_at_above}
 use Rattle.stable_search.specs.declared.group.Group.{Group}
+use Rattle.stable_search.specs.declared.refusal.SearchError.{SearchError}
+use Rattle.stable_search.specs.declared.refusal.SearchError.TheVariants as refusals
+use Rattle.stable_search.specs.declared.seat.Seat.{Seat}
+use Rattle.stable_search.specs.declared.stop.Stop.TheVariants as stops
 use Rattle.stable_search.specs.declared.way.Way.{Way}
-use Rattle.stable_search.specs.Picks.{Has, IsIn, FitsWay, IsWithin, AreWithin, Solves, AreAll, Narrows}
-use Rattle.stable_search.specs.Groups.{at_places, IsPickOf, IsGroup, AreGroups}
+use Rattle.stable_search.specs.Picks.{Has, IsIn, FitsWay, IsWithin, AreWithin, Solves, AreAll, AddsMore, IsFull, Narrows}
+use Rattle.stable_search.specs.Groups.{at_places, IsPickOf, IsGroup, AreGroups, RefusesSearch, ArePlaces, FitsBetween, RefusesPlaces}
 use Rattle.stable_search.specs.Parting.{IsFree, AreLeast, Joins, AreLabels, InPart, KeepsPart, IsPartSets, IsPartGroup, AreGrouped}
 use Rattle.stable_search.proofs.NarrowLemmas.{in_before}
 
@@ -218,9 +222,12 @@ module _ (labels : List ℕ) (label : ℕ) (ways : List Way) (i : ℕ) (way : Wa
 
 -- ---- the picks of a label
 
+choices_differ : stops.TooManyChoices ≡ stops.TooManySteps → ⊥
+choices_differ e = absurd cc
+
 module _ (ways : List Way) (sets labels : List ℕ) (label : ℕ) (size : length labels ≡ length sets) (within : AreWithin (length labels) ways) (part_ways : List Way) (keeps : KeepsPart labels label ways part_ways)
     (part_sets : List ℕ) (of : IsPartSets sets labels label part_sets) (places : List ℕ) (exact : (place : ℕ) → (Contains places place ↔ (place < length labels) × (get_or labels place 0 ≡ label)))
-    (rising : AllPairs (λ place later. place < later) places) (some : 0 < length places) (found : List (List ℕ)) (all : AreAll part_ways part_sets found) where
+    (rising : AllPairs (λ place later. place < later) places) (some : 0 < length places) where
   set_in : (i : ℕ) → i < length sets → get_or labels i 0 ≡ label → get_or part_sets i 0 ≡ get_or sets i 0
   set_in i lt e = of.each i lt ∙ ap (λ (b : Bool). cond b (get_or sets i 0) 1) (eq-eqb (get_or labels i 0) label e)
 
@@ -327,40 +334,11 @@ module _ (ways : List Way) (sets labels : List ℕ) (label : ℕ) (size : length
         get_or_default (at_places (masked labels pick) places) k d 0 lt ∙ at_index (masked labels pick) k klt ∙ m_in (get_or places k 0) p.0 p.1 ∙ sym (at_index pick k klt)
         ∙ get_or_default (at_places pick places) k 0 d (omega (arith, klt, b))))
 
-    part_exact : Contains (map (λ (f : List ℕ). at_places f places) found) (at_places pick places) ↔ All (λ way. InPart labels label way → FitsWay pick way) ways
-    part_exact = (
-      λ c.
-          (let lt : c.0 < length found = (let s = length-map found (λ (f : List ℕ). at_places f places) in omega (arith, s, c.1)) in
-          let f = get_or found c.0 [] in
-          let e : at_places f places ≡ at_places pick places = sym (get_or-map (λ (g : List ℕ). at_places g places) found c.0 [] (at_places pick places) lt) ∙ c.2 in
-          let s = all.listed f (Contains-get_or found c.0 [] lt) in
-          let fits = (keeps f).0 s.fits in
-          λ k d klt inside. same_fits f pick (same_at_label f pick e) (get_or ways k d) (within k d klt) inside (fits k d klt inside)),
-      λ fits.
-          (let c = all.covered (masked labels pick) (m_solves fits) in
-          let is_at : get_or found c.0 [] ≡ masked labels pick = get_or_default found c.0 [] (masked labels pick) c.1 ∙ c.2 in (
-            c.0,
-            (let s = length-map found (λ (f : List ℕ). at_places f places) in omega (arith, s, c.1)),
-            get_or-map (λ (g : List ℕ). at_places g places) found c.0 [] (at_places pick places) c.1 ∙ ap (λ (g : List ℕ). at_places g places) is_at ∙ m_same,
-          )),
-    )
-
-  part_pick : (f : List ℕ) → Contains found f → IsPickOf sets places (at_places f places)
-  part_pick f c = record {
-    size = length-map places (λ (i : ℕ). get_or f i 0);
-    each = λ k klt.
-        (let p = place_of k klt in
-        let s = all.listed f c in
-        let here : Has (get_or part_sets (get_or places k 0) 0) (get_or f (get_or places k 0) 0) = s.inside.each (get_or places k 0) (omega (arith, p.0, size, of.size)) in
-        subst (Has (get_or sets (get_or places k 0) 0)) (sym (at_index f k klt))
-        (subst (λ (n : ℕ). Has n (get_or f (get_or places k 0) 0)) (set_in (get_or places k 0) (omega (arith, p.0, size)) p.1) here));
-  }
-
-  -- picks found that have the same values at the places are the same
-  found_once : (a b : List ℕ) → Contains found a → Contains found b → at_places a places ≡ at_places b places → a ≡ b
-  found_once a b ca cb e =
-      let x = (all.listed a ca).inside in
-      let y = (all.listed b cb).inside in
+  -- picks that solve and have the same values at the places are the same
+  solved_once : (a b : List ℕ) → Solves part_ways part_sets a → Solves part_ways part_sets b → at_places a places ≡ at_places b places → a ≡ b
+  solved_once a b sa sb e =
+      let x = sa.inside in
+      let y = sb.inside in
       same_lists a b (x.size ∙ sym y.size) (λ i d lt.
       (let ilt : i < length labels = omega (arith, lt, x.size, of.size, size) in
       let same : get_or a i 0 ≡ get_or b i 0 = elim (label_or i) [
@@ -372,34 +350,105 @@ module _ (ways : List Way) (sets labels : List ℕ) (label : ℕ) (size : length
       ] in
       get_or_default a i d 0 lt ∙ same ∙ get_or_default b i 0 d (omega (arith, lt, x.size, y.size))))
 
-  pub found_inside : All (λ pick. All (λ place. place < length pick) places) found
-  found_inside k d lt j e jlt =
-      let s = (all.listed (get_or found k d) (Contains-get_or found k d lt)).inside.size in
-      let p = place_of j jlt in
-      let same = get_or_default places j e 0 jlt in
-      omega (arith, s, p.0, same, of.size, size)
-
-  pub part_group : (group : Group) → group.places ≡ places → group.picks ≡ map (λ (f : List ℕ). at_places f places) found → IsPartGroup sets labels label ways group
-  part_group group pe fe = record {
-    group = record {
-      inside = subst (All (λ place. place < length sets)) (sym pe) (λ k d lt. (let p = place_of k lt in let e = get_or_default places k d 0 lt in omega (arith, e, p.0, size)));
-      some = subst (λ (ps : List ℕ). 0 < length ps) (sym pe) some;
-      rising = subst (AllPairs (λ (a b : ℕ). a < b)) (sym pe) rising;
-      picks = subst (λ (ps : List ℕ). All (IsPickOf sets ps) group.picks) (sym pe) (subst (All (IsPickOf sets places)) (sym fe) (λ j d lt.
-          (let jlt : j < length found = (let s = length-map found (λ (f : List ℕ). at_places f places) in omega (arith, s, lt)) in
-          subst (IsPickOf sets places) (sym (get_or-map (λ (g : List ℕ). at_places g places) found j [] d jlt)) (part_pick (get_or found j []) (Contains-get_or found j [] jlt)))));
-      once = subst (AllPairs (λ (a b : List ℕ). a ≢ b)) (sym fe) (λ i j d lt inside e.
-          (let s = length-map found (λ (f : List ℕ). at_places f places) in
-          let jlt : j < length found = omega (arith, s, inside) in
-          let ilt : i < length found = omega (arith, jlt, lt) in
-          let same : at_places (get_or found i []) places ≡ at_places (get_or found j []) places =
-          sym (get_or-map (λ (g : List ℕ). at_places g places) found i [] d ilt) ∙ e ∙ get_or-map (λ (g : List ℕ). at_places g places) found j [] d jlt in
-          all.distinct i j [] lt jlt (found_once (get_or found i []) (get_or found j []) (Contains-get_or found i [] ilt) (Contains-get_or found j [] jlt) same)));
-    };
-    places = λ place. subst (λ (ps : List ℕ). Contains ps place ↔ (place < length labels) × (get_or labels place 0 ≡ label)) (sym pe) (exact place);
-    exact = λ pick is. subst (λ (ps : List ℕ). Contains group.picks (at_places pick ps) ↔ All (λ way. InPart labels label way → FitsWay pick way) ways) (sym pe)
-        (subst (λ (fs : List (List ℕ)). Contains fs (at_places pick places) ↔ All (λ way. InPart labels label way → FitsWay pick way) ways) (sym fe) (part_exact pick is));
+  -- the places of the label
+  part_places : ArePlaces sets places
+  part_places = record {
+    inside = λ k d lt. (let p = place_of k lt in let e = get_or_default places k d 0 lt in omega (arith, e, p.0, size));
+    some = some;
+    rising = rising;
   }
+
+  -- a pick that solves fits between the places
+  part_fits : (f : List ℕ) → Solves part_ways part_sets f → FitsBetween ways sets places f
+  part_fits f s = record {
+    size = s.inside.size ∙ of.size;
+    each = λ i c.
+        (let x = (exact i).0 c in
+        subst (λ (n : ℕ). Has n (get_or f i 0)) (set_in i (omega (arith, x.0, size)) x.1) (s.inside.each i (omega (arith, x.0, size, of.size))));
+    fits = λ k d lt from to. (keeps f).0 s.fits k d lt (((exact (get_or ways k d).from).0 from).1, ((exact (get_or ways k d).to).0 to).1);
+  }
+
+  -- a search of the part that is refused is so with its routers
+  pub part_refused : (seats : List Seat) (most : ℕ) (why : SearchError) → RefusesSearch seats places part_ways part_sets most why → RefusesPlaces seats ways sets most why
+  part_refused seats most (refusals.TooManyPaths router) r = r.1
+  part_refused seats most (refusals.TooManyChoices routers) r =
+      let adds : AddsMore part_ways part_sets most [] = elim r.2 [
+        | inl full ↦ subst (IsFull part_ways part_sets most []) r.1.0 full
+        | inr steps ↦ absurd (choices_differ (sym r.1.0 ∙ steps))
+      ] in (
+        places,
+        part_places,
+        r.1.1,
+        record {
+          picks = adds.more;
+          more = (let beyond = adds.beyond in omega (arith, beyond));
+          fit = λ k d lt. part_fits (get_or adds.more k d) (adds.listed (get_or adds.more k d) (Contains-get_or adds.more k d lt));
+          once = λ i j d lt inside e. adds.distinct i j d lt inside (solved_once (get_or adds.more i d) (get_or adds.more j d)
+              (adds.listed (get_or adds.more i d) (Contains-get_or adds.more i d (omega (arith, lt, inside)))) (adds.listed (get_or adds.more j d) (Contains-get_or adds.more j d inside)) e);
+        },
+      )
+  part_refused seats most (refusals.TooManySteps routers) r = (places, part_places, r.1.1)
+  part_refused seats most refusals.Memory r = tt
+
+  module _ (found : List (List ℕ)) (all : AreAll part_ways part_sets found) where
+    part_exact : (pick : List ℕ) (is : IsIn sets pick) → (Contains (map (λ (f : List ℕ). at_places f places) found) (at_places pick places) ↔ All (λ way. InPart labels label way → FitsWay pick way) ways)
+    part_exact pick is = (
+      λ c.
+          (let lt : c.0 < length found = (let s = length-map found (λ (f : List ℕ). at_places f places) in omega (arith, s, c.1)) in
+          let f = get_or found c.0 [] in
+          let e : at_places f places ≡ at_places pick places = sym (get_or-map (λ (g : List ℕ). at_places g places) found c.0 [] (at_places pick places) lt) ∙ c.2 in
+          let s = all.listed f (Contains-get_or found c.0 [] lt) in
+          let fits = (keeps f).0 s.fits in
+          λ k d klt inside. same_fits f pick (same_at_label f pick e) (get_or ways k d) (within k d klt) inside (fits k d klt inside)),
+      λ fits.
+          (let c = all.covered (masked labels pick) (m_solves pick is fits) in
+          let is_at : get_or found c.0 [] ≡ masked labels pick = get_or_default found c.0 [] (masked labels pick) c.1 ∙ c.2 in (
+            c.0,
+            (let s = length-map found (λ (f : List ℕ). at_places f places) in omega (arith, s, c.1)),
+            get_or-map (λ (g : List ℕ). at_places g places) found c.0 [] (at_places pick places) c.1 ∙ ap (λ (g : List ℕ). at_places g places) is_at ∙ m_same pick is,
+          )),
+    )
+
+    part_pick : (f : List ℕ) → Contains found f → IsPickOf sets places (at_places f places)
+    part_pick f c = record {
+      size = length-map places (λ (i : ℕ). get_or f i 0);
+      low = λ k klt. subst (λ (n : ℕ). n < 64) (sym (at_index f k klt)) ((all.listed f c).inside.low (get_or places k 0));
+      each = λ k klt.
+          (let p = place_of k klt in
+          let s = all.listed f c in
+          let here : Has (get_or part_sets (get_or places k 0) 0) (get_or f (get_or places k 0) 0) = s.inside.each (get_or places k 0) (omega (arith, p.0, size, of.size)) in
+          subst (Has (get_or sets (get_or places k 0) 0)) (sym (at_index f k klt))
+          (subst (λ (n : ℕ). Has n (get_or f (get_or places k 0) 0)) (set_in (get_or places k 0) (omega (arith, p.0, size)) p.1) here));
+    }
+
+    pub found_inside : All (λ pick. All (λ place. place < length pick) places) found
+    found_inside k d lt j e jlt =
+        let s = (all.listed (get_or found k d) (Contains-get_or found k d lt)).inside.size in
+        let p = place_of j jlt in
+        let same = get_or_default places j e 0 jlt in
+        omega (arith, s, p.0, same, of.size, size)
+
+    pub part_group : (group : Group) → group.places ≡ places → group.picks ≡ map (λ (f : List ℕ). at_places f places) found → IsPartGroup sets labels label ways group
+    part_group group pe fe = record {
+      group = record {
+        inside = subst (All (λ place. place < length sets)) (sym pe) (λ k d lt. (let p = place_of k lt in let e = get_or_default places k d 0 lt in omega (arith, e, p.0, size)));
+        some = subst (λ (ps : List ℕ). 0 < length ps) (sym pe) some;
+        rising = subst (AllPairs (λ (a b : ℕ). a < b)) (sym pe) rising;
+        picks = subst (λ (ps : List ℕ). All (IsPickOf sets ps) group.picks) (sym pe) (subst (All (IsPickOf sets places)) (sym fe) (λ j d lt.
+            (let jlt : j < length found = (let s = length-map found (λ (f : List ℕ). at_places f places) in omega (arith, s, lt)) in
+            subst (IsPickOf sets places) (sym (get_or-map (λ (g : List ℕ). at_places g places) found j [] d jlt)) (part_pick (get_or found j []) (Contains-get_or found j [] jlt)))));
+        once = subst (AllPairs (λ (a b : List ℕ). a ≢ b)) (sym fe) (λ i j d lt inside e.
+            (let s = length-map found (λ (f : List ℕ). at_places f places) in
+            let jlt : j < length found = omega (arith, s, inside) in
+            let ilt : i < length found = omega (arith, jlt, lt) in
+            let same : at_places (get_or found i []) places ≡ at_places (get_or found j []) places =
+            sym (get_or-map (λ (g : List ℕ). at_places g places) found i [] d ilt) ∙ e ∙ get_or-map (λ (g : List ℕ). at_places g places) found j [] d jlt in
+            all.distinct i j [] lt jlt (solved_once (get_or found i []) (get_or found j []) (all.listed (get_or found i []) (Contains-get_or found i [] ilt)) (all.listed (get_or found j []) (Contains-get_or found j [] jlt)) same)));
+      };
+      places = λ place. subst (λ (ps : List ℕ). Contains ps place ↔ (place < length labels) × (get_or labels place 0 ≡ label)) (sym pe) (exact place);
+      exact = λ pick is. subst (λ (ps : List ℕ). Contains group.picks (at_places pick ps) ↔ All (λ way. InPart labels label way → FitsWay pick way) ways) (sym pe)
+          (subst (λ (fs : List (List ℕ)). Contains fs (at_places pick places) ↔ All (λ way. InPart labels label way → FitsWay pick way) ways) (sym fe) (part_exact pick is));
+    }
 
 -- ---- all labels
 
@@ -508,6 +557,27 @@ grouped_all sets labels ways n groups within of le are = record {
         let here = (x.2.places (get_or ways j e).from).0 place in
         (x.2.exact pick is).0 c j e jlt (here.1, sym same ∙ here.1)
 
+-- what a refusal says of sets that a narrowing left it says of the sets before
+pub refused_before : (seats : List Seat) (ways : List Way) (old new : List ℕ) (most : ℕ) (why : SearchError) → Narrows ways old new → RefusesPlaces seats ways new most why → RefusesPlaces seats ways old most why
+refused_before seats ways old new most (refusals.TooManyPaths router) narrows r = r
+refused_before seats ways old new most (refusals.TooManyChoices routers) narrows r = (
+  r.0,
+  places_before r.0 r.1,
+  r.2,
+  record {
+    picks = r.3.picks;
+    more = r.3.more;
+    fit = λ k d lt. (let f = r.3.fit k d lt in record { size = f.size ∙ narrows.size; each = λ i c. narrows.fewer _ _ (f.each i c); fits = f.fits });
+    once = r.3.once;
+  },
+)
+  where
+    places_before : (places : List ℕ) → ArePlaces new places → ArePlaces old places
+    places_before places are = record { inside = λ k d lt. (let x = are.inside k d lt in omega (arith, x, narrows.size)); some = are.some; rising = are.rising }
+refused_before seats ways old new most (refusals.TooManySteps routers) narrows r =
+    (r.0, record { inside = λ k d lt. (let x = r.1.inside k d lt in omega (arith, x, narrows.size)); some = r.1.some; rising = r.1.rising }, r.2)
+refused_before seats ways old new most refusals.Memory narrows r = tt
+
 -- the groups of sets that a narrowing left are those of the sets before
 pub groups_before : (ways : List Way) (old new : List ℕ) (groups : List Group) → Narrows ways old new → AreGroups ways new groups → AreGroups ways old groups
 groups_before ways old new groups narrows are = record {
@@ -519,7 +589,7 @@ groups_before ways old new groups narrows are = record {
     inside = λ i e ilt. (let x = g.inside i e ilt in omega (arith, x, narrows.size));
     some = g.some;
     rising = g.rising;
-    picks = λ i e ilt. (let x = g.picks i e ilt in record { size = x.size; each = λ m mlt. narrows.fewer _ _ (x.each m mlt) });
+    picks = λ i e ilt. (let x = g.picks i e ilt in record { size = x.size; low = x.low; each = λ m mlt. narrows.fewer _ _ (x.each m mlt) });
     once = g.once;
   });
   places = λ place lt. are.places place (omega (arith, lt, narrows.size));
@@ -533,6 +603,15 @@ within_copy n way copy a b f is = record { from = omega (arith, a, is.from); to 
 pub if_ok : {T E : Type 0} {P Q : T → Type 0} (r : Result T E) → ((x : T) → P x → Q x) → IfOk r P → IfOk r Q
 if_ok (Ok x) f h = f x h
 if_ok (Err e) f h = h
+
+-- want of memory says nothing
+pub memory_refuses : {T : Type 0} (seats : List Seat) (ways : List Way) (sets : List ℕ) (most : ℕ) (r : Result T SearchError) → IsErrAnd r (λ why. why ≡ refusals.Memory) → IfErr r (RefusesPlaces seats ways sets most)
+memory_refuses seats ways sets most (Ok x) h = tt
+memory_refuses seats ways sets most (Err why) h = subst (RefusesPlaces seats ways sets most) (sym h) tt
+
+pub if_err : {T E : Type 0} {P Q : E → Type 0} (r : Result T E) → ((e : E) → P e → Q e) → IfErr r P → IfErr r Q
+if_err (Ok x) f h = h
+if_err (Err e) f h = f e h
 
 pub no_place : (labels : List ℕ) (label : ℕ) (places : List ℕ) → (length places == 0) ≡ true → ((place : ℕ) → (Contains places place ↔ (place < length labels) × (get_or labels place 0 ≡ label)))
     → (place : ℕ) → place < length labels → get_or labels place 0 ≡ label → ⊥

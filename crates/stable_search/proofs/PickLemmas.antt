@@ -1,5 +1,5 @@
 -- Sets that fall into two, and picks of only values.
-use Rattle.std.proofs.Common.{◌≡◌, ◌≢◌, ℕ, zero, suc, ◌<◌, ◌+◌, ◌-◌, ◌*◌, ◌%◌, ◌^◌, List, [], ◌∷◌, ◌++◌, length, take, drop, get_or, set, refl, sym, ap, subst, ◌∙◌, arith, inl, inr, ◌⊎◌}
+use Rattle.std.proofs.Common.{◌≡◌, ◌≢◌, ℕ, zero, suc, ◌<◌, ◌≤◌, ◌+◌, ◌-◌, ◌*◌, ◌%◌, ◌^◌, List, [], ◌∷◌, ◌++◌, length, take, drop, get_or, set, refl, sym, ap, subst, ◌∙◌, arith, inl, inr, ◌⊎◌}
 use Rattle.std.specs.List.{All, AllPairs, Contains}
 use Rattle.std.specs.Int.{bit_at, w64, trailing_zeros}
 use Rattle.std.specs.Int.RustNames.{bit_xor}
@@ -8,8 +8,10 @@ use Rattle.std.proofs.lemmas.Bool.{cases_order, cases_lt}
 use Rattle.std.proofs.lemmas.List.{length-set, length-append, length-drop, nil_from_length, take_at, get_or-set_same, get_or-set_other, get_or_append_left, get_or-append_right, get_or_past, get_or_default, same_lists, append-nil, append_assoc}
 use Rattle.std.proofs.lemmas.List.Elements.{Contains-get_or, Contains-append_left, Contains-append_right, Contains-append_cases}
 use Rattle.std.proofs.lemmas.Nat.Bits.{bit_at_and, bit_at_xor, bit_at-lt, bit_at-zero, bit_at_clear_other, bit_at-trailing_zeros}
+use Rattle.stable_search.specs.declared.stop.Stop.{Stop}
+use Rattle.stable_search.specs.declared.stop.Stop.TheVariants as stops
 use Rattle.stable_search.specs.declared.way.Way.{Way}
-use Rattle.stable_search.specs.Picks.{Has, IsIn, FitsWay, AreWithin, Solves, AddsAll, Narrows, IsOnly, IsOnlyPick, FallsInto, LeavesOut}
+use Rattle.stable_search.specs.Picks.{Has, IsIn, FitsWay, AreWithin, Solves, AddsAll, AddsMore, IsFull, Narrows, IsOnly, IsOnlyPick, FallsInto, LeavesOut}
 use Rattle.stable_search.proofs.NarrowLemmas.{has_left, in_before}
 
 -- ---- one set
@@ -128,9 +130,29 @@ adds_narrowed ways sets left old new narrows adds = record {
   };
 }
 
+-- a list that is full already, and one more that solves
+pub more_one : (ways : List Way) (sets pick : List ℕ) (most : ℕ) (old : List (List ℕ)) → most ≤ length old → IsOnlyPick sets pick → All (FitsWay pick) ways → AddsMore ways sets most old
+more_one ways sets pick most old full is fits = record {
+  more = pick ∷ [];
+  beyond = omega (arith, full);
+  listed = λ other c. subst (Solves ways sets) (sym (one_is pick other c)) (record { inside = only_in sets pick is; fits = fits });
+  distinct = no_pairs pick;
+}
+
+-- picks of sets inside others are picks of those
+pub full_within : (ways : List Way) (inner outer : List ℕ) (most : ℕ) (old : List (List ℕ)) (stop : Stop) → ((pick : List ℕ) → IsIn inner pick → IsIn outer pick) → IsFull ways inner most old stop → IsFull ways outer most old stop
+full_within ways inner outer most old stops.TooManyChoices sub adds = record {
+  more = adds.more;
+  beyond = adds.beyond;
+  listed = λ pick c. (let s = adds.listed pick c in record { inside = sub pick s.inside; fits = s.fits });
+  distinct = adds.distinct;
+}
+full_within ways inner outer most old stops.TooManySteps sub none = none
+full_within ways inner outer most old stops.Memory sub any = any
+
 -- ---- split
 
-pairs_append : (xs ys : List (List ℕ)) → AllPairs (λ a b. a ≢ b) xs → AllPairs (λ a b. a ≢ b) ys → ((x : List ℕ) → Contains xs x → Contains ys x → ⊥) → AllPairs (λ a b. a ≢ b) (xs ++ ys)
+pub pairs_append : {X : Type 0} (xs ys : List X) → AllPairs (λ a b. a ≢ b) xs → AllPairs (λ a b. a ≢ b) ys → ((x : X) → Contains xs x → Contains ys x → ⊥) → AllPairs (λ a b. a ≢ b) (xs ++ ys)
 pairs_append xs ys first second none i j d lt inside = elim (cases_lt j (length xs)) [
   | inl low ↦ λ e. first i j d lt low (sym (get_or_append_left xs ys d i (omega (arith, lt, low))) ∙ e ∙ get_or_append_left xs ys d j low)
   | inr high ↦
@@ -201,6 +223,20 @@ leaves_none ways from now old mid new leaves adds = record {
         (λ pick before here. (leaves.listed pick before).1 (adds.all.listed pick here).inside);
   };
 }
+
+-- what is left does not fit: with what was added not all do
+pub full_left : (ways : List Way) (from now : List ℕ) (most : ℕ) (old mid : List (List ℕ)) (stop : Stop) → LeavesOut ways from now old mid → IsFull ways now most mid stop → IsFull ways from most old stop
+full_left ways from now most old mid stops.TooManyChoices leaves adds = record {
+  more = leaves.more ++ adds.more;
+  beyond = (let a = ap length leaves.added in let b = length-append old leaves.more in let d = length-append leaves.more adds.more in omega (arith, a, b, d, adds.beyond));
+  listed = λ pick c. elim (Contains-append_cases leaves.more adds.more pick c) [
+    | inl before ↦ (leaves.listed pick before).0
+    | inr here ↦ (let s = adds.listed pick here in record { inside = leaves.fewer pick s.inside; fits = s.fits })
+  ];
+  distinct = pairs_append leaves.more adds.more leaves.distinct adds.distinct (λ pick before here. (leaves.listed pick before).1 (adds.listed pick here).inside);
+}
+full_left ways from now most old mid stops.TooManySteps leaves none = none
+full_left ways from now most old mid stops.Memory leaves any = any
 
 -- sets of which one falls into two
 module _ (sets : List ℕ) (place one rest : ℕ) (inside : place < length sets) (parts : FallsInto (get_or sets place 0) one rest) where
@@ -276,6 +312,15 @@ leaves_on ways from now left place value one rest old mid same new leaves size n
     (λ pick s. split_either left place one rest inside falls_here pick s.inside)
     (split_one left place one rest inside falls_here) (split_rest left place one rest inside falls_here) (split_apart left place one rest inside falls_here)
     (subst (λ (xs : List (List ℕ)). AddsAll ways (set left place one) xs new) e adds)
+
+-- the sets are narrowed, and the picks of the first value of one don't fit
+pub full_on : (ways : List Way) (from now left : List ℕ) (place value one rest most : ℕ) (old mid same : List (List ℕ)) (stop : Stop) → LeavesOut ways from now old mid → Narrows ways now left
+    → same ≡ mid → place < length left → value ≡ get_or left place value → FallsInto value one rest → IsFull ways (set left place one) most same stop → IsFull ways from most old stop
+full_on ways from now left place value one rest most old mid same stop leaves narrows e inside is parts full =
+    let falls_here : FallsInto (get_or left place 0) one rest = subst (λ (n : ℕ). FallsInto n one rest) (is ∙ get_or_default left place value 0 inside) parts in
+    full_left ways from now most old mid stop leaves
+    (full_within ways (set left place one) now most mid stop (λ pick here. in_before ways now left pick narrows (split_one left place one rest inside falls_here pick here))
+    (subst (λ (xs : List (List ℕ)). IsFull ways (set left place one) most xs stop) e full))
 
 -- a slice of all that a list has, written back
 pub written : (items new : List ℕ) (n : ℕ) → length new ≡ length items → length items ≡ n → take n (new ++ drop (length new) items) ≡ new

@@ -1,20 +1,31 @@
 -- Places that fall into groups, each with its own picks.
-use Rattle.std.specs.Prelude.{ℕ, ◌≡◌, ◌≢◌, ◌↔◌, ◌<◌, List, [], length, map, slice_index, slice_index_or}
+use Rattle.std.specs.Prelude.{ℕ, ◌≡◌, ◌≢◌, ◌↔◌, ◌<◌, ⊤, List, [], length, map, slice_index, slice_index_or}
 use Rattle.std.specs.List.{All, AllPairs, Any, Contains}
+use mathlib.Core.Logic.{◌⊎◌}
 use Rattle.stable_search.specs.declared.every.Part.{Part}
 use Rattle.stable_search.specs.declared.group.Group.{Group}
+use Rattle.stable_search.specs.declared.refusal.SearchError.{SearchError}
+use Rattle.stable_search.specs.declared.refusal.SearchError.TheVariants as refusals
 use Rattle.stable_search.specs.declared.seat.Seat.{Seat}
+use Rattle.stable_search.specs.declared.stop.Stop.{Stop}
+use Rattle.stable_search.specs.declared.stop.Stop.TheVariants as stops
 use Rattle.stable_search.specs.declared.way.Way.{Way}
-use Rattle.stable_search.specs.Picks.{Has, Solves}
+use Rattle.stable_search.specs.Picks.{Has, FitsWay, IsFull, Solves}
 use Rattle.stable_search.specs.Seats.{StandsAt}
 
 -- the values that a pick has at these places
 abbrev pub at_places : List ℕ → List ℕ → List ℕ
 at_places pick places = map (λ place. slice_index pick place) places
 
+-- of each of these places a value
+pub record IsLowPick (places pick : List ℕ) : Type 0 where
+  pub size : length pick ≡ length places
+  pub low : (k : ℕ) → k < length places → slice_index pick k < 64
+
 -- of each of these places a value of its set
 pub record IsPickOf (sets places pick : List ℕ) : Type 0 where
   pub size : length pick ≡ length places
+  pub low : (k : ℕ) → k < length places → slice_index pick k < 64
   pub each : (k : ℕ) → k < length places → Has (slice_index sets (slice_index places k)) (slice_index pick k)
 
 -- places, rising, with picks out of their sets, none listed twice
@@ -24,6 +35,10 @@ pub record IsGroup (sets : List ℕ) (group : Group) : Type 0 where
   pub rising : AllPairs (λ place later. place < later) group.places
   pub picks : All (IsPickOf sets group.places) group.picks
   pub once : AllPairs (λ pick later. pick ≢ later) group.picks
+
+-- each pick that solves has at these places what one of these has
+abbrev pub AreCovered : List Way → List ℕ → List ℕ → List (List ℕ) → Type 0
+AreCovered ways sets places picks = (pick : List ℕ) → Solves ways sets pick → Contains picks (at_places pick places)
 
 -- a pick solves exactly where it is one of each group's; each place is in one group; groups stand by their least places
 pub record AreGroups (ways : List Way) (sets : List ℕ) (groups : List Group) : Type 0 where
@@ -65,3 +80,45 @@ pub record ArePartsOf (seats : List Seat) (groups : List Group) (parts : List Pa
   pub size : length parts ≡ length groups
   pub each : (g : ℕ) (group : Group) (part : Part) → StandsAt groups g group → StandsAt parts g part
       → IsPartOf seats group part
+
+-- ---- refusals
+
+-- the refusal of a search that stopped, with the routers at the places that were searched
+abbrev pub TellsOf : List Seat → List ℕ → Stop → SearchError → Type 0
+TellsOf seats places stop (refusals.TooManyPaths router) = ⊥
+TellsOf seats places stop (refusals.TooManyChoices routers) = (stop ≡ stops.TooManyChoices) × AreRoutersAt seats places routers
+TellsOf seats places stop (refusals.TooManySteps routers) = (stop ≡ stops.TooManySteps) × AreRoutersAt seats places routers
+TellsOf seats places stop refusals.Memory = ⊤
+
+-- the search of these sets was refused
+abbrev pub RefusesSearch : List Seat → List ℕ → List Way → List ℕ → ℕ → SearchError → Type 0
+RefusesSearch seats places ways sets most why =
+    (stop : Stop) × TellsOf seats places stop why × (IsFull ways sets most [] stop ⊎ (stop ≡ stops.TooManySteps))
+
+-- places, rising, at least one
+pub record ArePlaces (sets places : List ℕ) : Type 0 where
+  pub inside : All (λ place. place < length sets) places
+  pub some : 0 < length places
+  pub rising : AllPairs (λ place later. place < later) places
+
+-- of each of these places a value of its set, and what two of them have fits over each way between them
+pub record FitsBetween (ways : List Way) (sets places pick : List ℕ) : Type 0 where
+  pub size : length pick ≡ length sets
+  pub each : (place : ℕ) → Contains places place → Has (slice_index sets place) (slice_index pick place)
+  pub fits : All (λ way. Contains places way.from → Contains places way.to → FitsWay pick way) ways
+
+-- more than so many, which differ at these places
+pub record HasMorePicks (ways : List Way) (sets places : List ℕ) (most : ℕ) : Type 0 where
+  pub picks : List (List ℕ)
+  pub more : most < length picks
+  pub fit : All (FitsBetween ways sets places) picks
+  pub once : AllPairs (λ pick later. at_places pick places ≢ at_places later places) picks
+
+-- what a refusal of a group says
+abbrev pub RefusesPlaces : List Seat → List Way → List ℕ → ℕ → SearchError → Type 0
+RefusesPlaces seats ways sets most (refusals.TooManyPaths router) = ⊥
+RefusesPlaces seats ways sets most (refusals.TooManyChoices routers) =
+    (places : List ℕ) × ArePlaces sets places × AreRoutersAt seats places routers × HasMorePicks ways sets places most
+RefusesPlaces seats ways sets most (refusals.TooManySteps routers) =
+    (places : List ℕ) × ArePlaces sets places × AreRoutersAt seats places routers
+RefusesPlaces seats ways sets most refusals.Memory = ⊤

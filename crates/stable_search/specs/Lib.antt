@@ -1,5 +1,7 @@
 pub mod Fits
 pub mod Every
+pub mod Refusals
+pub mod Counting
 pub mod Picks
 pub mod Seats
 pub mod Choosers

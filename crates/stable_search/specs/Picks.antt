@@ -1,8 +1,10 @@
 -- A value for each place, out of a set for each, under relations between two places.
-use Rattle.std.specs.Prelude.{ℕ, ◌≡◌, ◌≢◌, ◌<◌, ◌≤◌, ◌++◌, List, length, slice_index}
+use Rattle.std.specs.Prelude.{ℕ, ◌≡◌, ◌≢◌, ◌+◌, ◌<◌, ◌≤◌, ◌++◌, ⊤, List, length, slice_index}
 use Rattle.std.specs.List.{All, AllPairs, Contains}
 use mathlib.Core.Logic.{◌⊎◌}
 use Rattle.std.specs.Int.{bit_at}
+use Rattle.stable_search.specs.declared.stop.Stop.{Stop}
+use Rattle.stable_search.specs.declared.stop.Stop.TheVariants as stops
 use Rattle.stable_search.specs.declared.way.Way.{Way}
 
 -- the value is in the set
@@ -43,6 +45,19 @@ pub record AddsAll (ways : List Way) (sets : List ℕ) (old new : List (List ℕ
   pub more : List (List ℕ)
   pub added : new ≡ old ++ more
   pub all : AreAll ways sets more
+
+-- picks that solve, none twice, with which a list has more than so many
+pub record AddsMore (ways : List Way) (sets : List ℕ) (most : ℕ) (old : List (List ℕ)) : Type 0 where
+  pub more : List (List ℕ)
+  pub beyond : most < length old + length more
+  pub listed : (pick : List ℕ) → Contains more pick → Solves ways sets pick
+  pub distinct : AllPairs (λ pick later. pick ≢ later) more
+
+-- not all that solve fit into a list of so many; or memory was refused
+abbrev pub IsFull : List Way → List ℕ → ℕ → List (List ℕ) → Stop → Type 0
+IsFull ways sets most old stops.TooManyChoices = AddsMore ways sets most old
+IsFull ways sets most old stops.TooManySteps = ⊥
+IsFull ways sets most old stops.Memory = ⊤
 
 -- no pick that solves leaves by this change of the sets, and no value comes
 pub record Narrows (ways : List Way) (old new : List ℕ) : Type 0 where

@@ -1,11 +1,13 @@
 //! Places that are searched together.
 
-ghost use Rattle.std.specs.Prelude.{◌≡◌, ◌≢◌, ◌↔◌, ◌<◌, ℕ, IfOk, length, slice_index};
+ghost use Rattle.std.specs.Prelude.{◌≡◌, ◌≢◌, ◌↔◌, ◌<◌, ◌≤◌, ℕ, List, IfOk, IfErr, length, slice_index};
 ghost use Rattle.std.specs.List.{All, AllPairs, Contains};
-ghost use Rattle.stable_search.specs.Groups.{AreGroups};
+ghost use Rattle.stable_search.specs.Groups.{IsGroup, AreGroups, TellsOf, RefusesSearch, RefusesPlaces};
 ghost use Rattle.stable_search.specs.Parting.{IsPartGroup};
-ghost use Rattle.stable_search.specs.Picks.{AreWithin, AreAll};
+ghost use Rattle.stable_search.specs.Picks.{AreWithin, AreAll, Narrows};
+ghost use Rattle.stable_search.specs.declared.way.Way.{Way};
 
+use crate::keeping::keep_seen;
 use crate::limits::Limits;
 use crate::narrowing::narrow_all;
 use crate::parting::{all_values_at, labels_of, places_with, sets_with, ways_with};
@@ -29,17 +31,15 @@ pub(crate) struct Group {
 // The refusal of a search that stopped, with the routers at the places that were searched.
 fn refusal(alloc: Global, seats: &[Seat], places: &[usize], stop: Stop) -> SearchError
     requires { All (λ place. place < length seats.now) places.now }
+    ensures { TellsOf seats.now places.now stop result }
 {
-    if let Stop::Memory = stop {
-        return SearchError::Memory;
-    }
     let Ok(routers) = routers_at(alloc, seats, places) else {
         return SearchError::Memory;
     };
-    if let Stop::TooManyChoices = stop {
-        SearchError::TooManyChoices { routers }
-    } else {
-        SearchError::TooManySteps { routers }
+    match stop {
+        Stop::TooManyChoices => SearchError::TooManyChoices { routers },
+        Stop::TooManySteps => SearchError::TooManySteps { routers },
+        Stop::Memory => SearchError::Memory,
     }
 }
 
@@ -54,11 +54,21 @@ fn searched(
 ) -> Result<Vec<Items<usize>>, SearchError>
     requires within { AreWithin (length sets.items) ways.now }
     requires places { All (λ place. place < length seats.now) places.now }
-    ensures { IfOk result (λ found. AreAll ways.now sets.items found.items) }
+    ensures all { IfOk result (λ found. AreAll ways.now sets.items found.items) }
+    ensures most { IfOk result (λ found. length found.items ≤ limits.now.most) }
+    ensures refused { IfErr result (RefusesSearch seats.now places.now ways.now sets.items limits.now.most) }
 {
     let mut steps = limits.steps;
     let mut found = Vec::new(alloc);
-    match search(alloc, ways, sets, limits.most, &mut steps, &mut found) {
+    match search(
+        alloc,
+        ways,
+        sets,
+        u64::MAX,
+        limits.most,
+        &mut steps,
+        &mut found,
+    ) {
         Ok(()) => Ok(found),
         Err(stop) => Err(refusal(alloc, seats, places, stop)),
     }
@@ -82,7 +92,9 @@ fn group_of(
         × (slice_index labels.now place ≡ label)) }
     requires rising { AllPairs (λ place later. place < later) places.items }
     requires some { 0 < length places.items }
-    ensures { IfOk result (IsPartGroup sets.now labels.now label ways.now) }
+    ensures group { IfOk result (IsPartGroup sets.now labels.now label ways.now) }
+    ensures most { IfOk result (λ group. length group.picks ≤ limits.now.most) }
+    ensures refused { IfErr result (RefusesPlaces seats.now ways.now sets.now limits.now.most) }
 {
     let part_ways = ways_with(alloc, ways, labels, label)?;
     let part_sets = sets_with(alloc, sets, labels, label)?;
@@ -111,7 +123,9 @@ fn groups_of(
 ) -> Result<Vec<Group>, SearchError>
     requires seats { length seats.now ≡ length sets.now }
     requires within { AreWithin (length sets.now) ways.now }
-    ensures { IfOk result (λ groups. AreGroups ways.now sets.now groups.items) }
+    ensures groups { IfOk result (λ groups. AreGroups ways.now sets.now groups.items) }
+    ensures most { IfOk result (λ groups. All (λ group. length group.picks ≤ limits.now.most) groups.items) }
+    ensures refused { IfErr result (RefusesPlaces seats.now ways.now sets.now limits.now.most) }
 {
     let all_labels = labels_of(alloc, ways, sets)?;
     let labels = all_labels.as_slice();
@@ -126,7 +140,21 @@ fn groups_of(
     Ok(groups)
 }
 
-/// Places that bear on each other once the sets are narrowed, with what they may have.
+// Takes away from the sets of each group's places the values that none of its picks has, where it has a
+// pick, and says whether there were any.
+fn keep_picked(groups: &[Group], sets: &mut [u64]) -> bool
+    requires { All (IsGroup sets.old) groups.now }
+    ensures { (ways : List Way) → AreGroups ways sets.old groups.now → Narrows ways sets.old sets.new }
+{
+    let mut some = false;
+    for group in groups {
+        some |= keep_seen(group.places.as_slice(), group.picks.as_slice(), sets);
+    }
+    some
+}
+
+/// Places that bear on each other once the sets are narrowed, with what they may have. A place that has
+/// one value in all picks of its group is a group by itself.
 pub(crate) fn groups(
     alloc: Global,
     seats: &[Seat],
@@ -136,8 +164,14 @@ pub(crate) fn groups(
 ) -> Result<Vec<Group>, SearchError>
     requires seats { length seats.now ≡ length sets.old }
     requires within { AreWithin (length sets.old) ways.now }
-    ensures { IfOk result (λ groups. AreGroups ways.now sets.old groups.items) }
+    ensures groups { IfOk result (λ groups. AreGroups ways.now sets.old groups.items) }
+    ensures most { IfOk result (λ groups. All (λ group. length group.picks ≤ limits.now.most) groups.items) }
+    ensures refused { IfErr result (RefusesPlaces seats.now ways.now sets.old limits.now.most) }
 {
-    narrow_all(ways, sets);
+    narrow_all(ways, sets, u64::MAX);
+    let groups = groups_of(alloc, seats, ways, sets, limits)?;
+    if !keep_picked(groups.as_slice(), sets) {
+        return Ok(groups);
+    }
     groups_of(alloc, seats, ways, sets, limits)
 }

@@ -1,10 +1,29 @@
 //! What the definitions of a search for stable assignments say together. Each is the contract of a
 //! function without work of its own.
 
+ghost use Rattle.stable_search.specs.Counting.{StableAreCounted, NoneWithoutOrigin};
 ghost use Rattle.stable_search.specs.Fits.{StableIsFitting};
+
+use stable_paths::laws::{best_by_rank_is_best, no_origin_no_path};
 
 /// An assignment is stable exactly where each router has what it may have, and the two ends of each
 /// link fit each other.
 pub fn stable_is_fitting()
     ensures { StableIsFitting }
 {}
+
+/// There are as many stable assignments as the product of the numbers of choices says: of the parts of
+/// all stable assignments, the combinations of one choice of each are as many, none twice; each is what
+/// the routers have in a stable assignment, and each stable assignment has one.
+pub fn stable_assignments_are_counted()
+    ensures { StableAreCounted }
+{}
+
+/// Where the origin does not originate the prefix, an assignment is stable exactly where no router has
+/// a path.
+pub fn none_without_origin()
+    ensures { NoneWithoutOrigin }
+{
+    no_origin_no_path();
+    best_by_rank_is_best();
+}

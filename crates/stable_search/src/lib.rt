@@ -6,15 +6,18 @@
 //!
 //! It is a search for values under relations of two: what a router has and what its peer has fit each
 //! other, or not. Values that nothing fits go; routers that do not bear on each other any more fall
-//! into parts; in a part the values of one router are tried in turn.
+//! into parts; in a part the values of one router are tried in turn. Then the values go that no choice
+//! has, and the routers fall into parts anew: one that has the same path in all choices of its part is
+//! a part by itself.
 //!
 //! A router without a rule permits too many paths to list. Before the search, routers are fixed outwards
 //! from the origin: one whose best path over a fixed peer is better than all that another peer could
 //! bring has it in every stable assignment. So a network without rules is answered by that alone.
 //!
 //! The definitions stand in `specs/`: `Fits` (what fits, and that stable is fitting), `Every` (what is
-//! answered), `Choosers` and `Fixing` (routers that have one path in every stable assignment), `Picks`,
-//! `Seats`, `Groups` and `Parting` (what the functions inside say).
+//! answered), `Refusals` (what a refusal says), `Counting` (how many there are), `Choosers` and `Fixing`
+//! (routers that have one path in every stable assignment), `Picks`, `Seats`, `Groups` and `Parting`
+//! (what the functions inside say).
 //!
 //! Left out: routers without a rule that aren't fixed; texts.
 #![tactic(auto)]
@@ -24,6 +27,7 @@ mod distance;
 mod every;
 mod fixing;
 mod group;
+mod keeping;
 pub mod laws;
 mod limits;
 mod narrowing;

@@ -1,23 +1,38 @@
 //! Sets of values without those that no value of another place fits.
 
-ghost use Rattle.std.specs.Prelude.{◌≡◌, ◌<◌, ◌≤◌, ◌⊎◌, ℕ, [], ◌∷◌, length, slice_index};
+ghost use Rattle.std.specs.Prelude.{◌≡◌, ◌<◌, ◌≤◌, ◌⊎◌, ℕ, [], ◌∷◌, true, length, slice_index};
 ghost use Rattle.std.specs.Int.RustNames.{bit_and};
 ghost use Rattle.stable_search.specs.Picks.{Has, IsWithin, AreWithin, Narrows};
 
 use crate::way::Way;
 
+// Whether it is seen that no value of the set fits the value.
+fn is_alone(fits: &[u64], value: usize, theirs: u64) -> bool
+    ensures { result ≡ true → bit_and (slice_index fits.now value) theirs ≡ 0 }
+{
+    match fits.get(value) {
+        Some(fitting) => *fitting & theirs == 0,
+        None => false,
+    }
+}
+
 // The values of a set that fit one of the other place's set.
 fn with_partner(fits: &[u64], mine: u64, theirs: u64) -> u64
-    requires { length fits.now ≤ 64 }
     ensures fewer { (value : ℕ) → Has result value → Has mine value }
     ensures kept { (value : ℕ) → value < 64 → Has mine value → Has result value
         ⊎ (bit_and (slice_index fits.now value) theirs ≡ 0) }
 {
     let mut kept = mine;
-    for (value, fitting) in fits.iter().enumerate() {
-        if *fitting & theirs == 0 {
+    let mut left = mine;
+    for _value in 0..64 {
+        if left == 0 {
+            return kept;
+        }
+        let value = left.trailing_zeros();
+        if is_alone(fits, value as usize, theirs) {
             kept &= !(1 << value);
         }
+        left &= left - 1;
     }
     kept
 }
@@ -33,28 +48,50 @@ fn narrow_over(way: &Way, sets: &mut [u64]) -> bool
     left != mine
 }
 
-/// Takes away, way by way, the values that nothing fits, and says whether there were any.
-pub(crate) fn narrow(ways: &[Way], sets: &mut [u64]) -> bool
+/// The mark of a place. The marks of 64 places are apart.
+pub(crate) fn mark_of(place: usize) -> u64 {
+    1 << (place % 64)
+}
+
+// The same, where the way's other place is marked.
+fn narrow_where(way: &Way, sets: &mut [u64], marks: u64) -> bool
+    requires { IsWithin (length sets.old) way.now }
+    ensures { Narrows (way.now ∷ []) sets.old sets.new }
+{
+    if marks & mark_of(way.to) == 0 {
+        return false;
+    }
+    narrow_over(way, sets)
+}
+
+/// Takes away, way by way, the values that nothing fits of a marked place, or of one that lost a value
+/// here, and answers the marks of the places that did.
+pub(crate) fn narrow(ways: &[Way], sets: &mut [u64], marks: u64) -> u64
     requires { AreWithin (length sets.old) ways.now }
     ensures { Narrows ways.now sets.old sets.new }
 {
-    let mut some = false;
+    let mut next = 0u64;
     for way in ways {
-        some |= narrow_over(way, sets);
+        if narrow_where(way, sets, marks | next) {
+            next |= mark_of(way.from);
+        }
     }
-    some
+    next
 }
 
 // The most values of 64 places: a round that takes none away ends the narrowing before.
 const ROUNDS: usize = 64 * 64;
 
-/// Takes away the values that nothing fits, until there are none.
-pub(crate) fn narrow_all(ways: &[Way], sets: &mut [u64])
+/// Takes away the values that nothing fits, until there are none: first those of the peers of marked
+/// places, whose sets changed.
+pub(crate) fn narrow_all(ways: &[Way], sets: &mut [u64], marks: u64)
     requires { AreWithin (length sets.old) ways.now }
     ensures { Narrows ways.now sets.old sets.new }
 {
+    let mut left = marks;
     for _round in 0..ROUNDS {
-        if !narrow(ways, sets) {
+        left = narrow(ways, sets, left);
+        if left == 0 {
             return;
         }
     }

@@ -14,7 +14,8 @@ pub enum SearchError {
         /// The router.
         router: u32,
     },
-    /// These routers have more choices than were asked for.
+    /// These routers have more choices than were asked for: different lists of paths, in which each
+    /// router may have its own, and what the ends of each link between two of them have fits.
     #[error("too many choices")]
     TooManyChoices {
         /// The routers, by rising number.

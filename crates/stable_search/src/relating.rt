@@ -9,7 +9,6 @@ ghost use Rattle.stable_search.specs.Seats.{FitsBy, FitsEnd, FitsBoth, SayWhatFi
 ghost use Rattle.stable_search.specs.Seats.{IsWayOf, HasWay, HasWaysFrom, AreWaysOf};
 ghost use Rattle.stable_search.specs.declared.seat.Seat.{Seat};
 
-use crate::refusal::SearchError;
 use crate::seat::Seat;
 use crate::way::Way;
 use ranked_policy::{Asn, Chosen, Network, Path};
@@ -60,7 +59,7 @@ pub(crate) fn fits_by(policy: &Chosen, router: Asn, peer: Asn, path: &[Asn], the
         return true;
     }
     !is_over(path, router, peer)
-        && (!policy.permits_onward(router, theirs) || is_preferred(policy, path, router, theirs))
+        && (is_preferred(policy, path, router, theirs) || !policy.permits_onward(router, theirs))
 }
 
 // Whether what the router of a seat has fits what its peer has.
@@ -118,7 +117,7 @@ fn add_ways(
     seats: &[Seat],
     from: usize,
     ways: &mut Vec<Way>,
-) -> Result<(), SearchError>
+) -> Result<(), AllocError>
     requires from { from < length seats.now }
     requires few { All (λ seat. length seat.values.items < 64) seats.now }
     ensures each { All (IsWayOf network.now.links seats.now) ways.old.items
@@ -141,7 +140,7 @@ pub(crate) fn ways_between(
     alloc: Global,
     network: &Network,
     seats: &[Seat],
-) -> Result<Vec<Way>, SearchError>
+) -> Result<Vec<Way>, AllocError>
     requires few { All (λ seat. length seat.values.items < 64) seats.now }
     ensures { IfOk result (λ ways. AreWaysOf network.now.links seats.now ways.items) }
 {

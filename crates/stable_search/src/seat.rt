@@ -1,12 +1,13 @@
 //! Routers with what they may have in a stable assignment.
 
-ghost use Rattle.std.specs.Prelude.{◌≡◌, ◌≢◌, ◌↔◌, ◌<◌, ◌⊎◌, ℕ, List, [], ◌∷◌, IsTrue, IfOk, IfSome, OnOk, length, map};
+ghost use Rattle.std.specs.Prelude.{◌≡◌, ◌≢◌, ◌↔◌, ◌<◌, ◌⊎◌, ℕ, List, [], ◌∷◌, IsTrue, IfOk, IfErr, IfSome, OnOk, length, map};
 ghost use Rattle.std.specs.List.{All, AllPairs, Contains};
 ghost use Rattle.ranked_policy.specs.Choosing.{chosen_permits};
 ghost use Rattle.stable_search.specs.Choosers.{IsChooser};
 ghost use Rattle.stable_search.specs.Fits.{GoesOver};
 ghost use Rattle.stable_search.specs.Fixing.{IsFixed, AreFixed};
 ghost use Rattle.stable_search.specs.Groups.{AreRoutersAt};
+ghost use Rattle.stable_search.specs.Refusals.{IsPathsRefusal};
 ghost use Rattle.stable_search.specs.Seats.{IsSeat, AreValuesOf};
 
 use crate::chooser::Chooser;
@@ -59,7 +60,7 @@ fn has_path(paths: &[Path], path: &Path) -> bool
 }
 
 // Adds a path that is not there yet.
-fn add_once(alloc: Global, values: &mut Vec<Path>, path: &Path) -> Result<(), SearchError>
+fn add_once(alloc: Global, values: &mut Vec<Path>, path: &Path) -> Result<(), AllocError>
     ensures exact { OnOk result ((other : List ℕ) → (Contains values.new.items other
         ↔ Contains values.old.items other ⊎ (path.now ≡ other))) }
     ensures distinct { OnOk result (AllPairs (λ one later. one ≢ later) values.old.items
@@ -85,7 +86,7 @@ fn listed(
     policy: &Chosen,
     router: Asn,
     paths: &[Path],
-) -> Result<Vec<Path>, SearchError>
+) -> Result<Vec<Path>, AllocError>
     ensures exact { IfOk result (λ values. (path : List ℕ) → (Contains values.items path ↔ (Contains paths.now path
         × chosen_permits policy.now path × GoesOver network.now.links router path) ⊎ ([] ≡ path))) }
     ensures distinct { IfOk result (λ values. AllPairs (λ path later. path ≢ later) values.items) }
@@ -111,6 +112,7 @@ fn values_by(
         ↔ (chosen_permits policy.now path × GoesOver network.now.links router path) ⊎ ([] ≡ path))) }
     ensures distinct { IfOk result (λ values. AllPairs (λ path later. path ≢ later) values.items) }
     ensures few { IfOk result (λ values. length values.items < 64) }
+    ensures refused { IfErr result (λ why. (why ≡ SearchError.TooManyPaths router) ⊎ (why ≡ SearchError.Memory)) }
 {
     let Chosen::Ranked(ranked) = policy else {
         return Err(SearchError::TooManyPaths { router });
@@ -124,7 +126,8 @@ fn values_by(
 
 // A list of the path of these numbers.
 fn one_path(alloc: Global, numbers: &[Asn]) -> Result<Vec<Path>, SearchError>
-    ensures { IfOk result (λ values. values.items ≡ numbers.now ∷ []) }
+    ensures path { IfOk result (λ values. values.items ≡ numbers.now ∷ []) }
+    ensures memory { IfErr result (λ why. why ≡ SearchError.Memory) }
 {
     let path = Path::from_slice(alloc, numbers)?;
     Ok(vec![in alloc; path]?)
@@ -139,7 +142,8 @@ fn values_of(
 ) -> Result<Vec<Path>, SearchError>
     requires chooser { IsChooser instance.now it.now }
     requires fixed { IfSome fixed (λ path. IsFixed instance.now it.now path.now) }
-    ensures { IfOk result (λ values. AreValuesOf instance.now it.now values.items) }
+    ensures values { IfOk result (λ values. AreValuesOf instance.now it.now values.items) }
+    ensures refused { IfErr result (IsPathsRefusal instance.now) }
 {
     each_policy_is_an_order();
     let network = instance.network();
@@ -163,6 +167,7 @@ fn seat_of<'a>(
     requires fixed { IfSome fixed (λ path. IsFixed instance.now it.now path.now) }
     ensures router { IfOk result (λ seat. seat.router ≡ it.now.router) }
     ensures seat { IfOk result (IsSeat instance.now) }
+    ensures refused { IfErr result (IsPathsRefusal instance.now) }
 {
     let values = values_of(alloc, instance, it, fixed)?;
     Ok(Seat {
@@ -184,6 +189,7 @@ pub(crate) fn seats<'a>(
     requires fixed { AreFixed instance.now choosers.now fixed.now }
     ensures routers { IfOk result (λ seats. map (λ seat. seat.router) seats.items ≡ map (λ it. it.router) choosers.now) }
     ensures seats { IfOk result (λ seats. All (IsSeat instance.now) seats.items) }
+    ensures refused { IfErr result (IsPathsRefusal instance.now) }
 {
     let mut seats = Vec::with_capacity(alloc, choosers.len())?;
     for (place, it) in choosers.iter().enumerate() {

@@ -1,11 +1,12 @@
 //! The search for all stable assignments.
 
-ghost use Rattle.std.specs.Prelude.{◌≡◌, ◌↔◌, ◌<◌, ◌≤◌, ℕ, List, [], IfOk, length, slice_index, slice_index_or, map};
+ghost use Rattle.std.specs.Prelude.{◌≡◌, ◌↔◌, ◌<◌, ◌≤◌, ℕ, List, [], IfOk, IfErr, length, slice_index, slice_index_or, map};
 ghost use Rattle.std.specs.List.{All};
 ghost use Rattle.ranked_policy.specs.Plans.{numbers};
 ghost use Rattle.stable_search.specs.Every.{IsEveryStable};
 ghost use Rattle.stable_search.specs.Groups.{IsShown, IsPartOf, ArePartsOf, IsGroup, AreValues};
 ghost use Rattle.stable_search.specs.Picks.{Has};
+ghost use Rattle.stable_search.specs.Refusals.{AreFew, IsPathsRefusal, IsRefusal};
 ghost use Rattle.stable_search.specs.Seats.{StandsAt, IsSeat};
 ghost use Rattle.stable_search.specs.declared.seat.Seat.{Seat};
 
@@ -101,6 +102,7 @@ fn parts_of(alloc: Global, seats: &[Seat], groups: &[Group]) -> Result<Items<Par
 fn all_seats<'a>(alloc: Global, instance: &Instance<'a>) -> Result<Vec<Seat<'a>>, SearchError>
     ensures routers { IfOk result (λ seats. map (λ seat. seat.router) seats.items ≡ numbers instance.now.net.routers) }
     ensures seats { IfOk result (λ seats. All (IsSeat instance.now) seats.items) }
+    ensures refused { IfErr result (IsPathsRefusal instance.now) }
 {
     let all_choosers = choosers(alloc, instance)?;
     let choosers = all_choosers.as_slice();
@@ -115,16 +117,21 @@ fn all_seats<'a>(alloc: Global, instance: &Instance<'a>) -> Result<Vec<Seat<'a>>
 ///
 /// Nothing is answered that isn't all. It refuses [`SearchError::TooManyPaths`] with the least router
 /// that isn't the origin, has no rule for the prefix, and isn't seen to have one path in every stable
-/// assignment; [`SearchError::TooManyChoices`] where a
-/// part has more choices than the limit; [`SearchError::TooManySteps`] where the search of a part
-/// would take more steps than the limit; [`SearchError::Memory`] where a growth was refused. What the
-/// call was lent is as it was.
+/// assignment; [`SearchError::TooManyChoices`] where routers that bear on each other have together more
+/// choices than the limit: lists of paths that fit; [`SearchError::TooManySteps`] where the search of
+/// such routers would take more steps than the limit; [`SearchError::Memory`] where a growth was refused.
+/// What the call was lent is as it was.
 pub fn stable_assignments(
     alloc: Global,
     instance: &Instance,
     limits: &Limits,
 ) -> Result<Every, SearchError>
-    ensures { IfOk result (IsEveryStable instance.now) }
+    // All stable assignments, and no other.
+    ensures every { IfOk result (IsEveryStable instance.now) }
+    // No part has more choices than were asked for.
+    ensures most { IfOk result (λ every. AreFew limits.now.most every.parts) }
+    // A refusal says of its routers that there is so much.
+    ensures refused { IfErr result (IsRefusal instance.now limits.now) }
 {
     stable_is_fitting();
     let network = instance.network();

@@ -1,9 +1,10 @@
-//! The laws of the engines, and of settled snapshots.
+//! The laws of the engines, of settled snapshots, and of the number of stable assignments.
 
 use net_workers::ScriptGate;
 use play_engine::laws::{cut_prints_one_text, play_prints_one_text, why_prints_one_text};
 use record_engine::laws::records_play_back;
 use stable_runs::laws::{printed_are_listed, settled_are_listed};
+use stable_search::laws::{none_without_origin, stable_assignments_are_counted};
 use text_engines::laws::{check_prints_one_text, decode_prints_one_text};
 use trace_engine::laws::{traces_play_back, traces_spell_their_runs};
 use why_engine::laws::each_router_has_one_text;
@@ -22,4 +23,6 @@ fn laws_are_called() {
     records_play_back();
     settled_are_listed::<ScriptGate>();
     printed_are_listed();
+    stable_assignments_are_counted();
+    none_without_origin();
 }

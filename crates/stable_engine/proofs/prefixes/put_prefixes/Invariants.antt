@@ -1,5 +1,5 @@
 -- of the origins that were passed each has its answer
-use Rattle.std.proofs.Common.{◌≡◌, take}
+use Rattle.std.proofs.Common.{take}
 use Rattle.stable_engine.specs.Answers.{PutsAnswers}
 use Rattle.stable_engine.proofs.prefixes.put_prefixes.Given as goal
 

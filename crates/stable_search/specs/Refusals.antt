@@ -1,0 +1,57 @@
+-- What a refusal of a search for stable assignments means.
+use Rattle.std.specs.Prelude.{ℕ, ◌≡◌, ◌≢◌, ◌<◌, ◌≤◌, ⊤, List, length, map}
+use Rattle.std.specs.List.{All, AllPairs, Contains}
+use Rattle.ranked_policy.specs.Plans.{IsRouter, Linked}
+use Rattle.ranked_policy.specs.Policies.{Table, IsTableOf, Originates}
+use Rattle.stable_paths.specs.Stable.{Problem}
+use Rattle.stable_search.specs.declared.every.Part.{Part}
+use Rattle.stable_search.specs.declared.limits.Limits.{Limits}
+use Rattle.stable_search.specs.declared.refusal.SearchError.{SearchError}
+use Rattle.stable_search.specs.declared.refusal.SearchError.TheVariants as refusals
+use Rattle.stable_search.specs.Fits.{MayStand, FitsAt}
+
+-- no part has more choices than so many
+abbrev pub AreFew : ℕ → List Part → Type 0
+AreFew most parts = All (λ part. length part.choices ≤ most) parts
+
+-- routers of the problem, rising, at least one
+pub record AreSomeRouters (p : Problem) (routers : List ℕ) : Type 0 where
+  pub some : 0 < length routers
+  pub rising : AllPairs (λ u v. u < v) routers
+  pub known : All (IsRouter p.net.routers) routers
+
+-- the router of a table has what it may have, and it fits what each peer among these routers has; an origin fits all
+pub record FitsAmong (p : Problem) (routers : List ℕ) (paths : ℕ → List ℕ) (table : Table) : Type 0 where
+  pub may : MayStand p.net.links p.prefix table (paths table.router)
+  pub fits : (v : ℕ) → Contains routers v → Linked p.net.links table.router v → (Originates table p.prefix table.router → ⊥)
+      → FitsAt table p.prefix v (paths table.router) (paths v)
+
+-- so has each of these routers; nothing is asked of the others
+abbrev pub FitTogether : Problem → List ℕ → (ℕ → List ℕ) → Type 0
+FitTogether p routers paths =
+    (u : ℕ) → Contains routers u → (table : Table) × IsTableOf p.net u table × FitsAmong p routers paths table
+
+-- more than so many choices, a path for each of these routers, which fit together; none is listed twice
+pub record HasMoreChoices (p : Problem) (most : ℕ) (routers : List ℕ) : Type 0 where
+  pub choices : List (List (List ℕ))
+  pub more : most < length choices
+  pub fit : All (λ choice. (paths : ℕ → List ℕ) × FitTogether p routers paths × (choice ≡ map paths routers)) choices
+  pub once : AllPairs (λ choice later. choice ≢ later) choices
+
+-- a router that isn't the origin
+abbrev pub MayHaveTooManyPaths : Problem → ℕ → Type 0
+MayHaveTooManyPaths p router = (table : Table) × IsTableOf p.net router table × (Originates table p.prefix router → ⊥)
+
+-- what a refusal says before routers are searched; want of memory says nothing
+abbrev pub IsPathsRefusal : Problem → SearchError → Type 0
+IsPathsRefusal p (refusals.TooManyPaths router) = MayHaveTooManyPaths p router
+IsPathsRefusal p (refusals.TooManyChoices routers) = ⊥
+IsPathsRefusal p (refusals.TooManySteps routers) = ⊥
+IsPathsRefusal p refusals.Memory = ⊤
+
+-- what a refusal says of a problem, under these limits
+abbrev pub IsRefusal : Problem → Limits → SearchError → Type 0
+IsRefusal p limits (refusals.TooManyPaths router) = MayHaveTooManyPaths p router
+IsRefusal p limits (refusals.TooManyChoices routers) = AreSomeRouters p routers × HasMoreChoices p limits.most routers
+IsRefusal p limits (refusals.TooManySteps routers) = AreSomeRouters p routers
+IsRefusal p limits refusals.Memory = ⊤
