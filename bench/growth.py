@@ -1,0 +1,96 @@
+#!/usr/bin/env python3
+"""Counts how the cost of `bgpnet play` grows with routers, prefixes and rounds.
+
+    python3 bench/growth.py [PROGRAM]
+
+PROGRAM is the proved program (crates/bgpnet/out/bgpnet). Plays networks of 4 to 64 routers with 1 to 256 prefixes, from
+the start of the first session to rest, and a gadget that never rests for more and more rounds. Prints a line for each:
+the events, the instructions by valgrind's callgrind, those of one event, and the greatest memory. Instructions are the
+same from run to run, whatever else the machine does."""
+import os, random, re, subprocess, sys, tempfile
+
+TOP = os.path.dirname(os.path.dirname(os.path.abspath(__file__)))
+ROUNDS = 400  # more than any of these networks needs
+
+BAD_GADGET = """router 1 10.0.0.1
+router 2 10.0.0.2
+router 3 10.0.0.3
+router 4 10.0.0.4
+link 1 2
+link 1 3
+link 1 4
+link 2 3
+link 3 4
+link 2 4
+origin 1 10.1.0.0/16
+rank 2 10.1.0.0/16 2-3-1 2-1
+rank 3 10.1.0.0/16 3-4-1 3-1
+rank 4 10.1.0.0/16 4-2-1 4-1
+schedule
+""" + "".join(f"start {u} {v}\nstart {v} {u}\n" for u, v in ((1, 2), (1, 3), (1, 4), (2, 3), (3, 4), (2, 4)))
+
+
+def links_of(routers, seed):
+    """A ring, and as many chords as it has routers, but for those that are there."""
+    chosen = random.Random(seed)
+    links = {(u, u + 1) for u in range(1, routers)} | {(1, routers)}
+    for _ in range(routers):
+        one, other = sorted(chosen.sample(range(1, routers + 1), 2))
+        links.add((one, other))
+    return sorted(links)
+
+
+def network(routers, prefixes):
+    """Every session is started, and the prefixes are originated by the routers in turn."""
+    links = links_of(routers, routers)
+    origins = [(k % routers + 1, f"10.{k}.0.0/16") for k in range(prefixes)]
+    lines = [f"router {u} 10.0.0.{u}" for u in range(1, routers + 1)]
+    lines += [f"link {u} {v}" for u, v in links]
+    lines += [f"origin {u} {prefix}" for u, prefix in origins]
+    lines += ["schedule"] + [f"start {a} {b}" for u, v in links for a, b in ((u, v), (v, u))]
+    lines += [f"originate {u} {prefix}" for u, prefix in origins] + [f"rounds {ROUNDS}"]
+    return len(links), "\n".join(lines) + "\n"
+
+
+def measured(program, text, folder):
+    """The events, the rounds that did something, the instructions, and the memory in MB."""
+    name = os.path.join(folder, "text")
+    with open(name, "w") as out:
+        out.write(text)
+    with open(name) as given:
+        trace = subprocess.run([program, "trace"], stdin=given, stdout=subprocess.PIPE, check=True).stdout.decode()
+    events = sum(1 for line in trace.split("schedule\n", 1)[1].splitlines() if not line.startswith("#"))
+    rested = re.search(r"rest behind round (\d+)", trace)
+    words = ["valgrind", "--tool=callgrind", f"--callgrind-out-file={os.path.join(folder, 'callgrind')}", program, "play"]
+    with open(name) as given:
+        said = subprocess.run(words, stdin=given, stdout=subprocess.DEVNULL, stderr=subprocess.PIPE, check=True).stderr
+    count = int(re.search(r"Collected : (\d+)", said.decode()).group(1))
+    child = os.fork()
+    if child == 0:
+        os.dup2(os.open(name, os.O_RDONLY), 0)
+        os.dup2(os.open(os.devnull, os.O_WRONLY), 1)
+        os.execv(program, [program, "play"])
+    _, status, used = os.wait4(child, 0)
+    if status != 0:
+        sys.exit(f"play: status {status}")
+    return events, rested and int(rested.group(1)), count, used.ru_maxrss / 1024
+
+
+def main():
+    program = os.path.abspath(sys.argv[1] if len(sys.argv) > 1 else os.path.join(TOP, "crates/bgpnet/out/bgpnet"))
+    print("| Routers | Links | Prefixes | Rounds | Events | Million instructions | For an event | MB |")
+    print("|---|---|---|---|---|---|---|---|")
+    with tempfile.TemporaryDirectory() as folder:
+        for routers, prefixes in [(n, 16) for n in (4, 8, 16, 32, 64)] + [(64, p) for p in (1, 4, 64, 256)]:
+            links, text = network(routers, prefixes)
+            events, rested, count, memory = measured(program, text, folder)
+            print(f"| {routers} | {links} | {prefixes} | {rested} | {events:,} | {count / 1e6:.1f} |"
+                  f" {count / events:,.0f} | {memory:.1f} |", flush=True)
+        for rounds in (100, 1000, 10000):
+            text = BAD_GADGET + f"originate 1 10.1.0.0/16\nrounds {rounds}\n"
+            events, _, count, memory = measured(program, text, folder)
+            print(f"| 4 | 6 | 1 | {rounds}, no rest | {events:,} | {count / 1e6:.1f} |"
+                  f" {count / events:,.0f} | {memory:.1f} |", flush=True)
+
+
+main()
