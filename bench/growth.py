@@ -5,12 +5,12 @@
 
 PROGRAM is the proved program (crates/bgpnet/out/bgpnet). Plays networks of 4 to 64 routers with 1 to 256 prefixes, from
 the start of the first session to rest, and a gadget that never rests for more and more rounds. Prints a line for each:
-the events, the instructions by valgrind's callgrind, those of one event, and the greatest memory. Instructions are the
-same from run to run, whatever else the machine does."""
+the events, the instructions by valgrind's callgrind, those of one event, and the greatest memory, of which less than
+this script takes, some 11 MB, is not seen. Instructions are the same from run to run, whatever else the machine does."""
 import os, random, re, subprocess, sys, tempfile
 
 TOP = os.path.dirname(os.path.dirname(os.path.abspath(__file__)))
-ROUNDS = 400  # more than any of these networks needs
+ROUNDS = 5000  # more than any of these networks needs
 
 BAD_GADGET = """router 1 10.0.0.1
 router 2 10.0.0.2
@@ -57,10 +57,14 @@ def measured(program, text, folder):
     name = os.path.join(folder, "text")
     with open(name, "w") as out:
         out.write(text)
-    with open(name) as given:
-        trace = subprocess.run([program, "trace"], stdin=given, stdout=subprocess.PIPE, check=True).stdout.decode()
-    events = sum(1 for line in trace.split("schedule\n", 1)[1].splitlines() if not line.startswith("#"))
-    rested = re.search(r"rest behind round (\d+)", trace)
+    traced = os.path.join(folder, "trace")
+    with open(name) as given, open(traced, "w") as out:
+        subprocess.run([program, "trace"], stdin=given, stdout=out, check=True)
+    events, rested = -text.count("\n", 0, text.index("schedule\n")) - 1, None
+    with open(traced) as lines:  # line by line, since this script's memory is the least that is seen of the program's
+        for line in lines:
+            events += not line.startswith("#")
+            rested = rested or re.search(r"rest behind round (\d+)", line)
     words = ["valgrind", "--tool=callgrind", f"--callgrind-out-file={os.path.join(folder, 'callgrind')}", program, "play"]
     with open(name) as given:
         said = subprocess.run(words, stdin=given, stdout=subprocess.DEVNULL, stderr=subprocess.PIPE, check=True).stderr
