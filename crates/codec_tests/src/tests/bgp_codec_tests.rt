@@ -106,7 +106,7 @@ fn items_stand_alone_or_in_a_block(rt: HostRuntime) -> Result<(), Fail> {
 
 // Calls each law once.
 #[test]
-fn laws_are_called() {
+fn each_law_holds() {
     laws::one_message_or_fault();
     laws::written_is_spelt();
     laws::written_is_read();

@@ -164,7 +164,7 @@ fn octets_without_a_framer(rt: HostRuntime) {
 
 // Calls each law once.
 #[test]
-fn laws_are_called() {
+fn each_law_holds() {
     laws::splits_once();
     laws::splits_in_pieces();
     laws::splits_behind_a_frame();

@@ -64,7 +64,7 @@ static ONE_INCARNATION: [Step; 12] = [
 ];
 
 #[test]
-fn one_incarnation(rt: HostRuntime) {
+fn an_incarnation_begins_and_ends(rt: HostRuntime) {
     let mut end = LinkEnd::new();
     assert!(rt; end == LinkEnd::default());
     take_all(&rt, &mut end, &ONE_INCARNATION);
@@ -83,7 +83,7 @@ static USED_UP: [Step; 8] = [
 ];
 
 #[test]
-fn used_up(rt: HostRuntime) {
+fn no_number_is_left_to_dial(rt: HostRuntime) {
     let mut end = LinkEnd::new();
     take_all(&rt, &mut end, &USED_UP);
 }
@@ -218,7 +218,7 @@ fn dials(rt: &impl Abort, end: &mut LinkEnd, row: &Number) {
 }
 
 #[test]
-fn numbers(rt: HostRuntime) {
+fn a_dial_takes_the_number_that_waits_or_a_new_one(rt: HostRuntime) {
     for row in &NUMBERS {
         let mut end = LinkEnd::new();
         take_all(&rt, &mut end, row.way);
@@ -281,7 +281,7 @@ static MEANINGS: [Meaning; 10] = [
 ];
 
 #[test]
-fn meanings(rt: HostRuntime) {
+fn each_sign_means_what_its_phase_says(rt: HostRuntime) {
     for row in &MEANINGS {
         let mut end = LinkEnd::new();
         take_all(&rt, &mut end, way_to(row.phase));
@@ -291,7 +291,7 @@ fn meanings(rt: HostRuntime) {
 }
 
 #[test]
-fn laws() {
+fn each_law_holds() {
     epoch_is_greatest_dialled();
     numbers_dialled_rise();
     heard_is_greatest_heard();

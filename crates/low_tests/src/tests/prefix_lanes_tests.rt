@@ -44,7 +44,7 @@ fn comes_before(one: (u32, u8), other: (u32, u8)) -> bool {
 
 /// Each length keeps its first bits and clears the others.
 #[test]
-fn lengths(rt: HostRuntime) {
+fn each_length_keeps_its_first_bits(rt: HostRuntime) {
     for len in 0..33u8 {
         let mask = MASKS[usize::from(len)];
         let some = 0xa5a5_a5a5 & mask;
@@ -59,7 +59,7 @@ fn lengths(rt: HostRuntime) {
 
 /// 10.1.255.0/17 is 10.1.128.0/17.
 #[test]
-fn trailing_bits(rt: HostRuntime) {
+fn bits_past_the_length_are_cleared(rt: HostRuntime) {
     assert!(rt; is_same((0x0a01_ff00, 17), (0x0a01_8000, 17)));
     assert!(rt; !is_same((0x0a01_8000, 17), (0x0a01_8000, 18)));
     assert!(rt; comes_before((0x0a00_0000, 16), (0x0a01_0000, 8 + 8)));
@@ -95,7 +95,7 @@ fn covers(one: (u32, u8), other: (u32, u8)) -> Option<bool> {
 }
 
 #[test]
-fn prefixes_cover(rt: HostRuntime) {
+fn a_prefix_covers_those_inside_it(rt: HostRuntime) {
     for row in &COVERING {
         assert!(rt;
             covers(row.one, row.other) == Some(row.covers),
@@ -113,7 +113,7 @@ fn mask(rt: &impl Abort, words: &mut [u32], lens: &[u8]) {
 }
 
 #[test]
-fn masks(rt: HostRuntime) {
+fn each_address_is_masked_by_its_length(rt: HostRuntime) {
     let mut words = [0xa5a5_a5a5; 33];
     let mut lens = [0; 33];
     let mut want = [0; 33];
@@ -234,7 +234,7 @@ static ASKED_OF_SAME: [Asked; 2] = [(0x0a01_0000, 16, Some(1)), (0x0b00_0000, 8,
 
 /// The longest that covers, the first among equals.
 #[test]
-fn longest(rt: HostRuntime) {
+fn the_longest_that_covers_is_found(rt: HostRuntime) {
     let mut two = CoverTable::new(rt.alloc());
     assert!(rt; takes_all(&mut two, &TWO));
     assert!(rt; two.as_slice().len() == 2);
@@ -307,7 +307,7 @@ fn refuses(table: &mut CoverTable, addr: u32, len: u8) -> Option<CoverError> {
 
 /// 64 entries fit; a further one is refused and changes nothing.
 #[test]
-fn full(rt: HostRuntime) {
+fn an_entry_past_the_64th_is_refused(rt: HostRuntime) {
     let mut table = CoverTable::new(rt.alloc());
     for i in 0..64u32 {
         assert!(rt; takes(&mut table, i << 8, 24), "at {i}");
@@ -319,7 +319,7 @@ fn full(rt: HostRuntime) {
 }
 
 #[test]
-fn laws() {
+fn each_law_holds() {
     a_prefix_is_its_bits();
     masking_clears_bits();
     the_longest_is_one();

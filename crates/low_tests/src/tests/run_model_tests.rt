@@ -21,7 +21,7 @@ impl Framing for OneOctet {
 }
 
 #[test]
-fn laws_of_links_at_a_type() {
+fn each_law_of_links_holds_at_a_type() {
     link_runs_go_on::<u8>();
     first_in_first_out::<u8>();
     joined_heard_its_own::<u8>();
@@ -36,7 +36,7 @@ fn laws_of_links_at_a_type() {
 }
 
 #[test]
-fn laws_of_snapshots_at_a_type() {
+fn each_law_of_snapshots_holds_at_a_type() {
     consistent_cut::<u8>();
     states_of_runs::<u8, u8, u32>();
     link_ends_keep_enough::<u8, u8, u32>();

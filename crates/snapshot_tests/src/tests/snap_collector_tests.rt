@@ -171,7 +171,7 @@ fn the_first_fault_is_named(rt: HostRuntime) -> Result<(), Fail> {
 
 /// Each law stands at the types of the program.
 #[test]
-fn laws_are_called(_rt: HostRuntime) {
+fn each_law_holds(_rt: HostRuntime) {
     laws::verdicts_are_outcomes();
     laws::nothing_is_kept();
     laws::kept_goes_on();

@@ -185,7 +185,7 @@ fn what_was_set_last_is_read(rt: HostRuntime) {
 
 // Calls each law once.
 #[test]
-fn laws_are_called(_rt: HostRuntime) {
+fn each_law_holds(_rt: HostRuntime) {
     best_by_rank_is_best();
     disagree_chooses();
     each_network_has_its_model::<u8>();

@@ -43,7 +43,7 @@ fn are_judged(alloc: Global, settings: Settings, good: bool) -> bool {
 }
 
 #[test]
-fn settings(rt: HostRuntime) {
+fn settings_outside_the_limits_are_refused(rt: HostRuntime) {
     for &(hold, cut, pipe, good) in &CASES {
         let settings = Settings {
             hold,
@@ -91,7 +91,7 @@ fn router_refusals_in(rt: &impl Abort, net: &mut NetBuilder) {
 }
 
 #[test]
-fn router_refusals(rt: HostRuntime) -> Result<(), Fail> {
+fn faulty_routers_are_refused(rt: HostRuntime) -> Result<(), Fail> {
     let mut net = line(rt.alloc(), 2)?;
     router_refusals_in(&rt, &mut net);
     Ok(())
@@ -112,7 +112,7 @@ fn routers_of(net: NetBuilder) -> Result<usize, NetError> {
 
 /// 64 routers are a network where 65 are none.
 #[test]
-fn router_limit(rt: HostRuntime) -> Result<(), Fail> {
+fn a_router_past_the_64th_is_refused(rt: HostRuntime) -> Result<(), Fail> {
     let mut net = line(rt.alloc(), 64)?;
     router_limit_in(&rt, &mut net);
     assert!(rt; routers_of(net)? == 64);
@@ -152,7 +152,7 @@ fn link_refusals_in(rt: &impl Abort, net: &mut NetBuilder) {
 }
 
 #[test]
-fn link_refusals(rt: HostRuntime) -> Result<(), Fail> {
+fn faulty_links_are_refused(rt: HostRuntime) -> Result<(), Fail> {
     let mut net = line(rt.alloc(), 18)?;
     link_refusals_in(&rt, &mut net);
     Ok(())
@@ -207,7 +207,7 @@ fn origin_refusals_in(rt: &impl Abort, net: &mut NetBuilder) {
 }
 
 #[test]
-fn origin_refusals(rt: HostRuntime) -> Result<(), Fail> {
+fn faulty_origins_are_refused(rt: HostRuntime) -> Result<(), Fail> {
     let mut net = line(rt.alloc(), 2)?;
     origin_refusals_in(&rt, &mut net);
     Ok(())
@@ -247,7 +247,7 @@ fn rule_refusals_in(rt: &impl Abort, alloc: Global, net: &mut NetBuilder) {
 }
 
 #[test]
-fn rule_refusals(rt: HostRuntime) -> Result<(), Fail> {
+fn faulty_rules_are_refused(rt: HostRuntime) -> Result<(), Fail> {
     let alloc = rt.alloc();
     let mut net = disagree(alloc)?;
     rule_refusals_in(&rt, alloc, &mut net);
@@ -314,7 +314,7 @@ fn rule_limits_in(rt: &impl Abort, alloc: Global, net: &mut NetBuilder) {
 
 /// A router has at most 64 rules, a rule at most 32 paths, a path at most 16 routers.
 #[test]
-fn rule_limits(rt: HostRuntime) -> Result<(), Fail> {
+fn rules_past_a_limit_are_refused(rt: HostRuntime) -> Result<(), Fail> {
     let alloc = rt.alloc();
     let mut net = line(alloc, 40)?;
     rule_limits_in(&rt, alloc, &mut net);
@@ -364,6 +364,6 @@ fn finishes(net: Option<NetBuilder>) -> bool {
 }
 
 #[test]
-fn finishing(rt: HostRuntime) {
+fn a_network_in_two_parts_is_given_back(rt: HostRuntime) {
     assert!(rt; finishes(joined_parts(rt.alloc())));
 }

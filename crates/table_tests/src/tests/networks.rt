@@ -69,7 +69,7 @@ fn with_eight(alloc: Global) -> Result<NetBuilder, NetError> {
 
 /// Routers stand by rising number, prefixes by address and then by length.
 #[test]
-fn places(rt: HostRuntime) -> Result<(), Fail> {
+fn routers_and_prefixes_stand_in_order(rt: HostRuntime) -> Result<(), Fail> {
     let eight = prefix(TEN, 8)?;
     let net = finished(with_eight(rt.alloc())?)?;
     places_in(&rt, &net, &eight);
@@ -100,7 +100,7 @@ fn readers_in(rt: &impl Abort, alloc: Global, net: &Network) {
 }
 
 #[test]
-fn readers(rt: HostRuntime) -> Result<(), Fail> {
+fn readers_answer_what_was_built(rt: HostRuntime) -> Result<(), Fail> {
     let alloc = rt.alloc();
     let net = finished(disagree(alloc)?)?;
     readers_in(&rt, alloc, &net);
@@ -173,7 +173,7 @@ fn questions_in(rt: &impl Abort, net: &Network, sixteen: &Prefix, eight: &Prefix
 }
 
 #[test]
-fn questions(rt: HostRuntime) -> Result<(), Fail> {
+fn questions_of_links_and_origins_are_answered(rt: HostRuntime) -> Result<(), Fail> {
     let sixteen = prefix(0x0a01_0000, 16)?;
     let eight = prefix(TEN, 8)?;
     let net = finished(disagree(rt.alloc())?)?;
@@ -193,7 +193,7 @@ fn keeps_two(list: Vec<Asn>) -> bool {
 }
 
 #[test]
-fn items(rt: HostRuntime) -> Result<(), Fail> {
+fn a_list_keeps_its_items(rt: HostRuntime) -> Result<(), Fail> {
     let alloc = rt.alloc();
     assert!(rt; is_empty_list(alloc));
     assert!(rt; keeps_two([1, 2].to_vec(alloc)?));

@@ -10,7 +10,7 @@ fn path_lists_in(rt: &impl Abort, long: &Path) {
 }
 
 #[test]
-fn path_lists(rt: HostRuntime) -> Result<(), Fail> {
+fn a_path_is_its_numbers(rt: HostRuntime) -> Result<(), Fail> {
     assert!(rt; Path::new(rt.alloc()).is_empty());
     let long = Path::from_slice(rt.alloc(), &[1, 2, 3, 4, 5, 6, 7, 8, 9])?;
     path_lists_in(&rt, &long);
@@ -24,7 +24,7 @@ fn path_equality_in(rt: &impl Abort, on: &Path, same: &Path, other: &Path) {
 }
 
 #[test]
-fn path_equality(rt: HostRuntime) -> Result<(), Fail> {
+fn equal_paths_have_the_same_numbers(rt: HostRuntime) -> Result<(), Fail> {
     let on = Path::from_router(rt.alloc(), 2, &[3, 1])?;
     let same = Path::from_slice(rt.alloc(), &[2, 3, 1])?;
     let other = Path::from_slice(rt.alloc(), &[2, 1])?;

@@ -85,7 +85,7 @@ fn permitted_in(rt: &impl Abort, alloc: Global, net: &Network, cases: &[Permitte
 }
 
 #[test]
-fn permitted(rt: HostRuntime) -> Result<(), Fail> {
+fn paths_of_the_rule_alone_are_permitted(rt: HostRuntime) -> Result<(), Fail> {
     let alloc = rt.alloc();
     let net = finished(disagree(alloc)?)?;
     permitted_in(&rt, alloc, &net, &PERMITTED);
@@ -179,7 +179,7 @@ fn preferred_in(rt: &impl Abort, alloc: Global, net: &Network) {
 }
 
 #[test]
-fn preferred(rt: HostRuntime) -> Result<(), Fail> {
+fn the_better_of_two_paths_is_preferred(rt: HostRuntime) -> Result<(), Fail> {
     let alloc = rt.alloc();
     let net = finished(disagree(alloc)?)?;
     preferred_in(&rt, alloc, &net);
@@ -217,7 +217,7 @@ fn each_kind_of_policy(rt: HostRuntime) -> Result<(), Fail> {
 }
 
 #[test]
-fn laws() {
+fn each_law_holds() {
     policies_are_tests();
     the_best_is_the_first();
     the_longest_rule_is_one();

@@ -589,7 +589,7 @@ static A_SET: [Row; 6] = [
 ];
 
 #[test]
-fn a_set(rt: HostRuntime) -> Result<(), Fail> {
+fn a_set_gives_no_choice(rt: HostRuntime) -> Result<(), Fail> {
     tries(&rt, rt.alloc(), 4, &A_SET)
 }
 
@@ -679,7 +679,7 @@ static AN_ORIGIN: [Row; 10] = [
 ];
 
 #[test]
-fn an_origin(rt: HostRuntime) -> Result<(), Fail> {
+fn an_origin_keeps_itself(rt: HostRuntime) -> Result<(), Fail> {
     tries(&rt, rt.alloc(), 1, &AN_ORIGIN)
 }
 
@@ -767,7 +767,7 @@ fn waiting_for_a_withdrawal(rt: HostRuntime) -> Result<(), Fail> {
 
 // Calls each law once.
 #[test]
-fn laws_are_called(_rt: HostRuntime) {
+fn each_law_holds(_rt: HostRuntime) {
     the_last_word_stays();
     the_last_word_goes_on();
     the_last_word_is_one();

@@ -36,7 +36,7 @@ fn a_network_as_it_is_read(rt: HostRuntime) -> Result<(), Fail> {
 }
 
 #[test]
-fn sections(rt: HostRuntime) -> Result<(), Fail> {
+fn a_text_is_parted_at_the_line_of_its_section(rt: HostRuntime) -> Result<(), Fail> {
     let split = split_at_section(b"a\r\n schedule \nb\nschedule", b"schedule");
     assert!(rt; split.front == b"a\r\n".as_slice());
     assert!(rt; split.behind == b"b\nschedule".as_slice());

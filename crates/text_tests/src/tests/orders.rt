@@ -96,7 +96,7 @@ fn each_order_in(
 }
 
 #[test]
-fn each_order(rt: HostRuntime) -> Result<(), Fail> {
+fn each_order_is_read_as_its_words_say(rt: HostRuntime) -> Result<(), Fail> {
     let prefix = Prefix::new(0x0a01_0000, 16).ok_or("no prefix")?;
     match read_network(rt.alloc(), PAIR) {
         Ok(network) => each_order_in(&rt, rt.alloc(), &network, prefix),

@@ -73,7 +73,7 @@ fn is_printed(alloc: Global, outcome: &Outcome, text: &[u8]) -> Result<bool, All
 }
 
 #[test]
-fn each_outcome(rt: HostRuntime) -> Result<(), Fail> {
+fn each_outcome_has_its_line(rt: HostRuntime) -> Result<(), Fail> {
     for &(outcome, text) in &OUTCOMES {
         assert!(rt; is_printed(rt.alloc(), &outcome, text)?, "{text:?}");
     }

@@ -124,7 +124,7 @@ fn is_truncated(alloc: Global, len: usize) -> Result<bool, AllocError> {
 }
 
 #[test]
-fn each_beginning(rt: HostRuntime) -> Result<(), Fail> {
+fn each_beginning_of_a_message_is_truncated(rt: HostRuntime) -> Result<(), Fail> {
     for len in 1..44usize {
         assert!(rt; is_truncated(rt.alloc(), len)?, "{len}");
     }
@@ -194,7 +194,7 @@ fn is_decoded_as_said(alloc: Global, long: &Long) -> Result<bool, AllocError> {
 }
 
 #[test]
-fn long_streams(rt: HostRuntime) -> Result<(), Fail> {
+fn long_streams_are_decoded_to_their_end(rt: HostRuntime) -> Result<(), Fail> {
     for long in &LONG {
         assert!(rt; is_decoded_as_said(rt.alloc(), long)?, "{}", long.count);
     }

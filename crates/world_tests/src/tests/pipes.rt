@@ -60,7 +60,7 @@ fn refusal(alloc: Global, capacity: usize) -> Option<PipeError> {
 
 /// Nothing, and one more than the most, are no capacities; the most is one.
 #[test]
-fn capacities(rt: HostRuntime) {
+fn capacities_outside_the_limits_are_refused(rt: HostRuntime) {
     assert!(rt; refusal(rt.alloc(), 0) == Some(PipeError::BadCapacity));
     assert!(rt; refusal(rt.alloc(), MOST_ITEMS + 1) == Some(PipeError::BadCapacity));
     assert!(rt; refusal(rt.alloc(), MOST_ITEMS) == None);

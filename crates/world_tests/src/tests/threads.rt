@@ -97,7 +97,7 @@ fn bad_limits<R: Threads + Wait + Sync>(
 }
 
 #[test]
-fn limits(rt: HostRuntime) -> Result<(), Fail> {
+fn turns_outside_the_limits_are_refused(rt: HostRuntime) -> Result<(), Fail> {
     let prefix = Prefix::new(0x0a01_0000, 16).ok_or("a prefix")?;
     let net = two_routers(rt.alloc(), prefix)?;
     assert!(rt; bad_limits(&rt, rt.alloc(), &net, prefix, 0)?);

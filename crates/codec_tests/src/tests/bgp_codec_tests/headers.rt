@@ -35,7 +35,7 @@ static FAULTY: [(&[u8; 3], u8, &[u8]); 8] = [
 
 // Headers that fail a check of RFC 4271 section 6.1.
 #[test]
-fn header_faults(rt: HostRuntime) {
+fn faulty_headers_are_refused(rt: HostRuntime) {
     for &(tail, sub, extra) in &FAULTY {
         assert!(rt;
             is_refused(rt.alloc(), &header_of(tail), sub, extra),
@@ -55,7 +55,7 @@ static GOOD: [(&[u8; 3], u16, u8); 5] = [
 
 // Headers that just pass.
 #[test]
-fn good_headers(rt: HostRuntime) {
+fn good_headers_are_read(rt: HostRuntime) {
     for &(tail, len, kind) in &GOOD {
         let read = header(rt.alloc(), &header_of(tail)).ok();
         assert!(rt; read == Some(Header { len, kind }), "{tail:?}");

@@ -242,7 +242,7 @@ static FAULTS: [Case; 24] = [
 ];
 
 #[test]
-fn first_faults(rt: HostRuntime) {
+fn the_first_fault_is_answered(rt: HostRuntime) {
     for case in &FAULTS {
         assert!(rt; is_answered(rt.alloc(), case), "{}", case.sentence);
     }
@@ -299,7 +299,7 @@ static GOOD: [Case; 4] = [
 ];
 
 #[test]
-fn no_faults(rt: HostRuntime) {
+fn good_messages_have_no_fault(rt: HostRuntime) {
     for case in &GOOD {
         assert!(rt; is_answered(rt.alloc(), case), "{}", case.sentence);
     }

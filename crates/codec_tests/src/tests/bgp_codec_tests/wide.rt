@@ -172,14 +172,14 @@ static GOOD: [Case; 6] = [
 ];
 
 #[test]
-fn first_faults(rt: HostRuntime) {
+fn the_first_fault_is_answered_at_four_octets(rt: HostRuntime) {
     for case in &FAULTS {
         assert!(rt; is_answered(rt.alloc(), case), "{}", case.sentence);
     }
 }
 
 #[test]
-fn no_faults(rt: HostRuntime) {
+fn good_messages_have_no_fault_at_four_octets(rt: HostRuntime) {
     for case in &GOOD {
         assert!(rt; is_answered(rt.alloc(), case), "{}", case.sentence);
     }

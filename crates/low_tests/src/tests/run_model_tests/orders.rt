@@ -133,7 +133,7 @@ fn offers_are_collected_in_order()
 {}
 
 #[test]
-fn each_law_at_a_type() {
+fn each_law_of_orders_holds_at_a_type() {
     causal_orders_are_runs::<Counters>();
     causal_orders_end_alike::<Counters>();
     stamps_change_no_item::<Counters>();
@@ -158,7 +158,7 @@ fn each_law_at_a_type() {
 }
 
 #[test]
-fn small_networks() {
+fn examples_and_wrong_twins_hold() {
     puts_of_speakers_commute();
     laws_of_speakers();
     law_of_linked_counters();

@@ -131,7 +131,7 @@ fn obeys(rt: &impl Abort, row: &Row, event: FsmEvent) {
 }
 
 #[test]
-fn every_pair(rt: HostRuntime) {
+fn each_pair_of_state_and_event_is_obeyed(rt: HostRuntime) {
     for row in &ROWS {
         for &event in row.events {
             obeys(&rt, row, event);

@@ -80,7 +80,7 @@ static LAST_TICKS: [LastTick; 7] = [
 
 /// Each timer runs out in the last of its ticks, and in none before.
 #[test]
-fn last_ticks(rt: HostRuntime) {
+fn each_timer_runs_out_in_its_last_tick(rt: HostRuntime) {
     for row in &LAST_TICKS {
         let mut session = session(90, 5);
         give_all(&rt, &mut session, row.events);
@@ -136,7 +136,7 @@ fn send_updates(rt: &impl Abort, session: &mut Session) {
 
 /// A KEEPALIVE and an UPDATE set the HoldTimer again, an UPDATE that was sent the KeepaliveTimer.
 #[test]
-fn set_again(rt: HostRuntime) {
+fn messages_set_their_timers_again(rt: HostRuntime) {
     let mut session = session(9, 0);
     give_all(&rt, &mut session, &UP_WITH_NINE);
     for &heard in &HEARD {

@@ -42,7 +42,7 @@ fn offers_move_in(
 
 /// What has moved is what was recorded.
 #[test]
-fn offers_move(rt: HostRuntime) -> Result<(), Fail> {
+fn offers_move_as_they_were_recorded(rt: HostRuntime) -> Result<(), Fail> {
     let mut marks = MarkState::new(rt.alloc());
     match collector(rt.alloc()) {
         Some(mut collector) => offers_move_in(&rt, rt.alloc(), &mut collector, &mut marks),

@@ -390,7 +390,7 @@ fn play_in(rt: &impl Abort, alloc: Global, net: &Network, named: &Prefixes) -> O
 }
 
 #[test]
-fn random_calls(rt: HostRuntime) -> Result<(), Fail> {
+fn random_calls_answer_as_plain_lists_do(rt: HostRuntime) -> Result<(), Fail> {
     let named = named_prefixes().ok_or("no prefix is that long")?;
     let net = meshed(rt.alloc())?;
     let decided = play_in(&rt, rt.alloc(), &net, &named);
