@@ -48,6 +48,11 @@ FitsEnd seat peer path theirs = IsTrue seat.is_origin ⊎ FitsBy seat.policy sea
 abbrev pub FitsBoth : Seat → Seat → List ℕ → List ℕ → Type 0
 FitsBoth one other path theirs = FitsEnd one other.router path theirs × FitsEnd other one.router theirs path
 
+-- the marks are of the values of the second seat along which the router of the first permits the way on
+abbrev pub MarksPermitted : Seat → Seat → ℕ → Type 0
+MarksPermitted one other marks = (b : ℕ) → b < length other.values.items
+    → (Has marks b ↔ chosen_permits one.policy (one.router ∷ slice_index_or other.values.items b []))
+
 -- it stands at a place
 abbrev pub StandsAt : {X : Type 0} → List X → ℕ → X → Type 0
 StandsAt xs place x = (place < length xs) × (slice_index_or xs place x ≡ x)

@@ -158,7 +158,10 @@ fn holds_over(
     ensures { IsTrue result → HoldsOver it.now.policy it.now.router peer path.now (slice_index_or fixed.now place None) least }
 {
     match path_at(fixed, place) {
-        Some(theirs) => fits_by(&it.policy, it.router, peer, path, theirs),
+        Some(theirs) => {
+            let is_permitted = it.policy.permits_onward(it.router, theirs);
+            fits_by(&it.policy, it.router, peer, path, theirs, is_permitted)
+        }
         None => is_better_than_any(&it.policy, it.router, peer, path, least),
     }
 }

@@ -8,17 +8,9 @@ ghost use Rattle.stable_search.specs.Parting.{IsFree, Joins, AreLabels, InPart, 
 ghost use Rattle.stable_search.specs.Picks.{Has, FitsWay, IsWithin, AreWithin};
 ghost use Rattle.stable_search.specs.declared.way.Way.{Way};
 
-use crate::way::Way;
+use crate::way::{Way, has};
 use ranked_policy::Items;
 use std::alloc::{AllocError, Global};
-
-// Whether the value is in the set.
-fn has(values: u64, value: usize) -> bool
-    requires { value < 64 }
-    ensures { IsTrue result ↔ Has values value }
-{
-    (values >> value) & 1 == 1
-}
 
 // The values that fit a value over a way; none where the way says nothing of it.
 fn fitting(way: &Way, value: usize) -> u64

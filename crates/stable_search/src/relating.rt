@@ -2,15 +2,15 @@
 
 ghost use Rattle.std.specs.Prelude.{◌≡◌, ◌↔◌, ◌<◌, ℕ, List, [], ◌∷◌, IsTrue, IfOk, OnOk, length, slice_index_or, map};
 ghost use Rattle.std.specs.List.{All};
-ghost use Rattle.ranked_policy.specs.Choosing.{chosen_prefers};
+ghost use Rattle.ranked_policy.specs.Choosing.{chosen_permits, chosen_prefers};
 ghost use Rattle.ranked_policy.specs.Paths.{BeginsWith};
 ghost use Rattle.stable_search.specs.Picks.{Has};
-ghost use Rattle.stable_search.specs.Seats.{FitsBy, FitsEnd, FitsBoth, SayWhatFits};
+ghost use Rattle.stable_search.specs.Seats.{FitsBy, FitsEnd, FitsBoth, MarksPermitted, SayWhatFits};
 ghost use Rattle.stable_search.specs.Seats.{IsWayOf, HasWay, HasWaysFrom, AreWaysOf};
 ghost use Rattle.stable_search.specs.declared.seat.Seat.{Seat};
 
 use crate::seat::Seat;
-use crate::way::Way;
+use crate::way::{Way, has};
 use ranked_policy::{Asn, Chosen, Network, Path};
 use std::alloc::{AllocError, Global};
 
@@ -51,19 +51,28 @@ pub(crate) fn is_preferred(policy: &Chosen, path: &[Asn], router: Asn, rest: &[A
     }
 }
 
-/// Whether a path of the router fits that of a peer, by the router's policy.
-pub(crate) fn fits_by(policy: &Chosen, router: Asn, peer: Asn, path: &[Asn], theirs: &[Asn]) -> bool
+/// Whether a path of the router fits that of a peer, by the router's policy, where it is known whether
+/// the router permits the way on along the peer's path.
+pub(crate) fn fits_by(
+    policy: &Chosen,
+    router: Asn,
+    peer: Asn,
+    path: &[Asn],
+    theirs: &[Asn],
+    is_permitted: bool,
+) -> bool
+    requires { IsTrue is_permitted ↔ chosen_permits policy.now (router ∷ theirs.now) }
     ensures { IsTrue result ↔ FitsBy policy.now router peer path.now theirs.now }
 {
     if is_onward(path, router, theirs) {
         return true;
     }
-    !is_over(path, router, peer)
-        && (is_preferred(policy, path, router, theirs) || !policy.permits_onward(router, theirs))
+    !is_over(path, router, peer) && (!is_permitted || is_preferred(policy, path, router, theirs))
 }
 
 // Whether what the router of a seat has fits what its peer has.
-fn fits_end(seat: &Seat, peer: Asn, path: &Path, theirs: &Path) -> bool
+fn fits_end(seat: &Seat, peer: Asn, path: &Path, theirs: &Path, is_permitted: bool) -> bool
+    requires { IsTrue is_permitted ↔ chosen_permits seat.now.policy (seat.now.router ∷ theirs.now) }
     ensures { IsTrue result ↔ FitsEnd seat.now peer path.now theirs.now }
 {
     seat.is_origin
@@ -73,25 +82,62 @@ fn fits_end(seat: &Seat, peer: Asn, path: &Path, theirs: &Path) -> bool
             peer,
             path.as_slice(),
             theirs.as_slice(),
+            is_permitted,
         )
 }
 
-// Whether what the routers of two seats have fits at both ends.
-fn fits_both(one: &Seat, other: &Seat, path: &Path, theirs: &Path) -> bool
+// Whether what the routers of two seats have fits at both ends, where it is known whether the first
+// permits the way on along what the second has, and the second that along what the first has.
+fn fits_both(
+    one: &Seat,
+    other: &Seat,
+    path: &Path,
+    theirs: &Path,
+    is_permitted: bool,
+    is_permitted_back: bool,
+) -> bool
+    requires there { IsTrue is_permitted ↔ chosen_permits one.now.policy (one.now.router ∷ theirs.now) }
+    requires back { IsTrue is_permitted_back ↔ chosen_permits other.now.policy (other.now.router ∷ path.now) }
     ensures { IsTrue result ↔ FitsBoth one.now other.now path.now theirs.now }
 {
-    fits_end(one, other.router, path, theirs) && fits_end(other, one.router, theirs, path)
+    fits_end(one, other.router, path, theirs, is_permitted)
+        && fits_end(other, one.router, theirs, path, is_permitted_back)
 }
 
-// The values of a seat that fit a path of another.
-fn fitting(one: &Seat, other: &Seat, path: &Path) -> u64
+// Whether the router of a seat permits the way on along a path.
+fn permits_on(one: &Seat, path: &Path) -> bool
+    ensures { IsTrue result ↔ chosen_permits one.now.policy (one.now.router ∷ path.now) }
+{
+    one.policy.permits_onward(one.router, path.as_slice())
+}
+
+// The values of the second seat along which the router of the first permits the way on.
+fn permitted(one: &Seat, other: &Seat) -> u64
     requires { length other.now.values.items < 64 }
+    ensures { MarksPermitted one.now other.now result }
+{
+    let mut marks = 0;
+    for (value, theirs) in other.values.as_slice().iter().enumerate() {
+        if permits_on(one, theirs) {
+            marks |= 1 << value;
+        }
+    }
+    marks
+}
+
+// The values of a seat that fit a path of another, where it is known whether its router permits the way
+// on along that path, and along which of its values the other's router does.
+fn fitting(one: &Seat, other: &Seat, path: &Path, marks: u64, is_permitted: bool) -> u64
+    requires few { length other.now.values.items < 64 }
+    requires marks { MarksPermitted one.now other.now marks }
+    requires permitted { IsTrue is_permitted ↔ chosen_permits other.now.policy (other.now.router ∷ path.now) }
     ensures { (b : ℕ) → b < length other.now.values.items → (Has result b
         ↔ FitsBoth one.now other.now path.now (slice_index_or other.now.values.items b [])) }
 {
     let mut fits = 0;
     for (value, theirs) in other.values.as_slice().iter().enumerate() {
-        if fits_both(one, other, path, theirs) {
+        let is_onward = has(marks, value);
+        if fits_both(one, other, path, theirs, is_onward, is_permitted) {
             fits |= 1 << value;
         }
     }
@@ -100,12 +146,15 @@ fn fitting(one: &Seat, other: &Seat, path: &Path) -> u64
 
 // For each value of a seat those of another that fit it.
 fn what_fits(alloc: Global, one: &Seat, other: &Seat) -> Result<Vec<u64>, AllocError>
-    requires { length other.now.values.items < 64 }
+    requires one { length one.now.values.items < 64 }
+    requires other { length other.now.values.items < 64 }
     ensures { IfOk result (λ fits. SayWhatFits one.now other.now fits.items) }
 {
+    let marks = permitted(one, other);
+    let theirs = permitted(other, one);
     let mut fits = Vec::with_capacity(alloc, one.values.len())?;
-    for path in one.values.as_slice() {
-        fits.push(fitting(one, other, path))?;
+    for (value, path) in one.values.as_slice().iter().enumerate() {
+        fits.push(fitting(one, other, path, marks, has(theirs, value)))?;
     }
     Ok(fits)
 }
