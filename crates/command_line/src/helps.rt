@@ -132,8 +132,8 @@ stable exactly where it has the paths of the routes, and of each dispute one of 
 with 'stable 0' has none, and then no assignment is stable.
 
 'prefix PREFIX unknown WHY': a limit was met, and nothing is said of the prefix. 'paths U': router U has
-no 'rank' line for it, and may have too many paths. 'choices U V ..': the dispute of these routers has
-more than N choices (--most). 'steps U V ..': its search would take more than N steps (--steps).
+no 'rank' line for it, and may have too many paths. 'choices U V ..': these routers have together more
+than N choices (--most). 'steps U V ..': their search would take more than N steps (--steps).
 'refused LINE CODE' names the first line that can't be read; 'bgpnet --help' has the codes, and the
 lines of a network.
 
