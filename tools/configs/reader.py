@@ -13,6 +13,8 @@ from network import GREATEST_ASN, Prefix
 
 NOT_TAKEN = "FRR 8.4 does not take this line"
 LARGE_WORDS = {"large-community": read_large, "community": read_community}
+# What `show running-config` prints above a configuration.
+PRINTED_ABOVE = "", "Building configuration...", "Current configuration:"
 MOST_CALLS, MOST_PASSWORD, MOST_HOPS, MOST_HOST = 10, 80, 255, 255
 
 
@@ -33,9 +35,12 @@ class Reader:
     def __init__(self, text, name):
         self.router, self.block, self.place = Router(name), "config", Place(name, 0)
         self.entry, self.foreign, self.is_loopback = None, None, False
+        is_above = True
         for number, line in cut_lines(text):
+            is_above = is_above and line.strip() in PRINTED_ABOVE
             self.place = Place(name, number)
-            self.obey(line)
+            if not is_above:
+                self.obey(line)
 
     # ---- lines and blocks
 

@@ -486,6 +486,10 @@ class Sessions(unittest.TestCase):
                  + "!\nline vty\n exec-timeout 0 0\nexit\n!\nend\n! the end\n")
         self.noted(dict(pair(), **{"r2.conf": whole}))
         self.noted(dict(pair(), **{"r2.conf": whole.replace("exit\n", "!\n")}))
+        above = "Building configuration...\n\nCurrent configuration:\n!\n"
+        self.noted(dict(pair(), **{"r2.conf": above + whole}))
+        with self.assertRaisesRegex(Refusal, "is no line that is known here"):
+            read_set(dict(pair(), **{"r2.conf": whole.replace("end\n", above)}))
         crlf = {name: text.replace("\n", "\r\n") for name, text in pair().items()}
         self.assertEqual(network_lines(Ranks(read_set(crlf))), network_lines(Ranks(read_set(pair()))))
 
