@@ -2,7 +2,9 @@ pub mod FitLemmas
 pub mod NarrowLemmas
 pub mod KeepLemmas
 pub mod PickLemmas
+pub mod RuleLemmas
 pub mod SeatLemmas
+pub mod ListingLemmas
 pub mod RelateLemmas
 pub mod EveryLemmas
 pub mod GroupLemmas

@@ -6,5 +6,6 @@ pub mod Picks
 pub mod Seats
 pub mod Choosers
 pub mod Fixing
+pub mod Listing
 pub mod Groups
 pub mod Parting

@@ -2,7 +2,7 @@
 use Rattle.std.specs.Prelude.{ℕ, ◌≡◌, ◌≢◌, ◌<◌, ◌≤◌, ⊤, List, length, map}
 use Rattle.std.specs.List.{All, AllPairs, Contains}
 use Rattle.ranked_policy.specs.Plans.{IsRouter, Linked}
-use Rattle.ranked_policy.specs.Policies.{Table, IsTableOf, Originates}
+use Rattle.ranked_policy.specs.Policies.{Table, IsTableOf, Originates, NoRuleFor}
 use Rattle.stable_paths.specs.Stable.{Problem}
 use Rattle.stable_search.specs.declared.every.Part.{Part}
 use Rattle.stable_search.specs.declared.limits.Limits.{Limits}
@@ -38,9 +38,17 @@ pub record HasMoreChoices (p : Problem) (most : ℕ) (routers : List ℕ) : Type
   pub fit : All (λ choice. (paths : ℕ → List ℕ) × FitTogether p routers paths × (choice ≡ map paths routers)) choices
   pub once : AllPairs (λ choice later. choice ≢ later) choices
 
--- a router that isn't the origin
-abbrev pub MayHaveTooManyPaths : Problem → ℕ → Type 0
-MayHaveTooManyPaths p router = (table : Table) × IsTableOf p.net router table × (Originates table p.prefix router → ⊥)
+-- a router that isn't the origin and has no rule for the prefix, with at least 64 different paths, of which one may be
+-- empty: each other one it permits, and it goes on over a peer
+pub record MayHaveTooManyPaths (p : Problem) (router : ℕ) : Type 0 where
+  pub table : Table
+  pub of : IsTableOf p.net router table
+  pub other : Originates table p.prefix router → ⊥
+  pub none : NoRuleFor table.rules p.prefix
+  pub paths : List (List ℕ)
+  pub many : 64 ≤ length paths
+  pub may : All (MayStand p.net.links p.prefix table) paths
+  pub once : AllPairs (λ path later. path ≢ later) paths
 
 -- what a refusal says before routers are searched; want of memory says nothing
 abbrev pub IsPathsRefusal : Problem → SearchError → Type 0

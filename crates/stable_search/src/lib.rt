@@ -10,16 +10,19 @@
 //! has, and the routers fall into parts anew: one that has the same path in all choices of its part is
 //! a part by itself.
 //!
-//! A router without a rule permits too many paths to list. Before the search, routers are fixed outwards
-//! from the origin: one whose best path over a fixed peer is better than all that another peer could
-//! bring has it in every stable assignment. So a network without rules is answered by that alone.
+//! A router without a rule may permit more paths than can be listed. Before the search, routers are fixed
+//! outwards from the origin: one whose best path over a fixed peer is better than all that another peer
+//! could bring has it in every stable assignment. So a network without rules is answered by that alone.
+//! What the other routers without a rule may have is found by rounds, the shorter paths first: in each, the
+//! paths along those that their peers may have of so many routers, but none that falls behind the one along
+//! the only path of a peer. A router for which 64 or more are found, the empty one among them, is refused.
 //!
 //! The definitions stand in `specs/`: `Fits` (what fits, and that stable is fitting), `Every` (what is
 //! answered), `Refusals` (what a refusal says), `Counting` (how many there are), `Choosers` and `Fixing`
-//! (routers that have one path in every stable assignment), `Picks`, `Seats`, `Groups` and `Parting`
-//! (what the functions inside say).
+//! (routers that have one path in every stable assignment), `Listing` (what the others without a rule may
+//! have), `Picks`, `Seats`, `Groups` and `Parting` (what the functions inside say).
 //!
-//! Left out: routers without a rule that aren't fixed; texts.
+//! Left out: routers without a rule for which so many paths are found; texts.
 #![tactic(auto)]
 
 mod chooser;
@@ -30,6 +33,7 @@ mod group;
 mod keeping;
 pub mod laws;
 mod limits;
+mod listing;
 mod narrowing;
 mod parting;
 mod picking;

@@ -7,8 +7,8 @@ use thiserror::Error;
 /// Why the stable assignments were not found. What the call was lent is as it was.
 #[derive(Debug, Drop, Error)]
 pub enum SearchError {
-    /// The router may have more paths than are listed: no rule of it covers the prefix, and it is not
-    /// seen to have one path in every stable assignment.
+    /// The router may have 64 paths or more, the empty one among them: each other one it permits, and it
+    /// goes on over a peer. No rule of it covers the prefix, since a rule lists at most 32.
     #[error("router {router} may have too many paths")]
     TooManyPaths {
         /// The router.

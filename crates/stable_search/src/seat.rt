@@ -1,6 +1,6 @@
 //! Routers with what they may have in a stable assignment.
 
-ghost use Rattle.std.specs.Prelude.{◌≡◌, ◌≢◌, ◌↔◌, ◌<◌, ◌⊎◌, ℕ, List, [], ◌∷◌, IsTrue, IfOk, IfErr, IfSome, OnOk, length, map};
+ghost use Rattle.std.specs.Prelude.{◌≡◌, ◌≢◌, ◌↔◌, ◌<◌, ◌⊎◌, ℕ, List, [], ◌∷◌, IsTrue, IfOk, IfErr, IfSome, IfNone, OnOk, length, map};
 ghost use Rattle.std.specs.List.{All, AllPairs, Contains};
 ghost use Rattle.ranked_policy.specs.Choosing.{chosen_permits};
 ghost use Rattle.stable_search.specs.Choosers.{IsChooser};
@@ -8,11 +8,12 @@ ghost use Rattle.stable_search.specs.Fits.{GoesOver};
 ghost use Rattle.stable_search.specs.Fixing.{IsFixed, AreFixed};
 ghost use Rattle.stable_search.specs.Groups.{AreRoutersAt};
 ghost use Rattle.stable_search.specs.Refusals.{IsPathsRefusal};
-ghost use Rattle.stable_search.specs.Seats.{IsSeat, AreValuesOf};
+ghost use Rattle.stable_search.specs.Listing.{AreValuesBy, MayHaveMany, IsListing};
+ghost use Rattle.stable_search.specs.Seats.{AreValuesOf};
 
 use crate::chooser::Chooser;
 use crate::refusal::SearchError;
-use ranked_policy::laws::each_policy_is_an_order;
+use ranked_policy::laws::{each_policy_is_an_order, the_longest_rule_is_one};
 use ranked_policy::{Asn, Chosen, Items, MOST_PATHS, Network, Path, Policy};
 use stable_paths::Instance;
 use std::alloc::{AllocError, Global};
@@ -26,6 +27,9 @@ pub(crate) struct Seat<'a> {
     pub(crate) is_origin: bool,
     /// Its policy for the prefix.
     pub(crate) policy: Chosen<'a>,
+    /// Whether what it may have is found by rounds: it isn't the origin, no rule lists its paths, and it
+    /// isn't seen to have one path.
+    pub(crate) is_open: bool,
     /// What it may have.
     pub(crate) values: Vec<Path>,
 }
@@ -59,8 +63,8 @@ fn has_path(paths: &[Path], path: &Path) -> bool
     false
 }
 
-// Adds a path that is not there yet.
-fn add_once(alloc: Global, values: &mut Vec<Path>, path: &Path) -> Result<(), AllocError>
+/// Adds a path that is not there yet.
+pub(crate) fn add_once(alloc: Global, values: &mut Vec<Path>, path: &Path) -> Result<(), AllocError>
     ensures exact { OnOk result ((other : List ℕ) → (Contains values.new.items other
         ↔ Contains values.old.items other ⊎ (path.now ≡ other))) }
     ensures distinct { OnOk result (AllPairs (λ one later. one ≢ later) values.old.items
@@ -101,27 +105,26 @@ fn listed(
     Ok(values)
 }
 
-// What a router may have that is not the origin: none of its paths is left out.
+// What a router may have that is not the origin: none of the paths of its rule is left out. None where no
+// rule lists its paths.
 fn values_by(
     alloc: Global,
     network: &Network,
     policy: &Chosen,
     router: Asn,
-) -> Result<Vec<Path>, SearchError>
-    ensures exact { IfOk result (λ values. (path : List ℕ) → (Contains values.items path
-        ↔ (chosen_permits policy.now path × GoesOver network.now.links router path) ⊎ ([] ≡ path))) }
-    ensures distinct { IfOk result (λ values. AllPairs (λ path later. path ≢ later) values.items) }
-    ensures few { IfOk result (λ values. length values.items < 64) }
-    ensures refused { IfErr result (λ why. (why ≡ SearchError.TooManyPaths router) ⊎ (why ≡ SearchError.Memory)) }
+) -> Result<Option<Vec<Path>>, SearchError>
+    ensures values { IfOk result (λ found. IfSome found (λ values. AreValuesBy network.now.links policy.now router values.items)) }
+    ensures refused { IfErr result (λ why. ((why ≡ SearchError.TooManyPaths router)
+        × MayHaveMany network.now.links policy.now router) ⊎ (why ≡ SearchError.Memory)) }
 {
     let Chosen::Ranked(ranked) = policy else {
-        return Err(SearchError::TooManyPaths { router });
+        return Ok(None);
     };
     let values = listed(alloc, network, policy, router, ranked.paths)?;
     if values.len() >= 2 * MOST_PATHS {
         return Err(SearchError::TooManyPaths { router });
     }
-    Ok(values)
+    Ok(Some(values))
 }
 
 // A list of the path of these numbers.
@@ -134,29 +137,53 @@ fn one_path(alloc: Global, numbers: &[Asn]) -> Result<Vec<Path>, SearchError>
 }
 
 // What a router may have: the path that it has in every stable assignment, where that was seen, or all.
+// None where it isn't the origin and no rule lists its paths.
 fn values_of(
     alloc: Global,
     instance: &Instance,
     it: &Chooser,
     fixed: Option<&Path>,
-) -> Result<Vec<Path>, SearchError>
+) -> Result<Option<Vec<Path>>, SearchError>
     requires chooser { IsChooser instance.now it.now }
     requires fixed { IfSome fixed (λ path. IsFixed instance.now it.now path.now) }
-    ensures values { IfOk result (λ values. AreValuesOf instance.now it.now values.items) }
+    ensures values { IfOk result (λ found. IfSome found (λ values. AreValuesOf instance.now it.now values.items)) }
+    ensures none { IfOk result (λ found. IfNone found (IsTrue it.now.is_origin → ⊥)) }
     ensures refused { IfErr result (IsPathsRefusal instance.now) }
 {
     each_policy_is_an_order();
+    the_longest_rule_is_one();
     let network = instance.network();
     if let Some(path) = fixed {
-        return one_path(alloc, path.as_slice());
+        let values = one_path(alloc, path.as_slice())?;
+        return Ok(Some(values));
     }
     if it.is_origin {
-        return one_path(alloc, &[it.router]);
+        let own = one_path(alloc, &[it.router])?;
+        return Ok(Some(own));
     }
     values_by(alloc, network, &it.policy, it.router)
 }
 
-// A router with what it may have.
+// A router with these values.
+fn seat_with<'a>(it: &Chooser<'a>, is_open: bool, values: Vec<Path>) -> Seat<'a>
+    ensures { result ≡ record {
+      router = it.now.router;
+      is_origin = it.now.is_origin;
+      policy = it.now.policy;
+      is_open = is_open;
+      values = values;
+    } }
+{
+    Seat {
+        router: it.router,
+        is_origin: it.is_origin,
+        policy: it.policy,
+        is_open,
+        values,
+    }
+}
+
+// A router with what it may have, or with the empty path where that is found by rounds.
 fn seat_of<'a>(
     alloc: Global,
     instance: &Instance,
@@ -166,19 +193,21 @@ fn seat_of<'a>(
     requires chooser { IsChooser instance.now it.now }
     requires fixed { IfSome fixed (λ path. IsFixed instance.now it.now path.now) }
     ensures router { IfOk result (λ seat. seat.router ≡ it.now.router) }
-    ensures seat { IfOk result (IsSeat instance.now) }
+    ensures seat { IfOk result (IsListing instance.now 1) }
     ensures refused { IfErr result (IsPathsRefusal instance.now) }
 {
-    let values = values_of(alloc, instance, it, fixed)?;
-    Ok(Seat {
-        router: it.router,
-        is_origin: it.is_origin,
-        policy: it.policy,
-        values,
-    })
+    each_policy_is_an_order();
+    let _network = instance.network();
+    let found = values_of(alloc, instance, it, fixed)?;
+    let Some(values) = found else {
+        let none = one_path(alloc, &[])?;
+        return Ok(seat_with(it, true, none));
+    };
+    Ok(seat_with(it, false, values))
 }
 
-/// The routers of an instance with what they may have.
+/// The routers of an instance with what they may have, or with the empty path where that is found by
+/// rounds.
 pub(crate) fn seats<'a>(
     alloc: Global,
     instance: &Instance,
@@ -188,7 +217,7 @@ pub(crate) fn seats<'a>(
     requires choosers { All (IsChooser instance.now) choosers.now }
     requires fixed { AreFixed instance.now choosers.now fixed.now }
     ensures routers { IfOk result (λ seats. map (λ seat. seat.router) seats.items ≡ map (λ it. it.router) choosers.now) }
-    ensures seats { IfOk result (λ seats. All (IsSeat instance.now) seats.items) }
+    ensures seats { IfOk result (λ seats. All (IsListing instance.now 1) seats.items) }
     ensures refused { IfErr result (IsPathsRefusal instance.now) }
 {
     let mut seats = Vec::with_capacity(alloc, choosers.len())?;

@@ -17,6 +17,7 @@ use crate::fixing::fixed_paths;
 use crate::group::{Group, groups};
 use crate::laws::stable_is_fitting;
 use crate::limits::Limits;
+use crate::listing::list_open;
 use crate::refusal::SearchError;
 use crate::relating::ways_between;
 use crate::seat::{Seat, routers_at, seats};
@@ -108,19 +109,20 @@ fn all_seats<'a>(alloc: Global, instance: &Instance<'a>) -> Result<Vec<Seat<'a>>
     let choosers = all_choosers.as_slice();
     let distances = distances(alloc, instance, choosers)?;
     let fixed = fixed_paths(alloc, instance, choosers, distances.as_slice())?;
-    let seats = seats(alloc, instance, choosers, fixed.as_slice())?;
+    let mut seats = seats(alloc, instance, choosers, fixed.as_slice())?;
+    list_open(alloc, instance, &mut seats)?;
     Ok(seats)
 }
 
 /// All stable assignments of an instance: an assignment is stable exactly where of each part it has
 /// one of its choices.
 ///
-/// Nothing is answered that isn't all. It refuses [`SearchError::TooManyPaths`] with the least router
-/// that isn't the origin, has no rule for the prefix, and isn't seen to have one path in every stable
-/// assignment; [`SearchError::TooManyChoices`] where routers that bear on each other have together more
-/// choices than the limit: lists of paths that fit; [`SearchError::TooManySteps`] where the search of
-/// such routers would take more steps than the limit; [`SearchError::Memory`] where a growth was refused.
-/// What the call was lent is as it was.
+/// Nothing is answered that isn't all. It refuses [`SearchError::TooManyPaths`] with a router that has no
+/// rule for the prefix, where 64 paths or more are found that it may have, the empty one among them: the
+/// first so found, by the length of the paths and then by number; [`SearchError::TooManyChoices`] where
+/// routers that bear on each other have together more choices than the limit: lists of paths that fit;
+/// [`SearchError::TooManySteps`] where the search of such routers would take more steps than the limit;
+/// [`SearchError::Memory`] where a growth was refused. What the call was lent is as it was.
 pub fn stable_assignments(
     alloc: Global,
     instance: &Instance,
