@@ -6,6 +6,7 @@ mod offer_board_tests;
 mod offers;
 mod snap_collector_tests;
 mod snap_marker_tests;
+mod stable_listing_tests;
 mod stable_parts_tests;
 mod stable_paths_tests;
 mod stable_search_tests;

@@ -10,10 +10,13 @@ use std::alloc::Global;
 use std::process::Abort;
 use std::test::*;
 
-const LIMITS: Limits = Limits {
+pub(super) const LIMITS: Limits = Limits {
     most: 1_000,
     steps: 100_000,
 };
+
+/// As many paths as one router of a plan has at most, the empty path among them.
+const MOST_LISTED: u32 = 5;
 
 /// The origin alone.
 static ALONE: Plan = Plan {
@@ -78,13 +81,6 @@ static NONE_PERMITTED: Plan = Plan {
     routers: 3,
     links: &[(1, 3), (2, 3)],
     rules: &[&[&[2, 3, 1]], &[&[3, 2, 1]]],
-};
-
-/// 4 hangs on one of two that disagree.
-static BEHIND_DISAGREE: Plan = Plan {
-    routers: 4,
-    links: &[(1, 2), (1, 3), (2, 3), (2, 4)],
-    rules: &[&[&[2, 3, 1], &[2, 1]], &[&[3, 2, 1], &[3, 1]]],
 };
 
 /// 4 is linked with the origin and with one of two that disagree.
@@ -175,13 +171,13 @@ fn sets_all(alloc: Global, plan: &Plan, code: u32, assignment: &mut Assignment) 
     let mut rest = code;
     for i in 0..plan.routers {
         let router = i.wrapping_add(1);
-        let Some(path) = listed(plan, router, (rest % 4) as usize) else {
+        let Some(path) = listed(plan, router, (rest % MOST_LISTED) as usize) else {
             return false;
         };
         if !sets(alloc, assignment, router, path) {
             return false;
         }
-        rest /= 4;
+        rest /= MOST_LISTED;
     }
     true
 }
@@ -236,7 +232,7 @@ fn searched(alloc: Global, instance: &Instance, limits: &Limits) -> Result<Every
 }
 
 fn all_agree(rt: &impl Abort, alloc: Global, plan: &Plan, instance: &Instance, every: &Every) {
-    for code in 0..4u32.wrapping_pow(plan.routers) {
+    for code in 0..MOST_LISTED.wrapping_pow(plan.routers) {
         assert!(rt;
             agrees(alloc, plan, instance, every, code),
             "assignment {code}"
@@ -259,13 +255,25 @@ fn lists(rt: &impl Abort, alloc: Global, plan: &Plan, net: &Network, stable: u64
     }
 }
 
-// The search of the network of a plan lists so many assignments, and those that are stable.
-fn finds(rt: &impl Abort, alloc: Global, plan: &Plan, stable: u64) -> Result<(), NetError> {
+/// The search of the network of a plan lists so many assignments; of those of the paths that another plan
+/// lists, it lists those that are stable.
+pub(super) fn finds_among(
+    rt: &impl Abort,
+    alloc: Global,
+    plan: &Plan,
+    all: &Plan,
+    stable: u64,
+) -> Result<(), NetError> {
     match network(alloc, plan) {
-        Ok(net) => lists(rt, alloc, plan, &net, stable),
+        Ok(net) => lists(rt, alloc, all, &net, stable),
         Err(error) => return Err(error),
     }
     Ok(())
+}
+
+// The search of the network of a plan lists so many assignments, and those that are stable.
+fn finds(rt: &impl Abort, alloc: Global, plan: &Plan, stable: u64) -> Result<(), NetError> {
+    finds_among(rt, alloc, plan, plan, stable)
 }
 
 // Whether the first choice of a part gives the router these numbers.
@@ -319,7 +327,7 @@ fn has_one(rt: &impl Abort, alloc: Global, plan: &Plan, paths: &[&[Asn]]) -> Res
 
 /// Which limit a search met.
 #[derive(Clone, Copy)]
-enum Limit {
+pub(super) enum Limit {
     Paths,
     Choices,
     Steps,
@@ -364,8 +372,8 @@ fn parts_have_few(rt: &impl Abort, alloc: Global, net: &Network, limits: &Limits
     }
 }
 
-// The search of the network of a plan is refused.
-fn refuses(
+/// The search of the network of a plan is refused.
+pub(super) fn refuses(
     rt: &impl Abort,
     alloc: Global,
     plan: &Plan,
@@ -429,19 +437,6 @@ fn paths_that_none_can_have(rt: HostRuntime) -> Result<(), NetError> {
 #[test]
 fn paths_that_no_peer_has(rt: HostRuntime) -> Result<(), NetError> {
     finds(&rt, rt.alloc(), &NONE_PERMITTED, 1)
-}
-
-// 4 has no rule, and what it has hangs on 2 alone, which has one of two.
-#[test]
-fn a_router_without_a_rule(rt: HostRuntime) -> Result<(), NetError> {
-    refuses(
-        &rt,
-        rt.alloc(),
-        &BEHIND_DISAGREE,
-        &LIMITS,
-        Limit::Paths,
-        &[4],
-    )
 }
 
 #[test]
