@@ -6,7 +6,7 @@ use Rattle.bgp_values.specs.declared.width.Width.{Width}
 use Rattle.bgp_values.specs.declared.width.Width.TheVariants.{Two, Four}
 use Rattle.bgp_values.specs.Ranges.{greatest_asn}
 
--- two octets, and four, from a place on
+-- the number of two octets, and of four, from a place on
 abbrev pub number_at : List ℕ → ℕ → ℕ
 number_at octets i = from_be_bytes w16 (slice_index octets i ∷ slice_index octets (i + 1) ∷ [])
 
@@ -43,7 +43,7 @@ numbers_of Four (a ∷ b ∷ []) = []
 numbers_of Four (a ∷ b ∷ c ∷ []) = []
 numbers_of Four (a ∷ b ∷ c ∷ d ∷ rest) = from_be_bytes w32 (a ∷ b ∷ c ∷ d ∷ []) ∷ numbers_of Four rest
 
--- so many numbers, which are written as these octets
+-- the octets are those of so many AS numbers
 pub record AreNumbers (width : Width) (count : ℕ) (octets : List ℕ) : Type 0 where
   pub size : length (numbers_of width octets) ≡ count
   pub whole : flat_map (asn_octets width) (numbers_of width octets) ≡ octets

@@ -1,4 +1,4 @@
--- What a frame reads as: its message, or the first fault in the order of checking (RFC 4271 section 6).
+-- The reading of a frame: its message, or its first fault in the order of checking (RFC 4271 section 6).
 use Rattle.std.specs.Prelude.{◌≡◌, ◌≢◌, ℕ, true, [], ◌≤◌, ◌==◌, List, length, slice_index, drop, Option, Some, None, Result, Ok, Err, if◌then◌else◌}
 use Rattle.bgp_values.specs.declared.messages.TheConstants.{MESSAGE_LIMIT, HEADER_LEN, OPEN, UPDATE, NOTIFICATION, MOST_DATA}
 use Rattle.bgp_codec.specs.declared.fault.Fault.{Fault}
@@ -21,7 +21,7 @@ abbrev pub read_as : {A : Type 0} → (A → Message) → Result A Fault → Res
 read_as make (Ok x) = Ok (make x)
 read_as make (Err first) = Err first
 
--- what the body of a frame of this type reads as
+-- the reading of the body of a frame of this type
 abbrev pub body_reading : Rule → ℕ → List ℕ → Result Message Fault
 body_reading rule kind body =
     if kind == OPEN then read_as OpenMsg (open_reading rule body)
@@ -29,11 +29,11 @@ body_reading rule kind body =
     else if kind == NOTIFICATION then Ok (notice_reading body)
     else Ok AliveMsg
 
--- what a frame reads as: its message, or its first fault
+-- the reading of a frame: its message, or its first fault
 unfoldable pub reading : Rule → List ℕ → Result Message Fault
 reading rule octets = body_reading rule (kind_field octets) (drop HEADER_LEN octets)
 
--- the fault, where there is one
+-- the fault of a reading, if it has one
 abbrev pub fault_in : Result Message Fault → Option Fault
 fault_in (Ok message) = None
 fault_in (Err first) = Some first
@@ -63,27 +63,27 @@ OneMessageOrFault = (rule : Rule) (octets : List ℕ) → IsOctets octets → Is
 abbrev pub FaultFitsAMessage : Type 0
 FaultFitsAMessage = (rule : Rule) (octets : List ℕ) (first : Fault) → IsFrame octets → fault rule octets ≡ Some first → length first.extra ≤ MOST_DATA
 
--- what is written is spelt so
+-- a writable message is written as a spelling of itself, under a rule that names nobody
 abbrev pub WrittenIsSpelt : Type 0
 WrittenIsSpelt = (rule : Rule) (message : Message) → rule.peer ≡ None → rule.own ≡ None → IsWritable rule message → length (written rule.width message) ≤ MESSAGE_LIMIT → Spells rule (written rule.width message) message
 
--- and reads as the message
+-- what is written for such a message is a frame, and reads as the message
 abbrev pub WrittenIsRead : Type 0
 WrittenIsRead = (rule : Rule) (message : Message) → rule.peer ≡ None → rule.own ≡ None → IsWritable rule message → length (written rule.width message) ≤ MESSAGE_LIMIT
     → IsFrame (written rule.width message) × (reading rule (written rule.width message) ≡ Ok message)
 
--- the message is one of the peer that the rule names, where it names one: its OPEN says that number, and its paths begin with it
+-- the message fits the peer that the rule names, if it names one: an OPEN says that number, and a path begins with it
 abbrev pub IsFrom : Rule → Message → Type 0
 IsFrom rule (OpenMsg message) = (is_peer rule.width rule.peer message.asn ≡ true) × (params_fault rule message.params ≡ None)
 IsFrom rule (UpdateMsg message) = message.nlri ≢ [] → is_from rule.peer message.attrs ≡ true
 IsFrom rule (NoticeMsg notice) = Unit {0}
 IsFrom rule AliveMsg = Unit {0}
 
--- so does what a peer writes, under a rule that names it
+-- what a peer writes reads as its message too, under a rule that names the peer
 abbrev pub PeersWritingIsRead : Type 0
 PeersWritingIsRead = (rule : Rule) (message : Message) → IsFrom rule message → IsWritable rule message → length (written rule.width message) ≤ MESSAGE_LIMIT
     → IsFrame (written rule.width message) × (reading rule (written rule.width message) ≡ Ok message)
 
--- what is spelt is writable, and what is written is no longer
+-- a message that octets spell is writable, and is written in no more octets than those
 abbrev pub SpeltIsWritable : Type 0
 SpeltIsWritable = (rule : Rule) (octets : List ℕ) (message : Message) → Spells rule octets message → IsWritable rule message × (length (written rule.width message) ≤ length octets)

@@ -1,11 +1,11 @@
--- What is remembered of attributes that are passed without memory for their values.
+-- What the search for a fault remembers of the attributes that it passed. It takes no memory for their values.
 use Rattle.std.specs.Prelude.{◌≡◌, ◌<◌, ℕ, false, List, [], ◌∷◌, length, Option, Some, None, slice_index_or}
 use Rattle.bgp_codec.specs.declared.fault_search.Came.{Came}
 use Rattle.bgp_codec.specs.declared.attributes.Attrs.{Attrs}
 use Rattle.bgp_codec.specs.Updates.{path_numbers}
 use Rattle.bgp_codec.specs.UpdateReading.{has_code}
 
--- the first number, where there is one
+-- the first number of a list, or none
 abbrev pub first_number : List ℕ → Option ℕ
 first_number [] = None
 first_number (n ∷ ns) = Some n

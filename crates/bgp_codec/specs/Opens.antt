@@ -41,7 +41,7 @@ CapFits cap = length cap.value < 256
 abbrev pub ParamFits : List Cap → Type 0
 ParamFits caps = AllByRecursion CapFits caps × (length (flat_map cap_octets caps) < 256)
 
--- the fields are those that may be read
+-- each field has a value that a reader accepts
 pub record OpenFits (o : Open) : Type 0 where
   pub asn : o.asn < 2 ^ 16
   pub hold : o.hold < 2 ^ 16
@@ -75,21 +75,21 @@ abbrev pub first_said : {A : Type 0} → (A → Option ℕ) → List A → Optio
 first_said says [] = None
 first_said says (x ∷ xs) = option_or (says x) (first_said says xs)
 
--- that capabilities say, and parameters of capabilities
+-- the first number that capabilities say, and that parameters of capabilities say
 abbrev pub said_by : List Cap → Option ℕ
 said_by caps = first_said number_said caps
 
 abbrev pub said_in : List (List Cap) → Option ℕ
 said_in params = first_said said_by params
 
--- the capability of four-octet numbers as it stands in a message, which is the data of a fault where it is not there
+-- the octets of the capability of four-octet numbers: the data of the fault of an OPEN that lacks it
 abbrev pub own_capability : ℕ → List ℕ
 own_capability own = FOUR_OCTET_ASN ∷ 4 ∷ to_be_bytes w32 own
 
 abbrev pub capability_fault : ℕ → Fault
 capability_fault own = fault_of OPEN_MESSAGE_ERROR UNSUPPORTED_CAPABILITY (own_capability own)
 
--- where the reader names itself a number is said; where a peer is named the number that is said is the peer's
+-- if the rule names the reader, a number has to be said; if it names a peer, a number that is said has to be the peer's
 abbrev pub said_fault : Option ℕ → Option ℕ → Option ℕ → Option Fault
 said_fault None peer None = None
 said_fault (Some own) peer None = Some (capability_fault own)
@@ -148,7 +148,7 @@ id_field body = from_be_bytes w32 (slice_index body 5 ∷ slice_index body 6 ∷
 abbrev pub open_of : List ℕ → List (List Cap) → Open
 open_of body params = record { asn = asn_field body; hold = hold_field body; id = id_field body; params = params }
 
--- a value behind the last check
+-- a value, unless the last check found a fault
 abbrev pub unless : {A : Type 0} → Option Fault → A → Result A Fault
 unless None x = Ok x
 unless (Some first) x = Err first
@@ -157,7 +157,8 @@ unless (Some first) x = Err first
 abbrev pub open_behind : Rule → List ℕ → List ℕ → Result Open Fault
 open_behind rule body octets = params_reading octets >>= λ params. unless (params_fault rule params) (open_of body params)
 
--- version, AS, hold time, identifier, that the parameters fill the rest, the parameters, then the number that they say
+-- the checks in order: version, AS, hold time, identifier, that the parameters fill the rest, the parameters, the
+-- number that they say
 unfoldable pub open_reading : Rule → List ℕ → Result Open Fault
 open_reading rule body =
     if not (slice_index body 0 == VERSION) then Err (fault_of OPEN_MESSAGE_ERROR UNSUPPORTED_VERSION_NUMBER (0 ∷ VERSION ∷ []))

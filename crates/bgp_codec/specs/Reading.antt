@@ -29,18 +29,18 @@ all_of read octets = all_in read (length octets) octets
 
 -- ---- what a reader of the code answers
 
--- an error other than want of memory is what reading gives
+-- the error is want of memory, or the fault that reading gives
 abbrev pub Fails : {Y : Type 0} → CodecError → Result Y Fault → Type 0
 Fails errors.Memory read = Unit {0}
 Fails (errors.Fault first) read = read ≡ Err first
 Fails errors.TooLong read = ⊥
 
--- what was answered, seen by view, is what reading gives, unless memory ran out
+-- the code answers what reading gives, as seen by view, or want of memory
 abbrev pub Gives : {X Y : Type 0} → (X → Y) → Result X CodecError → Result Y Fault → Type 0
 Gives view (Ok x) read = read ≡ Ok (view x)
 Gives view (Err e) read = Fails e read
 
--- ---- what a pass of the code answers that takes no memory for values
+-- ---- what a pass of the code answers, which takes no memory for values
 
 -- a fault whose own data take memory: more octets than stand in the fault itself
 abbrev pub TakesMemory : {Y : Type 0} → Result Y Fault → Type 0
@@ -53,12 +53,12 @@ Judged errors.Memory read = TakesMemory read
 Judged (errors.Fault first) read = read ≡ Err first
 Judged errors.TooLong read = ⊥
 
--- reading gives a value where the pass was good, and what the pass remembers fits it; else the error is judged so
+-- of a good pass: reading gives a value, and what the pass remembers fits it; of another: the error is judged as above
 abbrev pub Judges : {X Y : Type 0} → (X → Y → Type 0) → Result X CodecError → Result Y Fault → Type 0
 Judges {X} {Y} fits (Ok x) read = (y : Y) × (read ≡ Ok y) × fits x y
 Judges fits (Err e) read = Judged e read
 
--- the same of a pass that remembers nothing
+-- a pass that remembers nothing is good where reading gives a value, and else judged as above
 abbrev pub Passes : {X Y : Type 0} → Result X CodecError → Result Y Fault → Type 0
 Passes result read = Judges (λ x y. Unit {0}) result read
 
@@ -68,12 +68,13 @@ IsNoWant error = error ≢ errors.Memory
 
 -- ---- what decoding answers
 
--- an error is the fault that reading gives, and want of memory stands in its place only where its own data take memory; where reading gives a value it is want of memory
+-- of what reads as a value, the refusal is want of memory; of what has a fault, the refusal is the fault, or want of
+-- memory if its data take memory
 abbrev pub Refuses : {Y : Type 0} → CodecError → Result Y Fault → Type 0
 Refuses e (Ok y) = e ≡ errors.Memory
 Refuses e (Err first) = (e ≡ errors.Fault first) ⊎ ((e ≡ errors.Memory) × (16 < length first.extra))
 
--- a value is the one that reading gives, an error is a refusal of what it gives
+-- the code answers the value that reading gives, or a refusal of what reading gives
 abbrev pub Decodes : {Y : Type 0} → Result Y CodecError → Result Y Fault → Type 0
 Decodes (Ok y) read = read ≡ Ok y
 Decodes (Err e) read = Refuses e read

@@ -25,7 +25,7 @@ use Rattle.bgp_codec.specs.Updates.{octet_count, segment_code, raw_of, missing, 
 abbrev pub update_fault : ℕ → Fault
 update_fault sub = fault_of UPDATE_MESSAGE_ERROR sub []
 
--- with an attribute as its data
+-- a fault of an UPDATE with an attribute as its data
 abbrev pub attr_fault : ℕ → List ℕ → Fault
 attr_fault sub attr = fault_of UPDATE_MESSAGE_ERROR sub attr
 
@@ -33,7 +33,7 @@ attr_fault sub attr = fault_of UPDATE_MESSAGE_ERROR sub attr
 abbrev pub prefix_of : ℕ → List ℕ → PrefixView
 prefix_of len octets = record { addr = masked (address_at octets 0) len; len = len }
 
--- at most 32 bits, and the octets that hold them inside
+-- the prefix in front: it has at most 32 bits, and the octets that hold them are inside
 abbrev pub prefix_at : Reader PrefixView
 prefix_at [] = Err (update_fault INVALID_NETWORK_FIELD)
 prefix_at (len ∷ rest) =
@@ -50,7 +50,7 @@ segment_with width kind octets = record { kind = kind; numbers = numbers_of widt
 abbrev pub segment_of : Width → ℕ → List ℕ → Segment
 segment_of width code octets = segment_with width (if code == segment_code AsSet then AsSet else AsSequence) octets
 
--- AS_SET or AS_SEQUENCE, at least one number, and all inside
+-- the segment in front: AS_SET or AS_SEQUENCE, at least one number, and all numbers inside
 abbrev pub segment_at : Width → Reader Segment
 segment_at width [] = Err (update_fault MALFORMED_AS_PATH)
 segment_at width (code ∷ []) = Err (update_fault MALFORMED_AS_PATH)
@@ -119,7 +119,7 @@ has_code a code =
     else if code == AGGREGATOR then is_some a.aggregator
     else list_any (λ r. r.code == code) a.other
 
--- before the first of a greater code
+-- an attribute is put before the first of a greater code
 abbrev pub put_raw : Raw → List Raw → List Raw
 put_raw r [] = r ∷ []
 put_raw r (s ∷ rest) = if nat_lt r.code s.code then r ∷ s ∷ rest else s ∷ put_raw r rest
@@ -145,7 +145,8 @@ other_reading a attr value =
     let flags = slice_index attr 0 in
     if nat_lt flags OPTIONAL then Err (attr_fault UNRECOGNIZED_WELL_KNOWN_ATTRIBUTE attr) else Ok (with_other a (put_raw (raw_of (high_flags flags) (slice_index attr 1) value) a.other))
 
--- one attribute more: no repeat of a code, an unknown one is optional, the flags, the length and the value by the table
+-- one attribute more, in the order of checking: its code is no repeat, an unknown one is optional, then the flags, the
+-- length and the value by the table
 abbrev pub with_attr : Width → Attrs → List ℕ → List ℕ → Result Attrs Fault
 with_attr width a attr value =
     let flags = slice_index attr 0 in
@@ -168,7 +169,7 @@ attrs_from width a octets = attrs_in width (length octets) a octets
 abbrev pub attrs_reading : Width → List ℕ → Result Attrs Fault
 attrs_reading width octets = attrs_from width no_attrs octets
 
--- the announced prefixes: what is mandatory is there, then the prefixes, then the peer
+-- the announced prefixes, in the order of checking: the mandatory attributes, then the prefixes, then the peer
 abbrev pub announced_by : Option ℕ → Option ℕ → Attrs → List ℕ → Result (List PrefixView) Fault
 announced_by (Some code) peer a octets = Err (fault_of UPDATE_MESSAGE_ERROR MISSING_WELL_KNOWN_ATTRIBUTE (code ∷ []))
 announced_by None peer a octets = prefixes_reading octets >>= λ ps. if is_from peer a then Ok ps else Err (update_fault MALFORMED_AS_PATH)
@@ -190,12 +191,12 @@ attrs_len body = number_at body (2 + withdrawn_len body)
 abbrev pub update_of : List PrefixView → Attrs → List PrefixView → Update
 update_of withdrawn attrs nlri = record { withdrawn = withdrawn; attrs = attrs; nlri = nlri }
 
--- the three parts, each of them after the other
+-- the three parts, one after the other
 abbrev pub parts_reading : Rule → List ℕ → List ℕ → List ℕ → Result Update Fault
 parts_reading rule withdrawn attrs nlri =
     prefixes_reading withdrawn >>= λ ws. attrs_reading rule.width attrs >>= λ a. nlri_reading rule.peer a nlri >>= λ ps. Ok (update_of ws a ps)
 
--- the two lengths are inside, then the parts
+-- an UPDATE: its two lengths are inside, then its parts
 unfoldable pub update_reading : Rule → List ℕ → Result Update Fault
 update_reading rule body =
     let first = withdrawn_len body in

@@ -23,7 +23,7 @@ use Rattle.bgp_values.specs.declared.attributes.TheConstants.{AS_SET, AS_SEQUENC
 abbrev pub long_string : List ℕ → List ℕ
 long_string octets = to_be_bytes w16 (length octets) ++ octets
 
--- one after the other, each spelt so
+-- the octets spell the items of a list, one after the other
 abbrev pub SpellsEach : {A : Type 0} → (List ℕ → A → Type 0) → List ℕ → List A → Type 0
 SpellsEach spells octets [] = octets ≡ []
 SpellsEach spells octets (x ∷ xs) = (front : List ℕ) × (rest : List ℕ) × spells front x × SpellsEach spells rest xs × (octets ≡ front ++ rest)

@@ -1,4 +1,4 @@
-//! Which values attributes may have in a message that is written: those that a reader can answer.
+//! The values that attributes may have in a message that is written: those that a reader accepts.
 
 ghost use Rattle.std.specs.Prelude.{◌≡◌, true, IfSome, ◌^◌, ◌≤◌, ◌<◌, ◌↔◌, IsTrue};
 ghost use Rattle.std.specs.List.{AllByRecursion};
@@ -24,7 +24,7 @@ fn raws_fit(raws: &[Raw]) -> bool
     true
 }
 
-// Whether they stand in rising order of code.
+// Whether the attributes stand in rising order of code.
 fn is_rising(raws: &[Raw]) -> bool
     ensures { IsTrue result ↔ IsRising raws.now }
 {
@@ -40,7 +40,7 @@ fn is_rising(raws: &[Raw]) -> bool
     true
 }
 
-// Whether an ORIGIN, where there is one, may be read.
+// Whether an ORIGIN, if any, has a value that a reader accepts.
 fn origin_fits(origin: Option<u8>) -> bool
     ensures { IsTrue result ↔ IfSome origin (λ o. o ≤ INCOMPLETE) }
 {
@@ -50,7 +50,7 @@ fn origin_fits(origin: Option<u8>) -> bool
     }
 }
 
-// Whether a NEXT_HOP, where there is one, may be read.
+// Whether a NEXT_HOP, if any, has a value that a reader accepts.
 fn next_hop_fits(next_hop: Option<u32>) -> bool
     ensures { IsTrue result ↔ IfSome next_hop (λ n. (n < 2 ^ 32) × (is_unicast n ≡ true)) }
 {
@@ -60,12 +60,12 @@ fn next_hop_fits(next_hop: Option<u32>) -> bool
     }
 }
 
-// A number that is there fits four octets.
+// Shows that a number, if any, fits four octets.
 fn is_four_octets(_number: Option<u32>)
     ensures { IfSome _number (λ n. n < 2 ^ 32) }
 {}
 
-// Whether an AGGREGATOR, where there is one, may be read.
+// Whether an AGGREGATOR, if any, has a value that a reader accepts.
 fn aggregator_fits(width: Width, aggregator: Option<Aggregator>) -> bool
     ensures { IsTrue result ↔ IfSome aggregator (λ g. AsnFits width g.asn × (g.addr < 2 ^ 32)) }
 {
@@ -75,7 +75,7 @@ fn aggregator_fits(width: Width, aggregator: Option<Aggregator>) -> bool
     }
 }
 
-// Whether an AS_PATH, where there is one, may be read.
+// Whether an AS_PATH, if any, has a value that a reader accepts.
 fn as_path_fits(width: Width, path: &Option<Items<Segment>>) -> bool
     ensures { IsTrue result ↔ IfSome path.now (AllByRecursion (SegmentFits width)) }
 {
@@ -85,7 +85,7 @@ fn as_path_fits(width: Width, path: &Option<Items<Segment>>) -> bool
     }
 }
 
-// Whether the attributes have values that may be read.
+// Whether each attribute has a value that a reader accepts.
 pub(crate) fn attrs_fit(width: Width, attrs: &Attrs) -> bool
     ensures { IsTrue result ↔ AttrsFit width attrs.now }
 {

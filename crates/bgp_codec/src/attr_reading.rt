@@ -113,8 +113,8 @@ fn add_value(
     Ok(())
 }
 
-// Takes an attribute whose code did not come before: an unknown one is optional, then its flags,
-// its length and its value by the table.
+// Takes an attribute of a new code. The checks in order: an unknown one is optional, then the
+// flags, the length and the value by the table.
 fn add_new(
     alloc: Global,
     width: Width,
@@ -138,7 +138,7 @@ fn add_new(
     add_value(alloc, width, attrs, attr, value)
 }
 
-// Takes one attribute more: no repeat of a code, of which each that came has a mark.
+// Takes one more attribute. A code that came before has a mark in `came`, and is refused.
 fn add_attr(
     alloc: Global,
     width: Width,
@@ -160,8 +160,8 @@ fn add_attr(
     Ok(())
 }
 
-// How many attributes octets consist of that the table does not know, if they are good: what a list
-// of them has to hold.
+// How many attributes the octets have that the table does not know, if the octets are good: the
+// room that a list of them needs.
 fn count_others(octets: &[u8]) -> usize
     ensures { result ≤ length octets.now }
 {

@@ -20,8 +20,8 @@ use bgp_values::{
     PARTIAL, Width,
 };
 
-// How many octets an attribute has that is written, with a value of so many octets, as far as a
-// `usize` counts.
+// How many octets an attribute has as it is written, with a value of `size` octets. The sum stops
+// at `usize::MAX`.
 fn attr_len(size: usize) -> usize
     ensures { result ≡ min (2 ^ 64 - 1) ((if nat_le 256 size then 4 else 3) + size) }
 {
@@ -29,7 +29,7 @@ fn attr_len(size: usize) -> usize
     head.saturating_add(size)
 }
 
-// How many octets an attribute has that may be there.
+// The octets of an attribute that may be absent: `len` if it is there, else 0.
 fn given_len(is_there: bool, len: usize) -> usize
     ensures { result ≡ (if is_there then len else 0) }
 {
@@ -43,8 +43,8 @@ fn stands(before: bool, code: u8) -> bool
     if before { code == 0 } else { code != 0 }
 }
 
-// How many octets the unknown attributes below the known ones have, or those above them, as far as
-// a `usize` counts.
+// How many octets the unknown attributes have that stand below the known ones, or above them. The
+// sum stops at `usize::MAX`.
 fn raws_len(raws: &[Raw], before: bool) -> usize
     ensures { result ≡ min (2 ^ 64 - 1) (length (flat_map raw_octets (filter (stands before) raws.now))) }
 {
@@ -57,7 +57,7 @@ fn raws_len(raws: &[Raw], before: bool) -> usize
     len
 }
 
-// How many octets the path has as an attribute, as far as a `usize` counts.
+// How many octets the path has as an attribute. The sum stops at `usize::MAX`.
 fn path_attr_len(width: Width, path: &Option<Items<Segment>>) -> usize
     ensures { result ≡ min (2 ^ 64 - 1) (length (flat_map raw_octets (given TRANSITIVE AS_PATH (option_map (path_octets width) path.now)))) }
 {
@@ -67,7 +67,7 @@ fn path_attr_len(width: Width, path: &Option<Items<Segment>>) -> usize
     }
 }
 
-// How many octets the attributes have that are written, as far as a `usize` counts.
+// How many octets the attributes have as they are written. The sum stops at `usize::MAX`.
 pub(crate) fn attrs_len(width: Width, attrs: &Attrs) -> usize
     ensures { result ≡ min (2 ^ 64 - 1) (length (attrs_octets width attrs.now)) }
 {
@@ -84,8 +84,8 @@ pub(crate) fn attrs_len(width: Width, attrs: &Attrs) -> usize
         .saturating_add(raws_len(raws, false))
 }
 
-// Appends flags, code and length of an attribute with a value of so many octets, for which there is
-// room: Extended Length for 256 octets or more.
+// Appends the flags, code and length of an attribute whose value has `size` octets: Extended Length
+// for 256 or more. The vector has room for them.
 fn put_head(out: &mut Vec<u8>, flags: u8, code: u8, size: usize)
     requires flags { flags ≤ OPTIONAL + TRANSITIVE + PARTIAL }
     requires size { size < 2 ^ 16 }
@@ -134,7 +134,7 @@ fn put_raws(out: &mut Vec<u8>, raws: &[Raw], before: bool)
     }
 }
 
-// Appends ORIGIN where it is there, for which there is room.
+// Appends ORIGIN, if any. The vector has room for it.
 fn put_origin(out: &mut Vec<u8>, origin: Option<u8>)
     requires room { vec_len out.old + length (flat_map raw_octets (given TRANSITIVE ORIGIN (option_map (λ o. o ∷ []) origin))) ≤ vec_capacity out.old }
     ensures items { out.new.items ≡ out.old.items ++ flat_map raw_octets (given TRANSITIVE ORIGIN (option_map (λ o. o ∷ []) origin)) }
@@ -145,7 +145,7 @@ fn put_origin(out: &mut Vec<u8>, origin: Option<u8>)
     }
 }
 
-// Appends AS_PATH where it is there, for which there is room.
+// Appends AS_PATH, if any. The vector has room for it.
 fn put_path_attr(out: &mut Vec<u8>, width: Width, path: &Option<Items<Segment>>)
     requires fit { IfSome path.now (AllByRecursion (SegmentFits width)) }
     requires size { length (flat_map raw_octets (given TRANSITIVE AS_PATH (option_map (path_octets width) path.now))) < 2 ^ 16 }
@@ -164,7 +164,7 @@ fn put_path_attr(out: &mut Vec<u8>, width: Width, path: &Option<Items<Segment>>)
     }
 }
 
-// Appends an attribute of four octets where it is there, for which there is room.
+// Appends an attribute of four octets, if any. The vector has room for it.
 fn put_number(out: &mut Vec<u8>, code: u8, number: Option<u32>)
     requires room { vec_len out.old + length (flat_map raw_octets (given (flags_of code) code (option_map (to_be_bytes w32) number))) ≤ vec_capacity out.old }
     ensures items { out.new.items ≡ out.old.items ++ flat_map raw_octets (given (flags_of code) code (option_map (to_be_bytes w32) number)) }
@@ -175,7 +175,7 @@ fn put_number(out: &mut Vec<u8>, code: u8, number: Option<u32>)
     }
 }
 
-// Appends ATOMIC_AGGREGATE where it is there, for which there is room.
+// Appends ATOMIC_AGGREGATE, if any. The vector has room for it.
 fn put_atomic(out: &mut Vec<u8>, atomic: bool)
     requires room { vec_len out.old + length (flat_map raw_octets (given TRANSITIVE ATOMIC_AGGREGATE (if atomic then Some [] else None))) ≤ vec_capacity out.old }
     ensures items { out.new.items ≡ out.old.items ++ flat_map raw_octets (given TRANSITIVE ATOMIC_AGGREGATE (if atomic then Some [] else None)) }
@@ -186,7 +186,7 @@ fn put_atomic(out: &mut Vec<u8>, atomic: bool)
     }
 }
 
-// Appends AGGREGATOR where it is there, for which there is room.
+// Appends AGGREGATOR, if any. The vector has room for it.
 fn put_aggregator(out: &mut Vec<u8>, width: Width, aggregator: Option<Aggregator>)
     requires fit { IfSome aggregator (λ g. AsnFits width g.asn × (g.addr < 2 ^ 32)) }
     requires room { vec_len out.old + length (flat_map raw_octets (aggregator_raw width aggregator)) ≤ vec_capacity out.old }

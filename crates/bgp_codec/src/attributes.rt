@@ -103,7 +103,7 @@ pub(crate) fn flags_of(code: u8) -> u8
     }
 }
 
-// Whether these are the flags of an AGGREGATOR that somebody passed on who did not know it.
+// Whether these are the flags of a partial AGGREGATOR: a speaker that did not know it passed it on.
 pub(crate) fn is_partial(flags: u8) -> bool
     ensures { result ≡ is_partial flags }
 {

@@ -1,6 +1,6 @@
-//! The first fault of a body, found without memory for what is read: what is left to do where
-//! reading met want of memory, since a fault is answered before want of memory is. The only memory
-//! taken is that for the data of a fault, where they are longer than sixteen octets.
+//! Searches a body for its first fault, after reading it met want of memory: a fault is answered
+//! before want of memory is. The search takes no memory for what it reads. It takes memory only for
+//! the data of a fault, if they are longer than sixteen octets.
 
 ghost use Rattle.std.specs.Prelude.{◌≡◌, ◌≤◌, List, Some, Ok, false, length, slice_index};
 ghost use Rattle.bgp_codec.specs.Reading.{Judges, Passes};
@@ -79,8 +79,8 @@ fn judge_params(alloc: Global, octets: &[u8]) -> Result<Option<Asn>, CodecError>
     Ok(said)
 }
 
-// Passes the body of an OPEN: its first fault is answered, or want of memory where the data of that
-// fault are longer than sixteen octets and memory for them was refused.
+// Passes the body of an OPEN, and answers its first fault. It answers want of memory only if the
+// data of that fault are longer than sixteen octets and memory for them was refused.
 pub(crate) fn judge_open(alloc: Global, body: &[u8], rule: &Rule) -> Result<(), CodecError>
     requires { 10 ≤ length body.now }
     ensures { Passes result (open_reading rule.now body.now) }
@@ -128,8 +128,8 @@ struct Came {
     first: Option<Asn>,
 }
 
-// The first number of a path of these octets, which are good: it stands behind the two octets of the
-// first segment, if there is one.
+// The first number of the path of these octets, which are good. It stands behind the first two
+// octets, the head of the first segment.
 fn first_asn(width: Width, octets: &[u8]) -> Option<Asn>
     ensures { (segments : List Segment) → path_reading width octets.now ≡ Ok segments → result ≡ first_number (path_numbers (Some segments)) }
 {
@@ -156,8 +156,8 @@ fn judge_value(alloc: Global, width: Width, attr: &[u8], value: &[u8]) -> Result
     Ok(())
 }
 
-// Passes an attribute whose code did not come before: an unknown one is optional, then the flags,
-// the length and the value by the table.
+// Passes an attribute of a new code. The checks in order: an unknown one is optional, then the
+// flags, the length and the value by the table.
 fn judge_new(alloc: Global, width: Width, attr: &[u8], value: &[u8]) -> Result<(), CodecError>
     ensures { (a : Attrs) → has_code a (slice_index attr.now 1) ≡ false → Passes result (with_attr width a attr.now value.now) }
 {
@@ -188,7 +188,7 @@ fn remember(width: Width, came: &mut Came, attr: &[u8], value: &[u8])
     }
 }
 
-// Passes one attribute more: no repeat of a code, then what it says alone.
+// Passes one more attribute: its code is no repeat, then the checks of the attribute alone.
 fn judge_attr(
     alloc: Global,
     width: Width,
@@ -206,7 +206,7 @@ fn judge_attr(
     Ok(())
 }
 
-// What is remembered where no attribute came.
+// What a pass remembers before any attribute came.
 fn nothing_came() -> Came
     ensures { Remembers result no_attrs }
 {
@@ -245,7 +245,7 @@ fn missing(came: &Came) -> Option<u8>
     }
 }
 
-// Whether the first number of the path is the peer's, where a peer is named.
+// Whether the first number of the path is the peer's, if the rule names a peer.
 fn is_from(peer: Option<Asn>, came: &Came) -> bool
     ensures { (a : Attrs) → Remembers came.now a → result ≡ is_from peer a }
 {
@@ -256,7 +256,8 @@ fn is_from(peer: Option<Asn>, came: &Came) -> bool
     }
 }
 
-// Passes the announced prefixes: what is mandatory came, then the prefixes, then the peer.
+// Passes the announced prefixes. The checks in order: the mandatory attributes came, the prefixes,
+// the peer.
 fn judge_nlri(
     alloc: Global,
     peer: Option<Asn>,
@@ -282,7 +283,7 @@ fn judge_nlri(
     Ok(())
 }
 
-// Passes the three parts, each of them after the other.
+// Passes the three parts, one after the other.
 fn judge_parts(
     alloc: Global,
     rule: &Rule,
@@ -297,7 +298,8 @@ fn judge_parts(
     judge_nlri(alloc, rule.peer, &came, nlri)
 }
 
-// Passes the body of an UPDATE, as that of an OPEN is passed.
+// Passes the body of an UPDATE, and answers its first fault. It answers want of memory only if the
+// data of that fault are longer than sixteen octets and memory for them was refused.
 pub(crate) fn judge_update(alloc: Global, body: &[u8], rule: &Rule) -> Result<(), CodecError>
     requires { 4 ≤ length body.now }
     ensures { Passes result (update_reading rule.now body.now) }

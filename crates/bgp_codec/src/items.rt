@@ -1,4 +1,4 @@
-//! A list that a contract sees as a list, wherever its items lie in memory.
+//! A list of a message's parts. A contract sees its items, wherever they lie in memory.
 
 ghost use Rattle.std.specs.Prelude.{◌≡◌, ◌++◌, ◌∷◌, [], IsTrue, IfOk, OnOk, OnErr};
 ghost use Rattle.std.specs.List.Sorted.{IsPermutation, IsNonDecreasingBy};

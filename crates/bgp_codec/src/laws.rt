@@ -15,14 +15,14 @@ pub fn one_message_or_fault()
     masking_clears_bits();
 }
 
-/// What is written for a message that is writable and fits 4096 octets is a spelling of it, under
-/// a rule that names nobody.
+/// A message that is writable and fits 4096 octets is written as a spelling of itself, under a rule
+/// that names nobody.
 pub fn written_is_spelt()
     ensures { WrittenIsSpelt }
 {}
 
-/// What is written for a message that is writable and fits 4096 octets is a frame, and reads as
-/// that message, under a rule that names nobody.
+/// A message that is writable and fits 4096 octets is written as a frame, which reads as that
+/// message, under a rule that names nobody.
 pub fn written_is_read()
     ensures { WrittenIsRead }
 {
@@ -30,8 +30,9 @@ pub fn written_is_read()
     masking_clears_bits();
 }
 
-/// What is written for a message of a peer is a frame, and reads as that message under a rule that
-/// names the peer: where it is writable, fits 4096 octets, and its number or path is the peer's.
+/// A message of a peer is written as a frame, which reads as that message under a rule that names
+/// the peer. The message has to be writable, to fit 4096 octets, and to have the peer's number or
+/// path.
 pub fn a_peers_writing_is_read()
     ensures { PeersWritingIsRead }
 {
@@ -39,8 +40,8 @@ pub fn a_peers_writing_is_read()
     masking_clears_bits();
 }
 
-/// A message that some octets spell is writable under that rule, and the spelling that is written
-/// has no more octets than they have: so what was read can be written.
+/// A message that some octets spell is writable under their rule, and is written in no more octets
+/// than those. Each message that was read can be written.
 pub fn spelt_is_writable()
     ensures { SpeltIsWritable }
 {}
@@ -50,8 +51,8 @@ pub fn written_has_a_header()
     ensures { WrittenHasAHeader }
 {}
 
-/// The hold time of an OPEN that is writable is 0 seconds, or 3 and more: one that a session takes.
-/// By `spelt_is_writable` that is so of every OPEN that was read.
+/// The hold time of a writable OPEN is 0 seconds, or 3 and more: a session takes it. By
+/// `spelt_is_writable` that holds for every OPEN that was read.
 pub fn open_has_a_hold_time()
     ensures { OpenHasAHoldTime }
 {}

@@ -21,8 +21,8 @@ pub enum Message {
     AliveMsg,
 }
 
-/// Whether each field is one that a reader under the same rule, with nobody named, can answer, and
-/// each part fits its own length field. The length of the whole is [`crate::encode`]'s to judge.
+/// Whether a reader under the same rule, with nobody named, accepts each field, and each part fits
+/// its own length field. [`crate::encode`] judges the length of the whole.
 pub fn is_writable(message: &Message, rule: &Rule) -> bool
     ensures { IsTrue result ↔ IsWritable rule.now message.now }
 {

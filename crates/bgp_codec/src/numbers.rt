@@ -57,8 +57,8 @@ pub(crate) fn asn_at(width: Width, octets: &[u8]) -> Asn
     }
 }
 
-// How many values octets consist of, if they are good, where each value has a second octet that says
-// how many units of so many octets follow it: what a list of the values has to hold.
+// How many values the octets have, if they are good: the room that a list of the values needs. The second octet of each
+// value says how many units, each of `unit` octets, follow it.
 pub(crate) fn count_values(octets: &[u8], unit: usize) -> usize
     requires { unit ≤ 4 }
     ensures { result ≤ length octets.now }

@@ -106,7 +106,7 @@ fn read_params(alloc: Global, octets: &[u8]) -> Result<Items<Items<Cap>>, CodecE
     Ok(params)
 }
 
-// Whether the field AS is the peer's, where a peer is named.
+// Whether the field AS is the peer's number, if the rule names a peer.
 fn is_peer(width: Width, peer: Option<Asn>, asn: u16) -> bool
     ensures { result ≡ is_peer width peer asn }
 {
@@ -154,7 +154,7 @@ fn said_in(params: &[Items<Cap>]) -> Option<Asn>
     None
 }
 
-// The fault of an OPEN that does not say its speaker's number in four octets, to a reader of this number.
+// The fault of an OPEN that does not say its speaker's number in four octets. `own` is the reader's number.
 fn capability_fault(alloc: Global, own: Asn) -> Fault
     ensures { result ≡ capability_fault own }
 {
@@ -166,8 +166,8 @@ fn capability_fault(alloc: Global, own: Asn) -> Fault
     }
 }
 
-// What is wrong with the number that an OPEN says in four octets: it is there where the reader names
-// itself, and it is the peer's where a peer is named. It takes no memory.
+// The fault of the number that an OPEN says in four octets, if any. The number has to be there if the rule names the
+// reader, and to be the peer's if it names a peer. It takes no memory.
 pub(crate) fn number_fault(alloc: Global, rule: &Rule, said: Option<Asn>) -> Option<Fault>
     ensures { result ≡ number_fault rule.now.width rule.now.own rule.now.peer said }
 {
@@ -177,7 +177,7 @@ pub(crate) fn number_fault(alloc: Global, rule: &Rule, said: Option<Asn>) -> Opt
     }
 }
 
-// The same where numbers have four octets.
+// The fault of the number that an OPEN says, if any, where AS numbers have four octets.
 fn said_fault(
     alloc: Global,
     own: Option<Asn>,
@@ -215,8 +215,8 @@ fn fields_of(body: &[u8]) -> (u16, u16, u32)
     )
 }
 
-// The octets of the parameters, where the fields before them are good: version at 0, those of
-// `fields_of`, the length of the parameters at 9, the parameters from 10. It takes no memory.
+// The octets of the parameters, if the fields before them are good. The version stands at 0, then come those of
+// `fields_of`, the length of the parameters at 9, and the parameters from 10. It takes no memory.
 #[tactic(auto, unfolding(crate::specs::Opens::open_reading))]
 pub(crate) fn params_of<'a>(
     alloc: Global,
@@ -271,7 +271,7 @@ pub(crate) fn read_open(alloc: Global, body: &[u8], rule: &Rule) -> Result<Open,
     })
 }
 
-// How many octets the capabilities have that are written, as far as a `usize` counts.
+// How many octets the capabilities have as they are written. The sum stops at `usize::MAX`.
 fn caps_len(caps: &[Cap]) -> usize
     ensures { result ≡ min (2 ^ 64 - 1) (length (flat_map cap_octets caps.now)) }
 {
@@ -282,7 +282,7 @@ fn caps_len(caps: &[Cap]) -> usize
     len
 }
 
-// How many octets the parameters have that are written, as far as a `usize` counts.
+// How many octets the parameters have as they are written. The sum stops at `usize::MAX`.
 pub(crate) fn params_len(params: &[Items<Cap>]) -> usize
     ensures { result ≡ min (2 ^ 64 - 1) (length (flat_map param_octets params.now)) }
 {
@@ -307,7 +307,7 @@ fn caps_fit(caps: &[Cap]) -> bool
     true
 }
 
-// Whether each parameter fits its one octet of length, and so do its capabilities.
+// Whether each parameter, and each of its capabilities, fits its one octet of length.
 fn params_fit(params: &[Items<Cap>]) -> bool
     ensures { IsTrue result ↔ AllByRecursion ParamFits params.now }
 {
@@ -320,7 +320,7 @@ fn params_fit(params: &[Items<Cap>]) -> bool
     true
 }
 
-// Whether each field is one that a reader can answer, and each part fits its own length field.
+// Whether a reader accepts each field, and each part fits its own length field.
 pub(crate) fn fits(message: &Open) -> bool
     ensures { IsTrue result ↔ OpenFits message.now }
 {

@@ -107,8 +107,8 @@ fn read_of_four(alloc: Global, octets: &[u8]) -> Result<Numbers, AllocError>
     Ok(Numbers { numbers })
 }
 
-/// The AS numbers that octets are, each of so many octets: where these are whole numbers, as
-/// [`put_numbers`] appends them. It is refused only where memory was, and never for eight numbers or fewer.
+/// Reads AS numbers of this width, as [`put_numbers`] appends them. Refused only for want of
+/// memory, and never for eight numbers or fewer.
 pub fn read_numbers(alloc: Global, width: Width, octets: &[u8]) -> Result<Numbers, AllocError>
     ensures short { length octets.now ≤ asn_size width * 8 → IsOk result }
     ensures numbers { IfOk result (λ numbers. numbers ≡ numbers_of width octets.now) }
@@ -187,7 +187,7 @@ pub(crate) fn begins_with(path: &[Segment], asn: Asn) -> bool
     false
 }
 
-// Whether so many octets hold each number.
+// Whether each number fits the width.
 fn numbers_fit(width: Width, numbers: &[Asn]) -> bool
     ensures { IsTrue result ↔ AllByRecursion (AsnFits width) numbers.now }
 {
@@ -199,7 +199,7 @@ fn numbers_fit(width: Width, numbers: &[Asn]) -> bool
     true
 }
 
-// Whether each segment has 1 to 255 numbers, each of which so many octets hold.
+// Whether each segment has 1 to 255 numbers, each of which fits the width.
 pub(crate) fn path_fits(width: Width, path: &[Segment]) -> bool
     ensures { IsTrue result ↔ AllByRecursion (SegmentFits width) path.now }
 {
@@ -212,7 +212,7 @@ pub(crate) fn path_fits(width: Width, path: &[Segment]) -> bool
     true
 }
 
-// How many octets a path has that is written, as far as a `usize` counts.
+// How many octets a path has as it is written. The sum stops at `usize::MAX`.
 pub(crate) fn path_len(width: Width, path: &[Segment]) -> usize
     ensures { result ≡ min (2 ^ 64 - 1) (length (path_octets width path.now)) }
 {

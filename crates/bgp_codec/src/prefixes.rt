@@ -84,7 +84,7 @@ pub(crate) fn read_prefixes(alloc: Global, octets: &[u8]) -> Result<Items<Prefix
     Ok(Items::from_vec(read_several(alloc, octets)?))
 }
 
-// Each prefix is in the one form that is written: its other bits are zero.
+// Shows that each prefix is in the one form that is written: the bits behind its length are zero.
 pub(crate) fn are_canonical(prefixes: &[Prefix])
     ensures { AllByRecursion IsCanonical prefixes.now }
 {
@@ -93,7 +93,7 @@ pub(crate) fn are_canonical(prefixes: &[Prefix])
     }
 }
 
-// How many octets the prefixes have that are written, as far as a `usize` counts.
+// How many octets the prefixes have as they are written. The sum stops at `usize::MAX`.
 pub(crate) fn prefixes_len(prefixes: &[Prefix]) -> usize
     ensures { result ≡ min (2 ^ 64 - 1) (length (flat_map prefix_octets prefixes.now)) }
 {

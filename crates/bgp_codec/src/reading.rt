@@ -21,8 +21,8 @@ use bgp_values::{HEADER_LEN, NOTIFICATION, OPEN, UPDATE};
 use prefix_lanes::{a_prefix_is_its_bits, masking_clears_bits};
 use std::alloc::Global;
 
-// The OPEN of a body, or its first fault: where reading met want of memory before one, the octets
-// are passed over again without memory.
+// The OPEN of a body, or its first fault. If reading meets want of memory, the octets are searched for a fault without
+// memory.
 #[inline(never)]
 fn decode_open(alloc: Global, body: &[u8], rule: &Rule) -> Result<Message, CodecError>
     requires { 10 ≤ length body.now }
@@ -38,7 +38,8 @@ fn decode_open(alloc: Global, body: &[u8], rule: &Rule) -> Result<Message, Codec
     }
 }
 
-// The UPDATE of a body, or its first fault, looked for as that of an OPEN is.
+// The UPDATE of a body, or its first fault. If reading meets want of memory, the octets are searched for a fault
+// without memory.
 #[inline(never)]
 fn decode_update(alloc: Global, body: &[u8], rule: &Rule) -> Result<Message, CodecError>
     requires { 4 ≤ length body.now }
@@ -72,26 +73,25 @@ fn decode_by_type(alloc: Global, frame: &[u8], rule: &Rule) -> Result<Message, C
     }
 }
 
-/// The message that a frame spells, or its first fault. A frame is the octets of one message whose
-/// header is good and whose length is theirs.
+/// The message that a frame spells, or its first fault. A frame is the octets of one message: its header is good, and
+/// its Length is their number.
 ///
-/// It refuses a frame that has faults with the first one (RFC 4271 section 6), and one that has none
-/// only for want of memory. In place of a fault [`CodecError::Memory`] stands only where the fault's
-/// own data have more than sixteen octets and found no memory. A KEEPALIVE, and a NOTIFICATION of at
-/// most sixteen octets of data, is never refused.
+/// A frame with faults is refused with the first one (RFC 4271 section 6). [`CodecError::Memory`] stands in its place
+/// only if the fault's own data have more than sixteen octets and found no memory. A frame without faults is refused
+/// only for want of memory: never a KEEPALIVE, and never a NOTIFICATION of at most sixteen octets of data.
 #[inline(always)]
 pub fn decode(alloc: Global, frame: &[u8], rule: &Rule) -> Result<Message, CodecError>
     requires { IsFrame frame.now }
-    // What is answered is spelt so.
+    // The frame is a spelling of the message.
     ensures spelt { IfOk result (λ message. Spells rule.now frame.now message) }
-    // A fault is the first one, and it is answered, also where a growth for what stands before it
-    // was refused; only data of more than sixteen octets can themselves meet want of memory.
+    // A frame with a fault is refused with the first one, also where a growth for what stands before it was refused.
+    // Only data of more than sixteen octets can themselves meet want of memory.
     ensures fault { IfSome (fault rule.now frame.now) (λ first. (result ≡ Err (CodecError.Fault first)) ⊎ ((result ≡ Err CodecError.Memory) × (16 < length first.extra))) }
     // Which message or refusal it is.
     ensures exact { Gives (λ message. message) result (reading rule.now frame.now) }
     ensures refused { IfErr result (RefusesAs rule.now frame.now) }
-    // What takes no memory is never refused for want of it: a KEEPALIVE, and a NOTIFICATION whose
-    // data have at most sixteen octets, so whose frame has at most sixteen more than the least.
+    // What takes no memory is never refused for want of it: a KEEPALIVE, and a NOTIFICATION of at most sixteen octets
+    // of data. The frame of such a NOTIFICATION has at most sixteen more than the least.
     ensures alive { kind_field frame.now ≡ KEEPALIVE → IsOk result }
     ensures short { kind_field frame.now ≡ NOTIFICATION → length frame.now ≤ LEAST_NOTIFICATION + 16 → IsOk result }
 {

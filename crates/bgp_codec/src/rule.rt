@@ -1,4 +1,4 @@
-//! Under which rule messages are read.
+//! The rule under which messages are read.
 
 use bgp_values::Width;
 
@@ -12,13 +12,12 @@ pub struct Rule {
     pub width: Width,
     /// The speaker's number, where its OPEN and its paths are to be checked against it.
     pub peer: Option<Asn>,
-    /// The reader's own number, where an OPEN has to say its speaker's number in four octets (RFC 6793
-    /// section 3): it is the data of the fault of one that does not. Under [`Width::Two`] it has no
-    /// effect.
+    /// The reader's own number, if an OPEN has to say its speaker's number in four octets (RFC 6793 section 3). The
+    /// data of the fault of an OPEN that does not say it have this number. Under [`Width::Two`] it has no effect.
     pub own: Option<Asn>,
 }
 
-/// Two-octet numbers, and nobody named.
+/// The rule of two-octet numbers that names nobody.
 pub const NOBODY: Rule = Rule {
     width: Width::Two,
     peer: None,

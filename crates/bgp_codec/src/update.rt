@@ -36,7 +36,7 @@ pub struct Update {
     pub nlri: Items<Prefix>,
 }
 
-// The first of ORIGIN, AS_PATH and NEXT_HOP that is not there.
+// The first of ORIGIN, AS_PATH and NEXT_HOP that is missing.
 fn missing(attrs: &Attrs) -> Option<u8>
     ensures { result ≡ missing attrs.now }
 {
@@ -51,7 +51,7 @@ fn missing(attrs: &Attrs) -> Option<u8>
     }
 }
 
-// Whether the first number of the path is the peer's, where a peer is named.
+// Whether the first number of the path is the peer's, if the rule names a peer.
 fn is_from(peer: Option<Asn>, attrs: &Attrs) -> bool
     ensures { result ≡ is_from peer attrs.now }
 {
@@ -62,7 +62,8 @@ fn is_from(peer: Option<Asn>, attrs: &Attrs) -> bool
     }
 }
 
-// The announced prefixes: what is mandatory is there, then the prefixes, then the peer.
+// The announced prefixes. The checks in order: the mandatory attributes are there, the prefixes,
+// the peer.
 fn read_nlri(
     alloc: Global,
     peer: Option<Asn>,
@@ -88,7 +89,7 @@ fn read_nlri(
     Ok(nlri)
 }
 
-// The three parts, each of them after the other.
+// The three parts, one after the other.
 fn read_parts(
     alloc: Global,
     rule: &Rule,
@@ -108,9 +109,9 @@ fn read_parts(
     })
 }
 
-// The octets of the three parts of a body: the length of the withdrawn prefixes at 0, they from 2,
-// the length of the attributes behind them, the attributes, then the announced prefixes to the end.
-// It takes no memory.
+// The octets of the three parts of a body. The length of the withdrawn prefixes stands at 0, and
+// they stand from 2. Then come the length of the attributes, the attributes, and the announced
+// prefixes to the end. It takes no memory.
 #[tactic(auto, unfolding(crate::specs::UpdateReading::update_reading))]
 pub(crate) fn parts_of(alloc: Global, body: &[u8]) -> Result<(&[u8], &[u8], &[u8]), CodecError>
     requires { 4 ≤ length body.now }
@@ -140,14 +141,14 @@ pub(crate) fn read_update(alloc: Global, body: &[u8], rule: &Rule) -> Result<Upd
     read_parts(alloc, rule, withdrawn, attrs, nlri)
 }
 
-// Whether an UPDATE that announces these prefixes has what is mandatory.
+// Whether an UPDATE that announces these prefixes has the mandatory attributes.
 fn is_complete(attrs: &Attrs, nlri: &[Prefix]) -> bool
     ensures { IsTrue result ↔ (nlri.now ≢ [] → missing attrs.now ≡ None) }
 {
     nlri.is_empty() || missing(attrs).is_none()
 }
 
-// Whether each field is one that a reader can answer, and each part fits its own length field.
+// Whether a reader accepts each field, and each part fits its own length field.
 pub(crate) fn update_fits(width: Width, message: &Update) -> bool
     ensures { IsTrue result ↔ UpdateFits width message.now }
 {
@@ -161,7 +162,7 @@ pub(crate) fn update_fits(width: Width, message: &Update) -> bool
         && attrs_len(width, &message.attrs) < 0x1_0000
 }
 
-// How many octets the body has that is written, as far as a `usize` counts.
+// How many octets the body has as it is written. The sum stops at `usize::MAX`.
 pub(crate) fn update_len(width: Width, message: &Update) -> usize
     ensures { result ≡ min (2 ^ 64 - 1) (length (update_octets width message.now)) }
 {

@@ -33,7 +33,7 @@ fn put_header(out: &mut Vec<u8>, kind: u8, body_len: usize)
     out.push_reserved(kind);
 }
 
-// How many octets the body has that is written, as far as a `usize` counts.
+// How many octets the body has as it is written. The sum stops at `usize::MAX`.
 fn body_len(message: &Message, width: Width) -> usize
     ensures { result ≡ min (2 ^ 64 - 1) (length (written_body width message.now)) }
 {
@@ -70,16 +70,17 @@ fn put_body(out: &mut Vec<u8>, message: &Message, rule: &Rule)
     }
 }
 
-/// How many octets [`put_message`] and [`encode`] write for a message, as far as a `usize` counts.
+/// How many octets [`put_message`] and [`encode`] write for a message. The sum stops at
+/// `usize::MAX`.
 pub fn written_len(message: &Message, width: Width) -> usize
     ensures { result ≡ min (2 ^ 64 - 1) (length (written width message.now)) }
 {
     body_len(message, width).saturating_add(HEADER_LEN)
 }
 
-/// Appends the one spelling of a message that is written to a vector that has room for it. It takes
-/// no memory, cannot be refused, and never lowers the capacity: so what was reserved for several
-/// messages can be written one by one.
+/// Appends the one written spelling of a message to a vector that has room for it. It takes no
+/// memory and cannot be refused. It never lowers the capacity: if room was reserved for several
+/// messages, each can be written in turn.
 pub fn put_message(out: &mut Vec<u8>, message: &Message, rule: &Rule)
     requires writable { IsWritable rule.now message.now }
     requires fits { length (written rule.now.width message.now) ≤ MESSAGE_LIMIT }
@@ -92,7 +93,7 @@ pub fn put_message(out: &mut Vec<u8>, message: &Message, rule: &Rule)
     put_body(out, message, rule);
 }
 
-/// Appends the one spelling of a message that is written.
+/// Appends the one written spelling of a message.
 ///
 /// It refuses a message of more than 4096 octets with [`CodecError::TooLong`], and with
 /// [`CodecError::Memory`] only where the vector had no room and a growth was refused. A refused
