@@ -1,4 +1,5 @@
--- What a speaker may say of itself in an OPEN (RFC 4271 section 4.2), each range as a test and as what it means.
+-- The ranges of what a speaker says of itself in an OPEN (RFC 4271 section 4.2). Each stands twice: as a test that
+-- computes, and as what it means.
 use Rattle.std.specs.Prelude.{ℕ, ◌≡◌, ◌≤◌, ◌/◌, nat_le, ◌==◌, ◌||◌, ◌&&◌, Bool}
 use mathlib.Core.Logic.{◌⊎◌}
 use Rattle.bgp_values.specs.declared.ranges.TheConstants.{LEAST_HOLD, FIRST_UNICAST, LAST_UNICAST}
@@ -18,14 +19,14 @@ IsAsn width asn = (1 ≤ asn) × (asn ≤ greatest_asn width)
 abbrev pub is_asn : Width → ℕ → Bool
 is_asn width asn = nat_le 1 asn && nat_le asn (greatest_asn width)
 
--- a hold time that an OPEN may propose, in seconds: none, or no less than the least
+-- a hold time that an OPEN may propose, in seconds: 0, which is none, or the least or more
 abbrev pub IsHoldTime : ℕ → Type 0
 IsHoldTime hold = (hold ≡ 0) ⊎ (LEAST_HOLD ≤ hold)
 
 abbrev pub is_hold_time : ℕ → Bool
 is_hold_time hold = (hold == 0) || nat_le LEAST_HOLD hold
 
--- an address of one host, which an identifier and a next hop are: the first of its four octets tells
+-- an address of one host, as an identifier and a next hop have to be: its first octet tells
 abbrev pub first_octet : ℕ → ℕ
 first_octet address = address / 16777216
 

@@ -26,41 +26,42 @@ pub const UNSPECIFIC: u8 = 0;
 /// Connection Not Synchronized (section 6.1): the Marker is not all ones.
 pub const CONNECTION_NOT_SYNCHRONIZED: u8 = 1;
 
-/// Bad Message Length (section 6.1): below that of a header, above the most, or none that the type may have.
+/// Bad Message Length (section 6.1): the length is below that of a header, above the most, or none that the type may
+/// have.
 pub const BAD_MESSAGE_LENGTH: u8 = 2;
 
 /// Bad Message Type (section 6.1): a type that is not known.
 pub const BAD_MESSAGE_TYPE: u8 = 3;
 
-// ---- Those of an OPEN's (section 6.2).
+// ---- The error subcodes of an OPEN's faults (section 6.2).
 
 /// Unsupported Version Number (section 6.2): a version other than [`VERSION`](crate::VERSION).
 pub const UNSUPPORTED_VERSION_NUMBER: u8 = 1;
 
-/// Bad Peer AS (section 6.2): a speaker that is not the one it should be.
+/// Bad Peer AS (section 6.2): the speaker is not the peer that was expected.
 pub const BAD_PEER_AS: u8 = 2;
 
-/// Bad BGP Identifier (section 6.2): none of a host.
+/// Bad BGP Identifier (section 6.2): the identifier is no address of a host.
 pub const BAD_BGP_IDENTIFIER: u8 = 3;
 
-/// Unsupported Optional Parameter (section 6.2): one that is not of capabilities.
+/// Unsupported Optional Parameter (section 6.2): a parameter that does not hold capabilities.
 pub const UNSUPPORTED_OPTIONAL_PARAMETER: u8 = 4;
 
 /// Unacceptable Hold Time (section 6.2): one or two seconds.
 pub const UNACCEPTABLE_HOLD_TIME: u8 = 6;
 
-/// Unsupported Capability (RFC 5492 section 5): one that the reader has to have is not there.
+/// Unsupported Capability (RFC 5492 section 5): the OPEN lacks a capability that the reader requires.
 pub const UNSUPPORTED_CAPABILITY: u8 = 7;
 
-// ---- Those of an UPDATE's (section 6.3).
+// ---- The error subcodes of an UPDATE's faults (section 6.3).
 
-/// Malformed Attribute List (section 6.3): lengths that do not fit, or an attribute twice.
+/// Malformed Attribute List (section 6.3): lengths do not fit, or an attribute stands twice.
 pub const MALFORMED_ATTRIBUTE_LIST: u8 = 1;
 
 /// Unrecognized Well-known Attribute (section 6.3): an unknown code that is not optional.
 pub const UNRECOGNIZED_WELL_KNOWN_ATTRIBUTE: u8 = 2;
 
-/// Missing Well-known Attribute (section 6.3): prefixes are announced, and a mandatory one is not there.
+/// Missing Well-known Attribute (section 6.3): prefixes are announced without a mandatory attribute.
 pub const MISSING_WELL_KNOWN_ATTRIBUTE: u8 = 3;
 
 /// Attribute Flags Error (section 6.3): flags that the code may not have.
@@ -75,7 +76,7 @@ pub const INVALID_ORIGIN_ATTRIBUTE: u8 = 6;
 /// Invalid NEXT_HOP Attribute (section 6.3): an address of no host.
 pub const INVALID_NEXT_HOP_ATTRIBUTE: u8 = 8;
 
-/// Invalid Network Field (section 6.3): a prefix that is too long, or cut.
+/// Invalid Network Field (section 6.3): a prefix is too long, or its octets are cut off.
 pub const INVALID_NETWORK_FIELD: u8 = 10;
 
 /// Malformed AS_PATH (section 6.3): segments that do not fit, or a path that does not begin with its speaker.

@@ -1,8 +1,9 @@
 //! The values that the standard fixes, each in one place: codes and subcodes of faults, sizes and types of
 //! messages, flags and codes of path attributes, and the ranges of what a speaker says of itself (RFC 4271).
 //!
-//! Bodies, definitions and clauses of the crates above take them from here. Its contract: each range is tested
-//! as `specs/Ranges` defines it. That a number is the standard's is read, beside the section that its line names.
+//! Bodies, definitions and clauses of the crates above take them from here. Its contract: each range is tested as
+//! `specs/Ranges` defines it. No proof shows that a number is the standard's: compare it with the section that its line
+//! names.
 #![tactic(auto)]
 
 mod attributes;

@@ -21,10 +21,10 @@ pub const MOST_DATA: usize = MESSAGE_LIMIT - LEAST_NOTIFICATION;
 /// The version of the protocol (section 4.2).
 pub const VERSION: u8 = 4;
 
-/// The type of an OPEN's parameter that has capabilities (RFC 5492 section 4).
+/// The type of the optional parameter that holds capabilities (RFC 5492 section 4).
 pub const CAPABILITIES: u8 = 2;
 
-/// The code of the capability that says the speaker's number in four octets (RFC 6793 section 3).
+/// The code of the capability that gives the speaker's number in four octets (RFC 6793 section 3).
 pub const FOUR_OCTET_ASN: u8 = 65;
 
 /// The type of an OPEN (section 4.1).

@@ -8,14 +8,13 @@ use crate::width::{Width, greatest_asn};
 /// The least hold time other than none, in seconds (section 4.2).
 pub const LEAST_HOLD: u16 = 3;
 
-/// The least first octet of an address of one host: the least unicast address is 1.0.0.0.
+/// The least first octet of a host's address: the least unicast address is 1.0.0.0.
 pub const FIRST_UNICAST: u32 = 1;
 
-/// The greatest first octet of an address of one host: addresses of groups begin with 224.
+/// The greatest first octet of a host's address: multicast addresses begin with 224.
 pub const LAST_UNICAST: u32 = 223;
 
-/// Whether a speaker can have this AS number, where numbers have so many octets: not 0 (RFC 7607), and at most
-/// [`greatest_asn`].
+/// Whether a speaker can have this AS number: it is not 0 (RFC 7607), and at most [`greatest_asn`] of the width.
 pub fn is_asn(width: Width, asn: u64) -> bool
     ensures test { result ≡ is_asn width asn }
     ensures means { IsTrue result ↔ IsAsn width asn }
@@ -31,7 +30,7 @@ pub fn is_hold_time(hold: u16) -> bool
     hold == 0 || hold >= LEAST_HOLD
 }
 
-/// Whether an address is one of a host, as an identifier and a next hop are: its first octet is
+/// Whether an address is that of a host, as an identifier and a next hop have to be: its first octet is
 /// [`FIRST_UNICAST`] to [`LAST_UNICAST`].
 pub fn is_unicast(address: u32) -> bool
     ensures test { result ≡ is_unicast address }

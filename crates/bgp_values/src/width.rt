@@ -8,7 +8,7 @@ ghost use Rattle.bgp_values.specs.Ranges.{greatest_asn};
 pub enum Width {
     /// Two octets (RFC 4271).
     Two,
-    /// Four octets (RFC 6793): both speakers said that they take them.
+    /// Four octets (RFC 6793): both speakers said that they support them.
     Four,
 }
 
@@ -18,10 +18,10 @@ pub const GREATEST_OF_TWO: u32 = 65_535;
 /// The greatest AS number of four octets (RFC 6793 section 4.1).
 pub const GREATEST_OF_FOUR: u32 = 4_294_967_295;
 
-/// The number that stands in an OPEN for one that two octets do not hold: AS_TRANS (RFC 6793 section 9).
+/// AS_TRANS: an OPEN has it in place of a number that two octets do not hold (RFC 6793 section 9).
 pub const AS_TRANS: u16 = 23_456;
 
-/// The greatest AS number that so many octets hold: 65535 or 4294967295.
+/// The greatest AS number of this width: 65535 or 4294967295.
 pub fn greatest_asn(width: Width) -> u32
     ensures { result ≡ greatest_asn width }
 {
