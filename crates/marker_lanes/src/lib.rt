@@ -3,8 +3,8 @@
 //! RFC 4271 section 4.1 has each message begin with sixteen octets of ones. This crate answers
 //! how long a run of such octets is, and whether sixteen octets are that Marker.
 //!
-//! Its contract: [`ones_run`] is the length of the longest beginning of `ff` octets, for an input
-//! of any length, and [`is_marker`] says whether all sixteen octets are `ff`.
+//! Its contract: [`ones_run`] answers how many octets at the front of an input are `ff`, whatever
+//! its length. [`is_marker`] answers whether all sixteen octets are `ff`.
 //!
 //! Left out: everything behind the Marker. Sixteen octets are compared at a time, as lanes of a
 //! vector; a plain loop looks at the rest.
@@ -20,7 +20,7 @@ use std::simd::prelude::*;
 /// How many octets the Marker has (RFC 4271 section 4.1).
 pub const MARKER_LEN: usize = 16;
 
-/// The number of octets in the longest beginning of `octets` that is all `ff`.
+/// How many octets at the front are `ff`, up to the first that is not.
 pub fn ones_run(octets: &[u8]) -> usize
     ensures { result ≡ prefix_len (λ octet. octet == 255) octets.now }
 {
