@@ -16,11 +16,11 @@ pub record PrefixView : Type 0 where
   pub addr : ℕ
   pub len : ℕ
 
--- the prefix itself
+-- the bits of a prefix
 abbrev pub bits : PrefixView → List Bool
 bits p = take p.len (address_bits p.addr)
 
--- it is kept in the one form whose other bits are zero
+-- a prefix in its one form: the bits behind its length are zero
 pub record IsCanonical (p : PrefixView) : Type 0 where
   pub fits : p.addr < 2 ^ 32
   pub short : p.len ≤ 32

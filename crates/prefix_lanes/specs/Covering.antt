@@ -18,6 +18,6 @@ abbrev pub IsLongest : List PrefixView → PrefixView → Option ℕ → Type 0
 IsLongest entries q None = All (λ e. Covers e q → ⊥) entries
 IsLongest entries q (Some at) = (p : PrefixView) × StandsAt entries q at p
 
--- there is one answer
+-- a list and a prefix have one answer
 abbrev pub OneLongest : Type 0
 OneLongest = (entries : List PrefixView) (q : PrefixView) (r s : Option ℕ) → IsLongest entries q r → IsLongest entries q s → r ≡ s

@@ -28,7 +28,8 @@ pub enum CoverError {
     TableFull,
 }
 
-/// Prefixes in the order in which they were pushed. It has a place for each of them in itself.
+/// Prefixes, in the order in which they were pushed. The table itself has room for [`CAPACITY`] of
+/// them.
 #[derive(Debug, Drop)]
 pub struct CoverTable {
     // The places past the count have a prefix that no call shows.
@@ -73,8 +74,8 @@ impl CoverTable {
         &self.places[..self.count]
     }
 
-    /// Adds a prefix at the end. Takes no memory. Refused `TableFull` exactly where `CAPACITY` are there,
-    /// which leaves the table as it was.
+    /// Adds a prefix at the end. It takes no memory. Refused with `TableFull` exactly if the table
+    /// holds `CAPACITY` prefixes; the table is then as it was.
     pub fn push(&mut self, prefix: Prefix) -> Result<(), CoverError>
         ensures ok { OnOk result (self.new ≡ self.old ++ prefix ∷ []) }
         ensures full { (result ≡ Err CoverError.TableFull) ↔ (CAPACITY ≤ length self.old) }
@@ -90,8 +91,8 @@ impl CoverTable {
         Ok(())
     }
 
-    /// The place of the longest entry that covers the prefix, counted from 0; the first of those of
-    /// one length. `None` exactly where no entry covers it.
+    /// The place, counted from 0, of the longest entry that covers the prefix; of several as long,
+    /// the first. `None` exactly where no entry covers it.
     pub fn longest(&self, prefix: &Prefix) -> Option<usize>
         ensures { IsLongest self.now prefix.now result }
     {
@@ -104,15 +105,15 @@ impl CoverTable {
     }
 }
 
-/// An entry that covers: its place and its length.
+/// An entry that covers the prefix: its place and its length.
 #[derive(Clone, Copy)]
 struct Candidate {
     place: usize,
-    // As wide as the place: octets that fill a struct up are copied through memory with it.
+    // As wide as `place`, so that the struct has no padding: padding is copied through memory.
     len: usize,
 }
 
-/// The place of the longest of these that covers the prefix, the first of those of one length.
+/// The place of the longest of these entries that covers the prefix; of several as long, the first.
 fn longest_in(entries: &[Prefix], addrs: &[u32], masks: &[u32], prefix: &Prefix) -> Option<usize>
     requires { AreColumns entries.now addrs.now masks.now }
     ensures { IsLongest entries.now prefix.now result }
@@ -145,7 +146,7 @@ fn alike(addrs: u32x8, masks: u32x8, addr: u32) -> u64
     (u32x8::splat(addr) & masks).simd_eq(addrs).to_bitmask()
 }
 
-/// The best once eight entries more were seen, of which these begin as the prefix does.
+/// The best after eight more entries. The bits of `found` mark those that begin as the prefix does.
 fn best_of_found(
     entries: &[Prefix],
     prefix: &Prefix,
@@ -172,7 +173,8 @@ fn best_of_found(
     best
 }
 
-/// The best once the entry at the place was seen, which begins as the prefix does: its length decides.
+/// The best after the entry at this place, which begins as the prefix does: only its length is left
+/// to judge.
 fn better_alike(
     entries: &[Prefix],
     prefix: &Prefix,
@@ -196,7 +198,7 @@ fn better_alike(
     best
 }
 
-/// The best once the entry at the place was seen.
+/// The best after the entry at this place.
 fn better(
     entries: &[Prefix],
     prefix: &Prefix,

@@ -1,4 +1,4 @@
-//! What an address and a length say of the list of bits that a prefix is.
+//! Laws that tie an address and a length to the list of bits of a prefix.
 
 ghost use Rattle.prefix_lanes.specs.Covering.{OneLongest};
 ghost use Rattle.prefix_lanes.specs.Laws.{HasItsLength, SameBitsSamePrefix, EachListIsAPrefix, MaskedBits, MaskedIsCanonical};
@@ -16,7 +16,8 @@ pub fn masking_clears_bits()
     ensures canonical { MaskedIsCanonical }
 {}
 
-/// Of a list of prefixes at most one place, or none, is that of the longest that covers a prefix.
+/// A list and a prefix have one answer: the place of the longest entry that covers the prefix, or
+/// none.
 pub fn the_longest_is_one()
     ensures { OneLongest }
 {}
