@@ -1,4 +1,4 @@
--- What each call adds to a network, and what it refuses.
+-- How each call changes a network, and what it refuses.
 use Rattle.std.specs.Prelude.{ℕ, ◌≡◌, ◌≢◌, ◌≤◌, ◌<◌, List, [], ◌∷◌, ◌++◌, length, Result, Ok, Err}
 use Rattle.std.specs.List.{All, AllPairs, count_by}
 use mathlib.Core.Logic.{◌⊎◌}
@@ -35,26 +35,26 @@ pub record IsRefused (Meets : NetError → Type 0) (e : NetError) : Type 0 where
 abbrev pub MeetsAll : (NetError → Type 0) → Type 0
 MeetsAll Meets = (e : NetError) → Meets e
 
--- judged without asking for memory
+-- the answer of a call that takes no memory: done where all is met, else the first refusal
 abbrev pub IsJudged : (NetError → Type 0) → Result (Unit {0}) NetError → Type 0
 IsJudged Meets (Ok u) = MeetsAll Meets
 IsJudged Meets (Err e) = (e ≢ Memory) × IsRefused Meets e
 
--- one more stands somewhere in the list
+-- the new list is the old one with one item more, wherever it stands
 pub record Gains {A : Type 0} (old new : List A) (item : A) : Type 0 where
   pub before : List A
   pub behind : List A
   pub was : old ≡ before ++ behind
   pub is : new ≡ before ++ item ∷ behind
 
--- one stands changed in its place
+-- the new list is the old one with one item changed in its place
 pub record Changes {A : Type 0} (old new : List A) (was is : A) : Type 0 where
   pub before : List A
   pub behind : List A
   pub first : old ≡ before ++ was ∷ behind
   pub second : new ≡ before ++ is ∷ behind
 
--- settings
+-- settings meet what this refusal is about
 abbrev pub SettingsMeet : Settings → NetError → Type 0
 SettingsMeet s BadNumber = IsSettings s
 SettingsMeet s e = Unit {0}
@@ -62,7 +62,7 @@ SettingsMeet s e = Unit {0}
 abbrev pub empty_plan : Settings → Plan
 empty_plan s = record { settings = s; routers = []; links = []; origins = [] }
 
--- a router
+-- a new router meets what this refusal is about
 abbrev pub RouterMeets : Width → List Router → ℕ → ℕ → NetError → Type 0
 RouterMeets width routers u id Repeated = All (λ r. (r.asn ≢ u) × (r.id ≢ id)) routers
 RouterMeets width routers u id Limit = length routers < MOST_ROUTERS
@@ -75,7 +75,7 @@ pub record AddsRouter (old new : Plan) (u id : ℕ) : Type 0 where
   pub links : new.links ≡ old.links
   pub origins : new.origins ≡ old.origins
 
--- a link
+-- a new link meets what this refusal is about
 abbrev pub LinkMeets : List Router → List Link → ℕ → ℕ → NetError → Type 0
 LinkMeets routers links a b Repeated = (a ≢ b) × All (λ link. Joins link a b → ⊥) links
 LinkMeets routers links a b UnknownRouter = IsRouter routers a × IsRouter routers b
@@ -85,7 +85,7 @@ LinkMeets routers links a b e = Unit {0}
 abbrev pub with_link : Plan → ℕ → ℕ → Plan
 with_link net a b = record net { links = net.links ++ (record { one = a; other = b }) ∷ [] }
 
--- an origin
+-- a new origin meets what this refusal is about
 abbrev pub OriginMeets : List Router → List Origin → ℕ → PrefixView → NetError → Type 0
 OriginMeets routers origins u q Repeated = IsNamed origins q → ⊥
 OriginMeets routers origins u q UnknownRouter = IsRouter routers u
@@ -98,7 +98,7 @@ pub record AddsOrigin (old new : Plan) (u : ℕ) (q : PrefixView) : Type 0 where
   pub routers : new.routers ≡ old.routers
   pub links : new.links ≡ old.links
 
--- a rule
+-- a new rule meets what this refusal is about
 abbrev pub RuleMeets : List Router → ℕ → PrefixView → List (List ℕ) → NetError → Type 0
 RuleMeets routers u q paths NotSimple = All (λ path. BeginsWith path u × IsSimple path) paths
 RuleMeets routers u q paths TooLong = All (λ path. length path ≤ LONGEST_PATH) paths
@@ -119,7 +119,7 @@ pub record AddsRule (old new : Plan) (u : ℕ) (q : PrefixView) (paths : List (L
   pub links : new.links ≡ old.links
   pub origins : new.origins ≡ old.origins
 
--- the whole
+-- the whole network meets what this refusal is about
 abbrev pub NetworkMeets : List Router → List Link → NetError → Type 0
 NetworkMeets routers links Limit = 0 < length routers
 NetworkMeets routers links NotConnected = IsConnected routers links

@@ -27,7 +27,7 @@ contains_at p ps (suc k) a l e = inr (k, omega (arith, l), e)
 contains_cons : (p : List ℕ) (ps : List (List ℕ)) (a : List ℕ) → Contains (p ∷ ps) a → (p ≡ a) ⊎ Contains ps a
 contains_cons p ps a h = contains_at p ps h.0 a h.1 h.2
 
--- the same, path by path
+-- in a list, best first: the first path comes before the second, path by path
 abbrev pub Above : List (List ℕ) → List ℕ → List ℕ → Type 0
 Above [] a b = ⊥
 Above (p ∷ ps) a b = (p ≢ b) × ((p ≡ a) ⊎ Above ps a b)
@@ -101,7 +101,7 @@ listed_paths_are_an_order paths P = record {
   total = λ p q is_p is_q apart. comes_first_total paths p q is_p.0 is_q.0 apart;
 }
 
--- the same as in a dictionary, number by number
+-- in a dictionary: the first path comes before the second, number by number
 abbrev pub Earlier : List ℕ → List ℕ → Type 0
 Earlier [] b = ⊥
 Earlier (x ∷ xs) [] = ⊥

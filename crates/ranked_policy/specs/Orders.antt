@@ -6,7 +6,8 @@ use Rattle.std.specs.declared.cmp.Ordering.{Ordering}
 use Rattle.std.specs.Ordering.{nat_cmp, ordering_then}
 use Rattle.prefix_lanes.specs.Bits.{PrefixView}
 
--- on the permitted paths: no path is better than itself, better than a better one is better, and of two paths one is better
+-- on the permitted paths: no path is better than itself, a path better than a better one is better, and of two paths
+-- one is better
 pub record IsStrictTotalOrder (Permits : List ℕ → Type 0) (Prefers : List ℕ → List ℕ → Type 0) : Type 0 where
   pub irreflexive : (p : List ℕ) → Permits p → Prefers p p → ⊥
   pub transitive : (p q r : List ℕ) → Permits p → Permits q → Permits r → Prefers p q → Prefers q r → Prefers p r

@@ -60,7 +60,8 @@ Joined links u w = (vs : List ℕ) × Walks links u vs w
 abbrev pub IsConnected : List Router → List Link → Type 0
 IsConnected routers links = (u v : ℕ) → IsRouter routers u → IsRouter routers v → Joined links u v
 
--- the hold time that each OPEN proposes (RFC 4271 section 4.2), the octets of a piece, the items of a pipe
+-- each setting is in its range: the hold time that an OPEN proposes (RFC 4271 section 4.2), the octets of a piece, the
+-- items of a pipe
 pub record IsSettings (s : Settings) : Type 0 where
   pub hold : IsHoldTime s.hold
   pub cut : (1 ≤ s.cut) × (s.cut ≤ GREATEST_CUT)
@@ -99,7 +100,7 @@ pub record AreRules (all : List ℕ) (u : ℕ) (rules : List Rule) : Type 0 wher
   pub distinct : AllPairs (λ rule later. rule.prefix ≢ later.prefix) rules
   pub ranked : All (λ rule. AreRanked all u rule.paths) rules
 
--- it is within the limits, names only its own routers, and repeats nothing
+-- a network so far: it is within the limits, names only its own routers, and repeats nothing
 pub record IsPlan (net : Plan) : Type 0 where
   pub settings : IsSettings net.settings
   pub few : length net.routers ≤ MOST_ROUTERS
@@ -111,7 +112,7 @@ pub record IsPlan (net : Plan) : Type 0 where
   pub origins : AreOrigins (numbers net.routers) net.origins
   pub rules : All (λ r. AreRules (numbers net.routers) r.asn r.rules) net.routers
 
--- besides, it has a router, and links lead from each router to each other one
+-- a whole network: it has a router besides, and links lead from each router to each other one
 pub record IsNetwork (net : Plan) : Type 0 where
   pub plan : IsPlan net
   pub some : 0 < length net.routers

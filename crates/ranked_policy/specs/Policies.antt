@@ -47,7 +47,7 @@ IsPermitted table q path =
     (Originates table q table.router × (path ≡ table.router ∷ []))
     ⊎ ((Originates table q table.router → ⊥) × IsRoute table.router (Originates table q) path × IsListed table.rules q path)
 
--- their order: that of the rule, or the shorter first; an origin has nothing to choose
+-- the order of the permitted paths: that of the rule, or the shorter first; an origin has nothing to choose
 abbrev pub IsPreferred : Table → PrefixView → List ℕ → List ℕ → Type 0
 IsPreferred table q a b =
     (Originates table q table.router → ⊥)

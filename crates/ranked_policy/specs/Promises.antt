@@ -1,4 +1,4 @@
--- What the definitions of a router's policies say together.
+-- Laws of the definitions of a router's policies.
 use Rattle.std.specs.Prelude.{◌≡◌}
 use Rattle.prefix_lanes.specs.Bits.{PrefixView}
 use Rattle.ranked_policy.specs.declared.network.Rule.{Rule}

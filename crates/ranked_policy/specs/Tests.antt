@@ -72,7 +72,7 @@ is_shorter a b = nat_lt (length a) (length b) || ((length a == length b) && come
 abbrev pub originates : Table → PrefixView → ℕ → Bool
 originates table q u = list_any (λ origin. is_prefix origin.prefix q && (origin.router == u)) table.origins
 
--- the longer of two rules, where there are two
+-- the longer of a rule and another, if there is another
 abbrev pub longer : Rule → Option Rule → Rule
 longer rule None = rule
 longer rule (Some other) = if nat_lt rule.prefix.len other.prefix.len then other else rule
@@ -100,7 +100,8 @@ prefers table q a b = not (originates table q table.router) && comes_before (rul
 
 -- ---- the best of some choices
 
--- a choice more: it is taken where it is permitted, and there is none yet or it is preferred
+-- the better of a choice and the best so far: the choice, if it is permitted and either none was before or it is
+-- preferred
 abbrev pub better : Table → PrefixView → List ℕ → List ℕ → List ℕ
 better table q choice best = if permits table q choice && (same_path best [] || prefers table q choice best) then choice else best
 
@@ -109,19 +110,19 @@ abbrev pub best_of : Table → PrefixView → List (List ℕ) → List ℕ
 best_of table q [] = []
 best_of table q (choice ∷ choices) = better table q choice (best_of table q choices)
 
--- ---- what they decide
+-- ---- what the tests decide
 
--- the test of permitted paths
+-- `permits` decides which paths are permitted
 abbrev pub PermitsIsATest : Type 0
 PermitsIsATest =
     (table : Table) → IsTable table → (q : PrefixView) (path : List ℕ) → Decides (permits table q path) (IsPermitted table q path)
 
--- the test of their order
+-- `prefers` decides which of two paths is preferred
 abbrev pub PrefersIsATest : Type 0
 PrefersIsATest =
     (table : Table) → IsTable table → (q : PrefixView) (a b : List ℕ) → Decides (prefers table q a b) (IsPreferred table q a b)
 
--- it is one of the choices, permitted, and preferred to each other one that is
+-- the path is one of the choices, is permitted, and is preferred to each other permitted one
 pub record IsFirstOf (table : Table) (q : PrefixView) (choices : List (List ℕ)) (path : List ℕ) : Type 0 where
   pub listed : Contains choices path
   pub permitted : IsPermitted table q path

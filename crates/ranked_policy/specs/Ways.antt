@@ -5,7 +5,7 @@ use mathlib.Core.Logic.{◌⊎◌}
 use Rattle.ranked_policy.specs.declared.network.Link.{Link}
 use Rattle.ranked_policy.specs.Plans.{Linked}
 
--- by the end that it is from, then by the other
+-- the order of ways: by the end that each leads from, then by the other
 abbrev pub IsEarlier : Link → Link → Type 0
 IsEarlier a b = (a.one < b.one) ⊎ ((a.one ≡ b.one) × (a.other < b.other))
 

@@ -1,4 +1,4 @@
-//! What is refused, in the order in which it is judged.
+//! The checks of each call, in the order in which they refuse.
 
 ghost use Rattle.std.specs.Prelude.{◌≡◌, ◌≢◌, ◌≤◌, ◌<◌, ◌↔◌, ℕ, IsTrue, length, MatchResult};
 ghost use Rattle.std.specs.List.{All, AllPairs, Any, Contains, count_by};
@@ -80,7 +80,7 @@ fn is_router(routers: &[Router], asn: Asn) -> bool
     find_router(routers, asn).is_some()
 }
 
-// Whether a link joins the two. It is looked for among the ways that the links give.
+// Whether a link joins the two. The link is looked up among the ways.
 fn is_linked(_links: &[Link], ways: &Ways, a: Asn, b: Asn) -> bool
     requires { AreWays _links.now ways.now }
     ensures { IsTrue result ↔ Linked _links.now a b }

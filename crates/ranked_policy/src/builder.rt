@@ -111,7 +111,7 @@ impl NetBuilder {
         Ok(())
     }
 
-    /// Names the origin of a prefix, which has one.
+    /// Names the origin of a prefix. A prefix has no more than one.
     pub fn push_origin(&mut self, asn: Asn, prefix: Prefix) -> Result<(), NetError>
         ensures ok { OnOk result (AddsOrigin self.old self.new asn prefix) }
         ensures met { OnOk result (MeetsAll (OriginMeets self.old.routers self.old.origins asn prefix)) }
@@ -158,8 +158,9 @@ impl NetBuilder {
         Ok(())
     }
 
-    /// The whole network, where it has a router and links lead from each router to each other one.
-    /// It takes no memory. A refusal gives the builder back.
+    /// Makes the network. Refused with `Limit` if it has no router, and with `NotConnected` if
+    /// links do not lead from each router to each other one. It takes no memory. A refusal gives
+    /// the builder back.
     pub fn finish(self) -> Result<Network, (NetBuilder, NetError)>
         ensures ok { IfOk result (λ net. net ≡ self) }
         ensures network { IfOk result IsNetwork }

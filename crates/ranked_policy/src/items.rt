@@ -1,4 +1,4 @@
-//! A list that a contract sees as a list, whatever room it has.
+//! A list of a network's parts. A contract sees its items, and not its capacity.
 
 ghost use Rattle.std.specs.Prelude.{◌≡◌, [], ◌∷◌, ◌++◌, ◌==◌, length, OnOk, OnErr};
 

@@ -1,4 +1,4 @@
-//! What the definitions of policies say together.
+//! Laws of the definitions of policies.
 
 ghost use Rattle.ranked_policy.specs.Promises.{OneRule, EachPolicyIsAnOrder};
 ghost use Rattle.ranked_policy.specs.Tests.{PermitsIsATest, PrefersIsATest, BestIsFirst};
@@ -19,8 +19,8 @@ pub fn each_policy_is_an_order()
     a_prefix_is_its_bits();
 }
 
-/// The permitted paths of each router and prefix, and their order, are what two tests say that
-/// compute (`permits`, `prefers`).
+/// The functions `permits` and `prefers` of the definitions compute: they decide which paths of a
+/// router and prefix are permitted, and which of two is preferred.
 pub fn policies_are_tests()
     ensures permits { PermitsIsATest }
     ensures prefers { PrefersIsATest }
@@ -28,8 +28,8 @@ pub fn policies_are_tests()
     a_prefix_is_its_bits();
 }
 
-/// The best of some choices, by these tests, is the first in the order of those that are permitted,
-/// and the empty path where none is.
+/// The function `best_of` of the definitions computes the best of some choices: the first, in
+/// order, of those that are permitted, or the empty path if none is.
 pub fn the_best_is_the_first()
     ensures { BestIsFirst }
 {

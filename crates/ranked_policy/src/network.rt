@@ -23,14 +23,14 @@ pub struct Settings {
     pub cut: usize,
     /// How many items a one-way pipe of a link holds, 1 to [`GREATEST_PIPE`](crate::GREATEST_PIPE).
     pub pipe: usize,
-    /// How many octets AS numbers have in messages: no router has a number that they do not hold.
+    /// How many octets an AS number has in messages. Each router's number fits them.
     pub width: Width,
 }
 
 /// The paths that a router may use for the prefixes that a prefix covers, the best first.
 #[derive(Debug, Drop)]
 pub struct Rule {
-    /// The prefix that covers them.
+    /// The prefix that covers those prefixes.
     pub prefix: Prefix,
     /// Its ranked paths.
     pub paths: Items<Path>,
@@ -97,7 +97,7 @@ impl Network {
         Network { built }
     }
 
-    /// What was built, and all that a builder says of it.
+    /// The builder that made the network: its readers answer for the network.
     pub fn built(&self) -> &NetBuilder
         ensures value { result.now ≡ self.now }
         ensures network { IsNetwork self.now }

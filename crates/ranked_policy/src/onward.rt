@@ -1,4 +1,4 @@
-//! Paths that are judged before they are made: a router, and the way on from it.
+//! Tests of a path before it is made: a router, then the rest of its path.
 
 ghost use Rattle.std.specs.Prelude.{◌≡◌, ◌≢◌, ◌↔◌, ◌∷◌, ℕ, Some, IsTrue};
 ghost use Rattle.std.specs.List.{Contains};

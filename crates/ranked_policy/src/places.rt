@@ -31,14 +31,14 @@ pub(crate) fn place_of_prefix(origins: &[Origin], prefix: &Prefix) -> Result<usi
     origins.binary_search_by_key(&order_of(prefix), |origin| order_of(&origin.prefix))
 }
 
-// What prefixes stand in order by: the address, then the length.
+// The key by which prefixes are ordered: the address, then the length.
 fn order_of(prefix: &Prefix) -> (u32, u8)
     ensures { result ≡ (prefix.now.addr, prefix.now.len) }
 {
     (prefix.addr(), prefix.len())
 }
 
-// The place that the number has where all are consecutive, if it stands there.
+// The place that the number has if all numbers are consecutive; `None` if it does not stand there.
 fn consecutive_place(routers: &[Router], asn: Asn) -> Option<usize>
     ensures { IfSome result (λ i. (i < length routers.now) × HoldsAt (λ r. r.asn ≡ asn) routers.now i) }
 {
@@ -51,8 +51,8 @@ fn consecutive_place(routers: &[Router], asn: Asn) -> Option<usize>
     }
 }
 
-// The place of the router with this number. Most networks number theirs without a gap, so that place
-// is looked at before it is searched for.
+// The place of the router with this number. Most networks number their routers without a gap, so
+// the place that this gives is tried before a search.
 pub(crate) fn find_router(routers: &[Router], asn: Asn) -> Option<usize>
     requires { AllPairs (λ u v. u < v) (numbers routers.now) }
     ensures some { IsSome result ↔ IsRouter routers.now asn }
@@ -91,7 +91,7 @@ pub(crate) fn router_of(routers: &[Router], asn: Asn) -> Option<&Router>
     }
 }
 
-// The origin of the prefix: none where it is not named.
+// The origin of the prefix, or none if the prefix is not named.
 pub(crate) fn origin_of(origins: &[Origin], prefix: &Prefix) -> Option<Asn>
     requires { AllPairs (λ origin later. IsBefore origin.prefix later.prefix) origins.now }
     ensures { IsOriginOf origins.now prefix.now result }

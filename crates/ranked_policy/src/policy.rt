@@ -54,7 +54,7 @@ impl Policy for Only {
     }
 }
 
-/// The policy of a rule: its paths, the best first, as far as they end at the origin.
+/// The policy of a rule: those of its paths that end at the origin, the best first.
 #[derive(Clone, Copy, Debug)]
 pub struct Ranked<'a> {
     /// The ranked paths.
@@ -86,8 +86,8 @@ impl Policy for Ranked<'_> {
     }
 }
 
-/// The policy where no rule speaks: every route to the origin, the shorter first, then by the
-/// numbers.
+/// The policy if no rule covers the prefix: every route to the origin, the shorter first, then by
+/// the numbers.
 #[derive(Clone, Copy, Debug)]
 pub struct Shortest {
     /// The router.

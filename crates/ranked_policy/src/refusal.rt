@@ -22,7 +22,7 @@ pub enum NetError {
     /// No router has this number.
     #[error("no such router")]
     UnknownRouter,
-    /// There would be more than a network may have, or it has no router at all.
+    /// A limit of a network would be passed, or the network has no router at all.
     #[error("past a limit")]
     Limit,
     /// A number, a setting or an identifier is outside its range.

@@ -54,9 +54,9 @@ impl<'a> PolicyTable<'a> {
         self.router
     }
 
-    /// The policy for a prefix: where the router originates it the path of itself alone, else the
-    /// paths of its longest covering rule that end at the origin, else every route to the origin. A
-    /// prefix without an origin has no permitted path.
+    /// The policy for a prefix. If the router originates the prefix, it may use the path of itself alone. Else it may
+    /// use the paths of its longest covering rule that end at the origin, or, without such a rule, every route to the
+    /// origin. A prefix without an origin has no permitted path.
     pub fn for_prefix(&self, prefix: &Prefix) -> Chosen<'a>
         ensures permits { (path : List ℕ) → (chosen_permits result path ↔ IsPermitted self.now prefix.now path) }
         ensures prefers { (a b : List ℕ) → (chosen_prefers result a b ↔ IsPreferred self.now prefix.now a b) }
@@ -80,7 +80,7 @@ impl<'a> PolicyTable<'a> {
         }
     }
 
-    /// The rule whose prefix is the longest that covers this one. None where no rule of the router covers it.
+    /// The rule whose prefix is the longest that covers this one. `None` if no rule of the router covers it.
     pub fn rule(&self, prefix: &Prefix) -> Option<&'a Rule>
         ensures { MatchOption result (rule_for self.now.rules prefix.now ≡ None) (λ rule. rule_for self.now.rules prefix.now ≡ Some rule.now) }
     {

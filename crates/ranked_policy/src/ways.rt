@@ -10,7 +10,8 @@ use crate::path::Asn;
 use std::alloc::{AllocError, Global};
 use std::marker::Model;
 
-/// Each link twice, from each of its ends to the other: by the end it is from, then by the other.
+/// Each link twice, once from each of its ends. Ways are ordered by the end that they lead from,
+/// then by the other.
 #[derive(Debug, Drop)]
 pub(crate) struct Ways {
     ways: Vec<Link>,
@@ -40,7 +41,7 @@ fn place_of(ways: &[Link], one: Asn, other: Asn) -> Result<usize, usize>
     ways.binary_search_by_key(&(one, other), |way| (way.one, way.other))
 }
 
-// Adds the way from one to the other, where it is not there.
+// Adds the way from one to the other, if it is missing.
 fn add(ways: &mut Vec<Link>, one: Asn, other: Asn)
     requires rising { AllPairs IsEarlier ways.old.items }
     requires room { vec_len ways.old < vec_capacity ways.old }
@@ -75,7 +76,7 @@ fn ways_from(ways: &[Link], asn: Asn) -> &[Link]
 }
 
 impl Ways {
-    /// No way.
+    /// The empty list of ways.
     pub(crate) fn new(alloc: Global) -> Ways
         ensures { result ≡ [] }
     {
