@@ -29,7 +29,7 @@ IsPartial octets = (length octets < HEADER_LEN) ⊎ ((HEADER_LEN ≤ length octe
 abbrev pub IsFaulty : List ℕ → Type 0
 IsFaulty octets = (fault : Fault) × (HEADER_LEN ≤ length octets) × (header_fault octets ≡ Some fault)
 
--- a rest is one or the other
+-- a rest is partial or faulty
 abbrev pub RestIs : Type 0
 RestIs = (octets : List ℕ) (frames : List (List ℕ)) (rest : List ℕ) → Splits octets frames rest → IsPartial rest ⊎ IsFaulty rest
 

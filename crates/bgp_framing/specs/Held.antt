@@ -23,7 +23,7 @@ IsNext octets (Whole start end) = (start ≡ 0) × (end ≤ length octets) × Is
 IsNext octets More = IsPartial octets
 IsNext octets (Bad fault) = (HEADER_LEN ≤ length octets) × (header_fault octets ≡ Some fault)
 
--- the same without the fault, as a framer keeps it
+-- what stands in front, without the fault, as a framer keeps it
 abbrev pub IsFront : List ℕ → Front → Type 0
 IsFront octets (Message len) = (len ≤ length octets) × IsFrame (take len octets)
 IsFront octets TooFew = IsPartial octets
@@ -43,10 +43,10 @@ IsFirst octets (Whole start end) = (frames : List (List ℕ)) (rest : List ℕ) 
 IsFirst octets More = (frames : List (List ℕ)) (rest : List ℕ) → Splits octets frames rest → frames ≡ []
 IsFirst octets (Bad fault) = (frames : List (List ℕ)) (rest : List ℕ) → Splits octets frames rest → frames ≡ []
 
--- what stands in front is the first frame, where there is one
+-- what stands in front is the first frame, if there is one
 abbrev pub NextIsFirst : Type 0
 NextIsFirst = (octets : List ℕ) (next : Next) → IsNext octets next → IsFirst octets next
 
--- there is one answer
+-- octets have one answer
 abbrev pub OneNext : Type 0
 OneNext = (octets : List ℕ) (a b : Next) → IsNext octets a → IsNext octets b → a ≡ b

@@ -18,7 +18,7 @@ const MOST_HELD: usize = 2 * MESSAGE_LIMIT - 1;
 /// What stands in front of the octets held.
 #[derive(Debug, Drop)]
 pub enum Next {
-    /// A whole message, from one place in the octets held to another.
+    /// A whole message: the places in the octets held where it begins and where it ends.
     Whole(usize, usize),
     /// Neither a whole message nor a fault.
     More,
@@ -37,10 +37,10 @@ enum Front {
     Faulty,
 }
 
-/// What was fed and not used yet, and the room that it has for it.
+/// The octets that were fed and not used yet, with room for the most that are held.
 #[derive(Debug, Drop)]
 pub struct Framer {
-    // Those held stand from `used` to `end`; what stands elsewhere is of no account.
+    // The octets held stand from `used` to `end`; the others do not matter.
     octets: Vec<u8>,
     used: usize,
     end: usize,
@@ -60,7 +60,7 @@ impl Model for Framer {
     ghost invariant = { λ framer. (MOST_HELD ≤ vec_capacity framer.octets) × (framer.used ≤ framer.end) × (framer.end ≤ vec_len framer.octets) × IsFront (slice_range framer.octets.items framer.used framer.end) framer.front };
 }
 
-/// What stands in front of these octets: what a framer answers that holds them. It takes no memory.
+/// What stands in front of these octets, as a framer that holds them answers. It takes no memory.
 #[inline(always)]
 pub fn next_message(alloc: Global, octets: &[u8]) -> Next
     ensures { IsNext octets.now result }
@@ -82,7 +82,7 @@ pub fn next_message(alloc: Global, octets: &[u8]) -> Next
     }
 }
 
-// The same without the fault: what a framer keeps.
+// What stands in front of these octets, without the fault, as a framer keeps it.
 fn front_of(alloc: Global, octets: &[u8]) -> Front
     ensures { IsFront octets.now result }
 {
@@ -103,8 +103,8 @@ fn between(octets: &Vec<u8>, start: usize, end: usize) -> &[u8]
     held
 }
 
-// Makes the octets at least so many, for which there is room, and leaves the room as it was. A framer comes here only
-// until it has held its longest.
+// Lengthens the octets to at least `len`, within their room, which stays as it was. A framer needs this only until it
+// has held its longest.
 #[inline(never)]
 fn lengthen(octets: &mut Vec<u8>, len: usize)
     requires { len ≤ vec_capacity octets.old }
@@ -117,7 +117,7 @@ fn lengthen(octets: &mut Vec<u8>, len: usize)
     }
 }
 
-// Puts a piece over the octets from a place on, for which there is room, and leaves the room as it was.
+// Writes a piece over the octets from a place on, within their room, which stays as it was.
 fn put_at(octets: &mut Vec<u8>, at: usize, piece: &[u8])
     requires place { at ≤ vec_len octets.old }
     requires room { at + length piece.now ≤ vec_capacity octets.old }
@@ -133,8 +133,7 @@ fn put_at(octets: &mut Vec<u8>, at: usize, piece: &[u8])
 }
 
 impl Framer {
-    /// A framer that holds nothing, with room for all that it will hold. It
-    /// is refused only where memory was.
+    /// A framer that holds nothing, with room for all that it will hold. Refused only for want of memory.
     pub fn new(alloc: Global) -> Result<Framer, AllocError>
         ensures empty { IfOk result (λ framer. framer.octets ≡ []) }
         ensures room { IfOk result (λ framer. MOST_HELD ≤ framer.room) }

@@ -25,8 +25,8 @@ pub fn splits_behind_a_frame()
     header_is_its_front();
 }
 
-/// Octets that are too few for a message, or begin with a faulty header, are no frame and
-/// themselves the rest.
+/// Octets that are too few for a message, or begin with a faulty header, have no frame: all of them
+/// are the rest.
 pub fn splits_into_nothing()
     ensures { SplitsIntoNothing }
 {
@@ -41,15 +41,16 @@ pub fn rest_is()
     header_is_its_front();
 }
 
-/// What a framer answers is the first of the frames of what it holds, and that there is none
-/// exactly where it answers no whole message.
+/// A framer answers the first frame of the octets that it holds. It answers no whole message
+/// exactly where they have no frame.
 pub fn next_is_first()
     ensures { NextIsFirst }
 {
     header_is_its_front();
 }
 
-/// What a framer may answer is one thing: so after a fault it answers the same one until `clear`.
+/// A framer has one answer for the octets that it holds. After a fault it answers the same fault
+/// until `clear`.
 pub fn next_is_one()
     ensures { OneNext }
 {
