@@ -1,4 +1,4 @@
--- One end of a link: what a dial, a hanging up and a sign of the peer make of it.
+-- One end of a link, and how a dial, a hanging up and a sign of the peer change it.
 -- All rules are this project's own; they stand in for the transport connection of RFC 4271 section 8.
 use Rattle.std.specs.Prelude.{ℕ, ◌+◌, ◌==◌, max, nat_lt, Bool, true, false, ◌&&◌, not, cond, Option, None, Some}
 use Rattle.link_epoch.specs.declared.link_end.Phase.{Phase}
@@ -55,8 +55,8 @@ heard_by a (sign.Dial n) = cond (nat_lt a.heard n)
     a
 heard_by a (sign.Shut n) = cond (n == a.heard) (record a { heard_is_shut = true }) a
 
--- what a Dial above the greatest heard means: the own number where it is offered joins, a number
--- above the own is an offer where the end is not joined
+-- the meaning of a Dial above the greatest heard: the own number joins if it is offered; a number above the own is an
+-- offer unless the end is joined
 abbrev pub meaning_of_dial : Phase → Bool → Bool → ℕ → Heard
 meaning_of_dial Shut is_own is_above n = cond is_above (heard.Offered n) heard.Quiet
 meaning_of_dial Offered is_own is_above n = cond is_own heard.Joined (cond is_above (heard.Offered n) heard.Quiet)

@@ -35,7 +35,7 @@ numbers_from a (Hears s ∷ ms) = numbers_from (heard_by a s) ms
 abbrev pub numbers_dialled : List Move → List ℕ
 numbers_dialled ms = numbers_from opening ms
 
--- the signs that it heard, in order
+-- the signs that an end heard, in order
 abbrev pub signs_heard : List Move → List Sign
 signs_heard [] = []
 signs_heard (Dials ∷ ms) = signs_heard ms
@@ -91,22 +91,22 @@ NeverHangsUp (Dials ∷ ms) = NeverHangsUp ms
 NeverHangsUp (HangsUp ∷ ms) = ⊥
 NeverHangsUp (Hears s ∷ ms) = NeverHangsUp ms
 
--- it dialled, and has not hung up since
+-- the end dialled, and has not hung up since
 abbrev pub HoldsOn : List Move → Type 0
 HoldsOn ms = (before : List Move) × (later : List Move) × (ms ≡ before ++ Dials ∷ later) × NeverHangsUp later
 
--- joined exactly where the last number was dialled here, heard, and not hung up since
+-- an end is joined exactly where its last number was dialled here, heard, and not hung up since
 abbrev pub JoinedWhereDialledAndHeard : Type 0
 JoinedWhereDialledAndHeard = (ms : List Move) → ((end_after ms).phase ≡ Joined) ↔ (HoldsOn ms × IsHeard (end_after ms).epoch (signs_heard ms))
 
--- hearing joins exactly where a Dial of the offered number comes, above all that was heard
+-- a sign joins exactly where it is a Dial of the offered number, above all that was heard
 abbrev pub JoinsAtItsOwnNumber : Type 0
 JoinsAtItsOwnNumber = (a : LinkView) (s : Sign) → (meaning_of a s ≡ heard.Joined) ↔ ((s ≡ Dial a.epoch) × (a.heard < a.epoch) × (a.phase ≡ Offered))
 
--- it is an offer exactly where a Dial comes, above all that was heard and dialled, and the end is not joined
+-- a sign is an offer exactly where it is a Dial above all that was heard and dialled, and the end is not joined
 abbrev pub OffersAboveTheOwn : Type 0
 OffersAboveTheOwn = (a : LinkView) (s : Sign) (n : ℕ) → (meaning_of a s ≡ heard.Offered n) ↔ ((s ≡ Dial n) × (a.heard < n) × (a.epoch < n) × (a.phase ≢ Joined))
 
--- it closes exactly where a Shut of the number comes that was dialled, heard and joined
+-- a sign closes exactly where it is a Shut of the number that was dialled, heard and joined
 abbrev pub ClosesAtItsOwnNumber : Type 0
 ClosesAtItsOwnNumber = (a : LinkView) (s : Sign) → (meaning_of a s ≡ heard.Closed) ↔ ((s ≡ Shut a.epoch) × (a.heard ≡ a.epoch) × (a.phase ≡ Joined))

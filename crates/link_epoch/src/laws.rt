@@ -17,21 +17,21 @@ pub fn heard_is_greatest_heard()
     ensures { HeardIsGreatest }
 {}
 
-/// The number heard counts as shut exactly where the peer shut it while it was the greatest that the
-/// peer had dialled; of a peer that shuts no number above those that it has dialled, where it shut it
-/// at all. Nothing is said of numbers below the one heard.
+/// The number heard counts as shut exactly where the peer shut it while it was the greatest that the peer had dialled.
+/// If the peer shuts no number above those that it has dialled, it counts as shut exactly where the peer shut it at
+/// all. Nothing is said of numbers below the one heard.
 pub fn heard_is_shut_where_it_was_shut()
     ensures as_the_greatest { HeardIsShut }
     ensures at_all { HeardIsShutAnywhere }
 {}
 
-/// An end is joined exactly where it dialled its number, heard it, and has not hung up since.
+/// An end is joined exactly where it dialled its number, heard it from the peer, and has not hung up since.
 pub fn joined_where_dialled_and_heard()
     ensures { JoinedWhereDialledAndHeard }
 {}
 
-/// What a sign means: it joins, is an offer or closes exactly at these numbers and phases, and is
-/// nothing else.
+/// A sign joins, is an offer or closes exactly at the numbers and phases that these clauses name. Every other sign
+/// means nothing.
 pub fn signs_mean()
     ensures joins { JoinsAtItsOwnNumber }
     ensures offers { OffersAboveTheOwn }

@@ -4,9 +4,9 @@
 //! number for one incarnation. An end dials a number, hears what its peer dials and shuts, and is
 //! joined once both have dialled the same number.
 //!
-//! The one contract: an end is joined exactly where it has dialled the number, has heard it, and has
-//! not hung up since; and the numbers that an end dials rise. A call's contract gives the new state
-//! as one equation; the laws at the end say what the states are worth over every history of calls.
+//! The one contract: an end is joined exactly where it has dialled the number, has heard it, and has not hung up since;
+//! and the numbers that an end dials rise. A call's contract gives the new state as one equation. The laws say what the
+//! states mean over every history of calls.
 //!
 //! RFC 4271 section 8 leaves the transport connection to TCP; all rules here are this project's own.
 //! Collision detection (section 6.8) is left out, since a link has one incarnation at a time.

@@ -103,16 +103,17 @@ impl LinkEnd {
         self.phase
     }
 
-    /// Whether the peer waits in a number that this end can join: one above the own, not shut.
-    /// A `dial` joins exactly then.
+    /// Whether the peer waits in a number that this end can join: one above its own that is not
+    /// shut. A `dial` joins exactly then.
     pub fn is_awaited(&self) -> bool
         ensures { result ≡ is_awaited self.now }
     {
         self.epoch < self.heard && !self.heard_is_shut
     }
 
-    /// Dials: the peer's number where it waits there, else the least number above all that both
-    /// ends have dialled. Refused where that number would pass 4294967295, which changes nothing.
+    /// Dials the peer's number if the peer waits there, else the least number above all that this
+    /// end has dialled and heard. Refused with [`LinkError::EpochEnd`] exactly if that number would
+    /// pass 4294967295; the end is then as it was.
     pub fn dial(&mut self) -> Result<Dialled, LinkError>
         ensures number { IfOk result (λ d. d ≡ record { epoch = next_number self.old; joined = is_awaited self.old }) }
         ensures ok { OnOk result (self.new ≡ dialled self.old) }
@@ -138,8 +139,8 @@ impl LinkEnd {
         Ok(Dialled { epoch, joined })
     }
 
-    /// Hangs up: answers the number that the peer is to be told is shut, `None` where the end is in
-    /// phase `Shut` already.
+    /// Hangs up, and answers the number that the peer is to be told is shut. `None` if the end is
+    /// in phase `Shut` already.
     pub fn hang_up(&mut self) -> Option<u32>
         ensures number { result ≡ number_shut self.old }
         ensures after { self.new ≡ hung_up self.old }
