@@ -4,11 +4,11 @@ use Rattle.prefix_lanes.specs.Bits.{PrefixView}
 use Rattle.ranked_policy.specs.declared.network.Origin.{Origin}
 use Rattle.ranked_policy.specs.Plans.{IsNamed, IsBefore}
 
--- it holds of each prefix that the network names
+-- a property holds of each prefix that the network names
 abbrev pub HoldsOfAll : List Origin → (PrefixView → Type 0) → Type 0
 HoldsOfAll origins Holds = (q : PrefixView) → IsNamed origins q → Holds q
 
--- the least prefix of which it does not hold
+-- the least prefix of which a property does not hold
 pub record IsLeastWithout (origins : List Origin) (Holds : PrefixView → Type 0) (q : PrefixView) : Type 0 where
   pub is_named : IsNamed origins q
   pub fails : Holds q → ⊥

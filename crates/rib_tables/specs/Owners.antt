@@ -1,4 +1,4 @@
--- All that a router's choices depend on, and what each call does to it, by look-ups alone.
+-- All that a router's choices depend on, and how each call changes it, told by look-ups alone.
 use Rattle.std.specs.Prelude.{ℕ, ◌≡◌, ◌≢◌, ◌↔◌, List}
 use Rattle.std.specs.List.{Contains}
 use mathlib.Core.Logic.{◌⊎◌}
@@ -9,7 +9,7 @@ use Rattle.rib_tables.specs.Tables.{Words, Paths, word_of, IsSilent, KeepsNothin
 use Rattle.rib_tables.specs.Least.{HoldsOfAll}
 use Rattle.rib_tables.specs.Choices.{SourcesView, IsBest, IsDecided}
 
--- what a router's choices are taken from, the words sent and the kept paths
+-- the tables of a router: what its choices are taken from, the words sent and the kept paths
 pub record RibView : Type 0 where
   pub net : Plan
   pub router : ℕ
@@ -45,7 +45,7 @@ AllServed s = (v : ℕ) → HoldsOfAll s.net.origins (IsServed s v)
 abbrev pub IsPending : RibView → Type 0
 IsPending s = ((q : PrefixView) × IsNamed s.net.origins q × (IsSettled s q → ⊥)) ⊎ IsAwaited s
 
--- as it is made: nothing is heard, sent, originated or kept, and no session is Established
+-- the tables as they are made: nothing is heard, sent, originated or kept, and no session is Established
 pub record IsNew (net : Plan) (router : ℕ) (s : RibView) : Type 0 where
   pub network : s.net ≡ net
   pub number : s.router ≡ router
@@ -55,7 +55,7 @@ pub record IsNew (net : Plan) (router : ℕ) (s : RibView) : Type 0 where
   pub originated : (q : PrefixView) → Contains s.originated q → ⊥
   pub kept : KeepsNothing s.kept
 
--- an UPDATE of a peer: its words change, and nothing else
+-- an UPDATE of a peer changes the words of the peer, and nothing else
 pub record HearsUpdate (old new : RibView) (peer : ℕ) (u : Update) : Type 0 where
   pub words : Applies old.net.origins old.heard new.heard peer u
   pub rest : new ≡ record { net = old.net; router = old.router; heard = new.heard; sent = old.sent; established = old.established; originated = old.originated; kept = old.kept }
@@ -78,7 +78,7 @@ pub record ForgetsPeer (old new : RibView) (peer : ℕ) : Type 0 where
   pub established : (v : ℕ) → (Contains new.established v ↔ ((v ≢ peer) × Contains old.established v))
   pub rest : new ≡ record { net = old.net; router = old.router; heard = new.heard; sent = new.sent; established = new.established; originated = old.originated; kept = old.kept }
 
--- a prefix is originated, or no longer
+-- a prefix is originated from now on, or no longer
 pub record Originating (old new : RibView) (q : PrefixView) : Type 0 where
   pub originated : (p : PrefixView) → (Contains new.originated p ↔ ((p ≡ q) ⊎ Contains old.originated p))
   pub rest : new ≡ record { net = old.net; router = old.router; heard = old.heard; sent = old.sent; established = old.established; originated = new.originated; kept = old.kept }
@@ -92,7 +92,7 @@ pub record KeepsPath (old new : RibView) (q : PrefixView) (path : List ℕ) : Ty
   pub paths : Keeps old.kept new.kept q path
   pub rest : new ≡ record { net = old.net; router = old.router; heard = old.heard; sent = old.sent; established = old.established; originated = old.originated; kept = new.kept }
 
--- a prefix gets its best
+-- a prefix gets its best path
 pub record Decides (old new : RibView) (q : PrefixView) : Type 0 where
   pub best : List ℕ
   pub is_best : IsBest (sources_of old) q best

@@ -1,4 +1,4 @@
--- What the tables and choices are worth over many UPDATEs.
+-- Laws of the tables and the choices over many UPDATEs.
 use Rattle.std.specs.Prelude.{ℕ, ◌≡◌, ◌≢◌, ◌↔◌, List, [], ◌∷◌, ◌++◌}
 use Rattle.std.specs.List.{Contains, All}
 use mathlib.Core.Logic.{◌⊎◌}
@@ -43,7 +43,8 @@ LastWordStays =
     (origins : List Origin) (old new : Words) (peer : ℕ) (us : List Update) → ((q : PrefixView) → word_of old peer q ≡ nothing)
     → AppliesAll origins old new peer us → HoldsLastWords origins old new peer us
 
--- one UPDATE more: if the word of a prefix was the last word of some UPDATEs, it is then that of those and of this one
+-- if the word of a prefix is the last word of some UPDATEs, then after one UPDATE more it is the last word of those and
+-- this one
 abbrev pub LastWordGoesOn : Type 0
 LastWordGoesOn =
     (origins : List Origin) (old new : Words) (peer : ℕ) (u : Update) (us : List Update) → Applies origins old new peer u
@@ -53,19 +54,19 @@ LastWordGoesOn =
 abbrev pub OneLastWord : Type 0
 OneLastWord = (us : List Update) (q : PrefixView) (a b : Word) → IsLastWord us q a → IsLastWord us q b → a ≡ b
 
--- the same as a function: after an UPDATE each prefix of the network has the word that follows from the one before
+-- as a function: after an UPDATE, the word of each prefix of the network is `word_after` of the word before
 abbrev pub WordFollows : Type 0
 WordFollows =
     (origins : List Origin) (old new : Words) (peer : ℕ) (u : Update) → Applies origins old new peer u
     → (q : PrefixView) → IsNamed origins q → word_of new peer q ≡ word_after (word_of old peer q) u q
 
--- and after the UPDATEs of a list the one that follows from all of them
+-- as a function: after the UPDATEs of a list, the word of each prefix of the network is `last_word` of the word before
 abbrev pub WordsFollow : Type 0
 WordsFollow =
     (origins : List Origin) (old new : Words) (peer : ℕ) (us : List Update) → AppliesAll origins old new peer us
     → (q : PrefixView) → IsNamed origins q → word_of new peer q ≡ last_word (word_of old peer q) us q
 
--- what follows from nothing is the word of the last mention
+-- `last_word` from nothing is the word of the last mention
 abbrev pub LastIsLastMention : Type 0
 LastIsLastMention = (us : List Update) (q : PrefixView) → IsLastWord us q (last_word nothing us q)
 
@@ -87,14 +88,14 @@ BestAmongPaths =
     (s : SourcesView) (q : PrefixView) (paths : ℕ → List ℕ) → HearsPaths s q paths → (path : List ℕ)
     → (IsBest s q path ↔ ((table : Table) × IsTableOf s.net s.router table × IsBestOf (Contains s.originated q) (HasPathOf s.net paths s.router) table q path))
 
--- words of all routers, as a state of a network has them: what an Established peer said, read as a path, and the empty path from
--- every other linked router
+-- the words that a router hears, of all linked routers: an Established peer's word, read as a path, and the empty path
+-- from every other one
 pub record HearsWords (s : SourcesView) (q : PrefixView) (words : ℕ → List ℕ) : Type 0 where
   pub linked : (v : ℕ) → Contains s.established v → Linked s.net.links s.router v
   pub said : (v : ℕ) → Linked s.net.links s.router v
       → (Contains s.established v × (words v ≡ path_in (word_of s.heard v q))) ⊎ ((Contains s.established v → ⊥) × (words v ≡ []))
 
--- the best is that over these words, whichever sessions are Established
+-- whichever sessions are Established, the best path is the best over these words
 abbrev pub BestOverWords : Type 0
 BestOverWords =
     (s : SourcesView) (q : PrefixView) (words : ℕ → List ℕ) → HearsWords s q words → (path : List ℕ)

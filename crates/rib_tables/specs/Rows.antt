@@ -54,7 +54,7 @@ view_of net router peers rows = record {
 
 -- ---- one prefix
 
--- a way on as a path: the empty way is no path
+-- the path of a router along a way; the empty way gives the empty path
 abbrev pub path_by : ℕ → List ℕ → List ℕ
 path_by router [] = []
 path_by router (v ∷ rest) = router ∷ v ∷ rest
@@ -116,7 +116,7 @@ pub record AreJudged (net : Plan) (router : ℕ) (peers : List Peer) (rows : Lis
   pub routers : IsRouter net.routers router
   pub each : (i : ℕ) (r : Row) → slice_get rows i ≡ Some r → IsRow net router peers r
 
--- in a peer's set is each place where it is Established and was not told the kept path, and no other
+-- the set of a peer has exactly the places where the peer is Established and was not told the kept path
 abbrev pub IsWaiting : ℕ → Peer → List Row → PlaceSet → Type 0
 IsWaiting k p rows waiting =
     (i : ℕ) (r : Row) → slice_get rows i ≡ Some r
@@ -153,7 +153,7 @@ pub record IsFresh (origins : List Origin) (table : Table) (peers : ℕ) (origin
   pub speaks : Speaks r.policy table origin.prefix
   pub own : r.own ≡ true ↔ IsOrigin origins table.router origin.prefix
 
--- such a row for each of these prefixes, in their order
+-- a fresh row for each of these prefixes, in their order
 pub record AreFresh (origins : List Origin) (table : Table) (peers : ℕ) (listed : List Origin) (rows : List Row) : Type 0 where
   pub long : length rows ≡ length listed
   pub each : (i : ℕ) (o : Origin) (r : Row) → slice_get listed i ≡ Some o → slice_get rows i ≡ Some r → IsFresh origins table peers o r
@@ -176,7 +176,7 @@ keeping path r = record { prefix = r.prefix; own = r.own; policy = r.policy; ori
 abbrev pub originating : Bool → Row → Row
 originating now r = record { prefix = r.prefix; own = r.own; policy = r.policy; originated = now; kept = r.kept; heard = r.heard; sent = r.sent }
 
--- the same word for each of these prefixes
+-- a peer says one word of each of these prefixes
 abbrev pub hearing_all : List PrefixView → ℕ → Word → Row → Row
 hearing_all prefixes k word r = if lists prefixes r.prefix then hearing k word r else r
 
@@ -192,26 +192,26 @@ clearing r = record { prefix = r.prefix; own = r.own; policy = r.policy; origina
 abbrev pub Speaking : ℕ → Row → Type 0
 Speaking k r = (v : ℕ) × (rest : List ℕ) × (slice_get r.heard k ≡ Some (Sequence (v ∷ rest)))
 
--- what is not in the set now was not in it before, and the peer says no path there
+-- the set keeps its places, and has at least each place besides where the peer says a path
 abbrev pub MarksSpeaking : ℕ → List Row → PlaceSet → PlaceSet → Type 0
 MarksSpeaking k rows old new = (i : ℕ) → has new i ≡ false → (has old i ≡ false) × ((r : Row) → slice_get rows i ≡ Some r → Speaking k r → ⊥)
 
--- what is not in the set now was not in it before, and is no row that the test names
+-- the set keeps its places, and has at least each place besides whose row passes the test
 abbrev pub Marks : (Row → Bool) → List Row → PlaceSet → PlaceSet → Type 0
 Marks test rows old new = (i : ℕ) → has new i ≡ false → (has old i ≡ false) × ((r : Row) → slice_get rows i ≡ Some r → test r ≡ false)
 
--- what is kept for a row stays the best when a peer says another word
+-- the kept path of a row stays the best when a peer says this word
 abbrev pub BestStays : ℕ → Row → ℕ → Word → Type 0
 BestStays router r k word =
     (net : Plan) (peers : List Peer) → IsNetwork net → IsRouter net.routers router → IsRow net router peers r
     → IsRowBest net router peers r r.kept → IsRowBest net router peers (hearing k word r) r.kept
 
--- a change of the words heard, after which each kept path outside the set is still the best
+-- the words heard change, and each kept path outside the set is still the best
 abbrev pub StaysDecided : ℕ → List Row → List Row → PlaceSet → PlaceSet → Type 0
 StaysDecided router rows changed old new =
     (net : Plan) (peers : List Peer) → AreJudged net router peers rows → AreDecided net router peers rows old
     → AreJudged net router peers changed × AreDecided net router peers changed new
 
--- what an UPDATE of a peer says: an announcement wins over a withdrawal
+-- a row after an UPDATE of a peer, in which an announcement wins over a withdrawal
 abbrev pub hearing_update : ℕ → Update → Row → Row
 hearing_update k u r = hearing_all u.nlri k (announced_word u.attrs) (hearing_all u.withdrawn k nothing r)

@@ -54,13 +54,13 @@ Says u q word =
     (Announces u q × (word ≡ announced_word u.attrs))
     ⊎ ((Announces u q → ⊥) × Withdraws u q × (word ≡ nothing))
 
--- the UPDATE tells this path of this prefix alone: it announces it, or withdraws the prefix where the path is empty
+-- the UPDATE tells one path of one prefix: it announces the path, or withdraws the prefix if the path is empty
 abbrev pub TellsPath : Update → PrefixView → List ℕ → Type 0
 TellsPath u q path =
     ((u.withdrawn ≡ []) × (u.nlri ≡ q ∷ []) × (announced_word u.attrs ≡ Sequence path))
     ⊎ ((u.withdrawn ≡ q ∷ []) × (u.nlri ≡ []) × (path ≡ []))
 
--- ---- the same as tests
+-- ---- what an UPDATE says, as tests
 
 abbrev pub lists : List PrefixView → PrefixView → Bool
 lists [] q = false
@@ -69,7 +69,7 @@ lists (p ∷ ps) q = is_prefix p q || lists ps q
 abbrev pub mentions : Update → PrefixView → Bool
 mentions u q = lists u.nlri q || lists u.withdrawn q
 
--- ---- and as functions
+-- ---- what UPDATEs say, as functions
 
 -- the word on a prefix after an UPDATE, in which an announcement wins over a withdrawal
 abbrev pub word_after : Word → Update → PrefixView → Word

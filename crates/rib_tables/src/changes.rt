@@ -45,7 +45,7 @@ pub(crate) fn place_of_peer(peers: &[Peer], asn: Asn) -> Option<usize>
     None
 }
 
-// The place of a prefix that does not stand where it was looked for.
+// The place of a prefix, found without a hint.
 #[inline(never)]
 fn place_elsewhere(keys: &IndexSet<Prefix>, prefix: &Prefix) -> Option<usize>
     ensures { MatchOption result
@@ -55,7 +55,7 @@ fn place_elsewhere(keys: &IndexSet<Prefix>, prefix: &Prefix) -> Option<usize>
     place_of(keys, prefix)
 }
 
-// The place of a prefix, which is looked for at this one first.
+// The place of a prefix. The prefix is looked for at `near` first.
 pub(crate) fn place_near(keys: &IndexSet<Prefix>, near: usize, prefix: &Prefix) -> Option<usize>
     ensures { MatchOption result
         ((i : ℕ) (q : PrefixView) → slice_get keys.now.keys i ≡ Some q → is_prefix prefix.now q ≡ false)
@@ -67,7 +67,7 @@ pub(crate) fn place_near(keys: &IndexSet<Prefix>, near: usize, prefix: &Prefix) 
     }
 }
 
-// The place of a peer, which is looked for at this one first.
+// The place of a peer. The peer is looked for at `near` first.
 pub(crate) fn place_of_peer_near(peers: &[Peer], near: usize, asn: Asn) -> Option<usize>
     ensures { MatchOption result
         ((k : ℕ) (p : Peer) → slice_get peers.now k ≡ Some p → p.asn ≡ asn → ⊥)
@@ -79,7 +79,8 @@ pub(crate) fn place_of_peer_near(peers: &[Peer], near: usize, asn: Asn) -> Optio
     }
 }
 
-// The words that an UPDATE announces, one for each prefix. All growths are here.
+// The words that an UPDATE announces, one for each prefix. All memory that an UPDATE needs is taken
+// here.
 fn announced_words(alloc: Global, update: &Update) -> Result<Vec<Word>, RibError>
     ensures len { IfOk result (λ words. length words.items ≡ length update.now.nlri) }
     ensures same { IfOk result (λ words. All (λ word. word ≡ announced_word update.now.attrs) words.items) }
@@ -102,7 +103,8 @@ fn hear_at(rows: &mut [Row], place: usize, peer: usize, word: Word)
     row.heard.set(peer, word);
 }
 
-// Puts a place into the set, unless what is kept there stays the best when a peer says this word.
+// Marks a place as undecided, unless its kept path is known to stay the best when a peer says this
+// word.
 fn mark_heard(router: Asn, row: &Row, peer: usize, word: &Word, place: usize, dirty: &mut PlaceSet)
     requires peer { peer < length row.now.heard }
     requires place { place < MOST_PREFIXES }
@@ -114,7 +116,7 @@ fn mark_heard(router: Asn, row: &Row, peer: usize, word: &Word, place: usize, di
     }
 }
 
-// A word of a peer for a prefix, where the prefix is named.
+// Takes a word of a peer for a prefix, if the network names the prefix.
 pub(crate) fn hear_one(
     router: Asn,
     keys: &IndexSet<Prefix>,
@@ -134,7 +136,7 @@ pub(crate) fn hear_one(
     }
 }
 
-// The same word of a peer, the empty path, for each of these prefixes that is named.
+// Takes a peer's withdrawal of these prefixes: the empty path for each that the network names.
 pub(crate) fn hear_withdrawn(
     alloc: Global,
     router: Asn,
@@ -154,7 +156,7 @@ pub(crate) fn hear_withdrawn(
     }
 }
 
-// The words of a peer that it announces, for the prefixes that are named.
+// Takes the words that a peer announces, for the prefixes that the network names.
 pub(crate) fn hear_announced(
     router: Asn,
     keys: &IndexSet<Prefix>,
@@ -177,8 +179,7 @@ pub(crate) fn hear_announced(
     }
 }
 
-// All that an UPDATE of a peer says that announces one prefix, with the word for it. It takes no
-// memory.
+// Takes an UPDATE of a peer that announces one prefix, with the word for it. It takes no memory.
 fn hear_single(
     alloc: Global,
     router: Asn,
@@ -209,7 +210,7 @@ fn hear_single(
     hear_one(router, keys, rows, dirty, peer, prefix, word);
 }
 
-// All that an UPDATE of a peer says, with the words that it announces. It takes no memory.
+// Takes an UPDATE of a peer, with the words that it announces. It takes no memory.
 fn hear_several(
     alloc: Global,
     router: Asn,
@@ -239,7 +240,7 @@ fn hear_several(
     hear_announced(router, keys, rows, dirty, peer, update, words);
 }
 
-// All that an UPDATE of a peer says. A refusal leaves all as it was.
+// Takes an UPDATE of a peer. A refusal leaves all as it was.
 pub(crate) fn hear_update(
     alloc: Global,
     router: Asn,
@@ -265,7 +266,8 @@ pub(crate) fn hear_update(
     Ok(())
 }
 
-// A path that a peer tells of one prefix, the empty one where it withdraws it. A refusal leaves all as it was.
+// Takes a path that a peer tells of one prefix; the empty path is a withdrawal. A refusal leaves
+// all as it was.
 pub(crate) fn hear_path(
     alloc: Global,
     router: Asn,
@@ -287,7 +289,7 @@ pub(crate) fn hear_path(
     Ok(())
 }
 
-// Takes all words of a peer away. It takes no memory.
+// Removes all words of a peer. It takes no memory.
 pub(crate) fn forget_words(alloc: Global, rows: &mut [Row], dirty: &mut PlaceSet, peer: usize)
     requires few { length rows.old ≤ MOST_PREFIXES }
     requires words { (i : ℕ) (r : Row) → slice_get rows.old i ≡ Some r → (peer < length r.heard) × (peer < length r.sent) }
@@ -304,7 +306,7 @@ pub(crate) fn forget_words(alloc: Global, rows: &mut [Row], dirty: &mut PlaceSet
     }
 }
 
-// Puts in each place where a peer said a path. It takes no memory.
+// Marks each place where a peer said a path. It takes no memory.
 pub(crate) fn mark_words(rows: &[Row], dirty: &mut PlaceSet, peer: usize)
     requires few { length rows.now ≤ MOST_PREFIXES }
     requires words { (i : ℕ) (r : Row) → slice_get rows.now i ≡ Some r → peer < length r.heard }
@@ -317,7 +319,7 @@ pub(crate) fn mark_words(rows: &[Row], dirty: &mut PlaceSet, peer: usize)
     }
 }
 
-// The places of which a peer was not told.
+// The places whose kept path is not the last word sent to a peer.
 pub(crate) fn untold(rows: &[Row], peer: usize) -> PlaceSet
     requires few { length rows.now ≤ MOST_PREFIXES }
     requires words { (i : ℕ) (r : Row) → slice_get rows.now i ≡ Some r → peer < length r.sent }
@@ -332,7 +334,7 @@ pub(crate) fn untold(rows: &[Row], peer: usize) -> PlaceSet
     waiting
 }
 
-// What the peers wait for at one place, after a change of its row.
+// Sets which peers wait for one place, after a change of its row.
 fn wait_anew(peers: &[Peer], row: &Row, place: usize, waits: &mut [PlaceSet])
     requires place { place < MOST_PREFIXES }
     requires len { length waits.old ≡ length peers.now }
@@ -351,7 +353,7 @@ fn wait_anew(peers: &[Peer], row: &Row, place: usize, waits: &mut [PlaceSet])
     }
 }
 
-// The same, of a `Vec`.
+// Does what `wait_anew` does, for a `Vec`.
 pub(crate) fn wait_all(peers: &[Peer], row: &Row, place: usize, waits: &mut Vec<PlaceSet>)
     requires place { place < MOST_PREFIXES }
     requires len { length waits.old.items ≡ length peers.now }
@@ -363,7 +365,7 @@ pub(crate) fn wait_all(peers: &[Peer], row: &Row, place: usize, waits: &mut Vec<
     wait_anew(peers, row, place, waits.as_mut_slice());
 }
 
-// The same, of a `Vec`.
+// Does what `forget_words` does, for a `Vec`.
 pub(crate) fn forget_all(alloc: Global, rows: &mut Vec<Row>, dirty: &mut PlaceSet, peer: usize)
     requires few { length rows.old.items ≤ MOST_PREFIXES }
     requires words { (i : ℕ) (r : Row) → slice_get rows.old.items i ≡ Some r → (peer < length r.heard) × (peer < length r.sent) }
@@ -373,7 +375,7 @@ pub(crate) fn forget_all(alloc: Global, rows: &mut Vec<Row>, dirty: &mut PlaceSe
     forget_words(alloc, rows.as_mut_slice(), dirty, peer);
 }
 
-// Whether the session with the peer at a place is Established.
+// Sets whether the session with the peer at a place is Established.
 pub(crate) fn set_up(peers: &mut Vec<Peer>, place: usize, up: bool)
     requires { place < length peers.old.items }
     ensures { (p : Peer) → slice_get peers.old.items place ≡ Some p → peers.new.items ≡ slice_set peers.old.items place (record { asn = p.asn; up = up }) }
@@ -390,7 +392,7 @@ pub(crate) fn keep_at(rows: &mut Vec<Row>, place: usize, path: Path)
     row.kept = path;
 }
 
-// Puts the word sent to a peer for the prefix at a place.
+// Records the word sent to a peer for the prefix at a place.
 pub(crate) fn tell_at(rows: &mut Vec<Row>, place: usize, peer: usize, word: Word)
     requires within { place < length rows.old.items }
     requires words { (r : Row) → slice_get rows.old.items place ≡ Some r → peer < length r.sent }
@@ -400,7 +402,7 @@ pub(crate) fn tell_at(rows: &mut Vec<Row>, place: usize, peer: usize, word: Word
     row.sent.set(peer, word);
 }
 
-// Originates the prefix at a place, or no longer.
+// Sets whether the router originates the prefix at a place.
 pub(crate) fn originate_at(rows: &mut Vec<Row>, place: usize, now: bool)
     requires { place < length rows.old.items }
     ensures { (r : Row) → slice_get rows.old.items place ≡ Some r → rows.new.items ≡ slice_set rows.old.items place (originating now r) }
@@ -423,7 +425,7 @@ fn clear_rows(alloc: Global, rows: &mut [Row], dirty: &mut PlaceSet)
     }
 }
 
-// The same, of a `Vec`.
+// Does what `clear_rows` does, for a `Vec`.
 pub(crate) fn clear_all(alloc: Global, rows: &mut Vec<Row>, dirty: &mut PlaceSet)
     requires { length rows.old.items ≤ MOST_PREFIXES }
     ensures rows { rows.new.items ≡ map clearing rows.old.items }
@@ -432,7 +434,7 @@ pub(crate) fn clear_all(alloc: Global, rows: &mut Vec<Row>, dirty: &mut PlaceSet
     clear_rows(alloc, rows.as_mut_slice(), dirty);
 }
 
-// What a peer waits for. It takes no memory.
+// The places that a peer waits for. It takes no memory.
 fn awaited(peer: &Peer, rows: &[Row], place: usize) -> PlaceSet
     requires few { length rows.now ≤ MOST_PREFIXES }
     requires words { (i : ℕ) (r : Row) → slice_get rows.now i ≡ Some r → place < length r.sent }
@@ -445,7 +447,7 @@ fn awaited(peer: &Peer, rows: &[Row], place: usize) -> PlaceSet
     }
 }
 
-// What each peer waits for, after a change of all rows. It takes no memory.
+// Sets what each peer waits for, after a change of all rows. It takes no memory.
 pub(crate) fn await_all(peers: &[Peer], rows: &[Row], waits: &mut Vec<PlaceSet>)
     requires few { length rows.now ≤ MOST_PREFIXES }
     requires words { (i : ℕ) (r : Row) → slice_get rows.now i ≡ Some r → length r.sent ≡ length peers.now }

@@ -26,7 +26,7 @@ impl Model for Line {
 }
 
 impl Line {
-    // No peer has said anything.
+    // A line in which no peer has said anything.
     pub(crate) fn new(alloc: Global, peers: usize) -> Result<Line, RibError>
         ensures len { IfOk result (λ line. length line ≡ peers) }
         ensures silent { IfOk result (λ line. All (λ word. word ≡ nothing) line) }
@@ -45,7 +45,7 @@ impl Line {
         self.words.as_slice()
     }
 
-    // The word at a place, where it is not the empty path.
+    // The word at a place. `None` if it is the empty path.
     pub(crate) fn something(&self, place: usize) -> Option<&Word>
         requires { place < length self.now }
         ensures { MatchOption result (slice_get self.now place ≡ Some nothing) (λ word. (slice_get self.now place ≡ Some word.now) × (word.now ≢ nothing)) }
@@ -57,7 +57,7 @@ impl Line {
         Some(word)
     }
 
-    // Puts a word in place of the one that stands there.
+    // Replaces the word at a place.
     pub(crate) fn set(&mut self, place: usize, word: Word)
         requires { place < length self.old }
         ensures { self.new ≡ slice_set self.old place word }

@@ -41,7 +41,7 @@ pub(crate) fn peers_down(alloc: Global, numbers: &[Asn]) -> Result<Vec<Peer>, Ri
     Ok(peers)
 }
 
-// A set for each peer, none of which waits for anything.
+// An empty set for each peer: none waits for anything.
 pub(crate) fn no_waits(alloc: Global, peers: usize) -> Result<Vec<PlaceSet>, RibError>
     ensures len { IfOk result (λ waits. length waits.items ≡ peers) }
     ensures none { IfOk result (λ waits. All (λ waiting. (place : ℕ) → has waiting place ≡ false) waits.items) }

@@ -35,7 +35,7 @@ impl PlaceSet {
         first | second | third | last == 0
     }
 
-    // Puts the place in.
+    // Adds the place to the set.
     pub(crate) fn put(&mut self, place: usize)
         requires { place < MOST_PREFIXES }
         ensures here { has self.new place ≡ true }
@@ -44,7 +44,7 @@ impl PlaceSet {
         self.words[place / 64] |= 1 << (place % 64);
     }
 
-    // Takes the place out.
+    // Removes the place from the set.
     pub(crate) fn take_out(&mut self, place: usize)
         requires { place < MOST_PREFIXES }
         ensures here { has self.new place ≡ false }
@@ -67,7 +67,7 @@ impl PlaceSet {
         None
     }
 
-    // Whether the set has one of the first so many places.
+    // Whether the set has a place below `places`.
     pub(crate) fn has_below(&self, places: usize) -> bool
         ensures some { result ≡ true → (place : ℕ) × (place < places) × (has self.now place ≡ true) }
         ensures none { result ≡ false → (place : ℕ) → place < places → has self.now place ≡ false }

@@ -1,4 +1,4 @@
-//! What stands of one prefix, and of one peer.
+//! The row of one prefix, and the entry of one peer.
 
 ghost use Rattle.std.specs.Prelude.{◌≡◌, ◌≢◌, ◌<◌, ◌≤◌, ◌↔◌, ◌⊎◌, ◌∷◌, ℕ, [], true, drop, length, slice_get, Some, IfOk, IfSome, IsTrue, MatchOption};
 ghost use Rattle.prefix_lanes.specs.Bits.{PrefixView};
@@ -28,7 +28,7 @@ pub struct Peer {
     pub up: bool,
 }
 
-/// What stands of one prefix, its words by the places of peers.
+/// All that the tables hold of one prefix. Words stand by the places of peers.
 #[derive(Debug, Drop)]
 pub struct Row<'a> {
     /// The prefix.
@@ -47,7 +47,8 @@ pub struct Row<'a> {
     pub sent: Line,
 }
 
-// Whether the way on is permitted, and there is none yet or it is preferred to the one there is.
+// Whether the path along `rest` is permitted, and either none was yet or it is preferred to the
+// best so far.
 fn is_taken(policy: &Chosen, router: Asn, rest: &[Asn], best: &[Asn]) -> bool
     ensures { IsTrue result ↔ (chosen_permits policy.now (router ∷ rest.now) × ((best.now ≡ []) ⊎ chosen_prefers policy.now (router ∷ rest.now) (router ∷ best.now))) }
 {
@@ -55,8 +56,8 @@ fn is_taken(policy: &Chosen, router: Asn, rest: &[Asn], best: &[Asn]) -> bool
         && policy.permits_onward(router, rest)
 }
 
-// The way on of the best choice over the words of the peers whose session is Established: the
-// empty path where there is none.
+// The best choice over the words of the Established peers, without the router in front. Empty if
+// there is no choice.
 pub(crate) fn best_onward<'a>(
     policy: &Chosen,
     router: Asn,
@@ -79,8 +80,8 @@ pub(crate) fn best_onward<'a>(
     best
 }
 
-// The way on of the best of the router's choices for the prefix of a row: none where that is the
-// empty path. It takes no memory.
+// The best of the router's choices for the prefix of a row, without the router in front. `None` if
+// the best is the empty path. It takes no memory.
 pub(crate) fn best_way<'r>(router: Asn, peers: &[Peer], row: &'r Row) -> Option<&'r [Asn]>
     requires { length row.now.heard ≡ length peers.now }
     ensures { (net : Plan) → IsNetwork net → IsRouter net.routers router → IsRow net router peers.now row.now → MatchOption result (IsRowBest net router peers.now row.now []) (λ rest. IsRowBest net router peers.now row.now (router ∷ rest.now)) }
@@ -95,7 +96,7 @@ pub(crate) fn best_way<'r>(router: Asn, peers: &[Peer], row: &'r Row) -> Option<
     Some(rest)
 }
 
-// Whether a kept path is the router and then this way on: the empty path where there is none.
+// Whether a kept path is the router and then this way; without a way, whether it is the empty path.
 fn goes_on(kept: &[Asn], router: Asn, way: Option<&[Asn]>) -> bool
     ensures { IsTrue result ↔ MatchOption way.entry (kept.now ≡ []) (λ rest. kept.now ≡ router ∷ rest.now) }
 {
@@ -108,9 +109,9 @@ fn goes_on(kept: &[Asn], router: Asn, way: Option<&[Asn]>) -> bool
     }
 }
 
-// The least place whose kept path is not the best, with the way on of the best, where each place
-// outside the set is known to have its best. What is found to have it is taken out. It takes no
-// memory.
+// The least place whose kept path is not the best, with the way of its best path. Each place
+// outside the set is known to have its best path. Places that turn out to have it are taken out of
+// the set. It takes no memory.
 pub(crate) fn first_undecided<'r>(
     router: Asn,
     peers: &[Peer],
@@ -149,16 +150,16 @@ fn onward(path: &[Asn]) -> &[Asn]
     }
 }
 
-// Whether the word gives this way on, which there is.
+// Whether the word gives this way, and the way is not empty.
 fn gives(word: &Word, way: &[Asn]) -> bool
     ensures { IsTrue result ↔ ((way.now ≢ []) × (path_in word.now ≡ way.now)) }
 {
     !way.is_empty() && is_path(word.path(), way)
 }
 
-// Whether what is kept for a row is known to stay the best, where it is, when the peer at a place
-// says another word: the kept path does not go on by what the peer said last, and the new word
-// gives no better choice. A rule's paths are left to a deciding, since they may be many.
+// Whether the kept path of a row, if it is the best, is known to stay so when the peer at a place
+// says this word. It does if it does not go on by what the peer said last, and the word gives no
+// better choice. A rule may list many paths, so its rows are left to the next decision.
 pub(crate) fn stays_best(router: Asn, row: &Row, peer: usize, word: &Word) -> bool
     requires { peer < length row.now.heard }
     ensures { result ≡ true → BestStays router row.now peer word.now }
@@ -178,7 +179,7 @@ pub(crate) fn stays_best(router: Asn, row: &Row, peer: usize, word: &Word) -> bo
     rest.is_empty() || !is_taken(&row.policy, router, rest, best)
 }
 
-// The path along a way on: the empty path where there is none.
+// The path of the router along a way; the empty path without a way.
 pub(crate) fn path_along(
     alloc: Global,
     router: Asn,

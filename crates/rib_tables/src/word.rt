@@ -12,9 +12,9 @@ use std::alloc::Global;
 /// What a peer says of a prefix (RFC 4271 section 4.3, AS_PATH).
 #[derive(Debug, Drop)]
 pub enum Word {
-    /// One AS_SEQUENCE: the path that is announced, the peer first. The empty path is what a
-    /// withdrawal says, and what is said of a prefix that was never mentioned; an AS_SEQUENCE
-    /// without numbers, which no message has, is the same.
+    /// One AS_SEQUENCE: the announced path, the peer first. The empty path is the word of a
+    /// withdrawal, and of a prefix that was never mentioned. An AS_SEQUENCE without numbers, which
+    /// no message has, is the same.
     Sequence(Path),
     /// An AS_PATH that is not exactly one AS_SEQUENCE: a set, several segments, or none. It is a
     /// word, but gives no choice.
@@ -22,7 +22,7 @@ pub enum Word {
 }
 
 impl Word {
-    /// The path that the word gives: the empty path where it gives none.
+    /// The path that the word gives; the empty path if it gives none.
     pub fn path(&self) -> &[Asn]
         ensures { result.now ≡ path_in self.now }
     {
@@ -63,7 +63,7 @@ fn sequence_of(segments: &[Segment]) -> Option<&[Asn]>
     }
 }
 
-// What these attributes say of the prefixes that are announced with them.
+// The word of these attributes for the prefixes that are announced with them.
 pub(crate) fn announced(alloc: Global, attrs: &Attrs) -> Result<Word, RibError>
     ensures { IfOk result (λ word. word ≡ announced_word attrs.now) }
 {
