@@ -1,4 +1,4 @@
--- What the session table is worth (RFC 4271 section 8), over every session and every run.
+-- Laws of the session table (RFC 4271 section 8), for every session and every run.
 use Rattle.std.specs.Prelude.{ℕ, zero, suc, ◌+◌, ◌≡◌, ◌≢◌, ◌⊎◌, ◌↔◌, List, [], ◌∷◌, ◌++◌, Bool, true, false, Some, None}
 use Rattle.std.specs.List.{Contains}
 use Rattle.session_fsm.specs.declared.config.SessionConfig.{SessionConfig}
@@ -56,8 +56,8 @@ abbrev pub StaysConfirmed : SessionView → List Input → Type 0
 StaysConfirmed a [] = IsConfirmed a.state
 StaysConfirmed a (i ∷ is) = IsConfirmed a.state × StaysConfirmed (after a i) is
 
--- once an OPEN came in OpenSent, and either side's hold time is 0, no timer runs out as long as the
--- session stays in OpenConfirm or Established
+-- if an OPEN came in OpenSent and either side's hold time is 0, no timer runs out as long as the session stays in
+-- OpenConfirm or Established
 abbrev pub HoldTimeZeroNeverExpires : Type 0
 HoldTimeZeroNeverExpires = (config : SessionConfig) (before later : List Input) (received : ℕ)
     → IsRun config (before ++ Event (BgpOpen received) ∷ later)
@@ -76,8 +76,7 @@ abbrev pub patience : State → ℕ → ℕ
 patience OpenSent hold_time = LARGE_HOLD_TIME
 patience _ hold_time = hold_time
 
--- where the HoldTimer runs out in the next second, that many seconds have passed then without a
--- KEEPALIVE or UPDATE
+-- if the HoldTimer runs out in the next second, its whole time has passed then without a KEEPALIVE or UPDATE
 abbrev pub HoldTimerExpiresAfterSilence : Type 0
 HoldTimerExpiresAfterSilence = (config : SessionConfig) (is : List Input) → IsRun config is
     → runs_out (session_after config is) ≡ Some HoldTimerExpires

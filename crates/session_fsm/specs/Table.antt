@@ -43,7 +43,7 @@ opening config = record { config = config; state = Idle; hold_time = 0; connect_
 abbrev pub stopped : SessionView → SessionView
 stopped a = record a { state = Idle; connect_retry_timer = 0; hold_timer = 0; keepalive_timer = 0; restart_timer = 0 }
 
--- the same, and the RestartTimer is set
+-- a session that closed is stopped, and its RestartTimer is set
 abbrev pub closed : SessionView → SessionView
 closed a = record (stopped a) { restart_timer = a.config.restart }
 

@@ -1,6 +1,6 @@
 //! The settings of a session.
 
-/// What a session is told once, at its beginning.
+/// The settings of a session, which it is told once, at its beginning.
 #[derive(Clone, Copy, Debug, PartialEq, Eq)]
 pub struct SessionConfig {
     /// The hold time that this end's OPEN proposes, in seconds: one that passes

@@ -13,9 +13,9 @@ pub enum FsmEvent {
     HoldTimerExpires,
     /// Event 11.
     KeepaliveTimerExpires,
-    /// Event 16: the connection that this end dialled is there.
+    /// Event 16: the connection that this end dialled is open.
     TcpCrAcked,
-    /// Event 17: the connection that the peer dialled is there.
+    /// Event 17: the connection that the peer dialled is open.
     TcpConnectionConfirmed,
     /// Event 18: the peer closed the connection.
     TcpConnectionFails,

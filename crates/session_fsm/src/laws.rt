@@ -1,10 +1,8 @@
-//! What the table and the timers are worth, over every session and every run of events, seconds and
-//! UPDATEs sent.
+//! Laws of the table and the timers, for every session and every run of events, seconds and UPDATEs sent.
 
 ghost use Rattle.session_fsm.specs.Laws.{ActsInEstablishedAlone, UpEntersEstablished, DownLeavesEstablished, UpAndDownTakeTurns, NothingIsActedOnAfterAClose, LeavingForIdleHangsUp, HoldTimeZeroNeverExpires, HoldTimerExpiresAfterSilence, RestartWaitsForAStart, EachTimerRunsInItsStates, HoldTimerRunsOut, KeepaliveTimerRunsOut, ConnectRetryTimerRunsOut, RestartTimerRunsOut};
 
-/// An UPDATE is acted on exactly where it comes in Established. What acting on it means is the
-/// router's matter.
+/// An UPDATE is acted on exactly where it comes in Established. The router decides what acting on it means.
 pub fn updates_act_in_established_alone()
     ensures { ActsInEstablishedAlone }
 {}
@@ -26,8 +24,8 @@ pub fn leaving_for_idle_hangs_up()
     ensures { LeavingForIdleHangsUp }
 {}
 
-/// Where an OPEN came in OpenSent and either side proposed hold time 0, no timer runs out as long as
-/// the session stays in OpenConfirm or Established. In OpenSent itself the HoldTimer runs.
+/// If an OPEN came in OpenSent and either side proposed hold time 0, no timer runs out as long as the session stays in
+/// OpenConfirm or Established. In OpenSent itself the HoldTimer runs.
 pub fn hold_time_zero_never_expires()
     ensures { HoldTimeZeroNeverExpires }
 {}
@@ -43,14 +41,14 @@ pub fn restart_waits_for_a_start()
     ensures { RestartWaitsForAStart }
 {}
 
-/// In every run a timer runs in its own states alone, so that but for the HoldTimer and the
-/// KeepaliveTimer no two run at once.
+/// In every run each timer runs only in its own states. No two timers run at once but the HoldTimer and the
+/// KeepaliveTimer.
 pub fn each_timer_runs_in_its_states()
     ensures { EachTimerRunsInItsStates }
 {}
 
-/// A timer set to n runs out in the n-th second in which nothing else happens, and in none before;
-/// of those that run out together only the first comes, the HoldTimer before all others.
+/// A timer set to n runs out in the n-th second in which nothing else happens, and in none before. If several run out
+/// together, only the first one's event comes, the HoldTimer's before all others.
 pub fn timers_run_out_in_their_last_second()
     ensures hold { HoldTimerRunsOut }
     ensures keepalive { KeepaliveTimerRunsOut }

@@ -5,8 +5,8 @@
 //! no memory. The caller carries the actions out in their order, and gives it each event that comes,
 //! among them those that a tick answers.
 //!
-//! The one contract: `on` is the table of section 8.2.2, and `tick` counts the timers down. The laws
-//! say what the table is worth over every list of events and ticks.
+//! The one contract: `on` is the table of section 8.2.2, and `tick` counts the timers down. The laws say what holds
+//! over every list of events and ticks.
 //!
 //! Left out: DelayOpen, PassiveTcpEstablishment, DampPeerOscillations, IdleHoldTimer,
 //! SendNOTIFICATIONwithoutOPEN, jitter, the ConnectRetryCounter, and collision detection (section

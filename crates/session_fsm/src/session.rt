@@ -37,7 +37,7 @@ impl Model for Session {
 }
 
 impl Session {
-    /// A session in Idle, with all timers stopped. `bgp_values::is_hold_time` is the test of its condition.
+    /// A session in Idle, with all timers stopped. Its hold time has to pass `bgp_values::is_hold_time`.
     pub fn new(config: SessionConfig) -> Session
         requires { IsHoldTime config.hold }
         ensures { result ≡ opening config }
@@ -67,7 +67,7 @@ impl Session {
         self.config
     }
 
-    /// An event happens: answers what the router is to do (RFC 4271 section 8.2.2).
+    /// Takes an event, and answers what the router is to do (RFC 4271 section 8.2.2).
     pub fn on(&mut self, event: FsmEvent) -> Actions
         requires { IsGoodEvent event }
         ensures session { self.new ≡ (on_event self.old event).session }
@@ -83,9 +83,8 @@ impl Session {
         }
     }
 
-    /// A second passes: answers the event of the timer that runs out, if one does. The caller gives
-    /// it to `on`. Where the HoldTimer and the KeepaliveTimer run out together, only the HoldTimer's
-    /// event comes.
+    /// Lets a second pass, and answers the event of the timer that runs out, if one does. The caller gives the event to
+    /// `on`. If the HoldTimer and the KeepaliveTimer run out together, only the HoldTimer's event comes.
     pub fn tick(&mut self) -> Option<FsmEvent>
         ensures event { result ≡ runs_out self.old }
         ensures session { self.new ≡ ticked self.old }
@@ -108,7 +107,7 @@ impl Session {
         event
     }
 
-    /// An UPDATE was sent, so the next KEEPALIVE is due a third of the hold time from now.
+    /// Takes note of an UPDATE that was sent: the next KEEPALIVE is due a third of the hold time from now.
     pub fn update_sent(&mut self)
         requires { self.old.state ≡ Established }
         ensures { self.new ≡ kept_alive self.old }

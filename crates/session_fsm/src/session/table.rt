@@ -21,7 +21,7 @@ use bgp_values::{CEASE, FSM_ERROR, HOLD_TIMER_EXPIRED};
 /// Seconds until a dial is tried again (RFC 4271 section 10).
 const CONNECT_RETRY_TIME: u16 = 120;
 
-/// Seconds until the peer's OPEN has to be there (RFC 4271 section 8.2.2).
+/// Seconds within which the peer's OPEN has to come (RFC 4271 section 8.2.2).
 const LARGE_HOLD_TIME: u16 = 240;
 
 impl Session {
@@ -133,7 +133,7 @@ impl Session {
         }
     }
 
-    /// Idle, with all timers stopped: nothing happens by itself.
+    /// Goes to Idle, with all timers stopped: nothing happens by itself.
     fn stop(&mut self, actions: &[Action]) -> Actions
         requires { length actions.now ≤ 4 }
         ensures session { self.new ≡ stopped self.old }
@@ -147,7 +147,7 @@ impl Session {
         Actions::of(actions)
     }
 
-    /// Idle, until the RestartTimer runs out.
+    /// Goes to Idle, until the RestartTimer runs out.
     fn close(&mut self, actions: &[Action]) -> Actions
         requires { length actions.now ≤ 4 }
         ensures session { self.new ≡ closed self.old }
@@ -210,7 +210,7 @@ impl Session {
         Actions::of(actions)
     }
 
-    /// The hold time is the smaller of both; 0 stops both timers.
+    /// Takes the smaller of both hold times; 0 stops both timers.
     fn agree(&mut self, received: u16, actions: &[Action]) -> Actions
         requires { length actions.now ≤ 4 }
         ensures session { self.new ≡ agreed self.old received }
