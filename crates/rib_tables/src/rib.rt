@@ -1,4 +1,4 @@
-//! All that the choices of a router depend on, and what is told of them.
+//! The routing tables of one router, and the calls that change them.
 
 ghost use Rattle.std.specs.Prelude.{◌≡◌, ◌≢◌, ◌↔◌, ℕ, true, false, IsTrue, IfOk, IfErr, OnErr, OnOk, MatchOption};
 ghost use Rattle.std.specs.List.{Contains};
@@ -40,7 +40,7 @@ pub struct Rib<'a> {
     peers: Vec<Peer>,
     // One row for each prefix, in the same order.
     rows: Vec<Row<'a>>,
-    // Outside this set each kept path is the best.
+    // Each kept path outside this set is the best.
     dirty: PlaceSet,
     // The prefixes that each peer waits for.
     waits: Vec<PlaceSet>,
@@ -58,8 +58,8 @@ impl<'a> Model for Rib<'a> {
 }
 
 impl<'a> Rib<'a> {
-    /// The tables of a router of the network, as it starts: nothing is heard, sent, originated or
-    /// kept, and no session is Established. Refused [`RibError::Memory`] where a growth was.
+    /// The tables of a router of the network, as it starts: nothing is heard, sent, originated or kept, and no session
+    /// is Established. Refused with [`RibError::Memory`] if a growth is refused.
     pub fn new(alloc: Global, network: &'a Network, router: Asn) -> Result<Rib<'a>, RibError>
         requires { IsRouter network.now.routers router }
         ensures { IfOk result (IsNew network.now router) }
@@ -116,7 +116,7 @@ impl<'a> Rib<'a> {
         self.rows[place].sent.something(to)
     }
 
-    /// The path that is kept for a prefix: the empty path where none is.
+    /// The path that is kept for a prefix; the empty path if none is.
     pub fn path(&self, prefix: &Prefix) -> &[Asn]
         ensures { result.now ≡ path_of self.now.kept prefix.now }
     {
@@ -126,7 +126,7 @@ impl<'a> Rib<'a> {
         }
     }
 
-    /// What [`Rib::path`] answers. `at`: a place in [`Network::origins`] where the prefix is looked for first.
+    /// Answers as [`Rib::path`] does. The prefix is looked for first at the place `at` of [`Network::origins`].
     pub fn path_at(&self, at: usize, prefix: &Prefix) -> &[Asn]
         ensures { result.now ≡ path_of self.now.kept prefix.now }
     {
@@ -146,8 +146,8 @@ impl<'a> Rib<'a> {
         }
     }
 
-    /// What [`Rib::is_originated`] answers. `at`: a place in [`Network::origins`] where the prefix is looked for
-    /// first.
+    /// Answers as [`Rib::is_originated`] does. The prefix is looked for first at the place `at` of
+    /// [`Network::origins`].
     pub fn is_originated_at(&self, at: usize, prefix: &Prefix) -> bool
         ensures { IsTrue result ↔ Contains self.now.originated prefix.now }
     {
@@ -167,9 +167,9 @@ impl<'a> Rib<'a> {
         }
     }
 
-    /// Takes an UPDATE of a peer (RFC 4271 sections 3.1 and 4.3): each prefix of the network that it
-    /// mentions has what it says of it, an announcement winning over a withdrawal; nothing else
-    /// changes. Refused [`RibError::Memory`] where a growth was, and then all is as it was.
+    /// Takes an UPDATE of a peer (RFC 4271 sections 3.1 and 4.3). Each prefix of the network that the UPDATE mentions
+    /// gets the word that it says; an announcement wins over a withdrawal. Nothing else changes. Refused with
+    /// [`RibError::Memory`] if a growth is refused, and then all is as it was.
     pub fn hear(&mut self, peer: Asn, update: &Update) -> Result<(), RibError>
         requires { Linked self.old.net.links self.old.router peer }
         ensures ok { OnOk result (HearsUpdate self.old self.new peer update.now) }
@@ -189,8 +189,8 @@ impl<'a> Rib<'a> {
         Ok(())
     }
 
-    /// Takes the UPDATE of a peer that tells a path of one prefix, the empty one where it withdraws it, as
-    /// [`Rib::hear`] takes it. Refused [`RibError::Memory`] where a growth was, and then all is as it was.
+    /// Takes an UPDATE of a peer that tells a path of one prefix, as [`Rib::hear`] does; the empty path is a
+    /// withdrawal. Refused with [`RibError::Memory`] if a growth is refused, and then all is as it was.
     pub fn hear_path(&mut self, peer: Asn, prefix: &Prefix, path: &[Asn]) -> Result<(), RibError>
         requires { Linked self.old.net.links self.old.router peer }
         ensures ok { OnOk result ((u : updates.Update) → TellsPath u prefix.now path.now → HearsUpdate self.old self.new peer u) }
@@ -211,8 +211,8 @@ impl<'a> Rib<'a> {
         Ok(())
     }
 
-    /// The kept path of a prefix was told to a peer. Refused [`RibError::Memory`] where a growth
-    /// was, and then all is as it was.
+    /// Records that a peer was told the kept path of a prefix. Refused with [`RibError::Memory`] if a growth is
+    /// refused, and then all is as it was.
     pub fn tell(&mut self, peer: Asn, prefix: &Prefix) -> Result<(), RibError>
         requires linked { Linked self.old.net.links self.old.router peer }
         requires named { IsNamed self.old.net.origins prefix.now }
@@ -222,8 +222,8 @@ impl<'a> Rib<'a> {
         self.tell_at(0, peer, 0, prefix)
     }
 
-    /// Does what [`Rib::tell`] does, and is refused as it is. `to`: a place among the linked routers, by rising
-    /// number, where the peer is looked for first; `at`: one in [`Network::origins`] for the prefix.
+    /// Does what [`Rib::tell`] does, and is refused as it is. The peer is looked for first at the place `to` among the
+    /// linked routers, by rising number; the prefix at the place `at` of [`Network::origins`].
     pub fn tell_at(
         &mut self,
         to: usize,
@@ -246,7 +246,7 @@ impl<'a> Rib<'a> {
         Ok(())
     }
 
-    /// The session with a peer is Established from now on. It takes no memory.
+    /// Records that the session with a peer is Established from now on. It takes no memory.
     pub fn come_up(&mut self, peer: Asn)
         requires { Linked self.old.net.links self.old.router peer }
         ensures { ComesUp self.old self.new peer }
@@ -257,8 +257,8 @@ impl<'a> Rib<'a> {
         self.waits[place] = untold(self.rows.as_slice(), place);
     }
 
-    /// The session with a peer is left: all words heard from it and sent to it are forgotten. It
-    /// takes no memory.
+    /// Records that the session with a peer is left, and forgets all words heard from it and sent to it. It takes no
+    /// memory.
     pub fn forget(&mut self, peer: Asn)
         requires { Linked self.old.net.links self.old.router peer }
         ensures { ForgetsPeer self.old self.new peer }
@@ -302,7 +302,7 @@ impl<'a> Rib<'a> {
         wait_all(peers, &self.rows[place], place, &mut self.waits);
     }
 
-    /// A restart: no path is kept, and nothing is originated. It takes no memory.
+    /// Restarts: no path is kept then, and nothing is originated. It takes no memory.
     pub fn clear(&mut self)
         ensures { Clears self.old self.new }
     {
@@ -311,11 +311,10 @@ impl<'a> Rib<'a> {
         await_all(self.peers.as_slice(), self.rows.as_slice(), &mut self.waits);
     }
 
-    /// The best of the router's choices for a prefix of the network (RFC 4271 section 9.1.2): the
-    /// first permitted of the paths "the router, then what an Established peer said" in the order of
-    /// the router's policy, else the empty path. At the prefix's origin it is the router alone while
-    /// it originates the prefix, else the empty path. Refused [`RibError::Memory`] where a growth
-    /// was.
+    /// The best of the router's choices for a prefix of the network (RFC 4271 section 9.1.2). It is the first
+    /// permitted, in the order of the router's policy, of the paths "the router, then what an Established peer said",
+    /// else the empty path. At the prefix's origin it is the router alone while it originates the prefix, else the
+    /// empty path. Refused with [`RibError::Memory`] if a growth is refused.
     pub fn best(&self, alloc: Global, prefix: &Prefix) -> Result<Path, RibError>
         requires { IsNamed self.now.net.origins prefix.now }
         ensures { IfOk result (IsBest (sources_of self.now) prefix.now) }
@@ -325,10 +324,9 @@ impl<'a> Rib<'a> {
         Ok(path_along(alloc, self.router, way)?)
     }
 
-    /// The prefix that is to be decided: the least of the network, by address and then by length,
-    /// whose kept path is not the best (RFC 4271 section 9.1). `None` exactly where each kept path
-    /// is. Nothing that a clause sees changes: what was found to be the best is not looked at
-    /// again until something changes. It takes no memory.
+    /// The prefix that is to be decided: the least of the network, by address and then by length, whose kept path is
+    /// not the best (RFC 4271 section 9.1). `None` exactly where each kept path is the best. Nothing that a clause sees
+    /// changes: a path found to be the best is not looked at again until something changes. It takes no memory.
     pub fn dirty(&mut self) -> Option<Prefix>
         ensures least { MatchOption result (HoldsOfAll self.old.net.origins (IsSettled self.old)) (IsLeastWithout self.old.net.origins (IsSettled self.old)) }
         ensures same { self.new ≡ self.old }
@@ -343,7 +341,7 @@ impl<'a> Rib<'a> {
     }
 
     /// The prefix that [`Rib::decide`] decides next: the least of the network, by address and then by length, whose
-    /// kept path is not the best. `None` exactly where each kept path is. It takes no memory.
+    /// kept path is not the best. `None` exactly where each kept path is the best. It takes no memory.
     pub fn undecided(&self) -> Option<Prefix>
         ensures { MatchOption result (HoldsOfAll self.now.net.origins (IsSettled self.now)) (IsLeastWithout self.now.net.origins (IsSettled self.now)) }
     {
@@ -357,10 +355,10 @@ impl<'a> Rib<'a> {
         Some(self.rows[place].prefix)
     }
 
-    /// Decides once (RFC 4271 section 9.1): the least prefix of the network, by address and then by
-    /// length, whose kept path is not the best gets its best, and is answered. `None` exactly where
-    /// each kept path is the best, and then nothing changes. Refused [`RibError::Memory`] where a
-    /// growth was, and then some kept path is not the best, and all is as it was.
+    /// Decides one prefix (RFC 4271 section 9.1): the least of the network, by address and then by length, whose kept
+    /// path is not the best. The prefix gets its best path, and is answered. `None` exactly where each kept path is the
+    /// best, and then nothing changes. Refused with [`RibError::Memory`] if a growth is refused: then some kept path is
+    /// not the best, and all is as it was.
     pub fn decide(&mut self, alloc: Global) -> Result<Option<Prefix>, RibError>
         ensures least { IfOk result (λ found. MatchOption found (HoldsOfAll self.old.net.origins (IsSettled self.old)) (IsLeastWithout self.old.net.origins (IsSettled self.old))) }
         ensures decides { IfOk result (λ found. MatchOption found (self.new ≡ self.old) (Decides self.old self.new)) }
@@ -387,9 +385,9 @@ impl<'a> Rib<'a> {
         Ok(Some(row.prefix))
     }
 
-    /// The prefix that a peer waits for: the least of the network, by address and then by length,
-    /// whose last word sent to it is not the kept path. `None` exactly where it was told all, or its
-    /// session is not Established. It takes no memory.
+    /// The prefix that a peer waits for: the least of the network, by address and then by length, whose kept path is
+    /// not the last word sent to the peer. `None` exactly where the peer was told each kept path, or its session is not
+    /// Established. It takes no memory.
     pub fn waiting(&self, peer: Asn) -> Option<Prefix>
         requires { Linked self.now.net.links self.now.router peer }
         ensures { MatchOption result (HoldsOfAll self.now.net.origins (IsServed self.now peer)) (IsLeastWithout self.now.net.origins (IsServed self.now peer)) }
@@ -398,9 +396,8 @@ impl<'a> Rib<'a> {
         Some(prefix)
     }
 
-    /// The prefix that [`Rib::waiting`] answers, behind the place where it was found, as a hint for the calls
-    /// that take one. `at`: a place among the linked routers, by rising number, where the peer is looked for
-    /// first.
+    /// Answers as [`Rib::waiting`] does, with the prefix's place in front: a hint for the calls that take one. The peer
+    /// is looked for first at the place `at` among the linked routers, by rising number.
     pub fn waiting_at(&self, at: usize, peer: Asn) -> Option<(usize, Prefix)>
         requires { Linked self.now.net.links self.now.router peer }
         ensures { MatchOption result (HoldsOfAll self.now.net.origins (IsServed self.now peer)) (λ found. IsLeastWithout self.now.net.origins (IsServed self.now peer) found.1) }
@@ -426,8 +423,8 @@ impl<'a> Rib<'a> {
         false
     }
 
-    /// Whether nothing is to be done, where that is seen without a look at a path: each kept path is the best, and
-    /// each Established peer was told all. It takes no memory.
+    /// Whether it is seen without a look at a path that nothing is to be done: each kept path is the best, and each
+    /// Established peer was told each of them. `false` says nothing. It takes no memory.
     pub fn rests(&self) -> bool
         ensures { result ≡ true → HoldsOfAll self.now.net.origins (IsSettled self.now) × AllServed self.now }
     {
