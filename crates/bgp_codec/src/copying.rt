@@ -68,7 +68,7 @@ impl Attrs {
 }
 
 impl Update {
-    /// A copy of the UPDATE: the same in every part. It is refused only where memory was.
+    /// A copy of the UPDATE: the same in every part. It is refused only for want of memory.
     pub fn copied(&self, alloc: Global) -> Result<Update, AllocError>
         ensures { IfOk result (λ copy. copy ≡ self.now) }
     {

@@ -16,7 +16,7 @@ use std::{mem, slice};
 enum Room<T> {
     // One item, in the list itself.
     One([T; 1]),
-    // Any number of items, in a block of memory where there are any.
+    // Any number of items, in a block of memory if there are any.
     Block(Vec<T>),
 }
 

@@ -11,8 +11,8 @@
 //! written), `AttrTable` (the attributes that are known), `UpdateReading` (what reading an UPDATE
 //! answers), `Gathering` (attributes as they come, before they are put in order), `Reading` (what a
 //! reader answers), `Faults` (the first fault of a frame), `Judging` (what a search for that fault
-//! remembers, where a growth was refused).
-//! The laws that tie them together are the public functions of [`laws`].
+//! remembers, if a growth was refused). The laws that tie them together are the public functions of
+//! [`laws`].
 //!
 //! Numbers of autonomous systems have two octets in messages, or four (RFC 6793): a [`Rule`] says
 //! which.

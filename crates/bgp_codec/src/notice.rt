@@ -20,7 +20,7 @@ pub struct Notice {
     pub extra: Octets,
 }
 
-/// The NOTIFICATION that tells a peer of a fault. It is refused only where memory was, and never
+/// The NOTIFICATION that tells a peer of a fault. It is refused only for want of memory, and never
 /// for data of sixteen octets or fewer.
 pub fn notice_of(alloc: Global, fault: &Fault) -> Result<Notice, CodecError>
     ensures ok { IfOk result (λ notice. (notice.code ≡ fault.now.code) × (notice.sub ≡ fault.now.sub) × (notice.extra ≡ fault.now.extra)) }

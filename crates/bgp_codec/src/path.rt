@@ -41,7 +41,7 @@ impl Model for Numbers {
 }
 
 impl Numbers {
-    /// A copy of the numbers. It is refused only where memory was, and never for eight or fewer.
+    /// A copy of the numbers. It is refused only for want of memory, and never for eight or fewer.
     pub fn from_slice(alloc: Global, numbers: &[Asn]) -> Result<Numbers, AllocError>
         ensures ok { IfOk result (λ list. list ≡ numbers.now) }
         ensures short { length numbers.now ≤ 8 → IsOk result }
