@@ -42,12 +42,12 @@ signs_heard (Dials ∷ ms) = signs_heard ms
 signs_heard (HangsUp ∷ ms) = signs_heard ms
 signs_heard (Hears s ∷ ms) = s ∷ signs_heard ms
 
--- the greatest of some numbers, 0 where there is none
+-- the greatest of some numbers, 0 if there is none
 abbrev pub greatest : List ℕ → ℕ
 greatest [] = 0
 greatest (n ∷ ns) = max n (greatest ns)
 
--- the greatest number that these signs dial, 0 where there is none
+-- the greatest number that these signs dial, 0 if there is none
 abbrev pub greatest_dial : List Sign → ℕ
 greatest_dial [] = 0
 greatest_dial (Dial n ∷ ss) = max n (greatest_dial ss)

@@ -2,7 +2,7 @@
 
 ghost use Rattle.link_epoch.specs.Histories.{EpochIsGreatest, HeardIsGreatest, HeardIsShut, HeardIsShutAnywhere, JoinedWhereDialledAndHeard, NumbersRise, JoinsAtItsOwnNumber, OffersAboveTheOwn, ClosesAtItsOwnNumber};
 
-/// `epoch` is the greatest number that the end has dialled, 0 where it has dialled none.
+/// `epoch` is the greatest number that the end has dialled, 0 if it has dialled none.
 pub fn epoch_is_greatest_dialled()
     ensures { EpochIsGreatest }
 {}
