@@ -13,7 +13,7 @@ pub record StandsAt (entries : List PrefixView) (q : PrefixView) (at : ℕ) (p :
   pub shorter : All (λ e. Covers e q → e.len < p.len) before
   pub no_longer : All (λ e. Covers e q → e.len ≤ p.len) behind
 
--- the place of the longest that covers, the first among equals; none where none covers
+-- the place of the longest that covers, the first among equals; none if none covers
 abbrev pub IsLongest : List PrefixView → PrefixView → Option ℕ → Type 0
 IsLongest entries q None = All (λ e. Covers e q → ⊥) entries
 IsLongest entries q (Some at) = (p : PrefixView) × StandsAt entries q at p
