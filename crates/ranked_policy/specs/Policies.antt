@@ -23,7 +23,7 @@ IsTableOf net u table =
 abbrev pub Originates : Table → PrefixView → ℕ → Type 0
 Originates table q u = IsOrigin table.origins u q
 
--- the origin of the prefix, or none where it isn't named
+-- the origin of the prefix, or none if it isn't named
 abbrev pub IsOriginOf : List Origin → PrefixView → Option ℕ → Type 0
 IsOriginOf origins q None = IsNamed origins q → ⊥
 IsOriginOf origins q (Some u) = IsOrigin origins u q

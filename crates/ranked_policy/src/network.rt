@@ -129,7 +129,7 @@ impl Network {
         self.built.links()
     }
 
-    /// The links of a router, each from it to a peer, by rising peer; none where there is no such
+    /// The links of a router, each from it to a peer, by rising peer; none if there is no such
     /// router. They are found by a binary search, and take no memory.
     pub fn links_of(&self, asn: Asn) -> &[Link]
         ensures from { All (λ link. link.one ≡ asn) result.now }
@@ -199,7 +199,7 @@ impl Network {
         self.built.router(asn)
     }
 
-    /// The numbers of a router's peers, rising. It is refused only where memory was.
+    /// The numbers of a router's peers, rising. It is refused only for want of memory.
     pub fn peers(&self, alloc: Global, asn: Asn) -> Result<Items<Asn>, AllocError>
         ensures rising { IfOk result (λ peers. AllPairs (λ u v. u < v) peers) }
         ensures exact { IfOk result (λ peers. (v : ℕ) → (Contains peers v ↔ Linked self.now.links asn v)) }
