@@ -36,7 +36,7 @@ unfoldable pub word_of : Words → ℕ → PrefixView → Word
 word_of [] peer q = nothing
 word_of (s ∷ rest) peer q = if is_of s peer q then s.word else word_of rest peer q
 
--- the path that is kept for a prefix: the empty path where none stands
+-- the path that is kept for a prefix: the empty path if none stands
 unfoldable pub path_of : Paths → PrefixView → List ℕ
 path_of [] q = []
 path_of (k ∷ rest) q = if is_prefix k.prefix q then k.path else path_of rest q

@@ -15,7 +15,7 @@ use Rattle.rib_tables.specs.declared.word.Word.TheVariants.{Sequence, Other}
 abbrev pub nothing : Word
 nothing = Sequence []
 
--- the path that a word gives: the empty path where it gives none
+-- the path that a word gives: the empty path if it gives none
 abbrev pub path_in : Word → List ℕ
 path_in (Sequence path) = path
 path_in Other = []
