@@ -11,8 +11,8 @@ module _ {Own Item Offer : Type 0} where
   IsCausal order =
       (u v : ℕ) (front rest : Order Own Item Offer) → order ≡ front ++ rest → IsPrefix (takes_in u v front) (puts_in u v front)
 
-  -- the same, take by take: where router v takes its k-th item from u, the k-th item of that direction was put before, and
-  -- it is that one
+  -- causal, take by take: where router v takes its k-th item from u, the k-th item of that direction was put before,
+  -- and it is the same item
   abbrev pub EachTakeHasItsPut : Order Own Item Offer → Type 0
   EachTakeHasItsPut order =
       (u v : ℕ) (x : Item) (front rest : Order Own Item Offer)
@@ -63,7 +63,7 @@ CausalOrdersEndAlike State Own Item Offer =
     (finish : ℕ → State) (journal : ℕ → Journal Own Item Offer) (collected : List Offer) (order : Order Own Item Offer)
     → IsCausalOrder journal collected order → closing finish collected order ≡ left_by finish journal collected
 
--- the two forms of causal say the same
+-- `IsCausal` and `EachTakeHasItsPut` say the same
 abbrev pub TakesHaveTheirPuts : (Own Item Offer : Type 0) → Type 0
 TakesHaveTheirPuts Own Item Offer =
     (order : Order Own Item Offer) → (IsCausal order → EachTakeHasItsPut order) × (EachTakeHasItsPut order → IsCausal order)

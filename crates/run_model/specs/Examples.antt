@@ -35,7 +35,7 @@ dial_at_once =
     link_move 1 2 Dials ∷ link_move 2 1 Dials ∷ link_move 1 2 (Takes (Dial 1)) ∷ link_move 2 1 (Takes (Dial 1))
     ∷ []
 
--- each offers number 1 and joins by the other's dial
+-- each end offers number 1, and joins by the other's dial
 abbrev pub DialAtOnceJoins : Type 0
 DialAtOnceJoins =
     IsRun opening dial_at_once
@@ -49,12 +49,13 @@ DialAtOnceJoins =
 abbrev pub by_length : List ℕ → List ℕ
 by_length message = length message ∷ message
 
--- they are a framing
+-- such messages are a framing
 abbrev pub LengthsAreFrames : Type 0
 LengthsAreFrames =
     IsFraming (λ octets. (message : List ℕ) × (octets ≡ by_length message))
 
--- the octets of incarnation 1, up to its end, where octets of another stand between them and others behind it
+-- the octets of incarnation 1, up to its end; octets of another incarnation stand between them, and others stand behind
+-- the end
 abbrev pub StreamEndsAtShut : Type 0
 StreamEndsAtShut =
     octets_in {M = ℕ} 1 (Octet 1 5 ∷ Octet 2 7 ∷ Octet 1 6 ∷ Control (Shut 1) ∷ Octet 1 9 ∷ []) ≡ 5 ∷ 6 ∷ []
@@ -76,7 +77,7 @@ sessions_restart =
     session 1 2 (Closes (Keepalive ∷ [])) ∷ session 1 2 (Starts Open) ∷ session 2 1 (Closes []) ∷ session 2 1 (Passes (Says 1 Keepalive))
     ∷ session 2 1 (Passes (Shut 1)) ∷ session 2 1 (Passes (Dial 2)) ∷ session 2 1 (Starts Open) ∷ []
 
--- Established at both, and then router 2 joined in number 2 while router 1 waits for its dial
+-- both sessions are Established; then router 2 has joined in number 2, and router 1 waits for its dial
 abbrev pub SessionsComeUp : Type 0
 SessionsComeUp =
     IsSessionRun first_sides (sessions_start ++ sessions_restart)
@@ -85,7 +86,7 @@ SessionsComeUp =
     × ((sides_after first_sides (sessions_start ++ sessions_restart) 2 1).state ≡ OpenSent)
     × (incarnation (sides_after first_sides (sessions_start ++ sessions_restart) 2 1).end ≡ 2)
 
--- ---- two routers, of which the first may originate prefix 7: path 1 is router 1 alone, path 2 is 2-1
+-- ---- two routers, of which the first may originate prefix 7; path 1 is router 1 alone, path 2 is 2-1
 
 abbrev pub pair : Network Sample ℕ ℕ
 pair = record {
@@ -245,7 +246,7 @@ comes_up_again =
 abbrev pub reset_steps : List (OfferStep Sample ℕ ℕ)
 reset_steps = comes_up ++ (announces ++ (begins_5 ++ (follows_5 ++ (resets ++ comes_up_again))))
 
--- the snapshot is abandoned, the Lost is the router's one offer for it, and the sessions are up in incarnation 2
+-- the snapshot is abandoned; the Lost is the router's one offer for it; the sessions are up in incarnation 2
 abbrev pub ResetRun : Type 0
 ResetRun =
     IsOfferRunOf pair reset_steps

@@ -9,7 +9,8 @@ module _ {State Own Item Offer : Type 0} (step : Steps State Own Item Offer) whe
   CanPut u old v [] = Unit {0}
   CanPut u old v (x ∷ xs) = (next : State) × step u old (puts v x) next × CanPut u next v xs
 
-  -- a put leads to one state, and commutes with each event that could come in its place and puts nothing in its direction
+  -- a put leads to one state, and commutes with each event that could come in its place, unless that puts in the same
+  -- direction
   pub record PutsCommute : Type 0 where
     pub one : (u v : ℕ) (x : Item) (old first second : State)
         → step u old (puts v x) first → step u old (puts v x) second → first ≡ second

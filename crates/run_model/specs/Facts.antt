@@ -1,4 +1,4 @@
--- What holds of the two ends of a link in every run, and each move and each session event keeps.
+-- What holds of the two ends of a link in every run. Each move and each session event keeps it.
 use Rattle.std.specs.Prelude.{ℕ, ◌≡◌, ◌≢◌, ◌≤◌, ◌<◌, max, true, false, ◌||◌, List, [], ◌∷◌, ◌++◌}
 use mathlib.Core.List.{IsPrefix}
 use Rattle.run_model.specs.Links.{Entry, Dial, Says, Mark, Shut, greatest_dial, has_shut, said, incarnation, heard_number, Closed, Joined, End, Move, HangsUp, after, is_up, May, LinkStep, IsRun, opening, ends_after}
@@ -6,7 +6,7 @@ use Rattle.run_model.specs.Sessions.{SessionState, Established, SessionEvent, Si
 use Rattle.run_model.specs.Octets.{passing}
 
 module _ {M : Type 0} where
-  -- each message, marker and close has the greatest number that was dialled before it
+  -- each message, marker and close bears the greatest number that was dialled before it
   abbrev pub Sound : ℕ → List (Entry M) → Type 0
   Sound hi [] = Unit {0}
   Sound hi (Dial e ∷ rest) = Sound (max hi e) rest
@@ -19,7 +19,7 @@ module _ {M : Type 0} where
     -- what it took is a beginning of what the peer appended
     pub front : IsPrefix a.taken b.appended
     pub sound : Sound 0 a.appended
-    -- an end joins only what the peer dialled
+    -- an end joins only a number that the peer dialled
     pub joined : a.phase ≡ Joined → greatest_dial a.appended ≤ greatest_dial a.taken
     -- nothing is said in an incarnation that the peer hasn't dialled
     pub told : (n : ℕ) → greatest_dial b.appended < n → said n a.appended ≡ []
@@ -62,7 +62,7 @@ NotDialledIsNotShut M =
 abbrev pub ClosingLeaves : Type 0 → Type 0
 ClosingLeaves M = (e : ℕ) (a : End M) → e ≤ incarnation a → IsPast e (said e a.used) (after a HangsUp)
 
--- and stays past it by every move that may be made
+-- an end that is past an incarnation stays past it by every move that may be made
 abbrev pub PastStaysPast : Type 0 → Type 0
 PastStaysPast M =
     (e : ℕ) (messages : List M) (a b : End M) (move : Move M) → May a b move → IsPast e messages a
@@ -70,8 +70,8 @@ PastStaysPast M =
 
 -- ---- session event by session event
 
--- an event that may come to a session whose end fits its state is moves that may be made; it leaves the end fitting the new
--- state, and keeps the facts of both ends
+-- a session event that may come, at an end that fits its session's state, is a list of moves that may be made; it
+-- leaves the end fitting the new state, and keeps the facts of both ends
 pub record LeadsOn {M : Type 0} (side : Side M) (b : End M) (event : SessionEvent M) : Type 0 where
   pub may : MayInTurn side.end b (moves_of side.end event)
   pub fits : Fits (state_after side event) (afters side.end (moves_of side.end event))
@@ -91,7 +91,8 @@ UpByFit M =
 
 -- ---- lists of entries, one behind the other
 
--- the greatest number, the messages of an incarnation, whether a number is shut, what passes: of both, part by part
+-- the greatest number, the messages of an incarnation, whether a number is shut, what passes: for two lists in a row,
+-- each is that of the first and that of the second
 pub record AddUp (M : Type 0) (xs ys : List (Entry M)) : Type 0 where
   pub dialled : greatest_dial (xs ++ ys) ≡ max (greatest_dial xs) (greatest_dial ys)
   pub messages : (e : ℕ) → said e (xs ++ ys) ≡ said e xs ++ said e ys

@@ -7,7 +7,7 @@ use Rattle.run_model.specs.Stamps.{Pairwise, Stamped, events_in, FitsItem, Takes
 
 -- the lines of journals: of each its stamp and its router
 module _ {Entry : Type 0} (stamp router : Entry → ℕ) where
-  -- by stamp, and of one stamp by router
+  -- one line comes before another: by stamp, and of one stamp by router
   abbrev pub ComesBefore : Entry → Entry → Type 0
   ComesBefore a b = (stamp a < stamp b) ⊎ ((stamp a ≡ stamp b) × (router a ≤ router b))
 
@@ -30,7 +30,8 @@ module _ {Entry : Type 0} (stamp router : Entry → ℕ) where
       (all sorted : List Entry) → IsNonDecreasingBy router all → JournalsRise all
       → IsNonDecreasingBy stamp sorted → IsStableByKey stamp nat_cmp all sorted → IsGathered all sorted
 
-  -- journals that stand anyhow are gathered by a sort by stamp, then router, that keeps what ties in both as it stood
+  -- journals in any order are gathered by a sort by stamp, then router, that leaves lines with the same stamp and
+  -- router in their order
   abbrev pub SortingByStampThenRouterGathers : Type 0
   SortingByStampThenRouterGathers =
       (all sorted : List Entry) → JournalsRise all → Pairwise ComesBefore sorted
@@ -47,7 +48,8 @@ module _ {Entry : Type 0} (stamp router : Entry → ℕ) where
   abbrev pub GatheredStampsRise : Type 0
   GatheredStampsRise = (all gathered : List Entry) → IsGathered all gathered → IsNonDecreasingBy stamp gathered
 
--- lines that leave something out, as the items of events: where the lines are gathered, so is what they are lines of
+-- lines may leave something out, as the items of events: if they are gathered, there is a gathered list of the whole
+-- entries that has these lines
 abbrev pub GatheringLifts : {Whole Entry : Type 0} → (Whole → Entry) → (Entry → ℕ) → (Entry → ℕ) → Type 0
 GatheringLifts {Whole} {Entry} entry stamp router =
     (all : List Whole) (gathered : List Entry)

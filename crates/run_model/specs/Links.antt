@@ -11,8 +11,8 @@ pub data Entry (M : Type 0) : Type 0 where
   Mark : (incarnation number : ℕ) → Entry M
   Shut : (incarnation : ℕ) → Entry M
 
--- Offered: it dialled and waits for the peer's dial (the session is in Connect). Joined: both dialled the same number
--- (OpenSent, OpenConfirm, Established). Closed: neither (Idle, Active)
+-- Closed: the end has dialled nothing, or hung up since (Idle, Active). Offered: it dialled, and waits for the peer's
+-- dial (Connect). Joined: both ends dialled the same number (OpenSent, OpenConfirm, Established)
 pub data Phase : Type 0 where
   Closed : Phase
   Offered : Phase
@@ -76,11 +76,11 @@ module _ {M : Type 0} where
   said n (Mark e s ∷ rest) = said n rest
   said n (Shut e ∷ rest) = said n rest
 
-  -- the peer's number stands open: it is above the own, and not shut
+  -- the peer's number is open: it is above the own, and not shut
   abbrev pub answers : End M → Bool
   answers a = nat_lt (incarnation a) (heard_number a) && not (has_shut (heard_number a) a.taken)
 
-  -- the number of the next dial: the peer's where that stands open, else one that is new to both
+  -- the number of the next dial: the peer's if that is open, else one that is new to both
   abbrev pub next_incarnation : End M → ℕ
   next_incarnation a = cond (answers a) (heard_number a) (max (incarnation a) (heard_number a) + 1)
 
@@ -107,7 +107,7 @@ module _ {M : Type 0} where
   abbrev pub phase_at_dial : End M → ℕ → Phase
   phase_at_dial a e = cond (nat_lt (heard_number a) e && (e == incarnation a)) (phase_joining a.phase) a.phase
 
-  -- a message is used where the end is joined in the message's incarnation, and dropped elsewhere
+  -- an end uses a message if it is joined in the message's incarnation, and drops it otherwise
   abbrev pub used_with : Phase → ℕ → ℕ → M → List (Entry M) → List (Entry M)
   used_with Joined n e m used = cond (n == e) (used ++ Says e m ∷ []) used
   used_with Offered n e m used = used
@@ -165,8 +165,8 @@ module _ {M : Type 0} where
   abbrev pub IsNext : End M → End M → Entry M → Type 0
   IsNext a b x = slice_get b.appended (length a.taken) ≡ Some x
 
-  -- when an end a, whose peer's end is b, may make a move: it dials where it isn't joined, and again only to answer;
-  -- it tells where it is joined, marks where it is up, and takes the next entry that the peer appended
+  -- when an end a, whose peer's end is b, may make a move: it dials unless it is joined, and dials again only to
+  -- answer; it tells while it is joined, marks while it is up, and takes the next entry that the peer appended
   abbrev pub May : End M → End M → Move M → Type 0
   May a b Dials = (a.phase ≢ Joined) × (a.phase ≡ Offered → answers a ≡ true)
   May a b (Tells m) = a.phase ≡ Joined
@@ -208,7 +208,7 @@ module _ {M : Type 0} where
   abbrev pub close_of : ℕ → ℕ → LinkStep M
   close_of u v = record { router = u; peer = v; move = HangsUp }
 
--- moves that are a run from where a run ends make a longer run
+-- a run, and then moves that are a run from where it ends, make a longer run
 abbrev pub LinkRunsGoOn : Type 0 → Type 0
 LinkRunsGoOn M =
     (moves more : List (LinkStep M)) → IsRun opening moves → IsRun (ends_after opening moves) more
@@ -221,7 +221,8 @@ UsedBeginsSaid M =
     (moves : List (LinkStep M)) → IsRun opening moves → (u v e : ℕ) → u ≢ v
     → IsPrefix (said e (ends_after opening moves u v).used) (said e (ends_after opening moves v u).appended)
 
--- and so for the messages of any kind: UPDATEs acted on are a beginning of the UPDATEs sent
+-- in every run, the messages of one kind that an end used begin those that its peer said: UPDATEs acted on are a
+-- beginning of the UPDATEs sent
 abbrev pub ActedBeginsSent : Type 0 → Type 0
 ActedBeginsSent M =
     (is_update : M → Bool) (moves : List (LinkStep M)) → IsRun opening moves → (u v e : ℕ) → u ≢ v

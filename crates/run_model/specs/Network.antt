@@ -11,12 +11,12 @@ pub data Event (Own Item Offer : Type 0) : Type 0 where
   takes : (from : ℕ) → Item → Event Own Item Offer
   offers : Offer → Event Own Item Offer
 
--- an event, and whose it is
+-- an event, and the router that does it
 pub record NetworkEvent (Own Item Offer : Type 0) : Type 0 where
   pub router : ℕ
   pub event : Event Own Item Offer
 
--- the journal of a router is its events, and an order those of a network, first to last
+-- a journal is the events of one router, first to last; an order is the events of a network, first to last
 abbrev pub Journal : Type 0 → Type 0 → Type 0 → Type 0
 Journal Own Item Offer = List (Event Own Item Offer)
 
@@ -49,14 +49,14 @@ module _ {Own Item Offer : Type 0} where
   offered_by (puts to x) = []
   offered_by (takes from x) = []
 
-  -- what an event puts in the direction from u to v, and what it takes from there
+  -- the item that an event puts in the direction from u to v, and the item that it takes from there
   abbrev pub put_between : ℕ → ℕ → NetworkEvent Own Item Offer → List Item
   put_between u v d = if d.router == u then put_towards v d.event else []
 
   abbrev pub taken_between : ℕ → ℕ → NetworkEvent Own Item Offer → List Item
   taken_between u v d = if d.router == v then taken_from u d.event else []
 
-  -- the same of a list of events, first to last
+  -- the items that a list of events puts in a direction, and takes from it, first to last
   abbrev pub puts_in : ℕ → ℕ → Order Own Item Offer → List Item
   puts_in u v [] = []
   puts_in u v (d ∷ ds) = put_between u v d ++ puts_in u v ds

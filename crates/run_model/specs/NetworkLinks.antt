@@ -21,7 +21,7 @@ module _ {M : Type 0} where
   act_moves a v (Finishes s) = []
 
 module _ {M P W : Type 0} where
-  -- and of an event
+  -- the moves of an event on the end a towards v
   abbrev pub event_moves : End M → ℕ → Event M P W → List (Move M)
   event_moves a v (Acts act) = act_moves a v act
   event_moves a v (Advertise y p m) = cond (v == y) (Tells m ∷ []) []
@@ -29,13 +29,13 @@ module _ {M P W : Type 0} where
   event_moves a v (Command originated kept) = []
 
 module _ {M P W : Type 0} (g : Network M P W) where
-  -- of a step, on the link between u and v
+  -- the moves of a step on the link between u and v
   abbrev pub step_moves : Routers M P W → ℕ → ℕ → NetworkStep M P W → List (LinkStep M)
   step_moves w u v t =
       cond (u == t.router) (link_steps u v (event_moves ((w u).recorder.ends v) v t.event))
       (cond (v == t.router) (link_steps v u (event_moves ((w v).recorder.ends u) u t.event)) [])
 
-  -- and of a run from w
+  -- the moves of a run from w on the link between u and v
   abbrev pub moves_between : Routers M P W → ℕ → ℕ → List (NetworkStep M P W) → List (LinkStep M)
   moves_between w u v [] = []
   moves_between w u v (t ∷ ts) = step_moves w u v t ++ moves_between (advanced g w t) u v ts
@@ -59,7 +59,7 @@ NetworkActedBeginsSent M P W =
     (g : Network M P W) (ts : List (NetworkStep M P W)) → IsRunOf g ts → (u v e : ℕ) → u ≢ v
     → IsPrefix (updates g (said e (reached_end g ts u v).used)) (updates g (said e (reached_end g ts v u).appended))
 
--- and none is acted on after the router's close
+-- in every run of the network, no UPDATE of an incarnation is acted on after the router's close
 abbrev pub NetworkNoneAfterClose : (M P W : Type 0) → Type 0
 NetworkNoneAfterClose M P W =
     (g : Network M P W) (before later : List (NetworkStep M P W)) (u v : ℕ) → u ≢ v
@@ -68,7 +68,7 @@ NetworkNoneAfterClose M P W =
     → said e (reached_end g (before ++ record { router = u; event = Acts (Moves v HangsUp) } ∷ later) u v).used
     ≡ said e (reached_end g before u v).used
 
--- and an end that is joined has heard exactly its own number
+-- in every run of the network, an end that is joined has heard exactly its own number
 abbrev pub NetworkJoinedHeardItsOwn : (M P W : Type 0) → Type 0
 NetworkJoinedHeardItsOwn M P W =
     (g : Network M P W) (ts : List (NetworkStep M P W)) → IsRunOf g ts → (u v : ℕ) → u ≢ v

@@ -34,7 +34,7 @@ module _ {M : Type 0} where
   OnlyMessages (Mark e s ∷ rest) = ⊥
   OnlyMessages (Shut e ∷ rest) = ⊥
 
-  -- every message of these entries is good, whatever that is
+  -- every message of these entries is good, whatever good means
   abbrev pub AllGood : (M → Type 0) → List (Entry M) → Type 0
   AllGood is_good [] = Unit {0}
   AllGood is_good (Dial e ∷ rest) = AllGood is_good rest
@@ -51,9 +51,9 @@ pub record IsFraming (is_frame : List ℕ → Type 0) : Type 0 where
   pub some : (f : List ℕ) → is_frame f → f ≢ []
   pub prefix_free : (f g a b : List ℕ) → is_frame f → is_frame g → f ++ a ≡ g ++ b → f ≡ g
 
--- of every way in which messages are written
+-- for every way in which messages are written
 module _ (M : Type 0) (is_frame : List ℕ → Type 0) where
-  -- where a whole frame stands behind what was taken, it is the next message
+  -- a whole frame that stands behind what was taken is the next message
   abbrev pub NextFrameIsNextMessage : Type 0
   NextFrameIsNextMessage =
       (written : M → List ℕ) → IsFraming is_frame → (taken appended : List (Entry M)) (e : ℕ) (f rest : List ℕ)
@@ -62,7 +62,7 @@ module _ (M : Type 0) (is_frame : List ℕ → Type 0) where
       → IsPrefix (passing written taken ++ octets_of e (f ++ rest)) (passing written appended)
       → (m : M) × (f ≡ written m) × (slice_get appended (length taken) ≡ Some (Says e m))
 
-  -- octets that are held begin the next message, or it begins them
+  -- octets that are held are a beginning of the next message, or the next message is a beginning of them
   abbrev pub HeldBeginsNextMessage : Type 0
   HeldBeginsNextMessage =
       (written : M → List ℕ) → IsFraming is_frame → (taken appended : List (Entry M)) (e : ℕ) (held : List ℕ)
@@ -72,7 +72,7 @@ module _ (M : Type 0) (is_frame : List ℕ → Type 0) where
       → (m : M) × (slice_get appended (length taken) ≡ Some (Says e m)) × is_frame (written m)
       × (IsPrefix held (written m) ⊎ IsPrefix (written m) held)
 
-  -- where none stands whole and another entry comes, no octet is held, and the entry is the next one
+  -- if no whole frame stands there and another entry comes, no octet is held, and that entry is the next one
   abbrev pub NextControlIsNextEntry : Type 0
   NextControlIsNextEntry =
       (written : M → List ℕ) → IsFraming is_frame
@@ -82,7 +82,7 @@ module _ (M : Type 0) (is_frame : List ℕ → Type 0) where
       → ((f rest : List ℕ) → is_frame f → held ≢ f ++ rest) → (held ≡ [])
       × (slice_get appended (length taken) ≡ Some x)
 
-  -- to an end that is joined no octet of another incarnation comes
+  -- no octet of another incarnation comes to an end that is joined
   abbrev pub NoStaleOctetWhileJoined : Type 0
   NoStaleOctetWhileJoined =
       (written : M → List ℕ) → IsFraming is_frame → (moves : List (LinkStep M)) → IsRun opening moves → (u v : ℕ)
@@ -95,9 +95,10 @@ module _ (M : Type 0) (is_frame : List ℕ → Type 0) where
       (passing written (ends_after opening moves v u).appended)
       → e ≡ incarnation (ends_after opening moves u v)
 
--- of messages that are written anyhow
+-- for messages that are written in any way
 module _ (M : Type 0) where
-  -- where octets were dropped and another entry comes, the octets were those of whole messages, and the entry stands behind
+  -- if octets were dropped and another entry comes, the octets were those of whole messages, and the entry stands
+  -- behind them
   abbrev pub DroppedOctetsAreMessages : Type 0
   DroppedOctetsAreMessages =
       (written : M → List ℕ) (taken appended : List (Entry M)) (x : Entry M) (dropped : List (Passing M))
@@ -106,7 +107,7 @@ module _ (M : Type 0) where
       → (messages : List (Entry M)) × OnlyMessages messages × (passing written messages ≡ dropped)
       × IsPrefix (taken ++ (messages ++ x ∷ [])) appended
 
-  -- octets that were taken and not handled stand before a marker that was not taken: so what was taken inside a cut was
+  -- octets that were taken and not handled stand before a marker that was not taken: what was taken inside a cut was
   -- appended inside, octet by octet
   abbrev pub OctetsStayBeforeMark : Type 0
   OctetsStayBeforeMark =
@@ -124,6 +125,6 @@ module _ (M : Type 0) where
       → IsPrefix (passing written (ends_after opening moves u v).taken ++ dropped) (passing written (ends_after opening moves v u).appended)
       → dropped ≡ []
 
--- what passes for entries and then others passes for the first, and then for the others
+-- what passes for entries and then others is what passes for the first, and then what passes for the others
 abbrev pub PassingAppends : (M : Type 0) → Type 0
 PassingAppends M = (written : M → List ℕ) (xs ys : List (Entry M)) → passing written (xs ++ ys) ≡ passing written xs ++ passing written ys

@@ -78,7 +78,7 @@ module _ {M P W : Type 0} (g : Network M P W) where
       × (IsNotPending g u c (n.kept_at s) (n.originated_at s) → part.pending ≡ false))
       × ((v : ℕ) → g.linked u v ≡ true → part.channel v ≡ updates g (channels v))
 
-  -- what an act queues
+  -- the offers that an act queues
   abbrev pub QueuesByAct : ℕ → Router M P W → Act M → List (Offer M P W) → Type 0
   QueuesByAct u n (Moves v Dials) offers = offers ≡ []
   QueuesByAct u n (Moves v (Tells m)) offers = offers ≡ []
@@ -93,7 +93,7 @@ module _ {M P W : Type 0} (g : Network M P W) where
   QueuesByAct u n (Finishes s) offers =
       (part : Part M P W) × IsPartOf u n s n.recorder.channel part × (offers ≡ Finished s part ∷ [])
 
-  -- and an event
+  -- the offers that an event queues
   abbrev pub Queues : ℕ → Router M P W → Event M P W → List (Offer M P W) → Type 0
   Queues u n (Acts act) offers = QueuesByAct u n act offers
   Queues u n (Advertise v p m) offers = offers ≡ []
@@ -180,7 +180,7 @@ pub data Why : Type 0 where
   InFlight : (peer : ℕ) → Why
   Mismatch : (peer : ℕ) → Why
 
--- the order in which they are looked for at a router
+-- the order in which the reasons are looked for at a router
 abbrev pub Precedes : Why → Why → Type 0
 Precedes Pending Pending = ⊥
 Precedes Pending (InFlight w) = Unit {0}
@@ -227,7 +227,7 @@ module _ {M P W : Type 0} (g : Network M P W) where
       × ((w v e : ℕ) (cause : Cause) → IsIn (made_of w (Lost s v e cause)) front → ⊥)
       × ((w : ℕ) → g.routers w ≡ true → (other : Why) → Shows s front w other → ⊥)
 
-  -- the events of a run that are not offers made
+  -- the events of a run without the offers made
   abbrev pub network_step : ℕ → OfferEvent M P W → List (NetworkStep M P W)
   network_step u (Happens event offers) = record { router = u; event = event } ∷ []
   network_step u (Makes offer) = []
@@ -249,7 +249,7 @@ OutcomeIsOne M P W =
     (g : Network M P W) (s : ℕ) (made : List (Made M P W)) (a b : Outcome) → HasOutcome g s made a
     → HasOutcome g s made b → a ≡ b
 
--- events that are a run from where a run ends make a longer run
+-- a run, and then events that are a run from where it ends, make a longer run
 abbrev pub OfferRunsGoOn : (M P W : Type 0) → Type 0
 OfferRunsGoOn M P W =
     (g : Network M P W) (ts more : List (OfferStep M P W)) → IsOfferRunOf g ts → IsOfferRun g (final g ts) more
@@ -276,7 +276,7 @@ RecordedOrOffered M P W =
     → ((((final g ts).routers u).recorder.unfinished ≡ Some s) × (offers_for s ((final g ts).queued u) ≡ []))
     ⊎ ((((final g ts).routers u).recorder.unfinished ≢ Some s) × (length (offers_for s ((final g ts).queued u)) ≡ 1))
 
--- and before it recorded a number, a router has queued and made no offer for it
+-- before it recorded a number, a router has queued and made no offer for it
 abbrev pub NoOfferBeforeItsRecording : (M P W : Type 0) → Type 0
 NoOfferBeforeItsRecording M P W =
     (g : Network M P W) (ts : List (OfferStep M P W)) → IsOfferRunOf g ts → (u s : ℕ)
@@ -290,8 +290,8 @@ LostIsFinal M P W =
     → IsOfferRunOf g (before ++ event_of u event offers ∷ later) → IsIn (Lost s v e cause) offers
     → offers_for s ((final g (before ++ event_of u event offers ∷ later)).queued u) ≡ Lost s v e cause ∷ []
 
--- the first close in a router's window, from its recording until an offer for it is queued, queues a Lost with that
--- number, peer and incarnation; it stays the router's one offer for that number, so that no Part of it ever follows
+-- a router's window is from its recording until an offer for it is queued. The first close in it queues a Lost with
+-- that number, peer and incarnation. The Lost stays the router's one offer for that number: no Part of it ever follows
 abbrev pub FirstCloseIsLost : (M P W : Type 0) → Type 0
 FirstCloseIsLost M P W =
     (g : Network M P W) (before later : List (OfferStep M P W)) (u s v : ℕ) (offers : List (Offer M P W)) (c : ℕ → End M)
@@ -317,23 +317,23 @@ NotAbandonedHasAllParts M P W =
     → (HasOutcome g s (final g ts).made Settled → HasAllParts g (final g ts).routers s)
     × ((u : ℕ) (why : Why) → HasOutcome g s (final g ts).made (Moving u why) → HasAllParts g (final g ts).routers s)
 
--- settled by its outcome, a snapshot is settled
+-- a snapshot whose outcome is Settled is settled
 abbrev pub SettledOutcomeIsSettled : (M P W : Type 0) → Type 0
 SettledOutcomeIsSettled M P W =
     (g : Network M P W) (ts : List (OfferStep M P W)) → IsOfferRunOf g ts → (s : ℕ)
     → HasOutcome g s (final g ts).made Settled → IsSettled g (final g ts).routers s
 
--- and no two parts name different incarnations of a link
+-- no two parts name different incarnations of a link
 abbrev pub MismatchNeverComes : (M P W : Type 0) → Type 0
 MismatchNeverComes M P W =
     (g : Network M P W) → IsNetwork g → (ts : List (OfferStep M P W)) → IsOfferRunOf g ts → (s u v : ℕ)
     → HasOutcome g s (final g ts).made (Moving u (Mismatch v)) → ⊥
 
--- router u made this part of s
+-- router u made this part of snapshot s
 abbrev pub HasMade : {M P W : Type 0} → Network M P W → List (OfferStep M P W) → ℕ → ℕ → Part M P W → Type 0
 HasMade g ts s u part = IsIn (made_of u (Finished s part)) (final g ts).made
 
--- where the outcome is Settled, the paths of the parts are a stable assignment, for each prefix
+-- if the outcome is Settled, the paths of the parts are a stable assignment, for each prefix
 abbrev pub SettledOutcomeIsStable : (M P W : Type 0) → Type 0
 SettledOutcomeIsStable M P W =
     (g : Network M P W) → IsNetwork g → (ts : List (OfferStep M P W)) → IsOfferRunOf g ts → (s : ℕ)
@@ -342,8 +342,8 @@ SettledOutcomeIsStable M P W =
     → g.named p ≡ true
     → IsStableAssignment g p (λ u. (parts u).originated p) (λ u. (parts u).kept p)
 
--- and they are the kept paths and the routes of each router, at every place from its own recording on up to which the run
--- is quiet
+-- the paths of the parts are the kept paths and the routes of each router, at every place from its own recording on up
+-- to which the run is quiet
 abbrev pub SettledOutcomeStays : (M P W : Type 0) → Type 0
 SettledOutcomeStays M P W =
     (g : Network M P W) → IsNetwork g → (before later : List (OfferStep M P W))

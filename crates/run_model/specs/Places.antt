@@ -35,7 +35,7 @@ module _ {M P W : Type 0} (g : Network M P W) where
   after_own w (t ∷ ts) u (suc k) =
       cond (u == t.router) (after_own (advanced g w t) ts u k) (after_own (advanced g w t) ts u (suc k))
 
--- what stands as recorded is the router's state after the event that recorded the number
+-- what a router has as recorded is its state after the event that recorded the number
 abbrev pub RecordsItsState : (M P W : Type 0) → Type 0
 RecordsItsState M P W =
     (g : Network M P W) (before later : List (NetworkStep M P W)) (u s : ℕ) (act : Act M)
@@ -44,7 +44,7 @@ RecordsItsState M P W =
     × ((reached g (before ++ step_of u act ∷ later) u).kept_at s ≡ (reached g before u).kept)
     × ((reached g (before ++ step_of u act ∷ later) u).originated_at s ≡ (reached g before u).originated)
 
--- and where one stands, some event recorded it
+-- if a router has something as recorded, some event recorded it
 abbrev pub WasRecorded : (M P W : Type 0) → Type 0
 WasRecorded M P W =
     (g : Network M P W) (ts : List (NetworkStep M P W)) (u s : ℕ) (c : ℕ → End M)
@@ -60,7 +60,7 @@ LostStaysLost M P W =
     → (w u).recorder.unfinished ≢ Some s → (w u).recorder.part s ≡ None
     → (routers_after g w ts u).recorder.part s ≡ None
 
--- for each number that a router recorded, exactly one of its own events recorded it, and what stands as recorded is its
+-- for each number that a router recorded, exactly one of its own events recorded it, and what it has as recorded is its
 -- state after that event
 abbrev pub RecordedAtOnePlace : (M P W : Type 0) → Type 0
 RecordedAtOnePlace M P W =
@@ -71,9 +71,9 @@ RecordedAtOnePlace M P W =
     × ((after_own g (first_routers g) ts u (suc k)).kept ≡ (reached g ts u).kept_at s)
     × ((after_own g (first_routers g) ts u (suc k)).originated ≡ (reached g ts u).originated_at s)
 
--- what a cut leaves of the link from v to u, by the end a of u and the end b of v after their inside events: both are in
--- one incarnation; what was taken inside was appended inside; and these UPDATEs are those that were said inside and not
--- acted on inside
+-- what a cut leaves of the link from v to u; a is the end of u and b that of v after their events inside. Both ends are
+-- in one incarnation; what was taken inside was appended inside; these UPDATEs are those said inside and not acted on
+-- inside
 pub record IsCutOfLink {M P W : Type 0} (g : Network M P W) (a b : End M) (channel : List M) : Type 0 where
   pub one_incarnation : incarnation a ≡ incarnation b
   pub consistent : IsPrefix a.taken b.appended
@@ -88,16 +88,16 @@ FinishedWasRecorded M P W =
     → (reached g ts u).recorder.part s ≡ Some channels → (c : ℕ → End M)
     × ((reached g ts u).recorder.copy s ≡ Some c)
 
--- the end of u towards v where a cut leaves it; a cut gives for each router a number of its own first events, inside
+-- the end of u towards v where a cut leaves it: inside has, for each router, a number of its own first events
 abbrev pub end_inside : {M P W : Type 0} → Network M P W → List (NetworkStep M P W) → (ℕ → ℕ) → ℕ → ℕ → End M
 end_inside g ts inside u v = (after_own g (first_routers g) ts u (inside u)).recorder.ends v
 
--- the cut of a snapshot: inside are, of each router, its own first events up to the one that recorded
+-- the cut of a snapshot: of each router, its own first events up to the one that recorded are inside
 abbrev pub IsCutOf : {M P W : Type 0} → Network M P W → List (NetworkStep M P W) → ℕ → (ℕ → ℕ) → Type 0
 IsCutOf g ts s inside = (u : ℕ) → g.routers u ≡ true → (k : ℕ) × (inside u ≡ suc k) × RecordsAt ts u s k
 
--- the recording events of a finished snapshot make a consistent cut: inside are, of each router, its own first events up
--- to the one that recorded, and each recorded channel is what that cut leaves of its link
+-- the recording events of a finished snapshot make a consistent cut: of each router, its own first events up to the one
+-- that recorded are inside, and each recorded channel is what that cut leaves of its link
 abbrev pub RecordingsMakeACut : (M P W : Type 0) → Type 0
 RecordingsMakeACut M P W =
     (g : Network M P W) → IsNetwork g → (ts : List (NetworkStep M P W)) → IsRunOf g ts → (s : ℕ)
@@ -106,8 +106,8 @@ RecordingsMakeACut M P W =
     × ((u v : ℕ) (channels : ℕ → List M) → g.linked u v ≡ true → (reached g ts u).recorder.part s ≡ Some channels
     → IsCutOfLink g (end_inside g ts inside u v) (end_inside g ts inside v u) (channels v))
 
--- and so for octets: what a router had taken inside, handled or not, had been appended inside, as octets. Where it had
--- taken all entries of its peer's, the marker among them, it holds none
+-- the octets that a router had taken inside, handled or not, had been appended inside. A router that had taken all
+-- entries of its peer's, the marker among them, holds none
 abbrev pub TakenOctetsAreInside : (M P W : Type 0) → Type 0
 TakenOctetsAreInside M P W =
     (g : Network M P W) → IsNetwork g → (ts : List (NetworkStep M P W)) → IsRunOf g ts → (s : ℕ)

@@ -5,7 +5,8 @@ use Rattle.run_model.specs.Links.{End, said, is_up, incarnation}
 use Rattle.run_model.specs.Recordings.{Recorder}
 use Rattle.run_model.specs.Routes.{Network, IsNetwork, Router, Routers, Event, Acts, Advertise, Decide, Command, NetworkStep, leaves, updates, route, IsNotPending, advanced, first_routers, IsSettled, IsRunOf, reached}
 
--- neither a command nor an event in which a session leaves Established (Snapshot is no command here: it is an act)
+-- neither a command nor an event in which a session leaves Established (Snapshot counts as an act, and not as a
+-- command)
 abbrev pub IsQuietEvent : {M P W : Type 0} → Router M P W → Event M P W → Type 0
 IsQuietEvent n (Acts act) = leaves n.recorder act ≡ false
 IsQuietEvent n (Advertise v p m) = Unit {0}
@@ -31,8 +32,8 @@ module _ {M P W : Type 0} (g : Network M P W) where
       ((x.unfinished ≡ Some s) × ((v : ℕ) → g.linked u v ≡ true → updates g (x.channel v) ≡ []))
       ⊎ ((channels : ℕ → List M) × (x.part s ≡ Some channels) × ((v : ℕ) → g.linked u v ≡ true → updates g (channels v) ≡ []))
 
--- nothing that router u recorded speaks against s being settled: nothing was pending, the recording is not lost, and
--- nothing moved in a channel of it; c are its ends as it recorded
+-- nothing that router u recorded speaks against s being settled: nothing was pending, the recording is not lost, and no
+-- UPDATE stands in a channel of it; c are the ends of u as it recorded
 pub record IsStillSettling {M P W : Type 0} (g : Network M P W) (u : ℕ) (n : Router M P W) (s : ℕ) (c : ℕ → End M) : Type 0 where
   pub calm : IsNotPending g u c (n.kept_at s) (n.originated_at s)
   pub alive : HasStillChannels g u n.recorder s
@@ -62,8 +63,8 @@ module _ {M P W : Type 0} (g : Network M P W) where
   AreAsRecorded w s =
       (u : ℕ) (c : ℕ → End M) → g.routers u ≡ true → (w u).recorder.copy s ≡ Some c → IsAsRecorded g u (w u) s c
 
--- the invariant of unfinished snapshots: some recorded channel has an UPDATE, or something was pending, or a recording is
--- lost, or else, as long as the run is quiet, every router that recorded s is as it recorded
+-- the invariant of unfinished snapshots: some recorded channel has an UPDATE, something was pending, or a recording is
+-- lost; else, as long as the run is quiet, every router that recorded s is as it recorded
 abbrev pub UnfinishedSnapshotsHold : (M P W : Type 0) → Type 0
 UnfinishedSnapshotsHold M P W =
     (g : Network M P W) → IsNetwork g → (ts : List (NetworkStep M P W)) → IsRunOf g ts → (s : ℕ)

@@ -13,7 +13,7 @@ same_path [] (v ∷ vs) = false
 same_path (u ∷ us) [] = false
 same_path (u ∷ us) (v ∷ vs) = (u == v) && same_path us vs
 
--- a permitted path is a choice where its next router has the rest of it
+-- a permitted path is a choice if its next router has the rest of it
 abbrev pub is_choice : Path → (ℕ → Path) → Bool
 is_choice [] words = false
 is_choice (u ∷ []) words = false
@@ -41,7 +41,7 @@ abbrev pub one_of : List ℕ → ℕ → Bool
 one_of [] u = false
 one_of (v ∷ vs) u = cond (u == v) true (one_of vs u)
 
--- what routers 1 to 4 have, and any other nothing
+-- what routers 1 to 4 have; any other router has nothing
 abbrev pub by_number : {A : Type 0} (a b c d : List A) → ℕ → List A
 by_number a b c d u = cond (u == 1) a (cond (u == 2) b (cond (u == 3) c (cond (u == 4) d [])))
 
@@ -55,7 +55,7 @@ disagree =
 abbrev pub from_1 : ℕ → Bool
 from_1 u = u == 1
 
--- it has exactly two stable assignments
+-- DISAGREE has exactly two stable assignments
 abbrev pub DisagreeHasTwo : Type 0
 DisagreeHasTwo =
     IsStableAssignment disagree 7 from_1 (by_number (1 ∷ []) (2 ∷ 3 ∷ 1 ∷ []) (3 ∷ 1 ∷ []) [])
@@ -71,6 +71,6 @@ ring =
     (λ u. one_of (by_number (2 ∷ 3 ∷ 4 ∷ []) (1 ∷ 3 ∷ 4 ∷ []) (1 ∷ 2 ∷ 4 ∷ []) (1 ∷ 2 ∷ 3 ∷ []) u))
     (by_number [] ((2 ∷ 3 ∷ 1 ∷ []) ∷ (2 ∷ 1 ∷ []) ∷ []) ((3 ∷ 4 ∷ 1 ∷ []) ∷ (3 ∷ 1 ∷ []) ∷ []) ((4 ∷ 2 ∷ 1 ∷ []) ∷ (4 ∷ 1 ∷ []) ∷ []))
 
--- it has none
+-- the ring has no stable assignment
 abbrev pub RingHasNone : Type 0
 RingHasNone = (path : ℕ → Path) → IsStableAssignment ring 7 from_1 path → ⊥

@@ -6,7 +6,7 @@ use mathlib.Core.Logic.{◌⊎◌}
 use Rattle.run_model.specs.Links.{Dial, Says, Mark, Shut, End, Move, Dials, Tells, Marks, HangsUp, Takes, said, new_end, after, taking, May, is_up, is_joined, incarnation}
 pub use Rattle.run_model.specs.Links.{IsNext}
 
--- a router's ends and what it records. The copies are what the definitions speak of: no router keeps them
+-- a router's ends and what it records. No router keeps the copies: only definitions speak of them
 pub record Recorder (M : Type 0) : Type 0 where
   pub ends : ℕ → End M  -- by peer
   pub last : ℕ  -- the last number recorded, 0 at first
@@ -118,8 +118,9 @@ module _ {M : Type 0} where
   abbrev pub AllUp : (ℕ → Bool) → (ℕ → End M) → Bool → Type 0
   AllUp linked ends whole = whole ≡ true → (v : ℕ) → linked v ≡ true → is_up (ends v) ≡ true
 
-  -- when router u may act: far v is the end of v towards u. A marker is heeded in Established alone, for the end's own
-  -- incarnation; a greater number is recorded, an awaited marker ends its channel, and every other is ignored
+  -- when router u may act: far v is the end of v towards u. A router heeds a marker in Established alone, and only one
+  -- of the end's own incarnation; a greater number is recorded, an awaited marker ends its channel, and every other is
+  -- ignored
   abbrev pub MayAct : ℕ → Recorder M → (ℕ → End M) → (ℕ → Bool) → Act M → Type 0
   MayAct u x far linked (Moves v move) = (u ≢ v) × IsPlain move × May (x.ends v) (far v) move
   MayAct u x far linked (EndsChannel v e s) =
@@ -173,9 +174,9 @@ module _ {M : Type 0} where
   abbrev pub first_recorders : Recorders M
   first_recorders = λ u. new_recorder
 
-  -- what ms is as the recorded channel from v to u in snapshot s, by the copies of the two (Chandy and Lamport 1985):
-  -- both recorded in one incarnation of the link; what u had taken as it recorded, v had appended as it recorded; and ms
-  -- is what v had said by then and u had not used
+  -- ms is the recorded channel from v to u in snapshot s, by the copies of the two (Chandy and Lamport 1985): both
+  -- recorded in one incarnation of the link; what u had taken as it recorded, v had appended as it recorded; ms is what
+  -- v had said by then and u had not used
   abbrev pub IsChannel : Copies M → Copies M → ℕ → ℕ → ℕ → List M → Type 0
   IsChannel of_u of_v u v s ms =
       (cu : ℕ → End M) × (cv : ℕ → End M) × (of_u s ≡ Some cu) × (of_v s ≡ Some cv)

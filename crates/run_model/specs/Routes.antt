@@ -26,7 +26,7 @@ module _ {M P W : Type 0} (g : Network M P W) where
   abbrev pub updates : List M → List M
   updates ms = filter g.is_update ms
 
-  -- the last of these mentions of a prefix, or the path given where there is none
+  -- the last of these mentions of a prefix, or the given path if there is none
   abbrev pub last_mention : P → W → List (P × W) → W
   last_mention p path [] = path
   last_mention p path (mention ∷ rest) = last_mention p (cond (g.same_prefix p mention.0) mention.1 path) rest
@@ -35,7 +35,7 @@ module _ {M P W : Type 0} (g : Network M P W) where
   last_told p path [] = path
   last_told p path (m ∷ ms) = last_told p (last_mention p path (g.mentions m)) ms
 
-  -- the last word of these UPDATEs on a prefix: no path where none mentions it
+  -- the last word of these UPDATEs on a prefix: no path if none mentions it
   abbrev pub word : P → List M → W
   word p ms = last_told p g.no_path ms
 
@@ -63,7 +63,7 @@ module _ {M P W : Type 0} (g : Network M P W) where
       (u : ℕ) → g.routers u ≡ true
       → path u ≡ g.best u p (originated u) (λ v. cond (g.linked u v) (path v) g.no_path)
 
--- a router: what it records, and its table. What was recorded of the table is kept for the definitions alone
+-- a router: what it records, and its table. Only definitions speak of what was recorded of the table
 pub record Router (M P W : Type 0) : Type 0 where
   pub recorder : Recorder M
   pub kept : P → W  -- the path that it uses and tells
@@ -214,7 +214,7 @@ module _ {M P W : Type 0} (g : Network M P W) where
   HasAllParts w s =
       (u : ℕ) → g.routers u ≡ true → (channels : ℕ → List M) × ((w u).recorder.part s ≡ Some channels)
 
--- events that are a run from where a run ends make a longer run
+-- a run, and then events that are a run from where it ends, make a longer run
 abbrev pub NetworkRunsGoOn : (M P W : Type 0) → Type 0
 NetworkRunsGoOn M P W =
     (g : Network M P W) (ts more : List (NetworkStep M P W)) → IsRunOf g ts → IsNetworkRun g (reached g ts) more

@@ -28,7 +28,7 @@ SaidIn OpenSent n = 1 ≤ n
 SaidIn OpenConfirm n = 2 ≤ n
 SaidIn Established n = 2 ≤ n
 
--- and how many it has used: the peer's OPEN, its KEEPALIVE, and more
+-- how many messages a session in this state has used: the peer's OPEN, its KEEPALIVE, and more
 abbrev pub UsedIn : SessionState → ℕ → Type 0
 UsedIn Idle n = Unit {0}
 UsedIn Connect n = Unit {0}
@@ -58,7 +58,7 @@ pub data SessionEvent (M : Type 0) : Type 0 where
   Accepts : (what : M) → SessionEvent M  -- Established: KEEPALIVE or UPDATE
   Speaks : (what : M) → SessionEvent M  -- OpenConfirm: KEEPALIVE; Established: KEEPALIVE or UPDATE
   SendsMarker : (number : ℕ) → SessionEvent M  -- Established: a marker
-  -- any state but Idle, with its NOTIFICATION where there is one
+  -- any state but Idle, with its NOTIFICATION if it has one
   Closes : (notification : List M) → SessionEvent M
   Fails : SessionEvent M  -- OpenSent: the connection fails, and the session waits in Active
   Passes : (entry : Entry M) → SessionEvent M  -- an entry that is taken and not used
@@ -72,7 +72,7 @@ abbrev pub joined_or : Bool → SessionState → SessionState
 joined_or joined state = cond joined OpenSent state
 
 module _ {M : Type 0} where
-  -- the moves of a start: a dial, and the OPEN where it joins at once
+  -- the moves of a start: a dial, and the OPEN if it joins at once
   abbrev pub start_moves : Bool → M → List (Move M)
   start_moves joined own_open = cond joined (Dials ∷ Tells own_open ∷ []) (Dials ∷ [])
 
@@ -129,7 +129,7 @@ module _ {M : Type 0} where
   IsPassed a (Mark e s) = Unit {0}
   IsPassed a (Shut e) = a.phase ≡ Joined → e ≢ incarnation a
 
--- how many NOTIFICATIONs go before a close: none where the phase isn't Joined, at most one where it is
+-- how many NOTIFICATIONs go before a close: at most one if the phase is Joined, else none
 abbrev pub MayNotify : {M : Type 0} → Phase → List M → Type 0
 MayNotify Closed ms = ms ≡ []
 MayNotify Offered ms = ms ≡ []
@@ -217,7 +217,7 @@ module _ {M : Type 0} where
   all_moves w (t ∷ ts) =
       link_steps t.router t.peer (moves_of (w t.router t.peer).end t.event) ++ all_moves (came w t) ts
 
--- events that are a run from where a run of sessions ends make a longer run
+-- a run of sessions, and then events that are a run from where it ends, make a longer run
 abbrev pub SessionRunsGoOn : Type 0 → Type 0
 SessionRunsGoOn M =
     (ts more : List (SessionStep M)) → IsSessionRun first_sides ts → IsSessionRun (sides_after first_sides ts) more
@@ -237,7 +237,7 @@ SessionsFit M =
     (ts : List (SessionStep M)) → IsSessionRun first_sides ts → (u v : ℕ) → u ≢ v
     → Fits (sides_after first_sides ts u v).state (sides_after first_sides ts u v).end
 
--- and is up exactly where its session is Established
+-- in every run an end is up exactly where its session is Established
 abbrev pub UpIsEstablished : Type 0 → Type 0
 UpIsEstablished M =
     (ts : List (SessionStep M)) → IsSessionRun first_sides ts → (u v : ℕ) → u ≢ v

@@ -55,7 +55,7 @@ module _ {Own Item Offer : Type 0} where
   stamped_offers [] = []
   stamped_offers (m ∷ ms) = collected_by m.stamp m.event.router m.event.event ++ stamped_offers ms
 
-  -- an event without the stamp of its item, and so for journals and stamped lists
+  -- an event without the stamp of its item; then journals and stamped lists without them
   abbrev pub without_stamp : Event Own (StampedItem Item) Offer → Event Own Item Offer
   without_stamp (puts to x) = puts to x.item
   without_stamp (takes from x) = takes from x.item
@@ -89,8 +89,8 @@ StampsGiveCausalOrders Own Item Offer =
     → IsStampedOrder Own Item Offer journal ms
     → IsCausalOrder (λ u. without_stamps (journal u)) (offers_on (stamped_offers ms)) (order_of ms)
 
--- where the collector's stamps rise, one above the other, and it has of each router the offers that stand in the order of
--- stamps, it has them all in that order
+-- the collector's stamps rise, one above the other, and it has of each router the offers that stand in the order of
+-- stamps: then it has them all in that order
 abbrev pub StampsGiveTheCollectorsOrder : (Own Item Offer : Type 0) → Type 0
 StampsGiveTheCollectorsOrder Own Item Offer =
     (board : List (Collected Offer)) (ms : List (Stamped Own Item Offer))
@@ -98,8 +98,8 @@ StampsGiveTheCollectorsOrder Own Item Offer =
     → ((u : ℕ) → filter (λ o. o.router == u) (stamped_offers ms) ≡ filter (λ o. o.router == u) board)
     → stamped_offers ms ≡ board
 
--- what the journals of threads show, put together: without stamps they are a causal order with the collector's offers, and
--- a run to the journals' last states
+-- the journals of threads, put together: without stamps they are a causal order with the collector's offers, and a run
+-- to the journals' last states
 abbrev pub ThreadsAreARun : {State Own Item Offer : Type 0} → Steps State Own Item Offer → Type 0
 ThreadsAreARun {State} {Own} {Item} {Offer} step =
     (start finish : ℕ → State) (journal : ℕ → Journal Own (StampedItem Item) Offer)

@@ -1,4 +1,4 @@
--- What a state of a run gives to the next event of one router: of its ends and its recordings.
+-- What holds of a router's ends and recordings in the states of runs, for its next event.
 use Rattle.std.specs.Prelude.{ℕ, ◌≡◌, ◌≢◌, ◌==◌, ◌≤◌, nat_lt, Bool, true, false, cond, List, [], ◌∷◌, ◌++◌, Some}
 use mathlib.Core.Logic.{◌⊎◌}
 use mathlib.Core.List.{IsPrefix}
@@ -11,8 +11,8 @@ use Rattle.run_model.specs.Places.{IsCutOfLink, step_of}
 use Rattle.run_model.specs.NetworkLinks.{reached_end}
 use Rattle.run_model.specs.Offers.{IsIn}
 
--- in every run of the network the facts of link ends hold of both ends of each link: among them that what an end took is a
--- beginning of what its peer appended
+-- in every run of the network the facts of link ends hold of both ends of each link; one of them is that what an end
+-- took is a beginning of what its peer appended
 abbrev pub NetworkEndFactsHold : (M P W : Type 0) → Type 0
 NetworkEndFactsHold M P W =
     (g : Network M P W) (ts : List (NetworkStep M P W)) → IsRunOf g ts → (u v : ℕ) → u ≢ v
@@ -45,8 +45,8 @@ CopiesAreMarked M P W =
     (g : Network M P W) (ts : List (NetworkStep M P W)) → IsRunOf g ts → (u s v : ℕ) (c : ℕ → End M)
     → (reached g ts u).recorder.copy s ≡ Some c → is_up (c v) ≡ true → IsIn (Mark (incarnation (c v)) s) (c v).appended
 
--- one event of a router is several of the model: where behind the one that records it at most finishes, the copies are the
--- router's state after all of them
+-- one event of a router may be several of the model: if those behind the one that records at most finish the recording,
+-- the copies are the router's state after all of them
 abbrev pub CopiesAreTheState : (M P W : Type 0) → Type 0
 CopiesAreTheState M P W =
     (g : Network M P W) (before behind later : List (NetworkStep M P W)) (u s : ℕ) (act : Act M) (c : ℕ → End M)

@@ -20,7 +20,7 @@ module _ {M : Type 0} where
   octets_in e (Control (Mark f s) ∷ rest) = octets_in e rest
   octets_in e (Control (Shut f) ∷ rest) = cond (e == f) [] (octets_in e rest)
 
--- of what is a beginning of something that passes, the octets of an incarnation are a beginning
+-- if one list is a beginning of what passes, its octets of an incarnation are a beginning of the others' octets of it
 abbrev pub BeginningsPass : Type 0 → Type 0
 BeginningsPass M = (e : ℕ) (xs ys : List (Passing M)) → IsPrefix xs ys → IsPrefix (octets_in e xs) (octets_in e ys)
 
@@ -37,15 +37,16 @@ NothingSaidBehindShut M =
     (moves : List (LinkStep M)) → IsRun opening moves → (u v e : ℕ) → u ≢ v → (before behind : List (Entry M))
     → (ends_after opening moves u v).appended ≡ before ++ Shut e ∷ behind → said e behind ≡ []
 
--- so in every run the octets of an incarnation are all of those of the messages said in it, in each beginning of what an end
--- appended
+-- in every run, in each beginning of what an end appended, the octets of an incarnation are all those of the messages
+-- said in it
 abbrev pub AllOctetsPass : Type 0 → Type 0
 AllOctetsPass M =
     (written : M → List ℕ) (moves : List (LinkStep M)) → IsRun opening moves → (u v e : ℕ) → u ≢ v
     → (entries : List (Entry M)) → IsPrefix entries (ends_after opening moves u v).appended
     → octets_in e (passing written entries) ≡ all_written written (said e entries)
 
--- and the octets of the messages that an end used are a beginning of those that it took, whatever it took behind
+-- in every run, the octets of the messages that an end used are a beginning of those that it took, whatever it took
+-- behind them
 abbrev pub UsedOctetsWereTaken : Type 0 → Type 0
 UsedOctetsWereTaken M =
     (written : M → List ℕ) (moves : List (LinkStep M)) → IsRun opening moves → (u v e : ℕ) → u ≢ v
@@ -55,7 +56,7 @@ UsedOctetsWereTaken M =
 
 -- ---- of two ends, whatever led to them
 
--- to an end that has heard its own number, as every joined one, no octet of another incarnation comes
+-- no octet of another incarnation comes to an end that has heard its own number, as every joined end has
 abbrev pub NoStaleOctetAtAnEnd : (M : Type 0) → (List ℕ → Type 0) → Type 0
 NoStaleOctetAtAnEnd M is_frame =
     (written : M → List ℕ) → IsFraming is_frame → (a b : End M) → EndFacts a b → EndFacts b a

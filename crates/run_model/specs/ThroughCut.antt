@@ -19,7 +19,7 @@ module _ {Own Item Offer : Type 0} where
   chosen test before [] = []
   chosen test before (e ∷ es) = (if test before e then e ∷ [] else []) ++ chosen test (before ++ e ∷ []) es
 
-  -- the same of an order, where each router has its test
+  -- the events of an order that pass a test, where each router has its own test
   abbrev pub selected : (ℕ → Journal Own Item Offer → Event Own Item Offer → Bool)
       → Order Own Item Offer → Order Own Item Offer → Order Own Item Offer
   selected test before [] = []
@@ -36,7 +36,7 @@ module _ {Own Item Offer : Type 0} where
   is_early n before (takes u x) = false
   is_early n before (offers o) = false
 
--- a cut: how many of its own first events of each router are inside
+-- a cut: for each router, how many of its own first events are inside
 module _ {Own Item Offer : Type 0} (cut : ℕ → ℕ) (order : Order Own Item Offer) where
   abbrev pub inside : ℕ → Journal Own Item Offer
   inside u = take (cut u) (events_of u order)
@@ -48,7 +48,7 @@ module _ {Own Item Offer : Type 0} (cut : ℕ → ℕ) (order : Order Own Item O
   abbrev pub needed : ℕ → ℕ → ℕ
   needed u v = length (takes_from u (inside v))
 
-  -- of each router the puts that are early, and its other events outside, each in its order
+  -- of each router, its early puts, and its other events outside, each in its order
   abbrev pub early : ℕ → Journal Own Item Offer
   early u = chosen (is_early (needed u)) (inside u) (outside u)
 

@@ -1,4 +1,4 @@
--- Definitions that are wrong in a telling way, each with a small run in which a law fails of it.
+-- Definitions that are wrong, each with a small run in which a law fails for it.
 use Rattle.std.specs.Prelude.{ℕ, ◌<◌, ◌≡◌, ◌≢◌, ◌==◌, Bool, true, false, cond, List, [], ◌∷◌, ◌++◌, Some, None}
 use mathlib.Core.List.{IsPrefix}
 use Rattle.run_model.specs.Links.{Entry, Dial, Says, Mark, Shut, End, Move, Dials, Tells, Marks, HangsUp, Takes, Ends, LinkStep, after, taking, May, opening, said, is_up, incarnation}
@@ -10,7 +10,7 @@ use Rattle.run_model.specs.Examples.{Sample, Open, Keepalive, Update, pair, link
 -- ---- an end that uses another incarnation's messages
 
 module _ {M : Type 0} where
-  -- wrong: a message that is taken is used as one of the own incarnation, whichever it is of
+  -- wrong: a message that is taken is used as one of the end's own incarnation, whatever incarnation it is of
   abbrev pub taking_any : End M → Entry M → End M
   taking_any a (Dial e) = taking a (Dial e)
   taking_any a (Says e m) =
@@ -135,7 +135,7 @@ late_steps =
     ∷ acts 1 (Moves 2 (Tells (Update 7 1)))
     ∷ acts 2 (Moves 1 (Takes (Says 1 (Update 7 1)))) ∷ acts 2 (Follows 3 1 5 true) ∷ acts 2 (Finishes 5) ∷ []))
 
--- what 2 took inside, 1 had then appended outside
+-- what 2 took inside, 1 appended outside
 abbrev pub LateRecordingBreaksCut : Type 0
 LateRecordingBreaksCut =
     IsRecordedBy late_rule late_guard line first_recorders late_steps
@@ -192,7 +192,7 @@ OvertakingBreaksChannel =
 -- ---- a pending flag that forgets words not told
 
 module _ {M P W : Type 0} (g : Network M P W) where
-  -- wrong: that each Established peer was told the kept path is not asked
+  -- wrong: it is not asked that each Established peer was told the kept path
   abbrev pub IsForgetfullySettled : Routers M P W → ℕ → Type 0
   IsForgetfullySettled w s =
       (u : ℕ) → g.routers u ≡ true → (channels : ℕ → List M) × (c : ℕ → End M)
@@ -221,7 +221,7 @@ forgetful_steps =
     ∷ step_by 2 (Acts (Follows 1 1 5 true))
     ∷ step_by 2 (Acts (Finishes 5)) ∷ step_by 1 (Acts (EndsChannel 2 1 5)) ∷ step_by 1 (Acts (Finishes 5)) ∷ [])
 
--- the recorded paths are no stable assignment: router 2 has none, and 2-1 is there
+-- the recorded paths are no stable assignment: router 2 has no path, and 2-1 is a choice
 abbrev pub ForgettingBreaksStability : Type 0
 ForgettingBreaksStability =
     IsRunOf pair forgetful_steps × IsForgetfullySettled pair (reached pair forgetful_steps) 5

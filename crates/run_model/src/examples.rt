@@ -1,5 +1,5 @@
-//! Small runs and assignments that show what the definitions say, each with its proof, so that none of them is empty or
-//! holds of everything.
+//! Small runs and assignments that show what the definitions say, each with its proof: no definition is empty, or holds
+//! of everything.
 ghost use Rattle.run_model.specs.Examples.{DialAtOnceJoins, LengthsAreFrames, StreamEndsAtShut, SessionsComeUp, SettledRun, MovingRun, ResetRun};
 ghost use Rattle.run_model.specs.RankedExamples.{DisagreeHasTwo, RingHasNone};
 
@@ -18,25 +18,25 @@ pub fn stream_ends_at_shut()
     ensures { StreamEndsAtShut }
 {}
 
-/// Two sessions that come up from Idle to Established; and after a close one that answers the next number at once.
+/// Two sessions come up from Idle to Established. After a close, one of them answers the next number at once.
 pub fn sessions_come_up()
     ensures { SessionsComeUp }
 {}
 
-/// A whole run of two routers, from the opening to the collector, whose snapshot is settled, and that is quiet to its end:
-/// so the premises of the laws of settled snapshots can be met together.
+/// A whole run of two routers, from the opening to the collector. Its snapshot is settled, and it is quiet to its end:
+/// the premises of the laws of settled snapshots can be met together.
 pub fn settled_run()
     ensures { SettledRun }
 {}
 
-/// One in which a withdrawal is in flight as the routers record: every router has a part, nothing was pending, and the
-/// snapshot is moving.
+/// A run in which a withdrawal is in flight as the routers record: every router has a part, nothing was pending, and
+/// the snapshot is moving.
 pub fn moving_run()
     ensures { MovingRun }
 {}
 
-/// One in which a session is reset in the window of a recording: the snapshot is abandoned, and the session is up again
-/// in incarnation 2.
+/// A run in which a session is reset in the window of a recording: the snapshot is abandoned, and the session is up
+/// again in incarnation 2.
 pub fn reset_run()
     ensures { ResetRun }
 {}
@@ -46,7 +46,7 @@ pub fn disagree_has_two()
     ensures { DisagreeHasTwo }
 {}
 
-/// The ring of three routers round an origin, each of which prefers the way through the next, has none.
+/// The ring of three routers round an origin, each of which prefers the way through the next, has no stable assignment.
 pub fn ring_has_none()
     ensures { RingHasNone }
 {}

@@ -1,13 +1,13 @@
 //! The laws of network runs, before any router stands on them.
 //!
-//! A pure model of routers that speak BGP-4 (RFC 4271) over links whose connections come and go, record snapshots by
-//! markers (Chandy and Lamport 1985) and choose routes by rank (Griffin, Shepherd and Wilfong 2002), and what holds in
-//! every run of it. The definitions stand in `specs/`; each law is a function with an empty body, and its one contract is
-//! that law. So the crate has no code that runs: a crate with code shows that each of its calls is a step of this model,
-//! and then has the laws.
+//! A pure model of routers that speak BGP-4 (RFC 4271) over links whose connections come and go. They record snapshots
+//! by markers (Chandy and Lamport 1985), and choose routes by rank (Griffin, Shepherd and Wilfong 2002). The laws say
+//! what holds in every run of the model. The definitions stand in `specs/`. Each law is a function with an empty body,
+//! and is its one contract. The crate has no code that runs: a crate with code shows that each of its calls is a step
+//! of this model, and then has the laws.
 //!
-//! The laws speak of any type of messages, prefixes and paths, and of any choice among paths: what messages tell and how
-//! a router chooses stands in the network that each law is given.
+//! The laws speak of any type of messages, prefixes and paths, and of any choice among paths. The network that each law
+//! is given says what messages tell and how a router chooses.
 //!
 //! Left out: the session machine's timers, what the octets of a message mean, the limits of numbers and stamps; that
 //! anything arrives, ends or settles.

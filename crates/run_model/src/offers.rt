@@ -1,8 +1,8 @@
-//! What routers offer of a snapshot, and how it comes out.
+//! What routers offer of a snapshot, and how the snapshot comes out.
 ghost use Rattle.run_model.specs.Offers.{OfferRunsGoOn, OffersAside, AtMostOneOffer, RecordedOrOffered, NoOfferBeforeItsRecording, LostIsFinal, FirstCloseIsLost, PartsAreRecorded, NotAbandonedHasAllParts, SettledOutcomeIsSettled, MismatchNeverComes, SettledOutcomeIsStable, SettledOutcomeStays, OutcomeIsOne};
 
-/// Events that are a run from where a run ends make a longer run (`on`). A run with offers is a run of the network when
-/// they are left aside, so that every law of links, recordings and routes holds of it (`run`).
+/// A run, and then events that are a run from where it ends, make a longer run (`on`). A run with offers is a run of
+/// the network once the offers are left out: every law of links, recordings and routes holds of it (`run`).
 ///
 /// Premises: each event is one that `MayOffer` allows. It says nothing of what the offers are.
 pub fn offer_runs_are_network_runs<M, P, W>()
@@ -10,9 +10,9 @@ pub fn offer_runs_are_network_runs<M, P, W>()
     ensures run { OffersAside M P W }
 {}
 
-/// Each router queues at most one offer for each number, and makes at most one (`one`); for a number that it recorded it
-/// either records still, with no offer queued, or has queued one (`recorded`); before it recorded the number it has queued
-/// and made none (`none_before`).
+/// Each router queues at most one offer for each number, and makes at most one (`one`). For a number that it recorded,
+/// it still records and has queued no offer, or it has queued one (`recorded`). Before it recorded the number it has
+/// queued and made none (`none_before`).
 ///
 /// Premises: each event is one that `MayOffer` allows. It does not say that an offer that is queued is ever made.
 pub fn one_offer_a_number<M, P, W>()
@@ -21,9 +21,9 @@ pub fn one_offer_a_number<M, P, W>()
     ensures none_before { NoOfferBeforeItsRecording M P W }
 {}
 
-/// A Lost that was queued stays the router's one offer for its number (`lost`). The first close of a session in a router's
-/// window, from its recording until an offer for it is queued, queues a Lost with that number, peer and incarnation, and
-/// no Part of it ever follows (`close`).
+/// A Lost that was queued stays the router's one offer for its number (`lost`). A router's window is from its recording
+/// until an offer for it is queued. The first close of a session in it queues a Lost with that number, peer and
+/// incarnation, and no Part of that number ever follows (`close`).
 ///
 /// Premises: as those of `one_offer_a_number`. It says nothing of a close before the recording or after the offer.
 pub fn close_loses_the_recording<M, P, W>()
@@ -32,11 +32,11 @@ pub fn close_loses_the_recording<M, P, W>()
 {}
 
 /// Each Part that was made says what its router recorded, with the channels of its finished recording (`parts`). A
-/// snapshot that is decided and not abandoned has a part of every router (`all`), and where its outcome is Settled it is
-/// settled (`settled`), so that the laws of stable paths speak of it. No two parts name different incarnations of a link
+/// snapshot that is decided and not abandoned has a part of every router (`all`). If its outcome is Settled, it is
+/// settled, and the laws of stable paths speak of it (`settled`). No two parts name different incarnations of a link
 /// (`mismatch`).
 ///
-/// The outcome is read off the shortest beginning of the offers made that decides. Premises: as those of
+/// The shortest beginning of the offers made that decides gives the outcome. Premises: as those of
 /// `one_offer_a_number`, and for `mismatch` that links lead both ways. It does not say that a snapshot is decided.
 pub fn outcome_tells<M, P, W>()
     ensures parts { PartsAreRecorded M P W }
@@ -45,8 +45,8 @@ pub fn outcome_tells<M, P, W>()
     ensures mismatch { MismatchNeverComes M P W }
 {}
 
-/// A snapshot comes out in at most one way: two outcomes of one number by the same offers made are the same, with the same
-/// router, peer, incarnation and cause where it is Abandoned, and the same router and fault where it is Moving.
+/// A snapshot comes out in at most one way. Two outcomes of one number by the same offers made are the same: two
+/// Abandoned have the same router, peer, incarnation and cause, and two Moving have the same router and fault.
 ///
 /// Premises: none; it holds of any network and of any list of offers, whether a run makes them or not. It does not say
 /// that there is an outcome, nor that it is one at two places of a run: a snapshot that is Waiting may come out later.
@@ -54,8 +54,8 @@ pub fn outcome_is_one<M, P, W>()
     ensures { OutcomeIsOne M P W }
 {}
 
-/// Where a snapshot's outcome is Settled, the paths of its parts are a stable assignment for each prefix (`stable`); and
-/// they are the kept paths and the routes of each router at every place from its own recording on up to which the run is
+/// If a snapshot's outcome is Settled, the paths of its parts are a stable assignment for each prefix (`stable`). They
+/// are the kept paths and the routes of each router at every place from its own recording on up to which the run is
 /// quiet (`stays`).
 ///
 /// Premises: links lead both ways, and each event is one that `MayOffer` allows. It does not say that a snapshot settles,

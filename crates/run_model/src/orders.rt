@@ -10,11 +10,10 @@ ghost use Rattle.std.specs.Prelude.{ℕ};
 /// The routers of a network: their states, what they do alone, the items that they pass, the offers that they make, and
 /// how each goes from one state to another by one event.
 ///
-/// All are of proofs alone, so a state may hold functions and histories that no code has. `step` says of a router, its
-/// old state, an event and its new state that the event leads from one to the other. It speaks of that router alone;
-/// which item a take gets is said by the network. What all steps hang on and no step changes, as the links and the
-/// routes' rules of the network, is their `Setting`, of which each law speaks for every value; where there is none it is
-/// `Unit {0}`.
+/// All members are for proofs alone: a state may hold functions and histories that no code has. `step` says of a
+/// router, its old state, an event and its new state that the event leads from one to the other. It speaks of that
+/// router alone; the network says which item a take gets. The `Setting` is what all steps depend on and no step
+/// changes, as the links and the rules of the network. Each law speaks for every setting; `Unit {0}` stands for none.
 pub trait Routers {
     ghost Setting: { Type 0 };
 
@@ -29,7 +28,7 @@ pub trait Routers {
     ghost step: { Setting → ℕ → State → Event Own Item Offer → State → Type 0 };
 }
 
-/// The lines of routers' journals, as far as gathering looks at them: each event's stamp, and whose it is.
+/// The lines of routers' journals, as far as gathering looks at them: each event's stamp, and its router.
 pub trait JournalLines {
     ghost Line: { Type 0 };
 
@@ -38,7 +37,8 @@ pub trait JournalLines {
     ghost router: { Line → ℕ };
 }
 
-/// Lines of routers' journals, and what they are lines of: a line may leave something out, as the item of an event.
+/// Lines of routers' journals, and the whole entries behind them: a line may leave something out, as the item of an
+/// event.
 pub trait WholeLines {
     ghost Whole: { Type 0 };
 
@@ -51,8 +51,8 @@ pub trait WholeLines {
     ghost router: { Line → ℕ };
 }
 
-/// A step of the network is a step of one router whose take, if it is one, gets the item behind those that were taken
-/// from its direction before; and each such step of a router is one of the network.
+/// A step of the network is a step of one router; if the step is a take, it gets the item behind those that were taken
+/// from its direction before. Each such step of a router is a step of the network.
 ///
 /// Premise: in the old state what was taken from each direction is a beginning of what was put in it, as in each state
 /// of a run. It says no more of what a router does than its own relation does.
@@ -78,8 +78,8 @@ pub fn causal_orders_end_alike<Net: Routers>()
     ensures { CausalOrdersEndAlike Net.State Net.Own Net.Item Net.Offer }
 {}
 
-/// Every run of the network from its opening is causal, its routers' events are journals that lead to the routers of
-/// its last state, and that state is given by these and by the items and offers of the events.
+/// Every run of the network from its opening is causal. Its routers' events are journals that lead to the routers of
+/// its last state. The journals, with the items and offers of the events, give that state.
 ///
 /// No premise but the run. With [`causal_orders_are_runs`] it says that runs are the causal orders of journals, and
 /// nothing else.
@@ -88,7 +88,7 @@ pub fn runs_are_causal_orders<Net: Routers>()
 {}
 
 /// An order is causal exactly where each take, the k-th of its direction, has the item of the k-th put of that
-/// direction, which stands before it.
+/// direction, and stands behind it.
 ///
 /// No premise. It ties the short form of causal, by beginnings of lists, to the usual words.
 pub fn takes_have_their_puts<Net: Routers>()
@@ -115,22 +115,22 @@ pub fn stamps_change_no_item<Net: Routers>()
 /// In an order by stamps the offers stand as they were collected.
 ///
 /// Premises: no stamp of the order is below an earlier one; the collector's stamps rise, each above the one before; of
-/// each router it has the offers, with their stamps, that the order has. So a comparison of the collector's list with
-/// the journals can fail only where one has an offer that the other has not, and never by the order.
+/// each router the collector has the offers, with their stamps, that the order has. A comparison of the collector's
+/// list with the journals can fail only where one has an offer that the other has not, and never by the order.
 pub fn stamps_give_the_collectors_order<Net: Routers>()
     ensures { StampsGiveTheCollectorsOrder Net.Own Net.Item Net.Offer }
 {}
 
-/// A stable sort by stamp gathers journals that stand one after another, routers rising: the list rises by stamp, and of
-/// one stamp by router, and keeps each journal's order.
+/// A stable sort by stamp gathers journals that stand one after another, routers rising. The gathered list rises by
+/// stamp, and of one stamp by router, and keeps each journal's order.
 ///
-/// Premises: the journals stand so; no router's stamps fall in its own journal. It does not say that the list is causal,
-/// which hangs on what the stamps mean.
+/// Premises: the journals stand in that way; no router's stamps fall in its own journal. It does not say that the list
+/// is causal: that depends on what the stamps mean.
 pub fn sorting_by_stamp_gathers<Lines: JournalLines>()
     ensures { SortingByStampGathers Lines.stamp Lines.router }
 {}
 
-/// A sort by stamp, then router, gathers journals that stand anyhow.
+/// A sort by stamp, then router, gathers journals whose lines stand in any order.
 ///
 /// Premises: no router's stamps fall in its own journal; the list rises by stamp, and of one stamp by router; what ties
 /// in both stands as it stood.
@@ -159,10 +159,11 @@ pub fn gathered_stamps_rise<Lines: JournalLines>()
     ensures { GatheredStampsRise Lines.stamp Lines.router }
 {}
 
-/// Where lines that leave something out are gathered, so is what they are lines of: there is a gathered list of it whose
-/// lines they are.
+/// Lines may leave something out. If they are gathered, there is a gathered list of the whole entries whose lines they
+/// are.
 ///
-/// Premises: no router's stamps fall in its own journal; the lines are gathered. So a journal need not keep its items.
+/// Premises: no router's stamps fall in its own journal; the lines are gathered. By this law a journal need not keep
+/// its items.
 pub fn gathering_lifts<Lines: WholeLines>()
     ensures { GatheringLifts Lines.line Lines.stamp Lines.router }
 {}
@@ -176,8 +177,8 @@ pub fn gathered_events_are_stamped<Net: Routers>()
     ensures { GatheredEventsAreStamped Net.Own Net.Item Net.Offer }
 {}
 
-/// What the journals of threads show, put together, is a run: journals of each router's own steps, in the order of
-/// their stamps, are a causal order with the collector's offers, and a run to the state that they leave.
+/// The journals of threads, put together, are a run. Journals of each router's own steps, in the order of their stamps,
+/// are a causal order with the collector's offers, and a run to the state that they leave.
 ///
 /// Premises: each router's journal, without stamps, leads it from its first state to its last by its own steps; those
 /// of [`stamps_give_causal_orders`]; and the offers with their stamps, in the order of the events, are those that the
@@ -191,17 +192,17 @@ pub fn threads_are_a_run<Net: Routers>()
 /// The exchange: a put may change places with the events of its router before it, and the journal leads to the same
 /// state.
 ///
-/// Premises: a put leads to one state, and commutes with each event that could come in its place and puts nothing in its
-/// direction; none of the events puts in its direction; it was possible before them, so none of them appended what it
-/// puts. A router whose puts read what was appended towards that peer and count it, where other events only append to
-/// it and never look at the count, meets the first two. It does not say that a put may pass another one of its
-/// direction.
+/// Premises: a put leads to one state, and commutes with each event that could come in its place and puts nothing in
+/// its direction; none of the events puts in its direction; the put was possible before them, and so none of them
+/// appended what it puts. The first two are met by a router whose puts read what was appended towards that peer and
+/// count it, if its other events only append to it and never look at the count. It does not say that a put may pass
+/// another one of its direction.
 pub fn puts_come_earlier<Net: Routers>()
     ensures { (setting : Net.Setting) → PutsComeEarlier (Net.step setting) }
 {}
 
-/// At each cut a run has its routers' states: each router's first events lead it there, and the others from there to its
-/// last state.
+/// A run has its routers' states at each cut: each router's first events lead it there, and the others lead from there
+/// to its last state.
 ///
 /// No premise but the run; the cut is any number of own first events for each router. It does not say that the cut is
 /// consistent.

@@ -1,4 +1,4 @@
-//! Definitions that are wrong in a telling way, each beside a small run in which a law fails of it: what the laws refuse.
+//! Definitions that are wrong, each beside a small run in which a law fails for it: they show what the laws refuse.
 ghost use Rattle.run_model.specs.WrongTwins.{UsingAnyBreaksOrder, LateRecordingBreaksCut, OvertakingBreaksChannel, ForgettingBreaksStability};
 
 /// An end that uses another incarnation's messages as its own: what it used in incarnation 2 is no beginning of what its
@@ -8,7 +8,7 @@ pub fn using_any_incarnation_breaks_order()
 {}
 
 /// A router that records at the last of its peers' markers instead of the first: it took inside what its peer appended
-/// outside, so that there is no consistent cut.
+/// outside, and there is no consistent cut.
 pub fn recording_at_the_last_marker_breaks_the_cut()
     ensures { LateRecordingBreaksCut }
 {}
