@@ -1,5 +1,5 @@
--- The session table: what each event does in each state (RFC 4271 section 8.2.2).
--- A timer is a number of seconds, 0 where it is stopped.
+-- The session table: what each event does in each state (RFC 4271 section 8.2.2). A timer is a number of seconds, 0 if
+-- it is stopped.
 use Rattle.std.specs.Prelude.{ℕ, ◌/◌, min, List, [], ◌∷◌}
 use Rattle.bgp_values.specs.declared.faults.TheConstants.{HOLD_TIMER_EXPIRED, FSM_ERROR, CEASE}
 use Rattle.bgp_values.specs.Ranges.{IsHoldTime}
