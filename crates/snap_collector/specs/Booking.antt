@@ -15,11 +15,11 @@ abbrev pub missing : List Member → List MadeOffer → ℕ
 missing [] ms = 0
 missing (m ∷ rest) ms = cond (has_part ms m.router (λ part. true)) (missing rest ms) (suc (missing rest ms))
 
--- none is awaited where one is a loss
+-- how many routers the offers await: none if one offer is a loss
 abbrev pub awaited_of : List Member → List MadeOffer → ℕ
 awaited_of members ms = cond (any_lost ms) 0 (missing members ms)
 
--- how often a router is among them
+-- how often a router is among the members
 abbrev pub times : List Member → ℕ → ℕ
 times [] u = 0
 times (m ∷ rest) u = cond (m.router == u) (suc (times rest u)) (times rest u)
@@ -38,7 +38,7 @@ IsBook members b = IsBooked members b.offers.items b.kept b.awaited
 abbrev pub entry_of : ℕ × Book → ℕ × List Offer
 entry_of e = (e.0, e.1.offers.items)
 
--- each is so
+-- each book is one of the members
 abbrev pub AreBooks : List Member → List (ℕ × Book) → Type 0
 AreBooks members es = (s : ℕ) (b : Book) → lookup (is_at (nat_cmp s)) es ≡ Some b → IsBook members b
 

@@ -11,7 +11,7 @@ use Rattle.snap_marker.specs.declared.part.Offer.TheVariants as offer
 use Rattle.snap_collector.specs.Collecting.{made_in, member_of}
 use Rattle.snap_collector.specs.Verdicts.{Member, decides}
 
--- it is for this number
+-- the offer is for this number
 abbrev pub is_for : ℕ → MadeOffer → Bool
 is_for s m = number_of m.offer == s
 
@@ -55,7 +55,7 @@ pub record AreDecided (c : CollectorView) (numbers : List ℕ) : Type 0 where
   pub rising : AllPairs (λ s t. s < t) numbers
   pub exact : (s : ℕ) → Contains numbers s ↔ (decides (map member_of c.members) (made_for c s) ≡ true)
 
--- ---- those that are kept: up to the first that decides
+-- ---- the offers that are kept: up to the first that decides
 
 abbrev pub kept_behind : List Member → List MadeOffer → List MadeOffer → List MadeOffer
 kept_behind members front [] = front
@@ -70,11 +70,11 @@ first_part [] u = None
 first_part (offer.Part p ∷ os) u = cond (u == p.router) (Some p) (first_part os u)
 first_part (offer.Lost l ∷ os) u = first_part os u
 
--- these offers for a number are kept: a beginning of all
+-- the offers for a number that are kept: a beginning of all of them
 pub record AreKept (c : CollectorView) (s : ℕ) (kept : List Offer) : Type 0 where
   pub beginning : kept ≡ take (length kept) (offers_at c.offers s)
   pub exact : made_in kept ≡ kept_of (map member_of c.members) (made_for c s)
 
--- the first part of a router among them
+-- the first part of a router among the offers that are kept
 abbrev pub IsPartOf : CollectorView → ℕ → ℕ → Option Part → Type 0
 IsPartOf c s u part = (kept : List Offer) × AreKept c s kept × (part ≡ first_part kept u)

@@ -8,7 +8,7 @@ use Rattle.snap_marker.specs.Recordings.{RouterOffer, MadeOffer, RouterPart}
 use Rattle.snap_collector.specs.declared.flights.InFlight.{InFlight}
 use Rattle.snap_collector.specs.Verdicts.{Member, verdict}
 
--- the router acted on it behind its recording, and the peer had sent it before its own
+-- a message in flight: the router acted on it behind its recording, and the peer had sent it before its own recording
 pub record Flight : Type 0 where
   pub router : ℕ
   pub peer : ℕ
@@ -24,7 +24,7 @@ flight_from u v m = record { router = u; peer = v; message = m }
 abbrev pub flights_from : ℕ → ℕ → List Message → List Flight
 flights_from u v ms = map (flight_from u v) ms
 
--- those of a router's part, by its peers
+-- the messages in flight of a router's part, by its peers
 abbrev pub flights_of : Member → RouterPart → List Flight
 flights_of m part = flat_map (λ v. flights_from m.router v (part.channel v)) m.peers
 
@@ -37,7 +37,7 @@ abbrev pub part_in : List MadeOffer → ℕ → Option RouterPart
 part_in [] u = None
 part_in (m ∷ ms) u = cond (u == m.router) (part_or m.offer (part_in ms u)) (part_in ms u)
 
--- those of its first part
+-- the messages in flight of a router's first part
 abbrev pub flights_by : Member → Option RouterPart → List Flight
 flights_by m None = []
 flights_by m (Some part) = flights_of m part
@@ -45,13 +45,14 @@ flights_by m (Some part) = flights_of m part
 abbrev pub flights_at : List MadeOffer → Member → List Flight
 flights_at ms m = flights_by m (part_in ms m.router)
 
--- every router has a part of it
+-- every router has a part of the snapshot
 abbrev pub is_whole : Outcome → Bool
 is_whole Waiting = false
 is_whole (Abandoned u v e cause) = false
 is_whole (Moving u why) = true
 is_whole Settled = true
 
--- those of a snapshot that is settled or moving, by router, then peer, in the order acted on; of another none
+-- the messages in flight of a snapshot that is settled or moving, by router, then peer, in the order acted on; none of
+-- any other
 abbrev pub in_flight_of : List Member → List MadeOffer → List Flight
 in_flight_of members ms = cond (is_whole (verdict members ms)) (flat_map (flights_at ms) members) []

@@ -1,4 +1,5 @@
--- What a verdict is worth: it is how the snapshot comes out by the laws of runs, of all offers made, those aside that came late.
+-- Laws of verdicts: the verdict on the offers that were kept is how the snapshot comes out, by the laws of runs, for
+-- all offers made.
 use Rattle.std.specs.Prelude.{ℕ, ◌≡◌, ◌≢◌, true, false, List, [], ◌∷◌, ◌++◌}
 use mathlib.Core.Logic.{◌⊎◌}
 use Rattle.prefix_lanes.specs.Bits.{PrefixView}
@@ -24,7 +25,7 @@ VerdictsAreOutcomes =
     (g : Network Message PrefixView (List ℕ)) (members : List Member) → IsOver g members
     → (s : ℕ) (made kept : List MadeOffer) → IsKeptOf members s made kept → HasOutcome g s made (verdict members kept)
 
--- an offer more: one for another number changes nothing, one that comes late neither, and any other is kept
+-- one more offer: one for another number changes nothing, nor does one that comes late; any other is kept
 abbrev pub KeptGoesOn : Type 0
 KeptGoesOn =
     (members : List Member) (s : ℕ) (made kept : List MadeOffer) (m : MadeOffer) → IsKeptOf members s made kept
@@ -36,7 +37,7 @@ KeptGoesOn =
 abbrev pub NothingIsKept : Type 0
 NothingIsKept = (members : List Member) (s : ℕ) → IsKeptOf members s [] []
 
--- what a collector keeps of all offers made: those for the number up to the first that decides
+-- a collector keeps, of all offers made, those for the number up to the first that decides
 abbrev pub CollectedAreKept : Type 0
 CollectedAreKept = (members : List Member) (s : ℕ) (made : List MadeOffer) → IsKeptOf members s made (kept_of members (made_for s made))
 

@@ -1,4 +1,4 @@
--- What an offer does to a collector, and what it is answered.
+-- How an offer changes a collector, and how it is answered.
 use Rattle.std.specs.Prelude.{◌≡◌, Bool, true, false, cond, [], ◌∷◌, map, Option, None, Some, Result, Ok, Err}
 use Rattle.snap_marker.specs.declared.part.Offer.{Offer}
 use Rattle.snap_marker.specs.Parts.{router_of, number_of}
@@ -10,15 +10,15 @@ use Rattle.snap_collector.specs.Verdicts.{decides, is_member}
 use Rattle.snap_collector.specs.Collecting.{member_of, made_by, has_offered}
 use Rattle.snap_collector.specs.Collector.{CollectorView, made_for, with_offers}
 
--- it is a router of the network
+-- the offer is of a router of the network
 abbrev pub knows : CollectorView → Offer → Bool
 knows c o = is_member (map member_of c.members) (router_of o)
 
--- the offers for its number decide
+-- the offers for the number of this one decide
 abbrev pub has_decided : CollectorView → Offer → Bool
 has_decided c o = decides (map member_of c.members) (made_for c (number_of o))
 
--- its router has offered for its number
+-- the router of the offer has offered for its number
 abbrev pub has_heard : CollectorView → Offer → Bool
 has_heard c o = has_offered (made_for c (number_of o)) (router_of o)
 
@@ -28,7 +28,7 @@ pub record IsNew (c : CollectorView) (o : Offer) : Type 0 where
   pub waits : has_decided c o ≡ false
   pub first : has_heard c o ≡ false
 
--- why it is refused whatever room there is: a stranger's, or a second one for a snapshot that waits
+-- why an offer is refused whatever room there is: it is a stranger's, or a second one for a snapshot that waits
 abbrev pub refusal_of : CollectorView → Offer → Option CollectError
 refusal_of c o =
     cond (knows c o)

@@ -85,7 +85,7 @@ abbrev pub whole_or_waiting : Bool → Option (ℕ × Why) → Outcome
 whole_or_waiting true fault = moving_or_settled fault
 whole_or_waiting false fault = Waiting
 
--- the first Lost abandons it
+-- the first Lost abandons the snapshot
 abbrev pub abandoned_by : ℕ → RouterOffer → Outcome → Outcome
 abandoned_by u (Finished s part) rest = rest
 abandoned_by u (Lost s v e cause) rest = Abandoned u v e cause
@@ -99,11 +99,11 @@ verdict members ms = abandoned_or ms (whole_or_waiting (all_parts members ms) (f
 
 -- ---- offers that were kept
 
--- none is kept behind what decides
+-- no offer is kept behind the one that decides
 abbrev pub IsKept : List Member → List MadeOffer → Type 0
 IsKept members ms = (front : List MadeOffer) (last : MadeOffer) → ms ≡ front ++ last ∷ [] → decides members front ≡ false
 
--- they are for one number
+-- the offers are for one number
 abbrev pub AreFor : ℕ → List MadeOffer → Type 0
 AreFor s [] = Unit {0}
 AreFor s (m ∷ ms) = (number_of m.offer ≡ s) × AreFor s ms
@@ -121,7 +121,7 @@ abbrev pub Rises : List ℕ → Type 0
 Rises [] = Unit {0}
 Rises (v ∷ vs) = IsAbove v vs × Rises vs
 
--- these are its routers with their peers
+-- the members are the routers of the network with their peers
 abbrev pub HasLinks : Network Message PrefixView (List ℕ) → List Member → Type 0
 HasLinks g [] = Unit {0}
 HasLinks g (m ∷ ms) = ((v : ℕ) → g.linked m.router v ≡ list_any (λ w. v == w) m.peers) × Rises m.peers × HasLinks g ms

@@ -18,7 +18,7 @@ pub enum Taken {
 /// Why an offer was refused. The collector is as it was.
 #[derive(Clone, Copy, Debug, PartialEq, Eq, Error)]
 pub enum CollectError {
-    /// It is no router of the network that offers.
+    /// The offer is not of a router of the network.
     #[error("router {router} is not of the network")]
     Stranger {
         /// Who offers.

@@ -1,7 +1,7 @@
 //! The offers for one number, and how many of them are kept.
 //!
-//! A count of the routers that are awaited says with each offer whether it decides, and the length that is
-//! kept then stays: no offer is looked at again to know it.
+//! A count of the routers that are awaited tells with each offer whether it decides. From then on
+//! the number of offers kept stays: no offer is looked at again.
 
 ghost use Rattle.std.specs.Prelude.{◌≡◌, ◌++◌, [], ◌∷◌, ◌<◌, ◌≤◌, false, List, length, map, vec_len, vec_capacity, OnOk};
 ghost use Rattle.snap_collector.specs.Booking.{IsBook, awaited_of, missing, times};
@@ -21,7 +21,7 @@ pub(crate) struct Book {
     pub(crate) offers: Vec<Offer>,
     // How many of them are kept: those up to the first that decides.
     pub(crate) kept: usize,
-    // How many routers have offered no part: 0 where the offers decide.
+    // How many routers have offered no part; 0 if the offers decide.
     pub(crate) awaited: usize,
 }
 
@@ -38,7 +38,7 @@ fn times(members: &[Member], router: Asn) -> usize
     count
 }
 
-// How many routers are awaited behind an offer more, so many being awaited before it.
+// How many routers are awaited after one more offer, if `awaited` were awaited before it.
 fn awaited_with(members: &[Member], offers: &[Offer], awaited: usize, offer: &Offer) -> usize
     requires unlost { any_lost (made_in offers.now) ≡ false }
     requires awaited { awaited ≡ missing (map member_of members.now) (made_in offers.now) }
@@ -57,7 +57,7 @@ fn awaited_with(members: &[Member], offers: &[Offer], awaited: usize, offer: &Of
 }
 
 impl Book {
-    /// Before any offer.
+    /// The book before any offer.
     pub(crate) fn new(alloc: Global, members: &[Member]) -> Book
         ensures items { result.offers.items ≡ [] }
         ensures book { IsBook (map member_of members.now) result }
@@ -69,7 +69,7 @@ impl Book {
         }
     }
 
-    /// Makes room for an offer more. Where a growth is refused the offers stay as they were.
+    /// Makes room for one more offer. If a growth is refused, the offers stay as they were.
     pub(crate) fn make_room(&mut self) -> Result<(), AllocError>
         ensures room { OnOk result (vec_len self.new.offers < vec_capacity self.new.offers) }
         ensures items { self.new.offers.items ≡ self.old.offers.items }

@@ -1,4 +1,4 @@
-//! Who keeps the offers of the routers of a network.
+//! The collector: it keeps the offers of the routers of a network.
 
 ghost use Rattle.std.specs.Prelude.{◌≡◌, ◌≢◌, ℕ, ◌<◌, ◌≤◌, ◌↔◌, length, [], ◌∷◌, map, take, vec_len, vec_capacity, IfSome, IfOk, IfErr, OnOk, OnErr, option_copied, slice_get};
 ghost use Rattle.std.specs.List.{AllPairs, Contains};
@@ -82,7 +82,8 @@ fn has_decided(members: &[Member], offers: &BTreeMap<u32, Book>, number: u32) ->
     }
 }
 
-// Puts a number to its place among rising ones, which have room for it; one that is there stays alone.
+// Puts a number in its place among rising ones, which have room for it. A number that stands there already is not put
+// again.
 fn note(numbers: &mut Vec<u32>, number: u32)
     requires room { vec_len numbers.old < vec_capacity numbers.old }
     requires rising { AllPairs (λ s t. s < t) numbers.old.items }
@@ -94,8 +95,8 @@ fn note(numbers: &mut Vec<u32>, number: u32)
     }
 }
 
-// Makes room for an offer more of a number: in its book, which is there from then on, and among the numbers
-// that are decided. The caller puts the offer next. Where a growth is refused the offers stay as they were.
+// Makes room for one more offer for a number: in its book, which exists from then on, and among the decided numbers.
+// The caller puts the offer next. If a growth is refused, the offers stay as they were.
 fn make_room(
     alloc: Global,
     members: &[Member],
@@ -137,7 +138,7 @@ fn keep(members: &[Member], offers: &mut BTreeMap<u32, Book>, offer: Offer)
     book.put(members, offer);
 }
 
-// Keeps an offer, for which there is room, and notes its number where it is decided now.
+// Keeps an offer, for which there is room, and notes its number if the number is decided then.
 fn put(members: &[Member], offers: &mut BTreeMap<u32, Book>, decided: &mut Vec<u32>, offer: Offer)
     requires books { AreBooks (map member_of members.now) offers.old.entries }
     requires decided { AreDecided (record { members = members.now; offers = map entry_of offers.old.entries; decided = decided.old.items }) decided.old.items }
@@ -155,7 +156,7 @@ fn put(members: &[Member], offers: &mut BTreeMap<u32, Book>, decided: &mut Vec<u
 }
 
 impl Collector {
-    /// The collector of a network, with nothing offered. It is refused only where memory was.
+    /// The collector of a network, with nothing offered. It is refused only for want of memory.
     pub fn new(alloc: Global, network: &Network) -> Result<Collector, AllocError>
         ensures nothing { IfOk result (λ c. made_for c ≡ (λ s. [])) }
         ensures members { IfOk result (λ c. AreMembers network.now c.members) }
@@ -168,8 +169,8 @@ impl Collector {
         })
     }
 
-    /// Keeps an offer behind those of its number, one that comes late too. Where a growth is refused
-    /// the collector stays as it was.
+    /// Keeps an offer behind those for its number, even one that comes late. If a growth is refused, the collector
+    /// stays as it was.
     pub fn record(&mut self, offer: Offer) -> Result<(), AllocError>
         ensures ok { OnOk result (made_for self.new ≡ with_offers (made_for self.old) (made_by offer ∷ [])) }
         ensures err { OnErr result (self.new ≡ self.old) }
@@ -188,8 +189,8 @@ impl Collector {
         Ok(())
     }
 
-    /// Keeps the offer that waits in front of what a router has recorded, as [`Collector::record`] keeps one:
-    /// it moves here, and waits there no more. Where a growth is refused both stay as they were.
+    /// Moves the first offer that waits at a router to the collector, which keeps it as [`Collector::record`] does. If
+    /// a growth is refused, both stay as they were.
     pub fn record_from(&mut self, marks: &mut MarkState) -> Result<(), AllocError>
         requires waits { marks.old.queue ≢ [] }
         ensures ok { OnOk result (IfSome (slice_get marks.old.queue 0) (λ offer. made_for self.new ≡ with_offers (made_for self.old) (made_by offer ∷ []))) }
@@ -209,11 +210,11 @@ impl Collector {
         Ok(())
     }
 
-    /// Takes what a router offers: it stands behind the offers for its number, and the answer says
-    /// whether it decided its snapshot. An offer for a snapshot that was decided before is late, and
-    /// changes nothing. Refused [`CollectError::Stranger`] where no router of the network offers,
-    /// [`CollectError::Twice`] where the router has offered for this number before and the snapshot
-    /// waits, [`CollectError::Memory`] where a growth was refused. A refusal changes nothing.
+    /// Takes an offer of a router. It stands behind the offers for its number, and the answer says whether it decided
+    /// its snapshot. An offer for a snapshot that was decided before is late, and changes nothing. Refused with
+    /// [`CollectError::Stranger`] if the offer is not of a router of the network, with [`CollectError::Twice`] if the
+    /// router has offered for this number before and the snapshot waits, and with [`CollectError::Memory`] if a growth
+    /// is refused. A refusal changes nothing.
     pub fn offer(&mut self, offer: Offer) -> Result<Taken, CollectError>
         ensures { Takes self.old self.new offer result }
     {
@@ -232,8 +233,8 @@ impl Collector {
         }
     }
 
-    /// Why [`Collector::offer`] refuses this offer whatever memory there is, [`CollectError::Stranger`] or
-    /// [`CollectError::Twice`]; `None` where it takes it, unless a growth is refused. It takes no memory.
+    /// Why [`Collector::offer`] refuses this offer whatever memory there is: [`CollectError::Stranger`] or
+    /// [`CollectError::Twice`]. `None` if it takes the offer, unless a growth is refused. It takes no memory.
     pub fn refusal(&self, offer: &Offer) -> Option<CollectError>
         ensures { result ≡ refusal_of self.now offer.now }
     {
@@ -292,9 +293,9 @@ impl Collector {
         first_part(self.kept(number), router)
     }
 
-    /// The UPDATEs that were in flight as the snapshot of a number was recorded, by router, then peer, in
-    /// the order acted on: those of the channels of its parts. None where it is neither settled nor moving.
-    /// Refused [`CollectError::Memory`] where a growth was.
+    /// The UPDATEs that were in flight as the snapshot of a number was recorded, by router, then peer, in the order
+    /// acted on: those of the channels of its parts. A snapshot that is neither settled nor moving has none. Refused
+    /// with [`CollectError::Memory`] if a growth is refused.
     pub fn in_flight(&self, number: u32) -> Result<Vec<InFlight>, CollectError>
         ensures ok { IfOk result (λ flights. map flight_of flights.items ≡ in_flight_of (map member_of self.now.members) (kept_of (map member_of self.now.members) (made_for self.now number))) }
         ensures err { IfErr result (λ why. why ≡ CollectError.Memory) }

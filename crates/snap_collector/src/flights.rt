@@ -13,8 +13,8 @@ use ranked_policy::Asn;
 use snap_marker::{Channel, Offer, Part};
 use std::alloc::{AllocError, Global};
 
-/// An UPDATE that was in flight as a snapshot was recorded: the router acted on it behind its recording,
-/// and the peer had sent it before its own.
+/// An UPDATE that was in flight as a snapshot was recorded: the router acted on it behind its recording, and the peer
+/// had sent it before its own recording.
 #[derive(Debug, Drop)]
 pub struct InFlight {
     /// The router.
@@ -45,7 +45,7 @@ fn put_updates(
     Ok(())
 }
 
-// Appends those of the first of the channels that is the peer's.
+// Appends the UPDATEs of the first of the channels that is the peer's.
 fn put_channel(
     alloc: Global,
     flights: &mut Vec<InFlight>,
@@ -63,7 +63,7 @@ fn put_channel(
     Ok(())
 }
 
-// Appends those of a part, by the router's peers.
+// Appends the UPDATEs in the channels of a part, by the router's peers.
 fn put_part(
     alloc: Global,
     flights: &mut Vec<InFlight>,
@@ -78,7 +78,7 @@ fn put_part(
     Ok(())
 }
 
-// Appends those to one router, by its first part.
+// Appends the UPDATEs in flight to one router, by its first part.
 fn put_router(
     alloc: Global,
     flights: &mut Vec<InFlight>,

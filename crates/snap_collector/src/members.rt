@@ -15,7 +15,7 @@ pub struct Member {
     pub peers: Items<Asn>,
 }
 
-/// Whether a router is one of them.
+/// Whether a router is one of the members.
 pub fn is_member(members: &[Member], router: Asn) -> bool
     ensures { result ≡ is_member (map member_of members.now) router }
 {

@@ -1,8 +1,8 @@
-//! Where the offers of routers stand: a table, so that they need not be gone through for each router.
+//! A table of where the offers of routers stand: a router's offer is found without a pass over all of them.
 //!
-//! A search leads from a router to its place in the table, the same one each time. So where the routers of
-//! all offers lead to places of their own, no two offers are of one router, and the first part of a router
-//! is its only one. Nothing else is taken from the table: what stands where it says is looked at.
+//! A search leads from a router to its place in the table, the same one each time. If the routers of all offers lead to
+//! places of their own, no two offers are of one router, and the first part of a router is its only one. Nothing else
+//! is taken from the table: the offer at the place that it names is looked at.
 
 ghost use Rattle.std.specs.Prelude.{◌≡◌, ◌+◌, ◌≤◌, ◌<◌, Bool, IfSome, MatchOption, length, map, take};
 ghost use Rattle.ranked_policy.specs.declared.limits.TheConstants.{MOST_ROUTERS};
@@ -16,13 +16,13 @@ use crate::members::Member;
 use ranked_policy::{Asn, MOST_ROUTERS};
 use snap_marker::{Offer, Part};
 
-// Fewer routers than these are found sooner one by one.
+// With fewer routers than this, a pass over the offers is faster.
 const FEW_ROUTERS: usize = 8;
 
-// Where no offer stands.
+// The place that stands for no offer.
 const NOWHERE: u8 = 255;
 
-/// Where each of some offers stands, no two of them being of one router.
+/// The places of some offers, no two of which are of one router.
 #[derive(Drop)]
 pub(crate) struct Places {
     // The routers that are searched: the members', and behind them the greatest number.
@@ -31,7 +31,7 @@ pub(crate) struct Places {
     places: [u8; MOST_ROUTERS],
 }
 
-// A step of the search: so far on, unless the router there is greater.
+// A step of the search: `step` slots on, unless the router there is greater.
 fn stepped(routers: &[Asn; MOST_ROUTERS], router: Asn, slot: usize, step: usize) -> usize
     requires { slot + step < MOST_ROUTERS }
     ensures value { result ≡ stepped routers.now router slot step }
@@ -69,8 +69,8 @@ fn routers_of(members: &[Member]) -> [Asn; MOST_ROUTERS]
     routers
 }
 
-/// Where the offers stand, there being one for each member: none where two lead to one slot, and where the
-/// members are few, or more than those of a network.
+/// The places of the offers, one for each member. `None` if two offers lead to one slot, and if the members are few, or
+/// more than a network may have.
 pub(crate) fn places_of(members: &[Member], offers: &[Offer]) -> Option<Places>
     ensures { IfSome result (λ places. LeadTo places.routers places.places offers.now) }
 {
@@ -93,7 +93,7 @@ pub(crate) fn places_of(members: &[Member], offers: &[Offer]) -> Option<Places>
 }
 
 impl Places {
-    /// The part of a router, where it stands at the place of this slot: then it is the only one.
+    /// The part of a router, if it stands at the place of this slot. It is then the router's only part.
     pub(crate) fn part_at<'o>(
         &self,
         offers: &'o [Offer],
@@ -118,7 +118,7 @@ impl Places {
         None
     }
 
-    /// The part of a router, where the search finds it: then it is the only one.
+    /// The part of a router, if the search finds it. It is then the router's only part.
     pub(crate) fn part<'o>(&self, offers: &'o [Offer], router: Asn) -> Option<&'o Part>
         requires { LeadTo self.now.routers self.now.places offers.now }
         ensures { MatchOption result (Unit {0}) (λ part. (holds : RouterPart → Bool) → has_part (made_in offers.now) router holds ≡ holds (part_of part.now)) }

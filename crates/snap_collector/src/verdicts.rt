@@ -79,7 +79,7 @@ pub(crate) fn has_part(offers: &[Offer], router: Asn) -> bool
     false
 }
 
-/// The part of a router in the slot of a member, where the places lead to it: then it is the only one.
+/// The part of a router in the slot of a member, if the places lead to it. It is then the router's only part.
 fn found_part<'o>(
     offers: &'o [Offer],
     places: Option<&Places>,
@@ -218,7 +218,7 @@ fn first_mismatch(offers: &[Offer], router: Asn, peers: &[Asn]) -> Option<Asn>
         .find(|peer| mismatch(offers, router, *peer))
 }
 
-/// The part of a router, where it is the only one: what holds of some part of the router holds of it.
+/// The part of a router, if the router offered exactly one.
 fn sole_part(offers: &[Offer], router: Asn) -> Option<&Part>
     ensures { MatchOption result (Unit {0}) (λ part. (holds : RouterPart → Bool) → has_part (made_in offers.now) router holds ≡ holds (part_of part.now)) }
 {
@@ -275,7 +275,7 @@ fn mismatch_in(
         .find(|peer| differs(offers, places, router, part, *peer))
 }
 
-/// The first fault of the only part of a router: the others are gone through for its mismatches alone.
+/// The first fault of a router by its only part. The other offers are looked at only for mismatches.
 fn sole_fault(
     offers: &[Offer],
     places: Option<&Places>,
@@ -299,7 +299,7 @@ fn sole_fault(
     }
 }
 
-/// The first fault of a router's parts, the member being in this slot.
+/// The first fault of a router's parts. The member stands in this slot.
 fn fault_at(offers: &[Offer], places: Option<&Places>, slot: usize, member: &Member) -> Option<Why>
     requires { IfSome places (λ p. LeadTo p.now.routers p.now.places offers.now) }
     ensures { option_map why_of result ≡ fault_at (made_in offers.now) (member_of member.now) }
