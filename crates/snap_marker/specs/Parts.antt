@@ -38,16 +38,16 @@ pub record Seen : Type 0 where
 abbrev pub seen : Channel → Seen
 seen c = record { peer = c.peer; epoch = c.epoch; is_open = c.is_open; updates = c.updates.items }
 
--- what the first link to a peer has, or nothing where no link leads to it
+-- what the first link to a peer has, or `nothing` if no link leads to the peer
 abbrev pub link_has : {A : Type 0} → A → (Channel → A) → List Channel → ℕ → A
 link_has nothing what [] v = nothing
 link_has nothing what (c ∷ cs) v = cond (v == c.peer) (what c) (link_has nothing what cs v)
 
--- its incarnation
+-- the incarnation of the link to a peer
 abbrev pub epoch_in : List Channel → ℕ → ℕ
 epoch_in = link_has 0 (λ c. c.epoch)
 
--- the UPDATEs recorded of it
+-- UPDATEs as messages, and those recorded of the link to a peer
 abbrev pub messages : List Update → List Message
 messages updates = map UpdateMsg updates
 
@@ -58,11 +58,11 @@ is_empty (m ∷ ms) = false
 abbrev pub channel_in : List Channel → ℕ → List Message
 channel_in = link_has [] (λ c. messages c.updates.items)
 
--- whether the marker of the peer is missing: of what is no peer nothing is said
+-- whether the marker of the peer is missing; true also for a number that is no peer
 abbrev pub waits_in : List Channel → ℕ → Bool
 waits_in = link_has true (λ c. c.is_open)
 
--- whether its channel is there and open
+-- whether the peer has a channel, and it is open
 abbrev pub is_heard_in : List Channel → ℕ → Bool
 is_heard_in = link_has false (λ c. c.is_open)
 
@@ -70,7 +70,7 @@ is_heard_in = link_has false (λ c. c.is_open)
 abbrev pub room_in : List Channel → ℕ → ℕ
 room_in = link_has 0 (λ c. vec_capacity c.updates - vec_len c.updates)
 
--- another thing at one peer
+-- a function of peers, changed at one peer
 abbrev pub with_link : {A : Type 0} → ℕ → A → (ℕ → A) → ℕ → A
 with_link v x has = λ y. cond (y == v) x (has y)
 
@@ -105,7 +105,7 @@ abbrev pub number_of : Offer → ℕ
 number_of (offer.Part p) = p.number
 number_of (offer.Lost l) = l.number
 
--- a part that says the same
+-- two parts say the same
 pub record IsCopy (p q : Part) : Type 0 where
   pub router : p.router ≡ q.router
   pub number : p.number ≡ q.number
@@ -135,7 +135,7 @@ abbrev pub IsOver : List ℕ → Option Part → Type 0
 IsOver peers None = Unit {0}
 IsOver peers (Some p) = peers_of p.channels.items ≡ peers
 
--- and it is of this router
+-- the unfinished part is of this router
 abbrev pub IsOf : ℕ → Option Part → Type 0
 IsOf router None = Unit {0}
 IsOf router (Some p) = p.router ≡ router
@@ -168,16 +168,16 @@ abbrev pub is_heard : Option Part → ℕ → Bool
 is_heard None v = false
 is_heard (Some p) v = is_heard_in p.channels.items v
 
--- a copy of it, where it is
+-- a copy of the UPDATE, if it is recorded
 abbrev pub copy_for : Option Part → ℕ → Update → Option Update
 copy_for unfinished v u = cond (is_heard unfinished v) (Some u) None
 
--- there is room for it in its channel
+-- the peer's channel has room for an UPDATE, if it is open
 abbrev pub HasRoom : Option Part → ℕ → Type 0
 HasRoom None v = Unit {0}
 HasRoom (Some p) v = is_heard_in p.channels.items v ≡ true → 1 ≤ room_in p.channels.items v
 
--- each recording comes to one offer, and keeps room for it
+-- each recording ends in one offer, and keeps room for it
 abbrev pub offers_owed : Option Part → ℕ
 offers_owed None = 0
 offers_owed (Some p) = 1

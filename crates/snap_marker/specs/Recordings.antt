@@ -50,7 +50,7 @@ closed (Some close) x = queueing (record x { unfinished = None }) (lost x.unfini
 
 -- ---- an UPDATE that is acted on
 
--- it joins the channel of its peer v, where that still waits for its marker
+-- an UPDATE joins the channel of its peer v, if that still waits for its marker
 abbrev pub with_message : ℕ → Message → RouterPart → RouterPart
 with_message v m part = record part { channel = λ y. cond (y == v) (part.channel y ++ m ∷ []) (part.channel y) }
 
@@ -69,7 +69,8 @@ goes_on peers r x =
     cond (list_any r.waits peers) (record x { unfinished = Some r })
     (queueing (record x { unfinished = None }) (Finished r.number r.part ∷ []))
 
--- a marker of the peer v whose number s is not above the last: it ends the channel that waits for it, and is ignored else
+-- a marker of the peer v whose number s is not above the last: it ends the channel that waits for it, else it is
+-- ignored
 abbrev pub ends_channel : List ℕ → (v s : ℕ) → Option Recording → Snapshots → Snapshots
 ends_channel peers v s None x = x
 ends_channel peers v s (Some r) x =
@@ -77,7 +78,7 @@ ends_channel peers v s (Some r) x =
 
 -- ---- a new number
 
--- the unfinished recording is lost by a peer, where there is one, in the incarnation of the link to it
+-- the unfinished recording is lost by a peer, if there is one, in the incarnation of the link to it
 abbrev pub lost_at : ℕ → (ℕ → ℕ) → Cause → Option ℕ → List RouterOffer
 lost_at s incarnation cause None = []
 lost_at s incarnation cause (Some v) = Lost s v (incarnation v) cause ∷ []
@@ -87,13 +88,13 @@ abbrev pub superseded : List ℕ → (ℕ → ℕ) → Option Recording → List
 superseded peers incarnation None = []
 superseded peers incarnation (Some r) = lost_at r.number incarnation Superseded (find r.waits peers)
 
--- a recording begins; it is lost at once where the session with some peer is not Established, by the least such peer
+-- a recording begins; if the session with some peer is not Established, it is lost at once, by the least such peer
 abbrev pub begins_or_is_lost : List ℕ → Option ℕ → Recording → Snapshots → Snapshots
 begins_or_is_lost peers None r x = goes_on peers r x
 begins_or_is_lost peers (Some v) r x = queueing (record x { unfinished = None }) (Lost r.number v (r.part.incarnation v) NotUp ∷ [])
 
--- a number is recorded: the unfinished recording is superseded, and where the peer `down`, the least one, is not Established
--- the new one is lost at once
+-- a number is recorded: the unfinished recording is superseded; if the peer `down`, the least one, is not Established,
+-- the new recording is lost at once
 abbrev pub superseding : Recording → List ℕ → Snapshots → Snapshots
 superseding r peers x = queueing (record x { last = r.number; unfinished = None }) (superseded peers r.part.incarnation x.unfinished)
 

@@ -65,7 +65,7 @@ fn copied_part(alloc: Global, part: &Part) -> Result<Part, AllocError>
 }
 
 impl Offer {
-    /// A copy of the offer, which says the same. It is refused only where memory was.
+    /// A copy of the offer, which says the same. It is refused only for want of memory.
     pub fn copied(&self, alloc: Global) -> Result<Offer, AllocError>
         ensures offer { IfOk result (λ copy. offer_of copy ≡ offer_of self.now) }
         ensures router { IfOk result (λ copy. router_of copy ≡ router_of self.now) }

@@ -31,7 +31,7 @@ pub(crate) fn leads_to(channels: &[Channel], peer: Asn) -> bool
     channels.iter().any(|channel| peer == channel.peer)
 }
 
-/// The incarnation of the link to a peer, 0 where there is none.
+/// The incarnation of the link to a peer, 0 if there is none.
 pub(crate) fn epoch_in(channels: &[Channel], peer: Asn) -> u32
     ensures { result ≡ epoch_in channels.now peer }
 {
@@ -43,7 +43,7 @@ pub(crate) fn epoch_in(channels: &[Channel], peer: Asn) -> u32
     0
 }
 
-/// Whether the marker of a peer is missing; so it is of what is no peer.
+/// Whether a peer's marker is still to come; true also for a number that is no peer.
 pub(crate) fn waits_in(channels: &[Channel], peer: Asn) -> bool
     ensures { result ≡ waits_in channels.now peer }
 {
@@ -79,7 +79,7 @@ pub(crate) fn is_open(channels: &[Channel]) -> bool
     false
 }
 
-/// Whether the channel of a peer is there and open.
+/// Whether a peer has a channel, and it is open.
 pub(crate) fn is_heard(channels: &[Channel], peer: Asn) -> bool
     ensures { result ≡ is_heard_in channels.now peer }
 {
@@ -113,7 +113,7 @@ fn is_empty(updates: &[Update]) -> bool
     }
 }
 
-/// The marker of a peer has come.
+/// Closes the channel of a peer: its marker has come.
 pub(crate) fn close_channel(channels: &mut Vec<Channel>, peer: Asn)
     requires { leads_to peer channels.old.items ≡ true }
     ensures waits { waits_in channels.new.items ≡ with_link peer false (waits_in channels.old.items) }
@@ -141,7 +141,7 @@ fn reserve_update(channels: &mut Vec<Channel>, peer: Asn) -> Result<(), AllocErr
     Ok(())
 }
 
-/// A copy of an UPDATE for the channel of a peer, where that is open, and room for it there.
+/// A copy of an UPDATE for the channel of a peer, and room for it there, if that channel is open.
 pub(crate) fn copy_update(
     alloc: Global,
     channels: &mut Vec<Channel>,

@@ -39,7 +39,7 @@ impl Model for MarkState {
 }
 
 impl MarkState {
-    /// Nothing is recorded yet. It takes no memory.
+    /// The state of a router that has recorded nothing yet. It takes no memory.
     pub fn new(alloc: Global) -> MarkState
         ensures none { snapshots_of result ≡ no_snapshots }
         ensures router { (u : ℕ) → AreOf u result }
@@ -73,8 +73,7 @@ impl MarkState {
         self.queue.front()
     }
 
-    /// Takes the offer that is made next, where one waits: it is made, and waits no more. It takes no
-    /// memory.
+    /// Takes the offer that is made next, if one waits: it is made then, and waits no more. It takes no memory.
     pub fn take_offer(&mut self) -> Option<Offer>
         ensures offer { result ≡ slice_get self.old.queue 0 }
         ensures made { snapshots_of self.new ≡ without_first (snapshots_of self.old) }
@@ -84,7 +83,7 @@ impl MarkState {
         self.queue.pop_front()
     }
 
-    /// The next offer was made. It takes no memory.
+    /// Removes the next offer, which was made. It takes no memory.
     pub fn offer_made(&mut self)
         ensures made { snapshots_of self.new ≡ without_first (snapshots_of self.old) }
         ensures unfinished { self.new.unfinished ≡ self.old.unfinished }
@@ -93,8 +92,7 @@ impl MarkState {
         self.take_offer();
     }
 
-    /// Whether a link of the unfinished recording leads to the peer; true where nothing is being
-    /// recorded.
+    /// Whether a link of the unfinished recording leads to the peer; true if nothing is being recorded.
     pub fn has_link(&self, peer: Asn) -> bool
         ensures { IsTrue result ↔ IsLink self.now.unfinished peer }
     {
@@ -112,7 +110,7 @@ impl MarkState {
         self.queue.push_back_reserved(offer);
     }
 
-    // A recording that waits for a marker goes on, and is offered else.
+    // Lets a recording go on if it waits for a marker; else queues its part.
     fn go_on(&mut self, part: Part)
         requires none { self.old.unfinished ≡ None }
         requires room { 1 ≤ self.old.room }
@@ -127,7 +125,7 @@ impl MarkState {
         }
     }
 
-    // A new number supersedes the unfinished recording.
+    // Ends the unfinished recording, since a new number supersedes it.
     fn supersede(&mut self, part: &Part)
         requires { offers_owed self.old.unfinished + 1 ≤ self.old.room }
         ensures superseded { snapshots_of self.new ≡ superseding (recording_of part.now) (peers_of part.now.channels.items) (snapshots_of self.old) }
@@ -149,11 +147,11 @@ impl MarkState {
         }
     }
 
-    /// Records a snapshot whose number is that of the part, which holds the router's state and its
-    /// links, with open channels but for the one over which the marker came. The unfinished
-    /// recording is lost, superseded, by the first of the part's peers whose marker it misses. Where
-    /// a peer is `down`, not Established, the new one is lost at once; else it goes on until no
-    /// channel is open. Refused [`MarkError::Memory`] where a growth was, and then all is as it was.
+    /// Records a snapshot, whose number is that of the part. The part holds the router's state and its links; its
+    /// channels are open, but for the one over which the marker came. The unfinished recording is superseded: it is
+    /// lost by the first of the part's peers whose marker it misses. If a peer is `down`, not Established, the new
+    /// recording is lost at once; else it goes on until no channel is open. Refused with [`MarkError::Memory`] if a
+    /// growth is refused, and then all is as it was.
     pub fn begin(&mut self, part: Part, down: Option<Asn>) -> Result<(), MarkError>
         ensures ok { OnOk result (snapshots_of self.new ≡ begun_at (peers_of part.channels.items) down (recording_of part) (snapshots_of self.old)) }
         ensures over { OnOk result (IsOver (peers_of part.channels.items) self.new.unfinished) }
@@ -177,8 +175,8 @@ impl MarkState {
         Ok(())
     }
 
-    /// A marker of a peer whose number is not above the last: it ends the channel that waits for it,
-    /// and is ignored else. A recording whose last channel it ends is offered. It takes no memory.
+    /// Takes a marker of a peer whose number is not above the last. It ends the channel that waits for it; if none
+    /// does, it is ignored. A recording whose last channel it ends is offered. It takes no memory.
     pub fn on_mark(&mut self, peer: Asn, number: u32)
         requires link { IsLink self.old.unfinished peer }
         ensures ends { (peers : List ℕ) → IsOver peers self.old.unfinished → snapshots_of self.new ≡ ends_channel peers peer number (snapshots_of self.old).unfinished (snapshots_of self.old) }
@@ -196,8 +194,8 @@ impl MarkState {
         }
     }
 
-    /// The session with a peer left Established, in this incarnation: an unfinished recording is
-    /// lost. It takes no memory.
+    /// Takes note that the session with a peer left Established, in this incarnation: an unfinished recording is lost.
+    /// It takes no memory.
     pub fn on_close(&mut self, peer: Asn, epoch: u32)
         ensures closed { snapshots_of self.new ≡ closed (Some (peer, epoch)) (snapshots_of self.old) }
         ensures none { self.new.unfinished ≡ None }
@@ -214,8 +212,8 @@ impl MarkState {
         }
     }
 
-    /// A copy of an UPDATE for the channel of a peer, where that is being recorded, and room for it
-    /// there. Nothing is recorded yet. Refused [`MarkError::Memory`] where a growth was.
+    /// A copy of an UPDATE for the channel of a peer, and room for it there, if that is being recorded; else `None`.
+    /// Nothing is recorded yet. Refused with [`MarkError::Memory`] if a growth is refused.
     pub fn copy_update(
         &mut self,
         alloc: Global,
@@ -236,7 +234,7 @@ impl MarkState {
         Ok(copy?)
     }
 
-    /// An UPDATE of a peer is acted on: its copy, where there is one, joins the channel. It takes no
+    /// Takes note that an UPDATE of a peer is acted on: its copy, if there is one, joins the channel. It takes no
     /// memory.
     pub fn on_update(&mut self, peer: Asn, copy: Option<Update>)
         requires link { IsLink self.old.unfinished peer }

@@ -13,7 +13,7 @@ use ranked_policy::{Asn, Path};
 pub struct KeptPath {
     /// The prefix.
     pub prefix: Prefix,
-    /// The path, the router itself first: empty where it kept none.
+    /// The path, the router itself first; empty if it kept none.
     pub path: Path,
 }
 
@@ -107,7 +107,7 @@ impl Offer {
 }
 
 impl Part {
-    /// The incarnation of the link to a peer, 0 where the part has no such link.
+    /// The incarnation of the link to a peer, or 0 if the part has no such link.
     pub fn epoch(&self, peer: Asn) -> u32
         ensures { result ≡ (part_of self.now).incarnation peer }
     {
