@@ -1,5 +1,5 @@
--- The best of a router's choices as a function that computes, for every network, and the network of the model of runs whose
--- routers choose so.
+-- A function that computes the best of a router's choices, for every network; and the network of the model of runs
+-- whose routers choose by it.
 use Rattle.std.specs.Prelude.{ℕ, ◌≡◌, ◌==◌, Bool, List, [], ◌∷◌, if◌then◌else◌}
 use Rattle.std.specs.List.{list_any}
 use Rattle.prefix_lanes.specs.Bits.{PrefixView, is_prefix}
@@ -19,7 +19,7 @@ abbrev pub rules_of : List Router → ℕ → List Rule
 rules_of [] u = []
 rules_of (r ∷ rs) u = if r.asn == u then r.rules else rules_of rs u
 
--- what a router's policies stand on
+-- the table of a router's policies
 abbrev pub table_of : Plan → ℕ → Table
 table_of net u = record { router = u; rules = rules_of net.routers u; origins = net.origins }
 
@@ -30,7 +30,7 @@ peers_over (link ∷ links) u =
     if link.one == u then link.other ∷ peers_over links u
     else (if link.other == u then link.one ∷ peers_over links u else peers_over links u)
 
--- a choice more: the router, then the path of a peer that has one
+-- one more choice, if the peer has a path: the router, then that path
 abbrev pub with_choice : ℕ → List ℕ → List (List ℕ) → List (List ℕ)
 with_choice u [] choices = choices
 with_choice u (v ∷ vs) choices = (u ∷ v ∷ vs) ∷ choices
@@ -46,7 +46,7 @@ best_by_rank net u q originated words =
     if originates (table_of net u) q u then (if originated then u ∷ [] else [])
     else best_of (table_of net u) q (choices_of u (peers_over net.links u) words)
 
--- in every network it is the best of each router, for each prefix
+-- in every network, `best_by_rank` is the best of each router's choices, for each prefix
 abbrev pub BestByRankIsBest : Type 0
 BestByRankIsBest =
     (net : Plan) → IsNetwork net → (u : ℕ) → IsRouter net.routers u → (q : PrefixView) (originated : Bool) (words : ℕ → List ℕ)
@@ -65,7 +65,8 @@ model_of is_update mentions net = record {
   best = best_by_rank net;
 }
 
--- it is a network, and its routers choose as in each problem of the network of which the origins say as much
+-- it is a network, and its routers choose as in a problem of the network, if each origin of the prefix originates it as
+-- the problem says
 abbrev pub EachNetworkHasItsModel : Type 0 → Type 0
 EachNetworkHasItsModel M =
     (is_update : M → Bool) (mentions : M → List (PrefixView × List ℕ)) (p : Problem) → IsProblem p

@@ -28,8 +28,8 @@ disagree = record {
 abbrev pub words : List ℕ → List ℕ → List ℕ → ℕ → List ℕ
 words one two three u = if u == 1 then one else (if u == 2 then two else (if u == 3 then three else []))
 
--- of two choices the one that the rule ranks first; of one that one; an origin itself alone, or nothing; no path that is not
--- listed
+-- what `best_by_rank` computes: of two choices the one that the rule ranks first; of one choice that one; of an origin
+-- itself alone, or nothing; no path that is not listed
 abbrev pub DisagreeChooses : Type 0
 DisagreeChooses =
     (best_by_rank disagree 2 ten false (words (1 ∷ []) [] (3 ∷ 1 ∷ [])) ≡ 2 ∷ 3 ∷ 1 ∷ [])

@@ -7,7 +7,7 @@ use Rattle.stable_paths.specs.declared.refusal.StableError.{StableError}
 use Rattle.stable_paths.specs.declared.refusal.StableError.TheVariants as errors
 use Rattle.stable_paths.specs.Stable.{Problem, IsBest, IsStable, MayHave}
 
--- the least router of which this does not hold
+-- the least router of which a property does not hold
 pub record IsLeastWithout (p : Problem) (Holds : ℕ → Type 0) (u : ℕ) : Type 0 where
   pub router : IsRouter p.net.routers u
   pub fails : Holds u → ⊥
@@ -17,7 +17,7 @@ pub record IsLeastWithout (p : Problem) (Holds : ℕ → Type 0) (u : ℕ) : Typ
 abbrev pub IsPermittedAll : Problem → (ℕ → List ℕ) → Type 0
 IsPermittedAll p paths = (u : ℕ) → IsRouter p.net.routers u → MayHave p.net p.prefix u (paths u)
 
--- the least router that has not its best, with what it has and its best
+-- the least router whose path is not its best, with its path and its best
 pub record IsMoving (p : Problem) (paths : ℕ → List ℕ) (u : ℕ) (has best : List ℕ) : Type 0 where
   pub least : IsLeastWithout p (λ v. IsBest p paths v (paths v)) u
   pub has_it : has ≡ paths u

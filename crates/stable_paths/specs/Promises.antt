@@ -1,4 +1,4 @@
--- What the definitions of stable assignments say together.
+-- Laws of the definitions of stable assignments.
 use Rattle.std.specs.Prelude.{ℕ, ◌≡◌, ◌↔◌, Bool, true, false, List, []}
 use Rattle.prefix_lanes.specs.Bits.{PrefixView}
 use Rattle.ranked_policy.specs.Plans.{IsRouter, Linked}
@@ -9,7 +9,7 @@ use Rattle.stable_paths.specs.Stable.{Problem, IsProblem, IsBest, IsStable}
 abbrev pub OneBest : Type 0
 OneBest = (p : Problem) → IsProblem p → (paths : ℕ → List ℕ) (u : ℕ) (a b : List ℕ) → IsBest p paths u a → IsBest p paths u b → a ≡ b
 
--- where the origin does not originate the prefix, no router has a path
+-- if the origin does not originate the prefix, no router has a path
 abbrev pub NoOriginNoPath : Type 0
 NoOriginNoPath = (p : Problem) → IsProblem p → p.originated ≡ false → (paths : ℕ → List ℕ) → IsStable p paths → (u : ℕ) → IsRouter p.net.routers u → paths u ≡ []
 
@@ -20,7 +20,7 @@ pub record Chooses {M : Type 0} (p : Problem) (originated : ℕ → Bool) (g : N
   pub no_path : g.no_path ≡ []
   pub best : (u : ℕ) → IsRouter p.net.routers u → (words : ℕ → List ℕ) → IsBest p words u (g.best u p.prefix (originated u) words)
 
--- there the stable assignments are those of the model
+-- in such a network the stable assignments are those of the model
 abbrev pub StableIsTheModels : Type 0 → Type 0
 StableIsTheModels M =
     (p : Problem) → IsProblem p → (originated : ℕ → Bool) (g : Network M PrefixView (List ℕ)) → Chooses p originated g → (paths : ℕ → List ℕ)

@@ -19,17 +19,17 @@ pub record IsProblem (p : Problem) : Type 0 where
   pub network : IsNetwork p.net
   pub named : IsNamed p.net.origins p.prefix
 
--- one whose origin originates it
+-- a problem whose origin originates the prefix
 pub record IsInstance (p : Problem) : Type 0 where
   pub problem : IsProblem p
   pub originated : p.originated ≡ true
 
--- the path of a router in a list of them: the empty path where it has none
+-- the path of a router in a list of them; the empty path if it has none
 abbrev pub path_of : List Assigned → ℕ → List ℕ
 path_of [] u = []
 path_of (a ∷ rest) u = if a.router == u then a.path else path_of rest u
 
--- a choice over these links: a router, then the path of one of its peers, where that is there and the whole is permitted
+-- a choice over these links: a router, then the path of one of its peers, which is not empty; the whole is permitted
 pub record IsChoice (links : List Link) (prefix : PrefixView) (paths : ℕ → List ℕ) (table : Table) (path : List ℕ) : Type 0 where
   pub peer : ℕ
   pub linked : Linked links table.router peer
@@ -37,17 +37,17 @@ pub record IsChoice (links : List Link) (prefix : PrefixView) (paths : ℕ → L
   pub goes_on : path ≡ table.router ∷ paths peer
   pub permitted : IsPermitted table prefix path
 
--- it is preferred to each other choice
+-- the path is a choice, and is preferred to each other choice
 pub record IsFirst (links : List Link) (prefix : PrefixView) (paths : ℕ → List ℕ) (table : Table) (path : List ℕ) : Type 0 where
   pub choice : IsChoice links prefix paths table path
   pub before : (other : List ℕ) → IsChoice links prefix paths table other → path ≢ other → IsPreferred table prefix path other
 
--- the first of the choices, or the empty path where there is none
+-- the first of the choices, or the empty path if there is no choice
 abbrev pub IsFirstOrNone : List Link → PrefixView → (ℕ → List ℕ) → Table → List ℕ → Type 0
 IsFirstOrNone links prefix paths table path =
     IsFirst links prefix paths table path ⊎ ((path ≡ []) × ((other : List ℕ) → IsChoice links prefix paths table other → ⊥))
 
--- what the origin has: itself alone where it originates the prefix, else the empty path
+-- the path of the origin: itself alone if it originates the prefix, else the empty path
 abbrev pub own_path : Problem → ℕ → List ℕ
 own_path p router = if p.originated then router ∷ [] else []
 
@@ -68,7 +68,7 @@ IsStable p paths = (u : ℕ) → IsRouter p.net.routers u → IsBest p paths u (
 abbrev pub MayHave : Plan → PrefixView → ℕ → List ℕ → Type 0
 MayHave net prefix u path = (path ≡ []) ⊎ ((table : Table) × IsTableOf net u table × IsPermitted table prefix path)
 
--- a policy of the code permits and prefers what the router of a table does for a prefix
+-- for a prefix, a policy of the code permits and prefers the same paths as the router of a table
 pub record Speaks (policy : Chosen) (table : Table) (prefix : PrefixView) : Type 0 where
   pub permits : (path : List ℕ) → (chosen_permits policy path ↔ IsPermitted table prefix path)
   pub prefers : (a b : List ℕ) → (chosen_prefers policy a b ↔ IsPreferred table prefix a b)

@@ -1,4 +1,4 @@
-//! Paths that routers have.
+//! Assignments: a path for each router.
 
 ghost use Rattle.std.specs.Prelude.{◌≡◌, ◌==◌, ℕ, List, [], ◌<◌, ◌≤◌, ◌≢◌, nat_lt, length, take, drop, slice_index_or, if◌then◌else◌, IfOk, IfErr, MatchOption, OnOk, OnErr};
 ghost use Rattle.std.specs.List.{All, AllPairs};
@@ -20,7 +20,7 @@ pub struct Assigned {
     pub path: Path,
 }
 
-/// A path for each router, the empty path where none was set.
+/// A path for each router, the empty path if none was set.
 #[derive(Debug, Drop)]
 pub struct Assignment {
     // By rising router, so that each is found by a binary search.
@@ -88,8 +88,8 @@ impl Assignment {
         }
     }
 
-    /// Gives a router a path in place of what it had. It is refused only where memory was, and then
-    /// changes nothing.
+    /// Gives a router a path in place of what it had. It is refused only for want of memory, and
+    /// then changes nothing.
     pub fn set(&mut self, router: Asn, path: Path) -> Result<(), StableError>
         ensures ok { OnOk result ((u : ℕ) → path_of self.new u ≡ (if router == u then path else path_of self.old u)) }
         ensures err { OnErr result (self.new ≡ self.old) }

@@ -16,8 +16,7 @@ use ranked_policy::laws::each_policy_is_an_order;
 use ranked_policy::{Asn, Chosen, Path, Policy, PolicyTable};
 use std::alloc::Global;
 
-// Whether the first of two ways on from a router is preferred, where the other is a path of the
-// router, or the empty one.
+// Whether the router's path along `rest` is better than `best`, which is a path of the router, or the empty one.
 fn is_better(policy: &Chosen, router: Asn, rest: &[Asn], best: &[Asn]) -> bool
     requires { 1 ≤ length best.now → slice_index best.now 0 ≡ router }
     ensures { IsTrue result ↔ ((best.now ≡ []) ⊎ chosen_prefers policy.now (router ∷ rest.now) best.now) }
@@ -28,8 +27,7 @@ fn is_better(policy: &Chosen, router: Asn, rest: &[Asn], best: &[Asn]) -> bool
     }
 }
 
-// Whether the path that goes on from a router so is permitted and there is none yet, or it is
-// preferred to the one there is. No path is made.
+// Whether the router's path along `rest` is permitted, and better than the best so far. No path is made.
 fn is_taken(policy: &Chosen, router: Asn, rest: &[Asn], best: &[Asn]) -> bool
     requires { 1 ≤ length best.now → slice_index best.now 0 ≡ router }
     ensures { IsTrue result ↔ (chosen_permits policy.now (router ∷ rest.now) × ((best.now ≡ []) ⊎ chosen_prefers policy.now (router ∷ rest.now) best.now)) }
@@ -37,8 +35,7 @@ fn is_taken(policy: &Chosen, router: Asn, rest: &[Asn], best: &[Asn]) -> bool
     policy.permits_onward(router, rest) && is_better(policy, router, rest, best)
 }
 
-// The choice over one more link, to a peer at its other end, where it is one and better than the best
-// over the links before it.
+// The path through this peer, if it is permitted and better than the best so far.
 #[inline(never)]
 fn better(
     alloc: Global,

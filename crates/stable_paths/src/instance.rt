@@ -7,7 +7,7 @@ use prefix_lanes::Prefix;
 use ranked_policy::Network;
 use std::marker::Model;
 
-/// A prefix of a network, whose origin originates it: what an assignment of paths is judged by.
+/// A prefix of a network, whose origin originates it. Assignments of paths are judged by it.
 #[derive(Debug, Drop)]
 pub struct Instance<'a> {
     network: &'a Network,

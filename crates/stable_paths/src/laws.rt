@@ -1,5 +1,5 @@
-//! What the definitions of stable assignments say together. Each is the contract of a function
-//! without work of its own.
+//! Laws of the definitions of stable assignments. Each is the contract of a function without work
+//! of its own.
 
 ghost use Rattle.stable_paths.specs.ByRank.{BestByRankIsBest, EachNetworkHasItsModel};
 ghost use Rattle.stable_paths.specs.Examples.{DisagreeChooses};
@@ -14,7 +14,7 @@ pub fn one_best()
     each_policy_is_an_order();
 }
 
-/// Where the origin does not originate the prefix, the one stable assignment gives no router a path.
+/// If the origin does not originate the prefix, the one stable assignment gives no router a path.
 pub fn no_origin_no_path()
     ensures { NoOriginNoPath }
 {}
@@ -27,8 +27,8 @@ pub fn stable_is_the_models<M>()
     each_policy_is_an_order();
 }
 
-/// In every network the best of each router's choices is what one function computes, whatever its
-/// peers say.
+/// In every network one function computes the best of each router's choices, whatever its peers
+/// say.
 pub fn best_by_rank_is_best()
     ensures { BestByRankIsBest }
 {
@@ -36,11 +36,11 @@ pub fn best_by_rank_is_best()
     the_best_is_the_first();
 }
 
-/// Every network has its network of the model of runs, in which routers choose by that function: so
-/// the premise of [`stable_is_the_models`] is met.
+/// Every network has a network of the model of runs in which routers choose by the function of
+/// [`best_by_rank_is_best`]. The premise of [`stable_is_the_models`] can thus be met.
 ///
-/// Premise: whether a router originates the prefix is what the problem says, at its origin. Which
-/// messages are UPDATEs, and what they tell, is a parameter.
+/// Premise: each origin of the prefix originates it as the problem says. Which messages are
+/// UPDATEs, and what they tell, is a parameter.
 pub fn each_network_has_its_model<M>()
     ensures { EachNetworkHasItsModel M }
 {
@@ -48,7 +48,8 @@ pub fn each_network_has_its_model<M>()
     the_best_is_the_first();
 }
 
-/// What the function computes in DISAGREE (Griffin, Shepherd and Wilfong 2002).
+/// What the function of [`best_by_rank_is_best`] computes in DISAGREE (Griffin, Shepherd and
+/// Wilfong 2002).
 pub fn disagree_chooses()
     ensures { DisagreeChooses }
 {}

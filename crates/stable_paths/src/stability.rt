@@ -39,7 +39,7 @@ fn may_keep(instance: &Instance, assignment: &Assignment, router: Asn) -> bool
     }
 }
 
-// That each router may have the path that it has; else the least one that may not.
+// Tests that each router may have its path; else names the least one that may not.
 fn permit_all(instance: &Instance, assignment: &Assignment) -> Result<(), StableError>
     ensures ok { IfOk result (λ _. IsPermittedAll instance.now (path_of assignment.now)) }
     ensures err { IfErr result (λ e. IsJudged instance.now (path_of assignment.now) (Err e)) }
@@ -60,11 +60,11 @@ fn is_path(path: &Path, numbers: &[Asn]) -> bool
     path.as_slice() == numbers
 }
 
-/// Whether each router has the best of its choices, or the least router that has not, with its path
-/// and its best.
+/// Tests whether each router has the best of its choices. If not, it answers the least router that
+/// has not, with its path and its best.
 ///
-/// It refuses [`StableError::NotPermitted`] with the least router whose path is neither empty nor
-/// permitted there, and else [`StableError::Memory`] where a growth was refused.
+/// Refused with [`StableError::NotPermitted`] and the least router whose path is neither empty nor
+/// permitted there, if there is one; else with [`StableError::Memory`] if a growth is refused.
 pub fn check(
     alloc: Global,
     instance: &Instance,
