@@ -1,4 +1,4 @@
--- The lines that are appended whole: what each is printed as.
+-- The lines that are appended whole, and the text of each.
 use Rattle.std.specs.Prelude.{ℕ, ◌≤◌, List, length}
 use Rattle.bgp_values.specs.declared.messages.TheConstants.{MOST_DATA}
 use Rattle.net_text.specs.declared.lines.Line.{Line}

@@ -9,7 +9,7 @@ use Rattle.net_text.specs.Layout.{HasWords}
 use Rattle.net_text.specs.Words.{asn_word, id_word, prefix_word}
 use Rattle.net_text.specs.Networks.{SpellsNetwork}
 
--- one of them is so
+-- some item of the list has the property
 abbrev pub AnyOf : {X : Type 0} → (X → Type 0) → List X → Type 0
 AnyOf Is [] = ⊥
 AnyOf Is (x ∷ xs) = Is x ⊎ AnyOf Is xs
@@ -19,11 +19,11 @@ abbrev pub NamesRouter : ℕ → ℕ → Text → Type 0
 NamesRouter u id line =
     (a : Text) × (b : Text) × HasWords line (codes "router" ∷ a ∷ b ∷ []) × (asn_word Four a ≡ Ok u) × (id_word b ≡ Ok id)
 
--- two routers that a link joins
+-- a line names a link between two routers
 abbrev pub NamesLink : ℕ → ℕ → Text → Type 0
 NamesLink u v line = (a : Text) × (b : Text) × HasWords line (codes "link" ∷ a ∷ b ∷ []) × (asn_word Four a ≡ Ok u) × (asn_word Four b ≡ Ok v)
 
--- a prefix and the router that originates it
+-- a line names a prefix and the router that originates it
 abbrev pub NamesOrigin : ℕ → PrefixView → Text → Type 0
 NamesOrigin u q line = (a : Text) × (b : Text) × HasWords line (codes "origin" ∷ a ∷ b ∷ []) × (asn_word Four a ≡ Ok u) × (prefix_word b ≡ Ok q)
 

@@ -1,4 +1,4 @@
--- What the definitions say together.
+-- Laws of the definitions of texts.
 use Rattle.std.specs.Prelude.{ℕ, ◌≡◌, ◌≢◌, ◌+◌, ◌^◌, ◌<◌, ◌↔◌, List, ◌∷◌, ◌++◌, length, Result, Ok, Err}
 use Rattle.net_text.specs.declared.code.Code.{Code}
 use Rattle.net_text.specs.declared.code.Code.TheVariants as codes
@@ -27,7 +27,7 @@ FirstFaultDecides read before s =
     (lines : List Text) (line : ℕ) (code : Code)
     → (reading read before s lines ≡ Err (refused_at line code) ↔ IsFirstFault read before s lines line code)
 
--- of a network text: its draft is refused so
+-- the law of first faults for network texts
 abbrev pub FirstFaultDecidesNetworks : Type 0
 FirstFaultDecidesNetworks = (d : Draft) (before : ℕ) → FirstFaultDecides (λ line draft words. line_reading draft words) before d
 
@@ -38,19 +38,20 @@ FirstFaultDecidesAssignments = (net : Plan) (before : ℕ) (entries : List Entry
 abbrev pub OneNetwork : Type 0
 OneNetwork = (lines : List Text) (one other : Plan) → SpellsNetwork lines one → SpellsNetwork lines other → one ≡ other
 
--- its settings are those that its lines name, wherever they stand, and the usual ones where none does
+-- the settings of a spelt network are those that its lines name, wherever they stand, and the usual ones where none
+-- does
 abbrev pub SettingsAreNamed : Type 0
 SettingsAreNamed = (lines : List Text) (net : Plan) → SpellsNetwork lines net → net.settings ≡ settings_of lines
 
--- its hold time has two octets, as that of an OPEN
+-- the hold time of a spelt network has two octets, as that of an OPEN
 abbrev pub HoldTimesFit : Type 0
 HoldTimesFit = (lines : List Text) (net : Plan) → SpellsNetwork lines net → net.settings.hold < 2 ^ 16
 
--- one that spells a network is refused only for want of memory
+-- a text that spells a network is refused only for want of memory
 abbrev pub SpeltIsNotRefused : Type 0
 SpeltIsNotRefused = (lines : List Text) (net : Plan) (line : ℕ) (code : Code) → SpellsNetwork lines net → RefusesNetwork lines line code → code ≡ codes.Memory
 
--- and one is refused in one way, want of memory aside
+-- a text is refused in one way, want of memory aside
 abbrev pub OneRefusal : Type 0
 OneRefusal = (lines : List Text) (line other : ℕ) (code reason : Code) → code ≢ codes.Memory → reason ≢ codes.Memory
     → RefusesNetwork lines line code → RefusesNetwork lines other reason → (line ≡ other) × (code ≡ reason)

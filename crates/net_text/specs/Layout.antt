@@ -18,7 +18,7 @@ HasWords text [] = AreBlank text
 HasWords text (word ∷ words) =
     (gap : Text) × (rest : Text) × (text ≡ gap ++ (word ++ rest)) × AreBlank gap × IsWord word × (ends_word rest ≡ true) × HasWords rest words
 
--- the words of a line are those, and no others
+-- the words of a line are those that stand between its blanks, and no others
 abbrev pub WordsStandBetweenBlanks : Type 0
 WordsStandBetweenBlanks = (text : Text) (words : List Text) → words ≡ words_of text ↔ HasWords text words
 

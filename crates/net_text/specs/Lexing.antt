@@ -54,7 +54,7 @@ abbrev pub parts : ℕ → Text → List Text
 parts separator [] = [] ∷ []
 parts separator (x ∷ xs) = if x == separator then [] ∷ parts separator xs else first_more x (parts separator xs)
 
--- the two are one word
+-- two words are the same
 abbrev pub same : Text → Text → Bool
 same [] [] = true
 same [] (y ∷ ys) = false

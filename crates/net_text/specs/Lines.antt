@@ -66,7 +66,7 @@ naming Octets named = record named { octets = true }
 abbrev pub width_named : Named → Width
 width_named named = if named.octets then Four else Two
 
--- what a line says of the settings
+-- the settings after a line
 abbrev pub told_of : Option Setting → Text → Settings → Settings
 told_of None word s = s
 told_of (Some setting) word s = if is_number word && in_range setting (value_of word) then set_to setting (value_of word) s else s
@@ -203,7 +203,7 @@ words_line d (name ∷ words) =
     else if same name (codes "rank") then rule_line d words
     else named_line (setting_of name) d words
 
--- what a line makes of a network, or its first fault
+-- the network after a line, or the line's first fault
 abbrev pub line_reading : Draft → Text → Result Draft Code
 line_reading d line =
     if is_skipped line then Ok d

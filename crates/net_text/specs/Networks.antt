@@ -37,7 +37,7 @@ empty_draft lines = record { named = nothing_named; net = empty_plan (settings_o
 abbrev pub draft_reading : List Text → Result Draft Refused
 draft_reading lines = reading (λ line d words. line_reading d words) 0 (empty_draft lines) lines
 
--- the last line that is not skipped, 0 where there is none
+-- the last line that is not skipped, 0 if there is none
 abbrev pub last_behind : ℕ → ℕ → List Text → ℕ
 last_behind last before [] = last
 last_behind last before (line ∷ lines) = last_behind (if is_skipped line then last else before + 1) (before + 1) lines
@@ -57,7 +57,7 @@ FailsAsNetwork net code =
     ((code ≡ codes.OutOfLimit) × (net.routers ≡ []))
     ⊎ ((code ≡ codes.NotConnected) × (net.routers ≢ []) × (IsConnected net.routers net.links → ⊥))
 
--- all lines are good, and yet they are no network
+-- all lines are good, and yet together they are no network
 pub record IsNoNetwork (lines : List Text) (code : Code) : Type 0 where
   pub draft : Draft
   pub whole : draft_reading lines ≡ Ok draft

@@ -23,7 +23,7 @@ pub record Written : Type 0 where
   pub front : List ℕ
   pub text : List ℕ
 
--- the octets in lower-case hex, or a dash where there are none
+-- the octets in lower-case hex, or a dash if there are none
 abbrev pub hex_or_dash : List ℕ → List ℕ
 hex_or_dash [] = codes "-"
 hex_or_dash (octet ∷ octets) = encode_lower (octet ∷ octets)
@@ -45,7 +45,7 @@ address_text address =
 unfoldable pub cap_text : Cap → List ℕ
 cap_text cap = codes " cap " ++ (decimal cap.code ++ (codes " " ++ hex_or_dash cap.value))
 
--- those of a parameter
+-- the capabilities of a parameter
 abbrev pub param_text : List Cap → List ℕ
 param_text caps = flat_map cap_text caps
 
@@ -73,7 +73,7 @@ unfoldable pub segments_text : List Segment → List ℕ
 segments_text [] = codes "none"
 segments_text (segment ∷ segments) = join_with_byte 45 (map segment_text (segment ∷ segments))
 
--- a path; one that is not there has no segment
+-- a path; an absent one has no segment
 abbrev pub path_text : Option (List Segment) → List ℕ
 path_text None = codes "none"
 path_text (Some segments) = segments_text segments
@@ -83,12 +83,12 @@ path_text (Some segments) = segments_text segments
 unfoldable pub route_text : Attrs → List ℕ
 route_text attrs = codes " path " ++ (path_text attrs.path ++ (codes " next " ++ address_text (unwrap_or attrs.next_hop 0)))
 
--- the withdrawn prefixes, where there are any
+-- the withdrawn prefixes, if there are any
 abbrev pub withdrawn_text : List PrefixView → List ℕ
 withdrawn_text [] = []
 withdrawn_text (prefix ∷ prefixes) = codes " withdraw" ++ prefixes_text (prefix ∷ prefixes)
 
--- the announced prefixes and their routes, where there are any
+-- the announced prefixes and their routes, if there are any
 abbrev pub announced_text : Attrs → List PrefixView → List ℕ
 announced_text attrs [] = []
 announced_text attrs (prefix ∷ prefixes) = codes " announce" ++ (prefixes_text (prefix ∷ prefixes) ++ route_text attrs)

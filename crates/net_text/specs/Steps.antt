@@ -16,7 +16,7 @@ abbrev pub Refuses : {S : Type 0} → Code → Result S Code → Type 0
 Refuses codes.Memory read = IsOk read
 Refuses code read = read ≡ Err code
 
--- what is there afterwards is what the line makes of what was there
+-- the state afterwards is what the line makes of the state before
 abbrev pub Steps : {S : Type 0} → Result (Unit {0}) Code → Result S Code → S → Type 0
 Steps (Ok u) read new = read ≡ Ok new
 Steps (Err code) read new = Refuses code read

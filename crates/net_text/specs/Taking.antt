@@ -16,30 +16,31 @@ use Rattle.net_text.specs.Words.{◌>>=◌, is_router, is_from, path_of}
 use Rattle.bgp_values.specs.declared.width.Width.TheVariants.{Four}
 use Rattle.bgp_values.specs.Ranges.{is_asn}
 
--- the parts of what is left, where something is
+-- the parts of what is left of a word, if something is
 abbrev pub parts_left : Bool → Text → List Text
 parts_left true word = parts 45 word
 parts_left false word = []
 
--- numbers that an AS can have, at most 16
+-- the numbers of a path are ones that an AS can have, and at most 16
 pub record IsTakeable (word : Text) : Type 0 where
   pub numbers : list_all (is_asn Four) (path_of word) ≡ true
   pub short : length (path_of word) ≤ LONGEST_PATH
 
 -- ---- what is known of a path by its numbers
 
--- a number is outside its limit anywhere, then none of a router anywhere
+-- the first fault of a path's numbers: one outside its limit anywhere, then one of no router anywhere
 abbrev pub routers_word : Width → List Router → List ℕ → Result (Unit {0}) Code
 routers_word width routers path =
     if not (list_all (is_asn width) path) then Err OutOfLimit
     else if not (list_all (is_router routers) path) then Err UnknownRouter
     else Ok tt
 
--- then the path is one of router u, and names none twice
+-- the first fault of the numbers of a rule's path: those above, then a path that does not begin with router u, or names
+-- a router twice
 abbrev pub rule_numbers_word : Width → List Router → ℕ → List ℕ → Result (Unit {0}) Code
 rule_numbers_word width routers u path = routers_word width routers path >>= λ _. if is_from u path && is_simple path then Ok tt else Err NotSimple
 
--- a number that the numbers of a path give, behind those that gave one
+-- the digest of a path that goes on by one number, from the digest of the numbers before
 abbrev pub digest_next : ℕ → ℕ → ℕ
 digest_next d v = (d * DIGEST_FACTOR % 2 ^ 64 + v) % 2 ^ 64
 

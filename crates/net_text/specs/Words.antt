@@ -30,7 +30,7 @@ abbrev pub value_behind : ℕ → Text → ℕ
 value_behind n [] = n
 value_behind n (x ∷ xs) = value_behind (n * 10 + (x - 48)) xs
 
--- the number that digits are, as far as 64 bits hold it: that is above each limit
+-- the number that digits spell, or the greatest that 64 bits hold, which is above each limit
 abbrev pub value_of : Text → ℕ
 value_of word = min (2 ^ 64 - 1) (value_behind 0 word)
 
@@ -113,7 +113,8 @@ origin_word origins word = prefix_word word >>= λ q. if not (is_named origins q
 abbrev pub path_of : Text → List ℕ
 path_of word = map value_of (parts 45 word)
 
--- a word cannot be read anywhere in it, then is outside its limit anywhere in it, then names an unknown router anywhere in it
+-- the first fault of a path: a part that cannot be read anywhere in it, then a number outside its limit anywhere in it,
+-- then an unknown router anywhere in it
 abbrev pub path_word : Width → List Router → Text → Result (Unit {0}) Code
 path_word width routers word =
     if not (list_all is_number (parts 45 word)) then Err Unreadable

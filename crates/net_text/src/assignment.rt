@@ -23,11 +23,11 @@ pub struct Entry {
     pub router: Asn,
     /// The prefix.
     pub prefix: Prefix,
-    /// The path, which is empty where the router is given none.
+    /// The path; empty if the line gives the router none.
     pub path: Path,
 }
 
-// The three words, where there is no other.
+// The three words of a line, if it has exactly three.
 fn three_words(words: &[u8]) -> Option<(&[u8], &[u8], &[u8])>
     ensures some { IfSome result (λ p. words_of words.now ≡ p.0.now ∷ p.1.now ∷ p.2.now ∷ []) }
     ensures none { IfNone result (length (words_of words.now) ≢ 3) }
@@ -110,10 +110,10 @@ fn read_line(
     read_words(alloc, network, line, entries, text)
 }
 
-/// The entries of an assignment text, in the order of its lines. So many lines stand before it.
+/// The entries of an assignment text, in the order of its lines. `before` lines stand before it.
 ///
-/// It is refused for its first faulty line. `Memory` is answered where a growth was refused, and
-/// only where no line so far has a fault.
+/// Refused for its first faulty line. Refused with `Memory` if a growth is refused; then no line so
+/// far has a fault.
 pub fn read_assignment(
     alloc: Global,
     text: &[u8],

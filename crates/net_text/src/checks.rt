@@ -1,4 +1,4 @@
-//! What a check of an assignment says as text, written behind what a buffer has.
+//! The lines of a check of an assignment, written behind what a buffer has.
 //!
 //! A refused call here may leave a part of its text, but what stood in front stays.
 
@@ -9,8 +9,8 @@ use crate::tail::Tail;
 use ranked_policy::Asn;
 use std::alloc::AllocError;
 
-/// Appends a path: its numbers with a dash between them, or that there is none. It is refused only
-/// where memory was, and then nothing of it stands there.
+/// Appends a path: its numbers with dashes between them, or `none`. It is refused only for want of
+/// memory, and then nothing of it is written.
 pub fn put_path(out: &mut Tail, numbers: &[Asn]) -> Result<(), AllocError>
     ensures text { OnOk result (out.new.text ≡ out.old.text ++ numbers_text numbers.now) }
     ensures err { OnErr result (out.new.text ≡ out.old.text) }

@@ -7,10 +7,11 @@ use thiserror::Error;
 
 /// What is wrong with a text, and the code that is printed for it.
 ///
-/// The first faulty line decides. On one line a wrong form comes first, then the words from left
-/// to right, then what came before, then limits on counts, then want of memory. Of one word: that it cannot be read, then a number outside its limit, then a router that is
-/// not known or a prefix without an origin, then a path that is not simple. That a network is not
-/// connected, or has no router, is judged once all its lines are good.
+/// The first faulty line decides. On one line a wrong form comes first, then the words from left to
+/// right, then what came before, then limits on counts, then want of memory. In one word, a part
+/// that cannot be read comes first, then a number outside its limit, then a router that is not
+/// known or a prefix without an origin, then a path that is not simple. Whether a network has a
+/// router, and is connected, is judged once all its lines are good.
 #[derive(Clone, Copy, Debug, PartialEq, Eq, Error)]
 pub enum Code {
     /// An unknown first word, a wrong number of words, or an octet past ASCII outside a comment.
@@ -43,8 +44,8 @@ pub enum Code {
     /// A growth was refused.
     #[error("memory")]
     Memory,
-    /// A path of an assignment that its router may not have in the network. No reader of texts answers it:
-    /// who judges an assignment against its network does.
+    /// A path of an assignment that its router may not have in the network. No reader of texts
+    /// answers it; a check of an assignment against its network does.
     #[error("not permitted")]
     NotPermitted,
 }
@@ -72,7 +73,7 @@ impl Code {
 /// A text that was refused.
 #[derive(Clone, Copy, Debug, PartialEq, Eq)]
 pub struct Refused {
-    /// The line, counted from 1; 0 where a text without lines is no network.
+    /// The line, counted from 1; 0 if a text without lines is refused as a network.
     pub line: usize,
     /// What is wrong.
     pub code: Code,

@@ -97,8 +97,8 @@ fn write_joined(text: &mut [u8], start: usize, numbers: &[Asn], mark: u8) -> usi
     }
 }
 
-/// Writes a path at a place, and answers the place behind it: its numbers with a dash between them, or
-/// that there is none. Thirteen octets may change for each number, and four besides.
+/// Writes a path at a place, and answers the place behind it: its numbers with dashes between them, or `none`. Thirteen
+/// octets may change for each number, and four besides.
 pub fn write_path(text: &mut [u8], start: usize, numbers: &[Asn]) -> usize
     requires { start + (13 * length numbers.now + 4) ≤ length text.old }
     ensures end { result ≤ start + (12 * length numbers.now + 4) }

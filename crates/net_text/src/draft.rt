@@ -31,8 +31,8 @@ impl Draft {
     ghost use Rattle.net_text.specs.declared.code.Code.TheVariants.{Memory};
     ghost use Rattle.net_text.specs.Lines.{with_router, with_origin, with_rule};
 
-    // All but memory was judged before each of these, but for links. What `settings` says of the plan
-    // is used in the proofs.
+    // Before each of these all but memory was judged; a link is judged as it is added. The proofs
+    // use what `settings` says of the plan.
 
     pub(crate) fn add_router(&mut self, asn: Asn, id: u32) -> Result<(), Code>
         ensures ok { OnOk result (self.new ≡ with_router self.old asn id) }
@@ -120,7 +120,7 @@ fn empty_draft(alloc: Global, text: &[u8]) -> Draft
     }
 }
 
-// The whole network, once all its lines are good. The last of them is this one.
+// The whole network, once all its lines are good. A refusal names the line `last`.
 fn finish(draft: Draft, last: usize) -> Result<Network, Refused>
     ensures ok { IfOk result (λ net. net ≡ draft.net) }
     ensures network { IfOk result IsNetwork }
@@ -141,14 +141,14 @@ fn finish(draft: Draft, last: usize) -> Result<Network, Refused>
     }
 }
 
-// The last line so far that is not skipped, where this line comes next.
+// The last line that is not skipped, after this line.
 fn last_said(text: &[u8], line: usize, last: usize) -> usize
     ensures { result ≡ (if is_skipped text.now then last else line) }
 {
     if is_skipped(text) { last } else { line }
 }
 
-// The first line of a text, and the lines behind it; of none an empty line.
+// The first line of a text, and the lines behind it; an empty line if the text has none.
 fn line_ahead(text: &[u8]) -> (&[u8], &[u8])
     ensures lines { 0 < length text.now → lines_of text.now ≡ result.0.now ∷ lines_of result.1.now }
     ensures shorter { 0 < length text.now → length result.1.now < length text.now }
@@ -161,9 +161,9 @@ fn line_ahead(text: &[u8]) -> (&[u8], &[u8])
 
 /// The network that a text spells.
 ///
-/// It is refused for its first faulty line; where all lines are good, for the last line that is not
-/// skipped where the network has no router or is not connected. `Memory` is answered where a growth
-/// was refused, and only where no line so far has a fault.
+/// Refused for its first faulty line. If all lines are good, but the network has no router or is
+/// not connected, refused for the last line that is not skipped. Refused with `Memory` if a growth
+/// is refused; then no line so far has a fault.
 pub fn read_network(alloc: Global, text: &[u8]) -> Result<Network, Refused>
     ensures ok { IfOk result (SpellsNetwork (lines_of text.now)) }
     ensures err { IfErr result (λ refused. RefusesNetwork (lines_of text.now) refused.line refused.code) }

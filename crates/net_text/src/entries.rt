@@ -22,7 +22,7 @@ pub(crate) struct Key {
     pub(crate) len: u8,
 }
 
-// What an entry for a router and a prefix is found by.
+// The key by which the entry for a router and a prefix is found.
 fn key_of(router: Asn, prefix: &Prefix) -> Key
     ensures { result ≡ record { router = router; addr = prefix.now.addr; len = prefix.now.len } }
 {
@@ -33,8 +33,8 @@ fn key_of(router: Asn, prefix: &Prefix) -> Key
     }
 }
 
-/// Entries in the order of their lines, each found by its router and prefix in the logarithm of
-/// their number.
+/// Entries in the order of their lines. Each is found by its router and prefix, in time logarithmic
+/// in their number.
 #[derive(Drop)]
 pub(crate) struct Entries {
     list: Vec<Entry>,
@@ -64,14 +64,14 @@ impl Entries {
         }
     }
 
-    /// Whether one of them gives the router a path for the prefix.
+    /// Whether an entry gives the router a path for the prefix.
     pub(crate) fn give(&self, router: Asn, prefix: &Prefix) -> bool
         ensures { result ≡ list_any (gives router prefix.now) self.now }
     {
         self.given.contains(&key_of(router, prefix))
     }
 
-    /// One entry more. A refused growth changes nothing.
+    /// Adds an entry. A refused growth changes nothing.
     pub(crate) fn push(&mut self, entry: Entry) -> Result<(), AllocError>
         ensures ok { OnOk result (self.new ≡ self.old ++ entry ∷ []) }
         ensures err { OnErr result (self.new ≡ self.old) }

@@ -1,4 +1,4 @@
-//! What the definitions say together. Each function here has an empty body; its contract is the law.
+//! Laws of the definitions of texts. Each function here has an empty body; its contract is the law.
 
 ghost use Rattle.ranked_policy.specs.Plans.{Plan};
 ghost use Rattle.net_text.specs.Lexing.{lines_of};
@@ -24,7 +24,7 @@ pub fn words_stand_between_blanks()
     ensures { WordsStandBetweenBlanks }
 {}
 
-/// A line goes up to an LF, one CR before it aside; a last line needs none.
+/// A line goes up to an LF, without one CR before it; a last line needs no LF.
 pub fn lines_end_by_line_feeds()
     ensures { LinesEndByLineFeeds }
 {}

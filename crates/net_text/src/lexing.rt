@@ -13,7 +13,7 @@ fn marks_of(octets: u8x16, wanted: u8) -> u64
     octets.simd_eq(u8x16::splat(wanted)).to_bitmask()
 }
 
-// The first place of an octet from this one on, or the length.
+// The first place of the octet `wanted` from `from` on, or the length.
 fn place_from(octets: &[u8], from: usize, wanted: u8) -> usize
     requires { from ≤ length octets.now }
     ensures bound { result ≤ length octets.now }
@@ -27,8 +27,9 @@ fn place_from(octets: &[u8], from: usize, wanted: u8) -> usize
     at
 }
 
-// The first place of an octet, or the length. The first two octets are looked at by themselves, since many lines end
-// there; then sixteen are compared at a time, and the last ones one by one.
+// The first place of the octet `wanted`, or the length. The first two octets are looked at by
+// themselves, since many lines end there; then sixteen are compared at a time, and the last ones
+// one by one.
 fn place_of(octets: &[u8], wanted: u8) -> usize
     ensures bound { result ≤ length octets.now }
     ensures before { (k : ℕ) → k < result → slice_index octets.now k ≢ wanted }
@@ -69,7 +70,7 @@ pub fn next_line(text: &[u8]) -> (&[u8], &[u8])
     ensures lines { lines_of text.now ≡ result.0.now ∷ lines_of result.1.now }
     ensures shorter { length result.1.now < length text.now }
     ensures whole { text.now ≡ take (length text.now - length result.1.now) text.now ++ result.1.now }
-    // Where more lines follow, others could follow in their place.
+    // If more lines follow, the first line would be the same before any others.
     ensures others { (more : List ℕ) → 0 < length result.1.now → lines_of (take (length text.now - length result.1.now) text.now ++ more) ≡ result.0.now ∷ lines_of more }
 {
     let end = place_of(text, b'\n');
@@ -87,7 +88,7 @@ fn is_blank(x: u8) -> bool
     x == b' ' || x == b'\t'
 }
 
-// What the line has from its first word on.
+// The line from its first word on.
 fn skip_blanks(line: &[u8]) -> &[u8]
     ensures words { words_of result.now ≡ words_of line.now }
     ensures shorter { length result.now ≤ length line.now }
@@ -153,7 +154,7 @@ pub fn next_word(line: &[u8]) -> Option<(&[u8], &[u8])>
     Some(left.split_at(word_len(left)))
 }
 
-/// The word of a line, where it has no other.
+/// The word of a line, if it has exactly one.
 pub fn one_word(line: &[u8]) -> Option<&[u8]>
     ensures some { IfSome result (λ a. words_of line.now ≡ a.now ∷ []) }
     ensures none { IfNone result (length (words_of line.now) ≢ 1) }
@@ -165,7 +166,7 @@ pub fn one_word(line: &[u8]) -> Option<&[u8]>
     Some(word)
 }
 
-/// The two words of a line, where it has no other.
+/// The two words of a line, if it has exactly two.
 pub fn two_words(line: &[u8]) -> Option<(&[u8], &[u8])>
     ensures some { IfSome result (λ p. words_of line.now ≡ p.0.now ∷ p.1.now ∷ []) }
     ensures none { IfNone result (length (words_of line.now) ≢ 2) }
@@ -185,7 +186,7 @@ pub fn is_skipped(line: &[u8]) -> bool
     }
 }
 
-// Which of the octets are none of ASCII, the first in the lowest bit.
+// Which of the octets are not ASCII, the first in the lowest bit.
 fn others(octets: u8x8) -> u64
     ensures { result ≡ mask_l (map (λ x. nat_le 128 x) octets) }
 {
@@ -210,14 +211,14 @@ pub fn is_ascii(line: &[u8]) -> bool
     others(u8x8::from_slice(&line[line.len() - 8..])) == 0
 }
 
-/// Whether two words are one.
+/// Whether two words are the same.
 pub fn same(word: &[u8], other: &[u8]) -> bool
     ensures { result ≡ same word.now other.now }
 {
     word == other
 }
 
-// What stands before the first separator, and what stands behind it.
+// The word before the first separator, and the rest behind it. `None` if it has no separator.
 pub(crate) fn cut(word: &[u8], separator: u8) -> Option<(&[u8], &[u8])>
     ensures none { IfNone result (parts separator word.now ≡ word.now ∷ []) }
     ensures some { IfSome result (λ p. parts separator word.now ≡ p.0.now ∷ parts separator p.1.now) }

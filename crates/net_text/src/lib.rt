@@ -6,9 +6,9 @@
 //! is given for a prefix; [`read_assignment`] answers these. [`split_at_section`] parts a text at
 //! the line that is one bare word. A text is refused for its first faulty line, by a [`Code`].
 //!
-//! [`message_line`] appends the line of a message, [`flight_line`] that of an UPDATE in flight,
-//! [`fault_lines`] those of a fault, [`truncated_line`] that of a rest; [`refused_line`], [`unstable_line`] and [`stable_line`] append
-//! what a check of an assignment says. A refused call leaves the buffer's octets as they were.
+//! [`message_line`] appends the line of a message, [`flight_line`] that of an UPDATE in flight, [`fault_lines`] those
+//! of a fault, [`truncated_line`] that of a rest. [`refused_line`], [`unstable_line`] and [`stable_line`] append the
+//! lines of a check of an assignment. A refused call leaves the buffer's octets as they were.
 //!
 //! The definitions stand in `specs/`: `Lexing` (lines and words), `Words` (what a word stands for
 //! and its fault), `Lines` (what a network line adds and its first fault), `Networks` and

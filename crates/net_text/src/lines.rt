@@ -14,7 +14,7 @@ use bgp_codec::{Fault, Message, Notice, Open, Update};
 use ranked_policy::Asn;
 use std::alloc::{AllocError, Global};
 
-// What a line, or two of a fault, is made of.
+// The parts of a line, or of the two lines of a fault.
 #[derive(Clone, Copy)]
 enum Line<'a> {
     Open(&'a Open),
@@ -63,7 +63,7 @@ fn append(out: &mut Vec<u8>, line: &Line) -> Result<(), AllocError>
 }
 
 /// Appends the line of a message (RFC 4271 section 4): its kind, then what it says. It is refused
-/// only where memory was, and then changes nothing. A KEEPALIVE is refused only where the buffer
+/// only for want of memory, and then changes nothing. A KEEPALIVE is refused only where the buffer
 /// had no room for its line.
 #[tactic(auto, unfolding(crate::specs::Printing::message_line))]
 pub fn message_line(message: &Message, out: &mut Vec<u8>) -> Result<(), AllocError>
@@ -81,7 +81,7 @@ pub fn message_line(message: &Message, out: &mut Vec<u8>) -> Result<(), AllocErr
 }
 
 /// Appends the line of an UPDATE that was in flight from one router to another. It is refused only
-/// where memory was, and then changes nothing.
+/// for want of memory, and then changes nothing.
 pub fn flight_line(from: Asn, to: Asn, update: &Update, out: &mut Vec<u8>) -> Result<(), AllocError>
     ensures ok { OnOk result (out.new.items ≡ out.old.items ++ flight_line from to update.now) }
     ensures err { OnErr result (out.new.items ≡ out.old.items) }
@@ -89,8 +89,8 @@ pub fn flight_line(from: Asn, to: Asn, update: &Update, out: &mut Vec<u8>) -> Re
     append(out, &Line::Flight(from, to, update))
 }
 
-/// Appends the two lines of a fault: its codes, and in hex the NOTIFICATION that tells of it
-/// (RFC 4271 section 6). It is refused only where memory was, and then changes nothing.
+/// Appends the two lines of a fault: its codes, and in hex the NOTIFICATION that tells of it (RFC
+/// 4271 section 6). It is refused only for want of memory, and then changes nothing.
 pub fn fault_lines(fault: &Fault, out: &mut Vec<u8>) -> Result<(), AllocError>
     requires { length fault.now.extra ≤ MOST_DATA }
     ensures ok { OnOk result (out.new.items ≡ out.old.items ++ fault_lines fault.now) }
@@ -99,8 +99,8 @@ pub fn fault_lines(fault: &Fault, out: &mut Vec<u8>) -> Result<(), AllocError>
     append(out, &Line::Fault(fault))
 }
 
-/// Appends the line of a rest of so many octets that is no whole message. It is refused only where
-/// memory was, and then changes nothing.
+/// Appends the line of a rest of so many octets that is no whole message. It is refused only for
+/// want of memory, and then changes nothing.
 pub fn truncated_line(len: usize, out: &mut Vec<u8>) -> Result<(), AllocError>
     ensures ok { OnOk result (out.new.items ≡ out.old.items ++ truncated_line len) }
     ensures err { OnErr result (out.new.items ≡ out.old.items) }
@@ -109,7 +109,7 @@ pub fn truncated_line(len: usize, out: &mut Vec<u8>) -> Result<(), AllocError>
 }
 
 /// Appends the line of a refusal: the line of the text that is refused, and the code of why. It is
-/// refused only where memory was, and then changes nothing.
+/// refused only for want of memory, and then changes nothing.
 pub fn refused_line(line: usize, code: &[u8], out: &mut Vec<u8>) -> Result<(), AllocError>
     ensures ok { OnOk result (out.new.items ≡ out.old.items ++ refused_line line code.now) }
     ensures err { OnErr result (out.new.items ≡ out.old.items) }
@@ -118,7 +118,7 @@ pub fn refused_line(line: usize, code: &[u8], out: &mut Vec<u8>) -> Result<(), A
 }
 
 /// Appends the line of a router that would move: the path that it has, and its best. It is refused
-/// only where memory was, and then changes nothing.
+/// only for want of memory, and then changes nothing.
 pub fn unstable_line(
     router: Asn,
     has: &[Asn],

@@ -18,7 +18,7 @@ use prefix_lanes::Prefix;
 use ranked_policy::{Asn, MOST_PATHS, MOST_PREFIXES, MOST_ROUTERS, MOST_RULES, Router, Rule};
 use std::alloc::Global;
 
-// What a line of a setting says.
+// Reads a line of a setting.
 fn read_setting(draft: &mut Draft, setting: Setting, words: &[u8]) -> Result<(), Code>
     ensures { Steps result (setting_line setting draft.old (words_of words.now)) draft.new }
 {
@@ -180,7 +180,7 @@ fn read_words<'a>(
     }
 }
 
-// What a line adds to the network. After an `Err` the draft is of no more use. The room is for the paths of a rule
+// Adds what a line says to the network. After an `Err` the draft is of no more use. `room` is for the paths of a rule
 // (`make_room`).
 pub(crate) fn read_line<'a>(
     alloc: Global,

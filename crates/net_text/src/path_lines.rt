@@ -38,9 +38,8 @@ fn write_path_line(
     write_mark(text, at, b'\n')
 }
 
-/// Appends a line of a word, the number of a router, a prefix and a path, `none` where that is empty. It
-/// grows once, by the most that the line can take. It is refused only where memory was, and then changes
-/// nothing.
+/// Appends a line of a word, the number of a router, a prefix and a path, `none` where that is empty. It grows once, by
+/// the most that the line can take. It is refused only for want of memory, and then changes nothing.
 pub fn path_line(
     word: &[u8],
     number: Asn,

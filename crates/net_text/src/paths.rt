@@ -1,5 +1,6 @@
-//! Words that are paths. The numbers of one that has no more than it may are read once to be judged, those of
-//! another as often as something is asked of it. Paths are taken into memory only once their whole line is good.
+//! Words that are paths. If a path has no more numbers than it may, they are read once to be
+//! judged; those of a longer path are read again for each question. Paths are taken into memory
+//! only once their whole line is good.
 
 ghost use Rattle.std.specs.Prelude.{◌≡◌, ◌<◌, ◌≤◌, ◌==◌, ◌∷◌, [], true, false, not, nat_le, length, map, take, Ok, Err, IfOk, IfErr, IfSome, if◌then◌else◌};
 ghost use Rattle.std.specs.List.{list_all, list_any, All};
@@ -42,7 +43,7 @@ pub(crate) struct PathsBrief {
 // What a digest is multiplied by: odd, with bits everywhere.
 const DIGEST_FACTOR: u64 = 0x9e37_79b9_7f4a_7c15;
 
-// The first part of a path, what is behind it, and whether that is a part or more.
+// The first part of a path, what is behind it, and whether more parts stand there.
 pub(crate) fn next_part(word: &[u8]) -> (&[u8], &[u8], bool)
     ensures parts { parts 45 word.now ≡ result.0.now ∷ parts_left result.2 result.1.now }
     ensures shorter { result.2 ≡ true → length result.1.now < length word.now }
@@ -129,8 +130,8 @@ fn judge_long_path(width: Width, net: &NetBuilder, word: &[u8]) -> Result<(), Co
     Ok(())
 }
 
-// Reads the numbers of a path once, and answers how many they are: none where a part is no number or
-// they are more than a path may have.
+// Reads the numbers of a path once, and answers how many they are. `None` if a part is no number,
+// or if they are more than a path may have.
 fn read_numbers(word: &[u8], numbers: &mut [u64; LONGEST_PATH]) -> Option<usize>
     ensures some { IfSome result (λ count. (count ≤ 16) × (list_all is_number (parts 45 word.now) ≡ true) × (take count numbers.new ≡ path_of word.now)) }
 {
@@ -179,7 +180,7 @@ fn judge_numbers(width: Width, net: &NetBuilder, numbers: &[u64]) -> Result<(), 
     Ok(())
 }
 
-// Judges a path of routers: its numbers are read once where they are few.
+// Judges a path of routers. Its numbers are read once if they are few.
 fn judge_path(width: Width, net: &NetBuilder, word: &[u8]) -> Result<(), Code>
     ensures { result ≡ path_word width net.now.routers word.now }
 {
@@ -285,7 +286,7 @@ fn judge_rule_numbers(width: Width, net: &NetBuilder, asn: Asn, numbers: &[u64])
     }
 }
 
-// The digest of a path that goes on by a number behind those with this digest.
+// The digest of a path that goes on by one number, from the digest of the numbers before.
 fn digest_on(digest: u64, number: u64) -> u64
     ensures { result ≡ digest_next digest number }
 {
@@ -320,7 +321,7 @@ fn digest_of(word: &[u8]) -> u64
     digest
 }
 
-// Judges a path of a rule of this router, and tells of it: its numbers are read once where they are
+// Judges a path of a rule of this router, and tells of it. Its numbers are read once if they are
 // few.
 fn judge_rule_path(width: Width, net: &NetBuilder, asn: Asn, word: &[u8]) -> Result<PathBrief, Code>
     ensures ok { IfOk result (λ brief. (Ok tt ≡ rule_path_word width net.now.routers asn word.now) × IsBrief brief word.now) }
@@ -421,7 +422,8 @@ fn are_apart_in_pairs(words: &[u8]) -> bool
     true
 }
 
-// Whether no path of a few is there twice: they are compared where digests do not tell.
+// Whether no path of a few stands twice. Paths are compared only if their digests do not tell them
+// apart.
 fn are_apart(words: &[u8], brief: &PathsBrief) -> bool
     requires few { length (words_of words.now) ≤ 32 }
     requires brief { AreBrief brief.now (words_of words.now) }
@@ -433,8 +435,9 @@ fn are_apart(words: &[u8], brief: &PathsBrief) -> bool
     are_apart_in_pairs(words)
 }
 
-// Whether no path is there twice. More of them than a rule may have are put in order, since compared in pairs they could
-// take hours. Where there is no memory for that they are compared in pairs: then they are few (`make_room`).
+// Whether no path stands twice. If there are more than a rule may have, they are put in order,
+// since a comparison in pairs could take hours. Without memory for that they are compared in pairs:
+// they are few then (`make_room`).
 pub(crate) fn are_distinct<'a>(
     words: &'a [u8],
     brief: &PathsBrief,
@@ -470,7 +473,7 @@ fn is_short(word: &[u8]) -> bool
     true
 }
 
-// The path in memory.
+// Takes the path into memory.
 fn take_path(alloc: Global, word: &[u8]) -> Result<Path, AllocError>
     requires { IsTakeable word.now }
     ensures { IfOk result (λ path. path ≡ path_of word.now) }
@@ -488,7 +491,7 @@ fn take_path(alloc: Global, word: &[u8]) -> Result<Path, AllocError>
     Path::from_slice(alloc, &numbers[..count])
 }
 
-// The paths in memory, so many of them.
+// Takes the paths, `count` of them, into memory.
 pub(crate) fn take_paths(alloc: Global, words: &[u8], count: usize) -> Result<Vec<Path>, AllocError>
     requires { All IsTakeable (words_of words.now) }
     ensures { IfOk result (λ paths. paths.items ≡ map path_of (words_of words.now)) }
@@ -525,7 +528,7 @@ pub(crate) fn is_short_assigned(word: &[u8]) -> bool
     is_none(word) || is_short(word)
 }
 
-// The path of an assignment, in memory.
+// Takes the path of an assignment into memory.
 pub(crate) fn take_assigned(alloc: Global, word: &[u8]) -> Result<Path, AllocError>
     requires { is_none word.now ≡ false → IsTakeable word.now }
     ensures { IfOk result (λ path. path ≡ assigned_path word.now) }

@@ -1,6 +1,6 @@
-//! Whether a path comes twice among many. Put in order two of them that are one are neighbours. The memory for that is
-//! asked for before their line is read: a rule of so many paths has a fault, whatever comes of them, and want of memory
-//! may not stand in its place.
+//! Whether a path comes twice among many. Once they are in order, two that are the same are neighbours. The memory for
+//! that is asked for before their line is read: a rule of so many paths has a fault in any case, and want of memory may
+//! not stand in its place.
 
 ghost use Rattle.std.specs.Prelude.{◌≡◌, ◌≤◌, length, map, vec_capacity, IfOk, IsOk, OnOk};
 ghost use Rattle.std.specs.Ordering.{nat_cmp};
@@ -68,7 +68,7 @@ fn is_rule(line: &[u8]) -> bool
     }
 }
 
-/// Makes room for the paths of a line that comes next, where it is one of a rule and long.
+/// Makes room for the paths of the line that comes next, if it is a long line of a rule.
 pub(crate) fn make_room<'a>(room: &mut Vec<&'a [u8]>, line: &'a [u8]) -> Result<(), AllocError>
     ensures { OnOk result (HasRoom (vec_capacity room.new) line.now) }
 {
@@ -79,7 +79,7 @@ pub(crate) fn make_room<'a>(room: &mut Vec<&'a [u8]>, line: &'a [u8]) -> Result<
     room.reserve(count_words(line))
 }
 
-// The paths, in the order of their line.
+// Gathers the paths, in the order of their line.
 fn gather<'a>(room: &mut Vec<&'a [u8]>, words: &'a [u8]) -> Result<(), AllocError>
     ensures paths { OnOk result (map path_in room.new.items ≡ map path_of (words_of words.now)) }
     ensures room { length (words_of words.now) ≤ vec_capacity room.old → IsOk result }
@@ -101,7 +101,7 @@ fn put_in_order(room: &mut Vec<&[u8]>)
     room.sort_unstable_by(|word, other| compare(word, other));
 }
 
-// Whether no two of the paths are one, where they stand in order: whether each stands before the next.
+// Whether no two of these paths, which stand in order, are the same: whether each stands before the next.
 fn stand_apart(paths: &[&[u8]]) -> bool
     requires { AreInOrder (map path_in paths.now) }
     ensures { result ≡ are_distinct (map path_in paths.now) }
@@ -109,7 +109,7 @@ fn stand_apart(paths: &[&[u8]]) -> bool
     paths.is_sorted_by(|word, other| compare(word, other).is_lt())
 }
 
-/// Whether no path is there twice. Where there is room for them it asks for no memory.
+/// Whether no path stands twice. If there is room for the paths, it asks for no memory.
 pub(crate) fn are_apart_in_order<'a>(
     room: &mut Vec<&'a [u8]>,
     words: &'a [u8],

@@ -5,14 +5,14 @@ ghost use Rattle.net_text.specs.Lexing.{lines_of, words_of, is_section, before_s
 
 use crate::lexing::{next_line, next_word, same};
 
-/// The two parts of a text. Where no line parts it, the second is empty.
+/// The two parts of a text. The second is empty if no line parts it.
 #[derive(Clone, Copy, Debug)]
 pub struct Split<'a> {
     /// The lines before the one that parts the text.
     pub front: &'a [u8],
     /// The lines behind it.
     pub behind: &'a [u8],
-    /// How many lines stand before those behind it, itself included.
+    /// How many lines stand before the second part, the line that parts the text included.
     pub before: usize,
 }
 

@@ -1,4 +1,4 @@
-//! The lines that say what every router of a network is told.
+//! The lines of settings: what every router of a network is told.
 
 ghost use Rattle.std.specs.Prelude.{◌≡◌, IsTrue, true};
 ghost use Rattle.ranked_policy.specs.Plans.{IsSettings};
@@ -74,7 +74,7 @@ pub(crate) fn setting_of(word: &[u8]) -> Option<Setting>
     }
 }
 
-// Whether the setting can be this (for the hold time RFC 4271 section 4.2).
+// Whether the setting can have this value (for the hold time RFC 4271 section 4.2).
 fn in_range(setting: Setting, number: u64) -> bool
     ensures { result ≡ in_range setting number }
 {
@@ -137,7 +137,8 @@ pub(crate) fn naming(setting: Setting, named: Named) -> Named
     }
 }
 
-// How many octets AS numbers have where lines have named so much: two until a line says four.
+// How many octets AS numbers have by the settings that lines have named: two until a line says
+// four.
 pub(crate) fn width_named(named: Named) -> Width
     ensures { result ≡ width_named named }
 {

@@ -33,7 +33,7 @@ impl Model for Tail {
 }
 
 impl Tail {
-    /// The buffer, which is empty until it is given back.
+    /// Takes the buffer, and leaves an empty one until `finish` gives it back.
     pub fn behind(out: &mut Vec<u8>) -> Tail
         ensures { result ≡ record { front = out.old.items; text = [] } }
     {
@@ -45,7 +45,7 @@ impl Tail {
         }
     }
 
-    /// The buffer, with what was written or without it.
+    /// Gives the buffer back, with what was written or without it.
     pub fn finish(self, keep: bool) -> Vec<u8>
         ensures { result.items ≡ (if keep then self.front ++ self.text else self.front) }
     {
@@ -64,7 +64,7 @@ impl Tail {
         self.octets.extend_from_slice(octets)
     }
 
-    /// Writes a number in decimal digits, or nothing where memory is refused.
+    /// Writes a number in decimal digits, or nothing if memory is refused.
     pub fn put_decimal(&mut self, number: u32) -> Result<(), AllocError>
         ensures text { OnOk result (self.new.text ≡ self.old.text ++ decimal number) }
         ensures err { OnErr result (self.new.text ≡ self.old.text) }
@@ -89,7 +89,7 @@ impl Tail {
         put_joined(&mut self.octets, numbers, mark)
     }
 
-    /// Writes a path, or nothing where memory is refused.
+    /// Writes a path, or nothing if memory is refused.
     pub(crate) fn put_path(&mut self, numbers: &[Asn]) -> Result<(), AllocError>
         ensures text { OnOk result (self.new.text ≡ self.old.text ++ numbers_text numbers.now) }
         ensures err { OnErr result (self.new.text ≡ self.old.text) }
@@ -98,7 +98,7 @@ impl Tail {
         put_path(&mut self.octets, numbers)
     }
 
-    /// Writes a count in decimal digits, or nothing where memory is refused.
+    /// Writes a count in decimal digits, or nothing if memory is refused.
     pub fn put_len(&mut self, len: usize) -> Result<(), AllocError>
         ensures text { OnOk result (self.new.text ≡ self.old.text ++ decimal len) }
         ensures err { OnErr result (self.new.text ≡ self.old.text) }
@@ -123,7 +123,7 @@ impl Tail {
         put_hex(&mut self.octets, octets)
     }
 
-    /// Writes octets in hex, or a dash where there are none.
+    /// Writes octets in hex, or a dash if there are none.
     pub(crate) fn put_hex_or_dash(&mut self, octets: &[u8]) -> Result<(), AllocError>
         ensures text { OnOk result (self.new.text ≡ self.old.text ++ hex_or_dash octets.now) }
         ensures front { self.new.front ≡ self.old.front }
@@ -131,7 +131,7 @@ impl Tail {
         put_hex_or_dash(&mut self.octets, octets)
     }
 
-    /// Writes prefixes, a space before each, or nothing where memory is refused.
+    /// Writes prefixes, a space before each, or nothing if memory is refused.
     pub fn put_prefixes(&mut self, prefixes: &[Prefix]) -> Result<(), AllocError>
         ensures text { OnOk result (self.new.text ≡ self.old.text ++ prefixes_text prefixes.now) }
         ensures err { OnErr result (self.new.text ≡ self.old.text) }

@@ -160,7 +160,7 @@ pub fn put_hex(out: &mut Vec<u8>, octets: &[u8]) -> Result<(), AllocError>
     Ok(())
 }
 
-/// Appends octets in hex, or a dash where there are none.
+/// Appends octets in hex, or a dash if there are none.
 pub fn put_hex_or_dash(out: &mut Vec<u8>, octets: &[u8]) -> Result<(), AllocError>
     ensures ok { OnOk result (out.new.items ≡ out.old.items ++ hex_or_dash octets.now) }
     ensures err { OnErr result (out.new.items ≡ out.old.items) }

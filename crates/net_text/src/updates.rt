@@ -44,7 +44,7 @@ fn put_segments(out: &mut Tail, segments: &[Segment]) -> Result<(), AllocError>
     }
 }
 
-// Appends a path; one that is not there has no segment.
+// Appends a path; an absent one has no segment.
 fn put_path(out: &mut Tail, path: &Option<Items<Segment>>) -> Result<(), AllocError>
     ensures text { OnOk result (out.new.text ≡ out.old.text ++ path_text path.now) }
     ensures front { out.new.front ≡ out.old.front }
@@ -55,7 +55,7 @@ fn put_path(out: &mut Tail, path: &Option<Items<Segment>>) -> Result<(), AllocEr
     }
 }
 
-// Appends what is said of the routes: the path, and the next hop.
+// Appends the path and the next hop of the routes.
 #[tactic(auto, unfolding(crate::specs::Printing::route_text))]
 fn put_route(out: &mut Tail, attrs: &Attrs) -> Result<(), AllocError>
     ensures text { OnOk result (out.new.text ≡ out.old.text ++ route_text attrs.now) }
@@ -67,7 +67,7 @@ fn put_route(out: &mut Tail, attrs: &Attrs) -> Result<(), AllocError>
     out.put_address(attrs.next_hop.unwrap_or(0))
 }
 
-// Appends the withdrawn prefixes, where there are any.
+// Appends the withdrawn prefixes, if there are any.
 fn put_withdrawn(out: &mut Tail, prefixes: &[Prefix]) -> Result<(), AllocError>
     ensures text { OnOk result (out.new.text ≡ out.old.text ++ withdrawn_text prefixes.now) }
     ensures front { out.new.front ≡ out.old.front }
@@ -79,7 +79,7 @@ fn put_withdrawn(out: &mut Tail, prefixes: &[Prefix]) -> Result<(), AllocError>
     out.put_prefixes(prefixes)
 }
 
-// Appends the announced prefixes and their routes, where there are any.
+// Appends the announced prefixes and their routes, if there are any.
 fn put_announced(out: &mut Tail, attrs: &Attrs, prefixes: &[Prefix]) -> Result<(), AllocError>
     ensures text { OnOk result (out.new.text ≡ out.old.text ++ announced_text attrs.now prefixes.now) }
     ensures front { out.new.front ≡ out.old.front }

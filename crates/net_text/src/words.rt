@@ -33,7 +33,7 @@ pub fn is_number(word: &[u8]) -> bool
     !word.is_empty() && are_digits(word)
 }
 
-// The number that octets are where 64 bits hold it, whatever octets so few are.
+// The number that at most `MOST_SHORT` octets spell, whatever octets they are. 64 bits hold it.
 fn short_value(word: &[u8]) -> u64
     requires { length word.now ≤ 17 }
     ensures { result ≡ value_of word.now }
@@ -45,8 +45,8 @@ fn short_value(word: &[u8]) -> u64
     value
 }
 
-/// The number that digits are. One that 64 bits do not hold is answered as the greatest that they
-/// hold, which is above each limit too.
+/// The number that the digits spell. A number that 64 bits do not hold is answered as the greatest
+/// that they hold, which is above each limit too.
 pub fn value_of(word: &[u8]) -> u64
     ensures { result ≡ value_of word.now }
 {
@@ -62,7 +62,7 @@ pub fn value_of(word: &[u8]) -> u64
     value
 }
 
-// The number that a short word is: its digits are tested and summed at once.
+// The number that a short word spells. Its digits are tested and summed at once.
 fn short_number(word: &[u8]) -> Option<u64>
     requires { length word.now ≤ 17 }
     ensures none { IfNone result (list_all is_digit word.now ≡ false) }
@@ -78,7 +78,8 @@ fn short_number(word: &[u8]) -> Option<u64>
     Some(value)
 }
 
-/// The number that a word is, where it is one: what [`is_number`] and [`value_of`] say of it.
+/// The number that the digits spell, as [`is_number`] and [`value_of`] say; `None` if the word is
+/// no number.
 pub fn number_of(word: &[u8]) -> Option<u64>
     ensures none { IfNone result (is_number word.now ≡ false) }
     ensures some { IfSome result (λ n. (is_number word.now ≡ true) × (n ≡ value_of word.now)) }
@@ -96,7 +97,7 @@ pub fn number_of(word: &[u8]) -> Option<u64>
     }
 }
 
-// A number that an AS can have, where numbers have so many octets (RFC 4271 section 4.2, RFC 7607).
+// A number that an AS can have in this width (RFC 4271 section 4.2, RFC 7607).
 pub(crate) fn asn_word(width: Width, word: &[u8]) -> Result<Asn, Code>
     ensures { result ≡ asn_word width word.now }
 {
@@ -109,7 +110,7 @@ pub(crate) fn asn_word(width: Width, word: &[u8]) -> Result<Asn, Code>
     Ok(number as Asn)
 }
 
-// Whether the number is that of the router that has it where numbers have no gap.
+// Whether the router that has the number if numbers have no gap has it indeed.
 fn is_without_gap(routers: &[Router], number: u64) -> bool
     ensures { result ≡ true → is_router routers.now number ≡ true }
 {
@@ -120,15 +121,16 @@ fn is_without_gap(routers: &[Router], number: u64) -> bool
     place < routers.len() as u64 && u64::from(routers[place as usize].asn) == number
 }
 
-// Whether a router has the number. Most networks number theirs without a gap, so that one place is
-// looked at before all are.
+// Whether a router has the number. Most networks number their routers without a gap, so one place
+// is looked at before all are.
 pub(crate) fn is_router(routers: &[Router], number: u64) -> bool
     ensures { result ≡ is_router routers.now number }
 {
     is_without_gap(routers, number) || routers.iter().any(|router| u64::from(router.asn) == number)
 }
 
-/// The number of a router: `Unreadable`, then `OutOfLimit`, then `UnknownRouter` where it is none.
+/// The number of a router. Refused with `Unreadable`, then with `OutOfLimit`, then with
+/// `UnknownRouter`.
 pub fn router_word(width: Width, routers: &[Router], word: &[u8]) -> Result<Asn, Code>
     ensures { result ≡ router_word width routers.now word.now }
 {
@@ -145,7 +147,7 @@ fn is_octet(part: &[u8]) -> bool
     is_number(part) && value_of(part) <= 255
 }
 
-// The address that four octets with dots between them are.
+// The address that four octets with dots between them spell.
 pub(crate) fn address_of(word: &[u8]) -> Option<u32>
     ensures { result ≡ address_of word.now }
 {
@@ -176,7 +178,7 @@ pub(crate) fn id_word(word: &[u8]) -> Result<u32, Code>
     Ok(address)
 }
 
-// The prefix that an address and a length are, with a slash between them.
+// The prefix that an address and a length spell, with a slash between them.
 fn prefix_of(word: &[u8]) -> Option<Prefix>
     ensures { result ≡ prefix_of word.now }
 {
@@ -203,7 +205,8 @@ pub(crate) fn is_named(origins: &[Origin], prefix: &Prefix) -> bool
     origins.iter().any(|origin| origin.prefix.equals(prefix))
 }
 
-/// A prefix that a router originates: `BadPrefix` where it cannot be read or has no origin.
+/// A prefix that a router originates. Refused with `BadPrefix` if it cannot be read or has no
+/// origin.
 pub fn origin_word(origins: &[Origin], word: &[u8]) -> Result<Prefix, Code>
     ensures { result ≡ origin_word origins.now word.now }
 {
