@@ -15,7 +15,7 @@ pub record IsChooser (p : Problem) (it : Chooser) : Type 0 where
   pub origin : IsTrue it.is_origin ↔ Originates table p.prefix table.router
   pub speaks : Speaks it.policy table p.prefix
 
--- what it may have in a stable assignment, by its policy
+-- the paths that a router may have in a stable assignment, by its policy
 abbrev pub MayChoose : List Link → Chooser → List ℕ → Type 0
 MayChoose links it path =
     (IsTrue it.is_origin × (path ≡ it.router ∷ []))

@@ -31,7 +31,7 @@ abbrev pub number_of : List Part → ℕ
 number_of [] = 1
 number_of (part ∷ parts) = length part.choices * number_of parts
 
--- a number where it fits a word of 64 bits, and none where it doesn't
+-- a number that fits a word of 64 bits, or none for one that doesn't
 abbrev pub IsCount : ℕ → Option ℕ → Type 0
 IsCount number None = 2 ^ 64 ≤ number
 IsCount number (Some count) = count ≡ number

@@ -14,18 +14,16 @@ pub record GoesOver (links : List Link) (u : ℕ) (path : List ℕ) : Type 0 whe
   pub linked : Linked links u peer
   pub whole : path ≡ u ∷ peer ∷ rest
 
--- what a router may have in a stable assignment: an origin itself alone, another no path, or one that it permits and
--- that goes
--- on over a peer
+-- what a router may have in a stable assignment: an origin itself alone; another router no path, or one that it permits
+-- and that goes on over a peer
 abbrev pub MayStand : List Link → PrefixView → Table → List ℕ → Type 0
 MayStand links q table path =
     (Originates table q table.router × (path ≡ table.router ∷ []))
     ⊎ ((Originates table q table.router → ⊥) × ((path ≡ []) ⊎ (IsPermitted table q path
     × GoesOver links table.router path)))
 
--- what a router has and what its peer v has fit at the router: where its path goes on over v, that is v's path; and
--- to each
--- other path over v that it permits it prefers its own, which is not the empty one
+-- a router's path and its peer v's path fit at the router: a path over v goes on by v's path; if the router permits the
+-- path along v's and has another, it prefers its own, which is not empty
 pub record FitsAt (table : Table) (q : PrefixView) (v : ℕ) (path theirs : List ℕ) : Type 0 where
   pub over : (rest : List ℕ) → path ≡ table.router ∷ v ∷ rest → path ≡ table.router ∷ theirs
   pub best : IsPermitted table q (table.router ∷ theirs) → path ≢ table.router ∷ theirs
@@ -41,6 +39,6 @@ abbrev pub IsFitting : Problem → (ℕ → List ℕ) → Type 0
 IsFitting p paths = (u : ℕ) → IsRouter p.net.routers u → (table : Table) × IsTableOf p.net u table
     × FitsPeers p paths table
 
--- where the prefix is originated, these are the stable assignments
+-- if the prefix is originated, the stable assignments are those that fit
 abbrev pub StableIsFitting : Type 0
 StableIsFitting = (p : Problem) → IsInstance p → (paths : ℕ → List ℕ) → (IsStable p paths ↔ IsFitting p paths)

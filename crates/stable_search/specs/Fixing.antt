@@ -19,7 +19,7 @@ abbrev pub IsFar : Problem → ℕ → ℕ → ℕ → Type 0
 IsFar p u distance least =
     (paths : ℕ → List ℕ) → IsStable p paths → (paths u ≡ []) ⊎ ((least ≤ length (paths u)) ⊎ (distance < length (paths u)))
 
--- of each router how many routers a path has at least, where that is not more than the distance
+-- for each router, how many routers a path has at least, if that is not more than the distance
 pub record AreFar (p : Problem) (choosers : List Chooser) (distance : ℕ) (distances : List ℕ) : Type 0 where
   pub size : length distances ≡ length choosers
   pub low : (place : ℕ) → place < length choosers → slice_index distances place ≤ LONGEST_PATH + 1
@@ -37,7 +37,7 @@ IsNear links choosers distances it distance known next =
     ((distance < known) × (next ≡ distance + 1))
     ⊎ ((next ≡ known) × (distance < known → IsBeyond links choosers distances it distance))
 
--- of each router how many routers a path has at least in a stable assignment
+-- for each router, how many routers a path has at least in a stable assignment
 pub record AreDistances (p : Problem) (choosers : List Chooser) (distances : List ℕ) : Type 0 where
   pub size : length distances ≡ length choosers
   pub each : (place : ℕ) (it : Chooser) → StandsAt choosers place it → (paths : ℕ → List ℕ) → IsStable p paths
@@ -45,18 +45,18 @@ pub record AreDistances (p : Problem) (choosers : List Chooser) (distances : Lis
 
 -- ---- fixed paths
 
--- it is what the router has in every stable assignment, and it may have it
+-- the path is what the router has in every stable assignment, and the router may have it
 pub record IsFixed (p : Problem) (it : Chooser) (path : List ℕ) : Type 0 where
   pub always : (paths : ℕ → List ℕ) → IsStable p paths → paths it.router ≡ path
   pub may : MayChoose p.net.links it path
 
--- of some routers the path that they have in every stable assignment
+-- for some routers, the path that they have in every stable assignment
 pub record AreFixed (p : Problem) (choosers : List Chooser) (fixed : List (Option (List ℕ))) : Type 0 where
   pub size : length fixed ≡ length choosers
   pub each : (place : ℕ) (it : Chooser) (path : List ℕ) → StandsAt choosers place it → slice_index_or fixed place None ≡ Some path
       → IsFixed p it path
 
--- it is better than each path over a peer that has at least so many routers from the peer on
+-- a path is better than each path over a peer with at least so many routers from the peer on
 abbrev pub IsBetterThanAny : Chosen → ℕ → ℕ → List ℕ → ℕ → Type 0
 IsBetterThanAny policy router peer path least =
     (rest : List ℕ) → BeginsWith rest peer → least ≤ length rest → chosen_permits policy (router ∷ rest)

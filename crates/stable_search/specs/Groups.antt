@@ -17,12 +17,12 @@ use Rattle.stable_search.specs.Seats.{StandsAt}
 abbrev pub at_places : List ℕ → List ℕ → List ℕ
 at_places pick places = map (λ place. slice_index pick place) places
 
--- of each of these places a value
+-- a value for each of these places
 pub record IsLowPick (places pick : List ℕ) : Type 0 where
   pub size : length pick ≡ length places
   pub low : (k : ℕ) → k < length places → slice_index pick k < 64
 
--- of each of these places a value of its set
+-- a value for each of these places, out of its set
 pub record IsPickOf (sets places pick : List ℕ) : Type 0 where
   pub size : length pick ≡ length places
   pub low : (k : ℕ) → k < length places → slice_index pick k < 64
@@ -36,11 +36,12 @@ pub record IsGroup (sets : List ℕ) (group : Group) : Type 0 where
   pub picks : All (IsPickOf sets group.places) group.picks
   pub once : AllPairs (λ pick later. pick ≢ later) group.picks
 
--- each pick that solves has at these places what one of these has
+-- each pick that solves has, at these places, the values of one of these picks
 abbrev pub AreCovered : List Way → List ℕ → List ℕ → List (List ℕ) → Type 0
 AreCovered ways sets places picks = (pick : List ℕ) → Solves ways sets pick → Contains picks (at_places pick places)
 
--- a pick solves exactly where it is one of each group's; each place is in one group; groups stand by their least places
+-- a pick solves exactly where its values at each group's places are one of the group's picks; each place is in one
+-- group; groups stand by their least places
 pub record AreGroups (ways : List Way) (sets : List ℕ) (groups : List Group) : Type 0 where
   pub exact : (pick : List ℕ) → length pick ≡ length sets → ((i : ℕ) → slice_index pick i < 64)
       → (Solves ways sets pick ↔ All (λ group. Contains group.picks (at_places pick group.places)) groups)
@@ -57,7 +58,7 @@ AreValues seats sets =
     × ((place value : ℕ) (seat : Seat) → StandsAt seats place seat → (Has (slice_index sets place) value
     ↔ value < length seat.values.items))
 
--- of each place, the path of the seat that its value stands for
+-- for each place, the path of the seat that the place's value stands for
 pub record IsShown (seats : List Seat) (places pick : List ℕ) (choice : List (List ℕ)) : Type 0 where
   pub size : length choice ≡ length places
   pub each : (k : ℕ) (seat : Seat) → k < length places → StandsAt seats (slice_index places k) seat
@@ -101,13 +102,13 @@ pub record ArePlaces (sets places : List ℕ) : Type 0 where
   pub some : 0 < length places
   pub rising : AllPairs (λ place later. place < later) places
 
--- of each of these places a value of its set, and what two of them have fits over each way between them
+-- a value for each of these places, out of its set; the values of two of them fit over each way between them
 pub record FitsBetween (ways : List Way) (sets places pick : List ℕ) : Type 0 where
   pub size : length pick ≡ length sets
   pub each : (place : ℕ) → Contains places place → Has (slice_index sets place) (slice_index pick place)
   pub fits : All (λ way. Contains places way.from → Contains places way.to → FitsWay pick way) ways
 
--- more than so many, which differ at these places
+-- more picks than so many, which differ at these places
 pub record HasMorePicks (ways : List Way) (sets places : List ℕ) (most : ℕ) : Type 0 where
   pub picks : List (List ℕ)
   pub more : most < length picks

@@ -1,4 +1,4 @@
--- What routers may have whose paths no rule lists, found by rounds.
+-- The paths that routers may have if no rule lists their paths, found by rounds.
 use Rattle.std.specs.Prelude.{ℕ, ◌≡◌, ◌≢◌, ◌↔◌, ◌<◌, ◌≤◌, ◌+◌, List, [], ◌∷◌, IsTrue, length, map}
 use Rattle.std.specs.List.{All, AllPairs, Contains}
 use mathlib.Core.Logic.{◌⊎◌}
@@ -18,13 +18,13 @@ use Rattle.stable_search.specs.declared.seat.Seat.{Seat}
 abbrev pub MayHaveBy : List Link → Chosen → ℕ → List ℕ → Type 0
 MayHaveBy links policy router path = (chosen_permits policy path × GoesOver links router path) ⊎ ([] ≡ path)
 
--- all of these, each once
+-- all paths that a router may have by its policy, each once
 pub record AreValuesBy (links : List Link) (policy : Chosen) (router : ℕ) (values : List (List ℕ)) : Type 0 where
   pub exact : (path : List ℕ) → (Contains values path ↔ MayHaveBy links policy router path)
   pub distinct : AllPairs (λ path later. path ≢ later) values
   pub few : length values < 64
 
--- at least 64 of these, each once
+-- at least 64 paths that a router may have by its policy, each once
 pub record MayHaveMany (links : List Link) (policy : Chosen) (router : ℕ) : Type 0 where
   pub values : List (List ℕ)
   pub many : 64 ≤ length values
@@ -49,29 +49,29 @@ pub record IsCertain (links : List Link) (seats : List Seat) (it : Seat) (theirs
 abbrev pub IsBound : List Link → List Seat → Seat → List ℕ → Type 0
 IsBound links seats it bound = (bound ≡ []) ⊎ IsCertain links seats it bound
 
--- the router doesn't prefer its path along the bound, if there is one, to this
+-- the router doesn't prefer its path along the bound, if there is one, to this path
 abbrev pub IsKept : Seat → List ℕ → List ℕ → Type 0
 IsKept it bound path = (length bound ≡ 0) ⊎ (chosen_prefers it.policy (it.router ∷ bound) path → ⊥)
 
--- a path of so many routers; the router's own along it is permitted, and none that falls behind the bound
+-- a path of so many routers; the router's own path along it is permitted, and doesn't fall behind the bound
 abbrev pub LeadsOn : Seat → List ℕ → ℕ → List ℕ → Type 0
 LeadsOn it bound count rest = (length rest ≡ count) × chosen_permits it.policy (it.router ∷ rest) × IsKept it bound (it.router ∷ rest)
 
--- the router's path along one of these, which leads on
+-- the router's path along one of these paths, which leads on
 pub record GoesOn (it : Seat) (bound : List ℕ) (theirs : List (List ℕ)) (count : ℕ) (path : List ℕ) : Type 0 where
   pub rest : List ℕ
   pub has : Contains theirs rest
   pub leads : LeadsOn it bound count rest
   pub whole : path ≡ it.router ∷ rest
 
--- along one that a peer may have
+-- the router's path along one that a peer may have, which leads on
 pub record GoesOnOver (links : List Link) (seats : List Seat) (it : Seat) (bound : List ℕ) (count : ℕ) (path : List ℕ) : Type 0 where
   pub peer : Seat
   pub seated : Contains seats peer
   pub linked : Linked links it.router peer.router
   pub on : GoesOn it bound peer.values.items count path
 
--- these are those paths, for some bound
+-- these are the router's paths along those of its peers, for some bound
 pub record AreOnward (links : List Link) (seats : List Seat) (it : Seat) (count : ℕ) (found : List (List ℕ)) : Type 0 where
   pub bound : List ℕ
   pub is : IsBound links seats it bound
@@ -79,18 +79,18 @@ pub record AreOnward (links : List Link) (seats : List Seat) (it : Seat) (count 
 
 -- ---- paths that are added
 
--- these paths are there too; none that was there once is there twice
+-- the new list has the paths of both; if no path stood twice in the old one, none does in the new
 pub record AddsOnce (old paths new : List (List ℕ)) : Type 0 where
   pub exact : (path : List ℕ) → (Contains new path ↔ Contains old path ⊎ Contains paths path)
   pub distinct : AllPairs (λ path later. path ≢ later) old → AllPairs (λ path later. path ≢ later) new
 
--- together they are at least 64
+-- both lists together have at least 64 paths
 pub record HasMany (old paths : List (List ℕ)) : Type 0 where
   pub values : List (List ℕ)
   pub many : 64 ≤ length values
   pub adds : AddsOnce old paths values
 
--- a seat with these paths besides, of fewer than 64
+-- a seat with these paths added, of which there are fewer than 64
 pub record IsExtended (old : Seat) (paths : List (List ℕ)) (new : Seat) : Type 0 where
   pub router : new.router ≡ old.router
   pub is_origin : new.is_origin ≡ old.is_origin
@@ -101,7 +101,7 @@ pub record IsExtended (old : Seat) (paths : List (List ℕ)) (new : Seat) : Type
 
 -- ---- rounds
 
--- a router with paths that it may have, each once: all that it has in a stable assignment; where they are found by rounds,
+-- a router with paths that it may have, each once: all that it has in a stable assignment; if they are found by rounds,
 -- all of at most so many routers
 pub record IsListing (p : Problem) (most : ℕ) (seat : Seat) : Type 0 where
   pub table : Table
@@ -115,7 +115,8 @@ pub record IsListing (p : Problem) (most : ℕ) (seat : Seat) : Type 0 where
   pub distinct : AllPairs (λ path later. path ≢ later) seat.values.items
   pub few : length seat.values.items < 64
 
--- the routers of the problem, with all of at most so many routers; the first so many have those of one more
+-- the routers of the problem, each with all its paths of at most `most` routers; the first `done` of them have those of
+-- one router more
 pub record AreListed (p : Problem) (most done : ℕ) (seats : List Seat) : Type 0 where
   pub routers : map (λ seat. seat.router) seats ≡ numbers p.net.routers
   pub each : All (IsListing p most) seats

@@ -7,7 +7,7 @@ use Rattle.stable_search.specs.declared.way.Way.{Way}
 use Rattle.stable_search.specs.Picks.{Has, IsIn, FitsWay}
 use Rattle.stable_search.specs.Groups.{at_places, IsGroup}
 
--- each value of the one place fits each of the other
+-- each value of one place of a way fits each value of the other
 abbrev pub IsFree : List ℕ → Way → Type 0
 IsFree sets way =
     (a b : ℕ) → a < 64 → Has (slice_index sets way.from) a → Has (slice_index sets way.to) b
@@ -18,7 +18,8 @@ abbrev pub AreLeast : List ℕ → Type 0
 AreLeast labels =
     (i : ℕ) → i < length labels → (slice_index labels i ≤ i) × (slice_index labels (slice_index labels i) ≡ slice_index labels i)
 
--- places with one label keep one, no label is new, and the places of the way have one, or it is free
+-- places that share a label still share one; no label is new; the two places of the way share a label, or the way is
+-- free
 pub record Joins (sets : List ℕ) (way : Way) (old new : List ℕ) : Type 0 where
   pub kept : (i j : ℕ) → i < length old → j < length old → slice_index old i ≡ slice_index old j
       → slice_index new i ≡ slice_index new j
@@ -38,25 +39,25 @@ pub record AreLabels (sets : List ℕ) (ways : List Way) (labels : List ℕ) : T
 abbrev pub InPart : List ℕ → ℕ → Way → Type 0
 InPart labels label way = (slice_index labels way.from ≡ label) × (slice_index labels way.to ≡ label)
 
--- what fits over the ways of the part is what fits over those of them that are between its places
+-- a pick fits over the ways of the part exactly where it fits over the ways between the part's places
 abbrev pub KeepsPart : List ℕ → ℕ → List Way → List Way → Type 0
 KeepsPart labels label ways part =
     (pick : List ℕ) → (All (FitsWay pick) part ↔ All (λ way. InPart labels label way → FitsWay pick way) ways)
 
--- the sets of the part's places, and of each other place the value 0 alone
+-- the sets of the part's places; each other place has the value 0 alone
 pub record IsPartSets (sets labels : List ℕ) (label : ℕ) (part : List ℕ) : Type 0 where
   pub size : length part ≡ length sets
   pub each : (i : ℕ) → i < length sets
       → slice_index part i ≡ (if slice_index labels i == label then slice_index sets i else 1)
 
--- the places of the label, and all that they may have together
+-- the places with the label, and all picks for them
 pub record IsPartGroup (sets labels : List ℕ) (label : ℕ) (ways : List Way) (it : Group) : Type 0 where
   pub group : IsGroup sets it
   pub places : (place : ℕ) → (Contains it.places place ↔ (place < length labels) × (slice_index labels place ≡ label))
   pub exact : (pick : List ℕ) → IsIn sets pick
       → (Contains it.picks (at_places pick it.places) ↔ All (λ way. InPart labels label way → FitsWay pick way) ways)
 
--- there is a group for each label below that a place has
+-- there is a group for each label below this bound that a place has
 pub record AreGrouped (sets labels : List ℕ) (ways : List Way) (labels_below : ℕ) (groups : List Group) : Type 0 where
   pub each : All (λ group. (label : ℕ) × (label < labels_below) × IsPartGroup sets labels label ways group) groups
   pub all : (place : ℕ) → place < length labels → slice_index labels place < labels_below

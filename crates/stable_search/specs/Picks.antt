@@ -11,7 +11,7 @@ use Rattle.stable_search.specs.declared.way.Way.{Way}
 abbrev pub Has : ℕ → ℕ → Type 0
 Has values value = bit_at values value ≡ 1
 
--- of each place a value of its set
+-- a value for each place, out of its set
 pub record IsIn (sets pick : List ℕ) : Type 0 where
   pub size : length pick ≡ length sets
   pub low : (i : ℕ) → slice_index pick i < 64
@@ -21,7 +21,7 @@ pub record IsIn (sets pick : List ℕ) : Type 0 where
 abbrev pub FitsWay : List ℕ → Way → Type 0
 FitsWay pick way = Has (slice_index way.fits.items (slice_index pick way.from)) (slice_index pick way.to)
 
--- its two places are among so many, and it says of at most 64 values which fit them
+-- the two places of a way are among so many, and the way says of at most 64 values which ones fit them
 pub record IsWithin (places : ℕ) (way : Way) : Type 0 where
   pub from : way.from < places
   pub to : way.to < places
@@ -34,13 +34,13 @@ pub record Solves (ways : List Way) (sets pick : List ℕ) : Type 0 where
   pub inside : IsIn sets pick
   pub fits : All (FitsWay pick) ways
 
--- these are all that solve, each once
+-- these are all picks that solve, each once
 pub record AreAll (ways : List Way) (sets : List ℕ) (picks : List (List ℕ)) : Type 0 where
   pub listed : (pick : List ℕ) → Contains picks pick → Solves ways sets pick
   pub covered : (pick : List ℕ) → Solves ways sets pick → Contains picks pick
   pub distinct : AllPairs (λ pick later. pick ≢ later) picks
 
--- at the end of a list stand all that solve
+-- the new list is the old one with all picks that solve behind it
 pub record AddsAll (ways : List Way) (sets : List ℕ) (old new : List (List ℕ)) : Type 0 where
   pub more : List (List ℕ)
   pub added : new ≡ old ++ more
@@ -59,7 +59,7 @@ IsFull ways sets most old stops.TooManyChoices = AddsMore ways sets most old
 IsFull ways sets most old stops.TooManySteps = ⊥
 IsFull ways sets most old stops.Memory = ⊤
 
--- no pick that solves leaves by this change of the sets, and no value comes
+-- the sets lose no pick that solves, and gain no value
 pub record Narrows (ways : List Way) (old new : List ℕ) : Type 0 where
   pub size : length new ≡ length old
   pub keeps : (pick : List ℕ) → Solves ways old pick → IsIn new pick
@@ -71,7 +71,7 @@ pub record IsOnly (values value : ℕ) : Type 0 where
   pub here : Has values value
   pub alone : (other : ℕ) → other < 64 → Has values other → other ≡ value
 
--- the only value of each set
+-- the pick of the only value of each set
 pub record IsOnlyPick (sets pick : List ℕ) : Type 0 where
   pub size : length pick ≡ length sets
   pub only : (i : ℕ) → i < length sets → IsOnly (slice_index sets i) (slice_index pick i)
@@ -83,7 +83,8 @@ pub record FallsInto (values one rest : ℕ) : Type 0 where
   pub in_rest : (value : ℕ) → Has rest value → Has values value
   pub apart : (value : ℕ) → Has one value → Has rest value → ⊥
 
--- the list has all picks of the first sets that solve but those of the others, each once, behind what was there
+-- the new list is the old one, and behind it, each once, all picks of the first sets that solve, but for those of the
+-- other sets
 pub record LeavesOut (ways : List Way) (from rest : List ℕ) (old new : List (List ℕ)) : Type 0 where
   pub within : AreWithin (length rest) ways
   pub fewer : (pick : List ℕ) → IsIn rest pick → IsIn from pick

@@ -26,20 +26,22 @@ pub record FitsAmong (p : Problem) (routers : List ℕ) (paths : ℕ → List �
   pub fits : (v : ℕ) → Contains routers v → Linked p.net.links table.router v → (Originates table p.prefix table.router → ⊥)
       → FitsAt table p.prefix v (paths table.router) (paths v)
 
--- so has each of these routers; nothing is asked of the others
+-- each of these routers has what it may have, and it fits what its peers among them have; nothing is asked of other
+-- routers
 abbrev pub FitTogether : Problem → List ℕ → (ℕ → List ℕ) → Type 0
 FitTogether p routers paths =
     (u : ℕ) → Contains routers u → (table : Table) × IsTableOf p.net u table × FitsAmong p routers paths table
 
--- more than so many choices, a path for each of these routers, which fit together; none is listed twice
+-- more than so many choices of a path for each of these routers; the paths of a choice fit together, and no choice is
+-- listed twice
 pub record HasMoreChoices (p : Problem) (most : ℕ) (routers : List ℕ) : Type 0 where
   pub choices : List (List (List ℕ))
   pub more : most < length choices
   pub fit : All (λ choice. (paths : ℕ → List ℕ) × FitTogether p routers paths × (choice ≡ map paths routers)) choices
   pub once : AllPairs (λ choice later. choice ≢ later) choices
 
--- a router that isn't the origin and has no rule for the prefix, with at least 64 different paths, of which one may be
--- empty: each other one it permits, and it goes on over a peer
+-- a router that isn't the origin and has no rule for the prefix has at least 64 different paths; one of them may be
+-- empty, and each other is permitted and goes on over a peer
 pub record MayHaveTooManyPaths (p : Problem) (router : ℕ) : Type 0 where
   pub table : Table
   pub of : IsTableOf p.net router table

@@ -16,7 +16,7 @@ use Rattle.stable_search.specs.declared.chooser.Chooser.{Chooser}
 use Rattle.stable_search.specs.declared.seat.Seat.{Seat}
 use Rattle.stable_search.specs.declared.way.Way.{Way}
 
--- a router with what it may have, each once: all that it has in a stable assignment
+-- a router with paths that it may have, each once: all that it has in any stable assignment are among them
 pub record IsSeat (p : Problem) (seat : Seat) : Type 0 where
   pub table : Table
   pub of : IsTableOf p.net seat.router table
@@ -27,7 +27,7 @@ pub record IsSeat (p : Problem) (seat : Seat) : Type 0 where
   pub distinct : AllPairs (λ path later. path ≢ later) seat.values.items
   pub few : length seat.values.items < 64
 
--- paths that a router may have, each once: all that it has in a stable assignment
+-- paths that a router may have, each once: all that it has in any stable assignment are among them
 pub record AreValuesOf (p : Problem) (it : Chooser) (values : List (List ℕ)) : Type 0 where
   pub may : (path : List ℕ) → Contains values path → MayChoose p.net.links it path
   pub has : (paths : ℕ → List ℕ) → IsStable p paths → Contains values (paths it.router)
@@ -48,12 +48,12 @@ FitsEnd seat peer path theirs = IsTrue seat.is_origin ⊎ FitsBy seat.policy sea
 abbrev pub FitsBoth : Seat → Seat → List ℕ → List ℕ → Type 0
 FitsBoth one other path theirs = FitsEnd one other.router path theirs × FitsEnd other one.router theirs path
 
--- the marks are of the values of the second seat along which the router of the first permits the way on
+-- the marks stand for the values of the second seat along which the router of the first permits its path
 abbrev pub MarksPermitted : Seat → Seat → ℕ → Type 0
 MarksPermitted one other marks = (b : ℕ) → b < length other.values.items
     → (Has marks b ↔ chosen_permits one.policy (one.router ∷ slice_index_or other.values.items b []))
 
--- it stands at a place
+-- an item stands at a place of a list
 abbrev pub StandsAt : {X : Type 0} → List X → ℕ → X → Type 0
 StandsAt xs place x = (place < length xs) × (slice_index_or xs place x ≡ x)
 
@@ -64,7 +64,7 @@ pub record SayWhatFits (one other : Seat) (fits : List ℕ) : Type 0 where
       → (Has (slice_index fits a) b
       ↔ FitsBoth one other (slice_index_or one.values.items a []) (slice_index_or other.values.items b []))
 
--- it is the way over a link between two of the seats
+-- a way over a link between two of the seats
 pub record IsWayOf (links : List Link) (seats : List Seat) (way : Way) : Type 0 where
   pub one : Seat
   pub other : Seat

@@ -1,4 +1,4 @@
-//! How short a path of a router can be: over each link it has one router more.
+//! The least length of a router's path: over each link it has one router more.
 
 ghost use Rattle.std.specs.Prelude.{◌≡◌, ◌≤◌, ◌<◌, ◌+◌, ℕ, IfOk, false, length, map, slice_index};
 ghost use Rattle.std.specs.List.{All};
@@ -35,7 +35,7 @@ fn has_near_peer(
     false
 }
 
-// The distance of the router at a place, where all up to this one are known.
+// The distance of the router at a place, if all distances up to this one are known.
 fn next_distance(
     network: &Network,
     choosers: &[Chooser],
@@ -60,7 +60,7 @@ fn next_distance(
     }
 }
 
-// The distances, where all up to the next one are known.
+// The distances, if all up to the next one are known.
 fn next_distances(
     alloc: Global,
     instance: &Instance,
@@ -83,7 +83,7 @@ fn next_distances(
     Ok(next)
 }
 
-// So many distances, each more than that of any router with a path.
+// `count` distances, each more than that of any router with a path.
 fn none_known(alloc: Global, count: usize) -> Result<Vec<usize>, AllocError>
     ensures { IfOk result (λ distances. (length distances.items ≡ count)
         × ((place : ℕ) → place < count → slice_index distances.items place ≡ LONGEST_PATH + 1)) }
@@ -95,8 +95,8 @@ fn none_known(alloc: Global, count: usize) -> Result<Vec<usize>, AllocError>
     Ok(distances)
 }
 
-/// Of each router how many routers a path of it has at least in a stable assignment: one more than a
-/// peer's, the origin's one.
+/// For each router, how many routers its path has at least in a stable assignment: 1 at the origin, elsewhere one more
+/// than at a peer.
 pub(crate) fn distances(
     alloc: Global,
     instance: &Instance,

@@ -10,12 +10,12 @@ use ranked_policy::{Asn, Items, Path};
 pub struct Part {
     /// The routers, by rising number.
     pub routers: Items<Asn>,
-    /// What they may have together: of each router, in their order, its path.
+    /// Their choices: each has a path for every router of the part, in the order of the routers.
     pub choices: Items<Items<Path>>,
 }
 
-/// All stable assignments of an instance: of each part any of its choices. Each router is in one
-/// part. Where a part has no choice, none is stable.
+/// All stable assignments of an instance: any combination of one choice from each part. Each router
+/// is in one part. If a part has no choice, no assignment is stable.
 #[derive(Debug, Drop)]
 pub struct Every {
     /// The parts, by their least routers.
@@ -23,8 +23,8 @@ pub struct Every {
 }
 
 impl Every {
-    /// How many stable assignments there are: the product of the numbers of choices, so 0 where a part
-    /// has none. `None` exactly where that does not fit.
+    /// How many stable assignments there are: the product of the numbers of choices, which is 0 if
+    /// a part has none. `None` exactly where the product does not fit 64 bits.
     pub fn count(&self) -> Option<u64>
         ensures { IsCount (number_of self.now.parts) result }
     {
@@ -40,7 +40,7 @@ impl Every {
     }
 }
 
-// The product of a number that fits, or does not, and another that is not 0.
+// The product of a number, which may not fit 64 bits, and one that is not 0.
 fn times(count: Option<u64>, choices: u64) -> Option<u64>
     requires { 0 < choices }
     ensures { (number : ℕ) → IsCount number count → IsCount (number * choices) result }

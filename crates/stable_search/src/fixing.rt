@@ -1,5 +1,5 @@
-//! Routers that have one path in every stable assignment: the origin, and then, outwards from it, each
-//! whose best path over a fixed peer is better than all that another peer could bring.
+//! Routers that have one path in every stable assignment: the origin, and then, outwards from it, each router whose
+//! best path over a fixed peer is better than any that another peer could bring.
 
 ghost use Rattle.std.specs.Prelude.{◌≡◌, ◌<◌, ◌≤◌, ◌∷◌, ℕ, List, Option, Some, None, IsTrue, IfOk, IfSome, OnOk, MatchOption, length, map, slice_index, slice_index_or};
 ghost use Rattle.std.specs.List.{All, Contains};
@@ -30,8 +30,7 @@ fn path_at(fixed: &[Option<Path>], place: usize) -> Option<&[Asn]>
     }
 }
 
-// Whether the router permits the path over the peer at a place, and prefers it to that over the best
-// one so far.
+// Whether the router permits its path over the peer at a place, and prefers it to its path over the best peer so far.
 fn is_better_offer(it: &Chooser, fixed: &[Option<Path>], place: usize, best: Option<usize>) -> bool
     ensures { IsTrue result → (theirs : List ℕ) × (slice_index_or fixed.now place None ≡ Some theirs)
         × chosen_permits it.now.policy (it.now.router ∷ theirs) }
@@ -48,7 +47,7 @@ fn is_better_offer(it: &Chooser, fixed: &[Option<Path>], place: usize, best: Opt
     }
 }
 
-// Whether the router prefers a way on to that over the peer at a place.
+// Whether the router prefers its path along `theirs` to its path over the peer at a place.
 fn is_better_than_at(it: &Chooser, fixed: &[Option<Path>], theirs: &[Asn], place: usize) -> bool {
     match path_at(fixed, place) {
         Some(other) => it.policy.prefers_onward(it.router, theirs, other),
@@ -117,8 +116,8 @@ fn is_before_each(policy: &Chosen, router: Asn, peer: Asn, path: &[Asn], paths: 
     true
 }
 
-// Whether the path of a router without a rule is shorter than each over the peer that has at least so
-// many routers from the peer on, or as short and over a lesser number.
+// Whether the path of a router without a rule comes before each path over the peer with at least so many routers from
+// the peer on: it is shorter, or as short and over a lesser number.
 fn is_shorter_than_any(router: Asn, peer: Asn, path: &[Asn], least: usize) -> bool
     ensures { IsTrue result → (rest : List ℕ) → BeginsWith rest peer → least ≤ length rest → length rest < LONGEST_PATH
         → BeginsWith path.now router × IsShorter path.now (router ∷ rest) }
@@ -134,8 +133,7 @@ fn is_shorter_than_any(router: Asn, peer: Asn, path: &[Asn], least: usize) -> bo
     }
 }
 
-// Whether the path of the router is better than each over the peer that has at least so many routers
-// from the peer on.
+// Whether the path of the router is better than each path over the peer with at least so many routers from the peer on.
 fn is_better_than_any(policy: &Chosen, router: Asn, peer: Asn, path: &[Asn], least: usize) -> bool
     ensures { IsTrue result → IsBetterThanAny policy.now router peer path.now least }
 {
@@ -188,7 +186,7 @@ fn holds_over_all(
     true
 }
 
-// The path that a router has in every stable assignment, where that is seen.
+// The path that a router has in every stable assignment, if it is seen to have one.
 fn path_of(
     alloc: Global,
     instance: &Instance,
@@ -218,7 +216,7 @@ fn path_of(
     }
 }
 
-// The path that the router at a place has in every stable assignment, where that is seen.
+// The path that the router at a place has in every stable assignment, if it is seen to have one.
 fn path_of_place(
     alloc: Global,
     instance: &Instance,
@@ -244,7 +242,7 @@ fn path_of_place(
     )
 }
 
-// Fixes the path of the router at a place, where it is seen now, and says whether it is.
+// Fixes the path of the router at a place, if the router is seen now to have one, and answers whether it is.
 fn fix(
     alloc: Global,
     instance: &Instance,
@@ -276,7 +274,7 @@ fn fix(
     Ok(is_found)
 }
 
-// Fixes the routers that are seen to have one path, and says whether there was one.
+// Fixes the routers that are seen to have one path, and answers whether there was one.
 fn fix_each(
     alloc: Global,
     instance: &Instance,
@@ -297,7 +295,7 @@ fn fix_each(
     Ok(some)
 }
 
-/// Of the routers that are seen to have one path in every stable assignment that path.
+/// For each router, the path that it has in every stable assignment, if it is seen to have one.
 pub(crate) fn fixed_paths(
     alloc: Global,
     instance: &Instance,
@@ -318,7 +316,7 @@ pub(crate) fn fixed_paths(
     Ok(fixed)
 }
 
-// So many routers of which none is fixed.
+// `count` routers, none of which is fixed.
 fn none_yet(alloc: Global, count: usize) -> Result<Vec<Option<Path>>, AllocError>
     ensures { IfOk result (λ fixed. (length fixed.items ≡ count) × ((place : ℕ) → slice_index_or fixed.items place None ≡ None)) }
 {

@@ -19,12 +19,12 @@ use crate::way::Way;
 use ranked_policy::Items;
 use std::alloc::Global;
 
-/// Places, and what they may have together.
+/// Places, and the picks of values for them.
 #[derive(Debug, Drop)]
 pub(crate) struct Group {
     /// The places.
     pub(crate) places: Items<usize>,
-    /// The picks: of each place, in their order, a value.
+    /// The picks: each has a value for every place, in the order of the places.
     pub(crate) picks: Items<Items<usize>>,
 }
 
@@ -74,7 +74,7 @@ fn searched(
     }
 }
 
-// What the places with a label may have together.
+// The group of the places with a label, with all picks for them.
 fn group_of(
     alloc: Global,
     seats: &[Seat],
@@ -113,7 +113,7 @@ fn group_of(
     })
 }
 
-// The groups of places that bear on each other, with what they may have.
+// The groups of places that bear on each other, with their picks.
 fn groups_of(
     alloc: Global,
     seats: &[Seat],
@@ -140,8 +140,8 @@ fn groups_of(
     Ok(groups)
 }
 
-// Takes away from the sets of each group's places the values that none of its picks has, where it has a
-// pick, and says whether there were any.
+// Removes from the sets of each group's places the values that none of the group's picks has, and answers whether there
+// were any. The sets of a group without a pick stay.
 fn keep_picked(groups: &[Group], sets: &mut [u64]) -> bool
     requires { All (IsGroup sets.old) groups.now }
     ensures { (ways : List Way) → AreGroups ways sets.old groups.now → Narrows ways sets.old sets.new }
@@ -153,8 +153,8 @@ fn keep_picked(groups: &[Group], sets: &mut [u64]) -> bool
     some
 }
 
-/// Places that bear on each other once the sets are narrowed, with what they may have. A place that has
-/// one value in all picks of its group is a group by itself.
+/// The groups of places that bear on each other once the sets are narrowed, with their picks. A place that has one
+/// value in all picks of its group is a group by itself.
 pub(crate) fn groups(
     alloc: Global,
     seats: &[Seat],

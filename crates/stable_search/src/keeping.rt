@@ -20,8 +20,8 @@ fn seen_at(picks: &[Items<usize>], k: usize) -> u64
     seen
 }
 
-// Takes away from the set of a place the values that none of the picks has, at which it is the k-th place, and
-// says whether there were any.
+// Removes from the set of a place the values that none of the picks has at its k-th place, and answers whether there
+// were any.
 fn keep_at(place: usize, k: usize, picks: &[Items<usize>], sets: &mut [u64]) -> bool
     requires inside { place < length sets.old }
     requires picks { All (λ pick. (k < length pick) × (slice_index pick k < 64)) picks.now }
@@ -35,8 +35,8 @@ fn keep_at(place: usize, k: usize, picks: &[Items<usize>], sets: &mut [u64]) -> 
     left != mine
 }
 
-/// Takes away from the sets of these places the values that none of their picks has, and says whether
-/// there were any. Where there is no pick they stay.
+/// Removes from the sets of these places the values that none of their picks has, and answers whether there were any.
+/// Without a pick the sets stay.
 pub(crate) fn keep_seen(places: &[usize], picks: &[Items<usize>], sets: &mut [u64]) -> bool
     requires inside { All (λ place. place < length sets.old) places.now }
     requires picks { All (IsLowPick places.now) picks.now }

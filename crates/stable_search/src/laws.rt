@@ -1,5 +1,5 @@
-//! What the definitions of a search for stable assignments say together. Each is the contract of a
-//! function without work of its own.
+//! Laws of the definitions of a search for stable assignments. Each is the contract of a function without work of its
+//! own.
 
 ghost use Rattle.stable_search.specs.Counting.{StableAreCounted, NoneWithoutOrigin};
 ghost use Rattle.stable_search.specs.Fits.{StableIsFitting};
@@ -12,15 +12,14 @@ pub fn stable_is_fitting()
     ensures { StableIsFitting }
 {}
 
-/// There are as many stable assignments as the product of the numbers of choices says: of the parts of
-/// all stable assignments, the combinations of one choice of each are as many, none twice; each is what
-/// the routers have in a stable assignment, and each stable assignment has one.
+/// The number of stable assignments is the product of the numbers of choices. The combinations of one choice from each
+/// part are as many, none twice. Each is what the routers have in a stable assignment, and each stable assignment has
+/// one.
 pub fn stable_assignments_are_counted()
     ensures { StableAreCounted }
 {}
 
-/// Where the origin does not originate the prefix, an assignment is stable exactly where no router has
-/// a path.
+/// If the origin does not originate the prefix, an assignment is stable exactly where no router has a path.
 pub fn none_without_origin()
     ensures { NoneWithoutOrigin }
 {

@@ -1,21 +1,20 @@
 //! All stable path assignments of a network, for one prefix (Griffin, Shepherd and Wilfong 2002).
 //!
-//! [`stable_assignments`] answers parts of the routers, each with its choices. The one contract: an
-//! assignment is stable exactly where of each part it has one of its choices. So where a part has no
-//! choice, no assignment is stable; where each has one, one is; and their number is the product.
+//! [`stable_assignments`] answers parts of the routers, each with its choices. The one contract: an assignment is
+//! stable exactly where it has one of the choices of each part. If a part has no choice, no assignment is stable; if
+//! each part has one, some assignment is. Their number is the product of the numbers of choices.
 //!
-//! It is a search for values under relations of two: what a router has and what its peer has fit each
-//! other, or not. Values that nothing fits go; routers that do not bear on each other any more fall
-//! into parts; in a part the values of one router are tried in turn. Then the values go that no choice
-//! has, and the routers fall into parts anew: one that has the same path in all choices of its part is
-//! a part by itself.
+//! The search is for values under relations of two: a router's path and its peer's path fit each other, or do not.
+//! Values that nothing fits are removed. Routers that do not bear on each other any more fall into parts. In a part the
+//! values of one router are tried in turn. Then the values that no choice has are removed, and the routers fall into
+//! parts anew: a router that has the same path in all choices of its part is a part by itself.
 //!
-//! A router without a rule may permit more paths than can be listed. Before the search, routers are fixed
-//! outwards from the origin: one whose best path over a fixed peer is better than all that another peer
-//! could bring has it in every stable assignment. So a network without rules is answered by that alone.
-//! What the other routers without a rule may have is found by rounds, the shorter paths first: in each, the
-//! paths along those that their peers may have of so many routers, but none that falls behind the one along
-//! the only path of a peer. A router for which 64 or more are found, the empty one among them, is refused.
+//! A router without a rule may permit more paths than can be listed. Before the search, routers are fixed outwards from
+//! the origin: a router whose best path over a fixed peer is better than any that another peer could bring has that
+//! path in every stable assignment. A network without rules is answered by that alone. The paths of the other routers
+//! without a rule are found by rounds, the shorter first. Each round finds the paths along those of so many routers
+//! that their peers may have, but none that falls behind the path along the only path of a peer. A router for which 64
+//! or more are found, the empty one among them, is refused.
 //!
 //! The definitions stand in `specs/`: `Fits` (what fits, and that stable is fitting), `Every` (what is
 //! answered), `Refusals` (what a refusal says), `Counting` (how many there are), `Choosers` and `Fixing`

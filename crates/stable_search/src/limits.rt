@@ -5,6 +5,6 @@
 pub struct Limits {
     /// The most choices of a part.
     pub most: usize,
-    /// The most steps of a part: each is the try of a value for a router.
+    /// The most steps of a part. A step tries one value for one router.
     pub steps: u64,
 }

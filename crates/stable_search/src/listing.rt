@@ -1,5 +1,5 @@
-//! What routers may have whose paths no rule lists: over what their peers may have, by rounds, the shorter
-//! paths first.
+//! The paths that routers may have if no rule lists their paths: along those that their peers may have, by rounds, the
+//! shorter first.
 
 ghost use Rattle.std.specs.Prelude.{◌≡◌, ◌↔◌, ◌<◌, ◌≤◌, ◌+◌, ◌⊎◌, ◌∷◌, ℕ, List, IsTrue, IfOk, IfErr, OnOk, length, map};
 ghost use Rattle.std.specs.List.{All, Contains};
@@ -18,7 +18,7 @@ use ranked_policy::{Asn, LONGEST_PATH, MOST_PATHS, Network, Path};
 use stable_paths::Instance;
 use std::alloc::{AllocError, Global};
 
-// The path that a router has in every stable assignment, where it may have no other; else the empty one.
+// The only path that a router may have; the empty path if it may have others.
 fn only_path<'s>(seat: &'s Seat) -> &'s [Asn]
     ensures { IsOnly seat.now result.now }
 {
@@ -28,7 +28,7 @@ fn only_path<'s>(seat: &'s Seat) -> &'s [Asn]
     }
 }
 
-// Whether a router permits its path along one, and prefers it to that along another, if there is one.
+// Whether a router permits its path along `theirs`, and prefers it to its path along the bound, if there is one.
 fn is_better(it: &Seat, theirs: &[Asn], bound: &[Asn]) -> bool
     ensures { IsTrue result → chosen_permits it.now.policy (it.now.router ∷ theirs.now) }
 {
@@ -36,7 +36,7 @@ fn is_better(it: &Seat, theirs: &[Asn], bound: &[Asn]) -> bool
         && (bound.is_empty() || it.policy.prefers_onward(it.router, theirs, bound))
 }
 
-// The best path, for a router to go on along, that a peer has in every stable assignment; the empty one where
+// The best path for a router to go on along, of those that a peer has in every stable assignment; the empty path if
 // there is none.
 fn bound_of<'s>(network: &Network, seats: &'s [Seat], it: &Seat) -> &'s [Asn]
     ensures { IsBound network.now.links seats.now it.now result.now }
@@ -51,23 +51,23 @@ fn bound_of<'s>(network: &Network, seats: &'s [Seat], it: &Seat) -> &'s [Asn]
     bound
 }
 
-// Whether a router doesn't prefer its path along the bound, if there is one, to that along another.
+// Whether a router doesn't prefer its path along the bound, if there is one, to its path along `rest`.
 fn is_kept(it: &Seat, bound: &[Asn], rest: &[Asn]) -> bool
     ensures { IsTrue result ↔ IsKept it.now bound.now (it.now.router ∷ rest.now) }
 {
     bound.is_empty() || !it.policy.prefers_onward(it.router, bound, rest)
 }
 
-// Whether a path has so many routers, and the router permits its own along it, and doesn't prefer that along
-// the bound.
+// Whether a path has so many routers, and the router permits its own path along it and doesn't prefer the one along the
+// bound.
 fn leads_on(it: &Seat, bound: &[Asn], rest: &[Asn], count: usize) -> bool
     ensures { IsTrue result ↔ LeadsOn it.now bound.now count rest.now }
 {
     rest.len() == count && it.policy.permits_onward(it.router, rest) && is_kept(it, bound, rest)
 }
 
-// Adds the paths of a router along those of a peer that have so many routers, as far as it permits them and
-// doesn't prefer that along the bound.
+// Adds the paths of a router along those of a peer that have so many routers, if it permits them and doesn't prefer the
+// one along the bound.
 fn put_along(
     alloc: Global,
     it: &Seat,
@@ -87,8 +87,8 @@ fn put_along(
     Ok(())
 }
 
-// The paths of a router along those that a peer may have of so many routers, as far as it permits them and
-// doesn't prefer that along the bound.
+// The paths of a router along those of so many routers that a peer may have, if it permits them and doesn't prefer the
+// one along the bound.
 fn onward(
     alloc: Global,
     network: &Network,
@@ -109,8 +109,8 @@ fn onward(
     Ok(found)
 }
 
-// The paths of the router at a place along those that its peers may have of so many routers, but those that it
-// prefers the one along the only path of a peer to.
+// The paths of the router at a place along those of so many routers that its peers may have, but for those to which it
+// prefers its path along the only path of a peer.
 fn onward_at(
     alloc: Global,
     network: &Network,
@@ -126,7 +126,7 @@ fn onward_at(
     onward(alloc, network, seats, it, bound, count)
 }
 
-// Adds these paths, each that is not there yet.
+// Adds each of these paths that is missing.
 fn add_each(alloc: Global, values: &mut Vec<Path>, paths: &[Path]) -> Result<(), AllocError>
     ensures { OnOk result (AddsOnce values.old.items paths.now values.new.items) }
 {
@@ -136,7 +136,7 @@ fn add_each(alloc: Global, values: &mut Vec<Path>, paths: &[Path]) -> Result<(),
     Ok(())
 }
 
-// Adds these paths to what a router may have. It is refused where these are too many together.
+// Adds these paths to those that a router may have. Refused if they are too many together.
 fn extend(alloc: Global, seat: &mut Seat, paths: &[Path]) -> Result<(), SearchError>
     ensures extended { OnOk result (IsExtended seat.old paths.now seat.new) }
     ensures refused { IfErr result (λ why. ((why ≡ SearchError.TooManyPaths seat.old.router)
@@ -151,8 +151,8 @@ fn extend(alloc: Global, seat: &mut Seat, paths: &[Path]) -> Result<(), SearchEr
     Ok(())
 }
 
-// Adds the paths of the router at a place along those of peers that have so many routers, where what it may
-// have is found by rounds.
+// Adds the paths of the router at a place along those of peers that have so many routers, if its paths are found by
+// rounds.
 fn list_at(
     alloc: Global,
     instance: &Instance,
@@ -177,7 +177,7 @@ fn list_at(
     Ok(())
 }
 
-// A round: adds the paths of the routers along those of peers that have so many routers.
+// A round: adds each router's paths along those of its peers that have so many routers.
 fn list_round(
     alloc: Global,
     instance: &Instance,
@@ -195,11 +195,11 @@ fn list_round(
     Ok(())
 }
 
-/// Finds what the routers may have whose paths no rule lists: by rounds, the paths of two routers first, then
-/// those of three, up to the longest.
+/// Finds the paths that routers may have if no rule lists their paths. It goes by rounds: the paths of two routers
+/// first, then those of three, up to the longest.
 ///
-/// It refuses [`SearchError::TooManyPaths`] with the first router, by round and then by number, that may have
-/// 64 paths or more, the empty one among them; [`SearchError::Memory`] where a growth was refused.
+/// Refused with [`SearchError::TooManyPaths`] and the first router, by round and then by number, that may have 64 paths
+/// or more, the empty one among them; with [`SearchError::Memory`] if a growth is refused.
 pub(crate) fn list_open(
     alloc: Global,
     instance: &Instance,

@@ -37,7 +37,7 @@ fn with_partner(fits: &[u64], mine: u64, theirs: u64) -> u64
     kept
 }
 
-// Takes away the values that nothing fits over one way, and says whether there were any.
+// Removes the values that nothing fits over one way, and answers whether there were any.
 fn narrow_over(way: &Way, sets: &mut [u64]) -> bool
     requires { IsWithin (length sets.old) way.now }
     ensures { Narrows (way.now ∷ []) sets.old sets.new }
@@ -48,12 +48,12 @@ fn narrow_over(way: &Way, sets: &mut [u64]) -> bool
     left != mine
 }
 
-/// The mark of a place. The marks of 64 places are apart.
+/// The mark of a place. Each of 64 places has its own.
 pub(crate) fn mark_of(place: usize) -> u64 {
     1 << (place % 64)
 }
 
-// The same, where the way's other place is marked.
+// Does what `narrow_over` does, if the way's other place is marked.
 fn narrow_where(way: &Way, sets: &mut [u64], marks: u64) -> bool
     requires { IsWithin (length sets.old) way.now }
     ensures { Narrows (way.now ∷ []) sets.old sets.new }
@@ -64,8 +64,8 @@ fn narrow_where(way: &Way, sets: &mut [u64], marks: u64) -> bool
     narrow_over(way, sets)
 }
 
-/// Takes away, way by way, the values that nothing fits of a marked place, or of one that lost a value
-/// here, and answers the marks of the places that did.
+/// Removes, way by way, the values that no value of a marked place fits, or of a place that lost a value here. Answers
+/// the marks of the places that lost one.
 pub(crate) fn narrow(ways: &[Way], sets: &mut [u64], marks: u64) -> u64
     requires { AreWithin (length sets.old) ways.now }
     ensures { Narrows ways.now sets.old sets.new }
@@ -79,11 +79,11 @@ pub(crate) fn narrow(ways: &[Way], sets: &mut [u64], marks: u64) -> u64
     next
 }
 
-// The most values of 64 places: a round that takes none away ends the narrowing before.
+// The most values of 64 places. A round that removes none ends the narrowing before.
 const ROUNDS: usize = 64 * 64;
 
-/// Takes away the values that nothing fits, until there are none: first those of the peers of marked
-/// places, whose sets changed.
+/// Removes the values that nothing fits, until there are none. It begins with those of the peers of marked places,
+/// whose sets changed.
 pub(crate) fn narrow_all(ways: &[Way], sets: &mut [u64], marks: u64)
     requires { AreWithin (length sets.old) ways.now }
     ensures { Narrows ways.now sets.old sets.new }

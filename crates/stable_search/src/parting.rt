@@ -12,7 +12,7 @@ use crate::way::{Way, has};
 use ranked_policy::Items;
 use std::alloc::{AllocError, Global};
 
-// The values that fit a value over a way; none where the way says nothing of it.
+// The values that fit a value over a way; none if the way says nothing of it.
 fn fitting(way: &Way, value: usize) -> u64
     ensures { result ≡ slice_index way.now.fits.items value }
 {
@@ -29,7 +29,7 @@ fn are_in(values: u64, all: u64) -> bool
     values & all == values
 }
 
-// Whether each value of a way's first place fits each of its other's.
+// Whether each value of a way's first place fits each value of its other place.
 fn is_free(way: &Way, sets: &[u64]) -> bool
     requires { IsWithin (length sets.now) way.now }
     ensures { result ≡ true → IsFree sets.now way.now }
@@ -44,7 +44,7 @@ fn is_free(way: &Way, sets: &[u64]) -> bool
     true
 }
 
-// Gives the places with one label another.
+// Gives the places with the label `other` the label `one`.
 fn merge(labels: &mut [usize], one: usize, other: usize)
     ensures { (place : ℕ) → place < length labels.old → slice_index labels.new place ≡
         (if slice_index labels.old place == other then one else slice_index labels.old place) }
@@ -74,8 +74,8 @@ fn join(way: &Way, sets: &[u64], labels: &mut [usize])
     }
 }
 
-/// A label for each place, the same for two places of which some values don't fit: the least place
-/// with that label.
+/// A label for each place. Two places of which some values don't fit have the same. A label is the
+/// least place that has it.
 pub(crate) fn labels_of(alloc: Global, ways: &[Way], sets: &[u64]) -> Result<Vec<usize>, AllocError>
     requires { AreWithin (length sets.now) ways.now }
     ensures { IfOk result (λ labels. AreLabels sets.now ways.now labels.items) }
@@ -109,7 +109,7 @@ pub(crate) fn places_with(
     Ok(places)
 }
 
-// The same way.
+// A copy of a way.
 fn copied(alloc: Global, way: &Way) -> Result<Way, AllocError>
     ensures { IfOk result (λ copy. (copy.from ≡ way.now.from) × (copy.to ≡ way.now.to)
         × (copy.fits.items ≡ way.now.fits.items)) }

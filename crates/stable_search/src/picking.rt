@@ -8,7 +8,7 @@ use crate::way::Way;
 use ranked_policy::Items;
 use std::alloc::{AllocError, Global};
 
-// The only value of a set, where it has one.
+// The only value of a set, if it has exactly one.
 fn only_value(set: u64) -> Option<usize>
     ensures { IfSome result (IsOnly set) }
 {
@@ -23,7 +23,7 @@ fn only_value(set: u64) -> Option<usize>
     }
 }
 
-/// The pick of the only value of each set, where each has one.
+/// The pick of the only value of each set, if each has exactly one.
 pub(crate) fn only_pick(alloc: Global, sets: &[u64]) -> Result<Option<Items<usize>>, AllocError>
     ensures { IfOk result (λ found. MatchOption found (0 < length sets.now) (IsOnlyPick sets.now)) }
 {
@@ -63,14 +63,14 @@ pub(crate) fn fits_all(ways: &[Way], pick: &[usize]) -> bool
     true
 }
 
-/// Whether a place has no value.
+/// Whether some set has no value.
 pub(crate) fn is_dead(sets: &[u64]) -> bool
     ensures { IsTrue result ↔ Contains sets.now 0 }
 {
     sets.contains(&0)
 }
 
-/// The place with the fewest values of those with two and more.
+/// The place with the fewest values, of those with two or more.
 pub(crate) fn place_to_split(sets: &[u64]) -> usize
     requires { 0 < length sets.now }
     ensures { result < length sets.now }
@@ -87,7 +87,7 @@ pub(crate) fn place_to_split(sets: &[u64]) -> usize
     best
 }
 
-/// The first value of a set as a set, and the others.
+/// The first value of a set, as a set, and the set of the others.
 pub(crate) fn first_apart(set: u64) -> (u64, u64)
     ensures { FallsInto set result.0 result.1 }
 {

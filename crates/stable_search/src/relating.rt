@@ -1,4 +1,4 @@
-//! Which of what two peers may have fits.
+//! Which paths of two peers fit each other.
 
 ghost use Rattle.std.specs.Prelude.{◌≡◌, ◌↔◌, ◌<◌, ℕ, List, [], ◌∷◌, IsTrue, IfOk, OnOk, length, slice_index_or, map};
 ghost use Rattle.std.specs.List.{All};
@@ -51,8 +51,8 @@ pub(crate) fn is_preferred(policy: &Chosen, path: &[Asn], router: Asn, rest: &[A
     }
 }
 
-/// Whether a path of the router fits that of a peer, by the router's policy, where it is known whether
-/// the router permits the way on along the peer's path.
+/// Whether a path of the router fits that of a peer, by the router's policy. `is_permitted` says whether the router
+/// permits its path along the peer's.
 pub(crate) fn fits_by(
     policy: &Chosen,
     router: Asn,
@@ -70,7 +70,7 @@ pub(crate) fn fits_by(
     !is_over(path, router, peer) && (!is_permitted || is_preferred(policy, path, router, theirs))
 }
 
-// Whether what the router of a seat has fits what its peer has.
+// Whether the path of a seat's router fits that of its peer.
 fn fits_end(seat: &Seat, peer: Asn, path: &Path, theirs: &Path, is_permitted: bool) -> bool
     requires { IsTrue is_permitted ↔ chosen_permits seat.now.policy (seat.now.router ∷ theirs.now) }
     ensures { IsTrue result ↔ FitsEnd seat.now peer path.now theirs.now }
@@ -86,8 +86,8 @@ fn fits_end(seat: &Seat, peer: Asn, path: &Path, theirs: &Path, is_permitted: bo
         )
 }
 
-// Whether what the routers of two seats have fits at both ends, where it is known whether the first
-// permits the way on along what the second has, and the second that along what the first has.
+// Whether the paths of two seats fit at both ends. `is_permitted` says whether the first router permits its path along
+// the second's, `is_permitted_back` whether the second permits its path along the first's.
 fn fits_both(
     one: &Seat,
     other: &Seat,
@@ -104,14 +104,14 @@ fn fits_both(
         && fits_end(other, one.router, theirs, path, is_permitted_back)
 }
 
-// Whether the router of a seat permits the way on along a path.
+// Whether the router of a seat permits its path along this one.
 fn permits_on(one: &Seat, path: &Path) -> bool
     ensures { IsTrue result ↔ chosen_permits one.now.policy (one.now.router ∷ path.now) }
 {
     one.policy.permits_onward(one.router, path.as_slice())
 }
 
-// The values of the second seat along which the router of the first permits the way on.
+// The values of the second seat along which the router of the first permits its path.
 fn permitted(one: &Seat, other: &Seat) -> u64
     requires { length other.now.values.items < 64 }
     ensures { MarksPermitted one.now other.now result }
@@ -125,8 +125,8 @@ fn permitted(one: &Seat, other: &Seat) -> u64
     marks
 }
 
-// The values of a seat that fit a path of another, where it is known whether its router permits the way
-// on along that path, and along which of its values the other's router does.
+// The values of the second seat that fit a path of the first. `marks` stand for those along which the first router
+// permits its path; `is_permitted` says whether the second router permits its path along `path`.
 fn fitting(one: &Seat, other: &Seat, path: &Path, marks: u64, is_permitted: bool) -> u64
     requires few { length other.now.values.items < 64 }
     requires marks { MarksPermitted one.now other.now marks }
@@ -144,7 +144,7 @@ fn fitting(one: &Seat, other: &Seat, path: &Path, marks: u64, is_permitted: bool
     fits
 }
 
-// For each value of a seat those of another that fit it.
+// For each value of the first seat, the values of the second that fit it.
 fn what_fits(alloc: Global, one: &Seat, other: &Seat) -> Result<Vec<u64>, AllocError>
     requires one { length one.now.values.items < 64 }
     requires other { length other.now.values.items < 64 }

@@ -11,7 +11,7 @@ use crate::way::Way;
 use ranked_policy::Items;
 use std::alloc::Global;
 
-// Adds a pick where its values fit.
+// Adds a pick if its values fit.
 fn add_fitting(
     ways: &[Way],
     pick: Items<usize>,
@@ -35,8 +35,8 @@ fn add_fitting(
     Ok(())
 }
 
-// Narrows the sets, of which the marked ones changed. Adds their picks that solve, where they are that narrow; else it says which of
-// them to split.
+// Narrows the sets, of which the marked ones changed. If they are narrow enough then, adds their picks that solve; else
+// answers which of them to split.
 fn settle(
     alloc: Global,
     ways: &[Way],
@@ -66,8 +66,8 @@ fn settle(
     }
 }
 
-/// Adds all picks out of these sets that solve, each once. It stops where the list would have more than
-/// `most`, and where all steps are taken.
+/// Adds all picks out of these sets that solve, each once. It stops if the list would have more than `most`, or if all
+/// steps are taken.
 pub(crate) fn search(
     alloc: Global,
     ways: &[Way],

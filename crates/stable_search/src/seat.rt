@@ -27,10 +27,10 @@ pub(crate) struct Seat<'a> {
     pub(crate) is_origin: bool,
     /// Its policy for the prefix.
     pub(crate) policy: Chosen<'a>,
-    /// Whether what it may have is found by rounds: it isn't the origin, no rule lists its paths, and it
-    /// isn't seen to have one path.
+    /// Whether its paths are found by rounds: it isn't the origin, no rule lists its paths, and it isn't seen to have
+    /// only one.
     pub(crate) is_open: bool,
-    /// What it may have.
+    /// The paths that it may have.
     pub(crate) values: Vec<Path>,
 }
 
@@ -63,7 +63,7 @@ fn has_path(paths: &[Path], path: &Path) -> bool
     false
 }
 
-/// Adds a path that is not there yet.
+/// Adds a path, unless it is there already.
 pub(crate) fn add_once(alloc: Global, values: &mut Vec<Path>, path: &Path) -> Result<(), AllocError>
     ensures exact { OnOk result ((other : List ℕ) → (Contains values.new.items other
         ↔ Contains values.old.items other ⊎ (path.now ≡ other))) }
@@ -105,8 +105,8 @@ fn listed(
     Ok(values)
 }
 
-// What a router may have that is not the origin: none of the paths of its rule is left out. None where no
-// rule lists its paths.
+// The paths that a router other than the origin may have; none of the paths of its rule is left out. `None` if no rule
+// lists its paths.
 fn values_by(
     alloc: Global,
     network: &Network,
@@ -136,8 +136,8 @@ fn one_path(alloc: Global, numbers: &[Asn]) -> Result<Vec<Path>, SearchError>
     Ok(vec![in alloc; path]?)
 }
 
-// What a router may have: the path that it has in every stable assignment, where that was seen, or all.
-// None where it isn't the origin and no rule lists its paths.
+// The paths that a router may have: the one that it has in every stable assignment, if it is seen to have one, or all.
+// `None` if it isn't the origin and no rule lists its paths.
 fn values_of(
     alloc: Global,
     instance: &Instance,
@@ -183,7 +183,7 @@ fn seat_with<'a>(it: &Chooser<'a>, is_open: bool, values: Vec<Path>) -> Seat<'a>
     }
 }
 
-// A router with what it may have, or with the empty path where that is found by rounds.
+// A router with the paths that it may have, or with the empty path if they are found by rounds.
 fn seat_of<'a>(
     alloc: Global,
     instance: &Instance,
@@ -206,8 +206,7 @@ fn seat_of<'a>(
     Ok(seat_with(it, false, values))
 }
 
-/// The routers of an instance with what they may have, or with the empty path where that is found by
-/// rounds.
+/// The routers of an instance with the paths that they may have, or with the empty path if these are found by rounds.
 pub(crate) fn seats<'a>(
     alloc: Global,
     instance: &Instance,

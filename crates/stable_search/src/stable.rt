@@ -46,7 +46,7 @@ fn shown(
     Ok(Items::from_vec(choice))
 }
 
-// The first so many values as a set.
+// The set of the first `count` values.
 fn first_values(count: usize) -> u64
     requires { count ≤ 64 }
     ensures { (value : ℕ) → (Has result value ↔ value < count) }
@@ -99,7 +99,7 @@ fn parts_of(alloc: Global, seats: &[Seat], groups: &[Group]) -> Result<Items<Par
     Ok(Items::from_vec(parts))
 }
 
-// The routers with what they may have: where one path is seen to be the only one, that alone.
+// The routers with the paths that they may have. A router that is seen to have only one path has that alone.
 fn all_seats<'a>(alloc: Global, instance: &Instance<'a>) -> Result<Vec<Seat<'a>>, SearchError>
     ensures routers { IfOk result (λ seats. map (λ seat. seat.router) seats.items ≡ numbers instance.now.net.routers) }
     ensures seats { IfOk result (λ seats. All (IsSeat instance.now) seats.items) }
@@ -114,15 +114,14 @@ fn all_seats<'a>(alloc: Global, instance: &Instance<'a>) -> Result<Vec<Seat<'a>>
     Ok(seats)
 }
 
-/// All stable assignments of an instance: an assignment is stable exactly where of each part it has
-/// one of its choices.
+/// All stable assignments of an instance: an assignment is stable exactly where it has one of the choices of each part.
 ///
-/// Nothing is answered that isn't all. It refuses [`SearchError::TooManyPaths`] with a router that has no
-/// rule for the prefix, where 64 paths or more are found that it may have, the empty one among them: the
-/// first so found, by the length of the paths and then by number; [`SearchError::TooManyChoices`] where
-/// routers that bear on each other have together more choices than the limit: lists of paths that fit;
-/// [`SearchError::TooManySteps`] where the search of such routers would take more steps than the limit;
-/// [`SearchError::Memory`] where a growth was refused. What the call was lent is as it was.
+/// It answers all of them or refuses. Refused with [`SearchError::TooManyPaths`] and a router that has no rule for the
+/// prefix, if 64 paths or more are found that it may have, the empty one among them; the router is the first so found,
+/// by the length of the paths and then by number. Refused with [`SearchError::TooManyChoices`] if routers that bear on
+/// each other have together more choices than the limit; a choice is a list of paths that fit. Refused with
+/// [`SearchError::TooManySteps`] if the search of such routers would take more steps than the limit. Refused with
+/// [`SearchError::Memory`] if a growth is refused. What the call was lent is as it was.
 pub fn stable_assignments(
     alloc: Global,
     instance: &Instance,
@@ -132,7 +131,7 @@ pub fn stable_assignments(
     ensures every { IfOk result (IsEveryStable instance.now) }
     // No part has more choices than were asked for.
     ensures most { IfOk result (λ every. AreFew limits.now.most every.parts) }
-    // A refusal says of its routers that there is so much.
+    // What a refusal says of its routers is true.
     ensures refused { IfErr result (IsRefusal instance.now limits.now) }
 {
     stable_is_fitting();
