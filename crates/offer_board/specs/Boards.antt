@@ -1,4 +1,4 @@
--- What lies under the lock, as contracts see it.
+-- The board under its lock, as contracts see it.
 use Rattle.std.specs.Prelude.{ℕ, ◌≡◌, ◌≤◌, ◌<◌, ◌+◌, max, List, [], ◌∷◌, ◌++◌, map, None, Some, Result, Ok, Err}
 use Rattle.std.specs.List.{AllByRecursion}
 use Rattle.run_model.specs.declared.stamps.TheConstants.{GREATEST_STAMP}
@@ -15,7 +15,7 @@ use Rattle.snap_collector.specs.Laws.{IsKeptOf}
 use Rattle.snap_collector.specs.Taking.{Takes, refusal_of}
 use Rattle.offer_board.specs.declared.board.Made.{Made}
 
--- the collector, every offer that was made, late ones too, and the stamp of the last
+-- the collector, every offer that was made, late ones too, and the stamp of the last offer
 pub record BoardView : Type 0 where
   pub collector : CollectorView
   pub offers : List Made
@@ -32,7 +32,7 @@ collected_in offers = map collected offers
 abbrev pub offers_in : List Made → List MadeOffer
 offers_in offers = map (λ m. made_by m.offer) offers
 
--- stamps rise, none is above the last, and the collector keeps of each number what it is to keep of the offers
+-- stamps rise, none is above the last, and the collector keeps for each number what it has to keep of the offers
 pub record IsBoard (x : BoardView) : Type 0 where
   pub rising : Pairwise (λ a b. a.stamp < b.stamp) (collected_in x.offers)
   pub last : AllByRecursion (λ m. m.stamp ≤ x.stamp) x.offers
@@ -47,11 +47,12 @@ pub record Joins (x y : BoardView) (after : ℕ) (o : Offer) (taken : Taken) (at
   pub last : y.stamp ≡ at
   pub takes : Takes x.collector y.collector o (Ok taken)
 
--- a stamp is left for what a router offers whose last event has this one
+-- a stamp is left for an offer of a router whose last event has this one
 abbrev pub HasStamp : BoardView → ℕ → Type 0
 HasStamp x stamp = max x.stamp stamp + 1 ≤ GREATEST_STAMP
 
--- what a router offers whose last event has this stamp: whether the collector refuses it is judged first, then its stamp, and memory last
+-- an offer of a router whose last event has this stamp: first the collector's refusal is judged, then the stamp, and
+-- memory last
 abbrev pub Offers : BoardView → BoardView → ℕ → Offer → Result (Taken × ℕ) CollectError → Type 0
 Offers x y stamp o (Ok answer) = Joins x y stamp o answer.0 answer.1
 Offers x y stamp o (Err (refusal.Stranger u)) = (refusal_of x.collector o ≡ Some (refusal.Stranger u)) × (y ≡ x)

@@ -1,4 +1,4 @@
-//! What lies under the lock: the collector, and every offer that was made.
+//! The board under its lock: the collector, and every offer that was made.
 
 ghost use Rattle.std.specs.Prelude.{◌≡◌, [], IfOk, OnErr, IsErr};
 ghost use Rattle.snap_collector.specs.Collector.{AreMembers};
@@ -40,7 +40,7 @@ impl Model for BoardState {
 }
 
 impl BoardState {
-    /// The board of a network, with nothing offered. It is refused only where memory was.
+    /// The board of a network, with nothing offered. It is refused only for want of memory.
     pub fn new(alloc: Global, network: &Network) -> Result<BoardState, AllocError>
         ensures nothing { IfOk result (λ board. board.offers ≡ []) }
         ensures stamp { IfOk result (λ board. board.stamp ≡ 0) }
@@ -55,14 +55,13 @@ impl BoardState {
         })
     }
 
-    /// Takes what a router offers, whose last event has the given stamp: the answer is what the
-    /// collector made of it, and the stamp of the offer, one above the router's last and the board's. The
-    /// board keeps copies.
+    /// Takes an offer of a router whose last event has the given stamp. It answers what the collector made of the
+    /// offer, and the offer's stamp, one above the router's last and the board's. The board keeps copies.
     ///
-    /// `room`: whether the caller has room for the offer where it is taken. Refused where the collector
-    /// has a [refusal](Collector::refusal) for it, else [`CollectError::StampEnd`] where that stamp would
-    /// pass 2^62, and [`CollectError::Memory`] only where neither is, and always then where the caller has
-    /// no room; then the board is as it was.
+    /// `room` says whether the caller has room for the offer if it is taken. Refused if the collector has a
+    /// [refusal](Collector::refusal) for it; else with [`CollectError::StampEnd`] if that stamp would pass 2^62; else
+    /// with [`CollectError::Memory`], which is answered only if neither holds, and always then if the caller has no
+    /// room. The board is then as it was.
     pub fn offer(
         &mut self,
         stamp: u64,
@@ -91,7 +90,7 @@ impl BoardState {
         Ok((taken, stamp))
     }
 
-    /// Every offer that was made, the first first: their stamps rise.
+    /// Every offer that was made, in order, the first first. Their stamps rise.
     pub fn offers(&self) -> &[Made]
         ensures value { result.now ≡ self.now.offers }
         ensures board { IsBoard self.now }

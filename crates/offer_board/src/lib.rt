@@ -1,8 +1,7 @@
 //! The board of offers: a collector of snapshots that many workers share under one lock.
 //!
-//! Its one contract: each change is one call of [`BoardState::offer`], which says all that it does; and
-//! whoever takes the lock finds a board whose collector has what was offered, in the order of rising
-//! stamps.
+//! Its one contract: each change is one call of [`BoardState::offer`], whose contract says all that it does. Whoever
+//! takes the lock finds a board whose collector has what was offered, in the order of rising stamps.
 //!
 //! Left out: the lock, and who holds it.
 #![tactic(auto)]

@@ -19,7 +19,7 @@ fn same_segment(one: &Segment, other: &Segment) -> bool
     one.kind == other.kind && one.numbers.as_slice() == other.numbers.as_slice()
 }
 
-// Whether they are the same, one by one.
+// Whether two lists of segments are the same, one by one.
 fn same_segments(one: &[Segment], other: &[Segment]) -> bool
     ensures { Tells result one.now other.now }
 {
@@ -195,8 +195,8 @@ fn same_part(one: &Part, other: &Part) -> bool
     same_channels(one.channels.as_slice(), other.channels.as_slice())
 }
 
-/// Whether two offers say the same: of the same router and number, with the same parts or the same
-/// loss.
+/// Whether two offers say the same: they have the same router and number, and the same part or the
+/// same loss.
 pub fn same_offer(one: &Offer, other: &Offer) -> bool
     ensures { Tells result (made_by one.now) (made_by other.now) }
 {
