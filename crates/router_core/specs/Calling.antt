@@ -17,7 +17,7 @@ call_of (call.Handle v) = calls.Handle v
 call_of call.Decide = calls.Decide
 call_of call.Advertise = calls.Advertise
 
--- a step is done only where its caller has room for the event
+-- a step is done only if its caller has room for the event
 abbrev pub NeedsRoom : {T E : Type 0} → Result Stepped RouterError → Result T E → Type 0
 NeedsRoom (Ok stepped.Did) room = IsOk room
 NeedsRoom (Ok stepped.Nothing) room = Unit {0}
@@ -28,6 +28,6 @@ abbrev pub why_no_step : (stamp_ends : Bool) → RouterError
 why_no_step true = error.StampEnd
 why_no_step false = error.Memory
 
--- the same of a step behind this stamp
+-- why a step behind this stamp is not done
 abbrev pub no_step : ℕ → RouterError
 no_step last = why_no_step (nat_lt GREATEST_STAMP (last + 1))

@@ -3,7 +3,7 @@ use Rattle.std.specs.Prelude.{ℕ, ◌≡◌, ◌==◌, Bool, true, false, cond,
 use Rattle.rib_tables.specs.Owners.{RibView, ComesUp, ForgetsPeer}
 use Rattle.router_model.specs.Sides.{Side, is_up}
 
--- the incarnation in which the session is Established, where it is
+-- the incarnation in which the session is Established, if it is
 abbrev pub standing : Side → Option ℕ
 standing s = cond (is_up s) (Some s.link.epoch) None
 
@@ -12,7 +12,8 @@ abbrev pub ComesUpAgain : Bool → RibView → RibView → ℕ → Type 0
 ComesUpAgain true old new v = new ≡ old
 ComesUpAgain false old new v = (between : RibView) × ForgetsPeer old between v × ComesUp between new v
 
--- the tables after the session with a peer moved, which was Established in this incarnation, or was not, and now is in that one
+-- the tables after the session with a peer moved: the incarnation in which it was Established before, if it was, and
+-- the one in which it is now, if it is
 abbrev pub Followed : RibView → RibView → ℕ → Option ℕ → Option ℕ → Type 0
 Followed old new v None None = new ≡ old
 Followed old new v None (Some now) = ComesUp old new v

@@ -1,4 +1,4 @@
--- A message or a fault that is handled: what becomes of a side, of the tables, and of what is recorded.
+-- The handling of a message or a fault: how it changes a side, the tables, and what is recorded.
 use Rattle.std.specs.Prelude.{ℕ, ◌≡◌, Bool, cond, Option, None, Some, IfOk}
 use Rattle.bgp_codec.specs.Spelling.{IsWritable}
 use Rattle.bgp_codec.specs.declared.message.Message.{Message}
@@ -13,23 +13,23 @@ use Rattle.router_model.specs.Sides.{Side, AtHand, NoMessage, HasFault, HasUpdat
 use Rattle.router_model.specs.Step.{close_at}
 use Rattle.router_core.specs.Following.{standing, Followed}
 
--- the UPDATE at hand, where it is acted on
+-- the UPDATE at hand, if it is acted on
 abbrev pub update_acted : Bool → AtHand → Option Update
 update_acted acts NoMessage = None
 update_acted acts (HasFault fault) = None
 update_acted acts (HasUpdate update) = cond acts (Some update) None
 
--- a copy of it, where its channel is being recorded
+-- a copy of the UPDATE, if its channel is being recorded
 abbrev pub copy_where : Option Part → ℕ → Option Update → Option Update
 copy_where unfinished v None = None
 copy_where unfinished v (Some u) = copy_for unfinished v u
 
--- the tables take it
+-- the tables take the UPDATE
 abbrev pub Hears : RibView → RibView → ℕ → Option Update → Type 0
 Hears old new v None = new ≡ old
 Hears old new v (Some u) = HearsUpdate old new v u
 
--- and it joins the channel
+-- the UPDATE joins the recorded channel
 abbrev pub seen_where : ℕ → Option Update → Snapshots → Snapshots
 seen_where v None x = x
 seen_where v (Some u) x = acted_on v (UpdateMsg u) x

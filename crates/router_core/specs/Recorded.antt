@@ -1,4 +1,4 @@
--- What a router is as a snapshot is recorded, as the code has it: lists by prefix and by peer.
+-- The part that a router records of a snapshot, as the code has it: lists by prefix and by peer.
 use Rattle.std.specs.Prelude.{ℕ, ◌≡◌, true, false, cond, List, [], ◌∷◌, map, filter, Option, None, Some, Result, MatchResult}
 use Rattle.prefix_lanes.specs.Bits.{PrefixView}
 use Rattle.ranked_policy.specs.declared.network.Origin.{Origin}
@@ -37,7 +37,7 @@ abbrev pub down_in : List Peer → Option ℕ
 down_in [] = None
 down_in (p ∷ ps) = cond (is_up (side p.end)) (down_in ps) (Some p.number)
 
--- each peer is the same, and its side becomes this
+-- each peer stays, and its side changes by f
 abbrev pub Become : (Side → Side) → List Peer → List Peer → Type 0
 Become f [] [] = Unit {0}
 Become f (p ∷ ps) (q ∷ qs) = (q.number ≡ p.number) × (side q.end ≡ f (side p.end)) × Become f ps qs
@@ -53,7 +53,7 @@ HaveRoomToMark (p ∷ ps) = HasRoomToMark p.end × HaveRoomToMark ps
 abbrev pub marked_if_up : ℕ → Side → Side
 marked_if_up s x = cond (is_up x) (marked s x) x
 
--- what a router with these tables and peers is now, as its part of a snapshot
+-- the part of a snapshot that a router with these tables and peers records now
 pub record IsPart (origins : List Origin) (t : RibView) (ps : List Peer) (u s : ℕ) (first : Option ℕ) (p : Part) : Type 0 where
   pub router : p.router ≡ u
   pub number : p.number ≡ s
@@ -63,13 +63,13 @@ pub record IsPart (origins : List Origin) (t : RibView) (ps : List Peer) (u s : 
   pub some : p.pending ≡ true → IsPending t
   pub none : p.pending ≡ false → HoldsOfAll t.net.origins (IsSettled t) × AllServed t
 
--- this is what the router would record now, in every setting of its network that chooses by rank
+-- the part that the router would record now, in every setting of its network that chooses by rank
 pub record IsStateOf (x : RouterView) (p : Part) : Type 0 where
   pub router : p.router ≡ x.number
   pub number : p.number ≡ 0
   pub state : (g : Setting) → g.net ≡ x.net → ChoosesByRank g → part_of p ≡ recorded_part g x.number (plain_of x).router
 
--- the marker came from a peer, or a command
+-- the marker came from a peer, or a command came
 abbrev pub IsPeer : List Peer → Option ℕ → Type 0
 IsPeer ps None = Unit {0}
 IsPeer ps (Some v) = listed v ps ≡ true
@@ -78,7 +78,7 @@ IsPeer ps (Some v) = listed v ps ≡ true
 abbrev pub Records : RouterView → ℕ → Option ℕ → RouterView → Type 0
 Records x s first y = (g : Setting) → g.net ≡ x.net → ChoosesByRank g → plain_of y ≡ record { router = records g x.number (plain_of x).router s first; stamp = y.stamp }
 
--- a snapshot is recorded at this stamp, or memory was wanting
+-- a snapshot is recorded at this stamp, or memory is wanting
 abbrev pub RecordsAt : Result Stepped RouterError → RouterView → ℕ → Option ℕ → ℕ → RouterView → Type 0
 RecordsAt r x s first stamp y =
     (g : Setting) → g.net ≡ x.net → ChoosesByRank g → MatchResult r

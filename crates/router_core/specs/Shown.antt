@@ -11,7 +11,7 @@ use Rattle.router_model.specs.State.{untold}
 use Rattle.router_side.specs.SideOf.{naming}
 use Rattle.router_core.specs.Views.{RouterView, plain_of, sides_of, unchosen, has_room_at}
 
--- what is said of the side towards a peer, where a link leads to it
+-- an answer about the side towards a peer, if a link leads to the peer
 abbrev pub of_peer : {A : Type 0} → RouterView → ℕ → (Side → A) → Option A
 of_peer x v says = cond (linked x.net x.number v) (Some (says (sides_of x v))) None
 
@@ -23,7 +23,7 @@ awaits x v = linked x.net x.number v && is_waiting (sides_of x v).held
 abbrev pub front_of : RouterView → ℕ → Result Message Fault
 front_of x v = front (naming x.net.settings.width x.number v) (sides_of x v).held
 
--- the first peer that waits and has room, and its least prefix; none where no peer does
+-- the first peer that waits and has room, and its least prefix; none if no peer does
 abbrev pub IsToldNext : RouterView → Option (ℕ × PrefixView) → Type 0
 IsToldNext x None = find (has_room_at x) (peers x.net x.number) ≡ None
 IsToldNext x (Some told) =

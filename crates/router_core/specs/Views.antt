@@ -70,15 +70,15 @@ IsAt [] v i = ⊥
 IsAt (p ∷ ps) v zero = p.number ≡ v
 IsAt (p ∷ ps) v (suc i) = (p.number ≢ v) × IsAt ps v i
 
--- it stands there, and is below the length
+-- the peer is found at that place, which is below the length
 abbrev pub IsFound : List Peer → ℕ → ℕ → Type 0
 IsFound ps v i = (i < length ps) × (listed v ps ≡ true) × IsAt ps v i
 
--- what the sessions of a network are told
+-- the settings of the sessions of a network
 abbrev pub config_of : Plan → SessionConfig
 config_of net = record { hold = net.settings.hold; restart = net.settings.restart }
 
--- the sides of a router, by peer; towards what is no peer nothing was ever said
+-- the sides of a router, by peer; towards a number that is no peer, the side as it opens
 abbrev pub sides_of : RouterView → ℕ → Side
 sides_of x = side_at (side_opening (config_of x.net) x.net.settings.width) x.peers
 
@@ -109,11 +109,11 @@ pub record IsTellable (width : Width) (path : List ℕ) : Type 0 where
   pub few : length path ≤ LONGEST_PATH
   pub short : AllByRecursion (AsnFits width) path
 
--- the word is a path, and no AS_PATH of another kind
+-- the word is a path: no AS_PATH of another kind
 abbrev pub IsPathWord : Word → Type 0
 IsPathWord word = word ≡ Sequence (path_in word)
 
--- the tables of a router are those of its sides, which have the network's width, and name what the network names
+-- the tables of a router are those of its sides; the sides have the network's width, and name what the network names
 pub record IsTabled (x : RouterView) : Type 0 where
   pub net : x.tables.net ≡ x.net
   pub router : x.tables.router ≡ x.number
@@ -132,7 +132,7 @@ pub record IsMarked (x : RouterView) : Type 0 where
   pub unfinished : IsOf x.number x.marks.unfinished
   pub queue : AllByRecursion (λ o. router_of o ≡ x.number) x.marks.queue
 
--- what every router of the code is
+-- what holds of every router of the code
 pub record IsSound (x : RouterView) : Type 0 where
   pub network : IsNetwork x.net
   pub router : IsRouter x.net.routers x.number
@@ -144,7 +144,7 @@ pub record IsSound (x : RouterView) : Type 0 where
   pub tabled : IsTabled x
   pub marked : IsMarked x
 
--- a call answers and leaves what it is to, in every setting of its network that chooses by rank
+-- a call answers and leaves the router as it has to, in every setting of its network that chooses by rank
 abbrev pub Answers : Result Stepped RouterError → RouterView → Call → RouterView → Type 0
 Answers r x call y =
     (g : Setting) → g.net ≡ x.net → ChoosesByRank g → Gives g x.number r (answer g x.number (plain_of x) call) (plain_of x) call (plain_of y)
@@ -162,7 +162,7 @@ Opens net number x = (x.net ≡ net) × (x.number ≡ number) × ((g : Setting) 
 abbrev pub handled_front : Message → Rule → Side → Side
 handled_front own_open rule s = carried (at_hand (front rule s.held)) (without_front s) (handled own_open (front rule s.held) s)
 
--- what `next_item` is to answer, by what the call Put is to answer
+-- what `next_item` has to answer, by what the call Put has to answer
 abbrev pub Shows : ℕ → Result (Option Item) RouterError → Answer → Type 0
 Shows stamp r (Steps (puts v i)) = MatchResult r (λ next. next ≡ Some (record { stamp = stamp; what = i })) (λ why. why ≡ error.Memory)
 Shows stamp r (Steps (alone e)) = ⊥
@@ -178,7 +178,7 @@ ShowsNext r x v = (g : Setting) → g.net ≡ x.net → Shows (x.stamp + 1) r (a
 abbrev pub HasNext : RouterView → ℕ → Type 0
 HasNext x v = (next : Item) × ShowsNext (Ok (Some next)) x v
 
--- a step that is done, or refused for its stamp, its numbers or want of memory
+-- a step is done, or refused for its stamp, its numbers or want of memory
 abbrev pub Ends : Bool → Bool → Result Stepped RouterError → Stamped → Stamped → Stamped → Type 0
 Ends true overflows r x z y = (r ≡ Err error.StampEnd) × (y ≡ x)
 Ends false true r x z y = (r ≡ Err error.EpochEnd) × (y ≡ x)
@@ -195,7 +195,7 @@ TakesSign r x v s stamp y =
     let a = signed x.own_open (sides_of x v) s in
     Carries r x v NoMessage a a.overflows stamp y
 
--- a marker of a peer is taken at this stamp, or memory was wanting
+-- a marker of a peer is taken at this stamp, or memory is wanting
 abbrev pub TakesMark : Result Stepped RouterError → RouterView → ℕ → ℕ → ℕ → ℕ → RouterView → Type 0
 TakesMark r x v e s stamp y =
     (g : Setting) → g.net ≡ x.net → ChoosesByRank g → MatchResult r
@@ -212,9 +212,9 @@ IsOffered x o = (next_offer (plain_of x).router ≡ Some (offer_of o)) × (route
 abbrev pub HasOffer : RouterView → Type 0
 HasOffer x = is_some (next_offer (plain_of x).router) ≡ true
 
--- ---- whom an UPDATE is told
+-- ---- which peer is told an UPDATE
 
--- a setting of the network in which nothing is chosen: whom an UPDATE is told depends on no choice
+-- a setting of the network in which nothing is chosen: which peer is told depends on no choice
 abbrev pub unchosen : Plan → Setting
 unchosen net = record { net = net; best = λ u q originated words. [] }
 
@@ -230,7 +230,7 @@ pub record MayTell (x : RouterView) (at : ℕ) (q : PrefixView) : Type 0 where
   pub place : IsAt x.peers peer at
   pub waits : untold (unchosen x.net) x.number (plain_of x).router peer ≡ Some q
 
--- the first peer that waits and has room; where none has, the first that waits
+-- the first peer that waits and has room; if none has room, the first that waits
 abbrev pub IsNext : RouterView → Next → Type 0
 IsNext x (next.Peer at place q) = (found : MayTell x at q) × (find (has_room_at x) (peers x.net x.number) ≡ Some found.peer)
 IsNext x (next.Blocked v) = (find (has_room_at x) (peers x.net x.number) ≡ None) × (find (waits_at x) (peers x.net x.number) ≡ Some v)

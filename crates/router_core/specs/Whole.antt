@@ -1,4 +1,4 @@
--- What comes to all peers of a router at once.
+-- Events that come to all peers of a router at once.
 use Rattle.std.specs.Prelude.{ℕ, ◌≡◌, ◌||◌, Bool, false, List, [], ◌∷◌, Option, None, is_some, get_or, set}
 use Rattle.bgp_codec.specs.declared.message.Message.{Message}
 use Rattle.session_fsm.specs.declared.event.FsmEvent.TheVariants.{ManualStop}
@@ -16,7 +16,7 @@ use Rattle.router_core.specs.declared.router.all.Whole.TheVariants as whole
 use Rattle.router_core.specs.Views.{RouterView}
 use Rattle.router_core.specs.Recorded.{Become}
 
--- what it makes of a side
+-- the draft of a side for such an event
 abbrev pub draft_by : Whole → Message → Side → Draft
 draft_by whole.Second own_open s = second own_open s
 draft_by whole.Stop own_open s = met own_open s ManualStop
@@ -51,7 +51,7 @@ abbrev pub first_left : (Side → Draft) → List Peer → Option (ℕ × ℕ)
 first_left D [] = None
 first_left D (p ∷ ps) = or_first (close_at p.number (D (side p.end)).left) (first_left D ps)
 
--- the sides and what is recorded changed, and the tables by their sessions
+-- the sides and what is recorded changed, and the tables by the sessions
 pub record IsRest (x y : RouterView) : Type 0 where
   pub net : y.net ≡ x.net
   pub number : y.number ≡ x.number

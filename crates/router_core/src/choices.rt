@@ -1,4 +1,4 @@
-//! What tables choose is what the definitions choose.
+//! The best path of the tables is the best choice of the definitions.
 
 ghost use Rattle.std.specs.Prelude.{ℕ};
 ghost use Rattle.std.specs.List.{Contains};
@@ -10,8 +10,8 @@ use rib_tables::Rib;
 use rib_tables::laws::the_best_is_over_the_words;
 use stable_paths::laws::one_best;
 
-/// The peers that are Established are linked, and the best of what they said is the one best of the
-/// definitions. It does no work.
+/// Shows that Established peers are linked, and that the best over what they said is the one best
+/// of the definitions. It does no work.
 pub(crate) fn the_best_is_the_route(tables: &Rib<'_>)
     ensures linked { (v : ℕ) → Contains tables.now.established v → Linked tables.now.net.links tables.now.router v }
     ensures over { BestOverWords }

@@ -1,4 +1,4 @@
-//! What a router has as it starts: its OPEN, and its peers.
+//! The OPEN and the peers of a router as it starts.
 
 ghost use Rattle.std.specs.Prelude.{◌≡◌, [], map, IfOk};
 ghost use Rattle.std.specs.List.{AllByRecursion};
@@ -20,7 +20,7 @@ use router_side::SideEnd;
 use session_fsm::SessionConfig;
 use std::alloc::{AllocError, Global};
 
-// The field AS of an OPEN: the number, or AS_TRANS where two octets do not hold it (RFC 6793 section 9).
+// The field AS of an OPEN: the number, or AS_TRANS if two octets do not hold it (RFC 6793 section 9).
 fn asn_field(number: Asn) -> u16
     ensures { result ≡ asn_field number }
 {
@@ -31,8 +31,8 @@ fn asn_field(number: Asn) -> u16
     }
 }
 
-// The parameters of an OPEN: none, or where AS numbers have four octets the capability that says the
-// number so (RFC 6793 section 3). It takes no memory.
+// The parameters of an OPEN: none, or, if AS numbers have four octets, the capability that says the number (RFC 6793
+// section 3). It takes no memory.
 fn params(alloc: Global, width: Width, number: Asn) -> Items<Items<Cap>>
     ensures { result ≡ params_of width number }
 {
@@ -45,7 +45,7 @@ fn params(alloc: Global, width: Width, number: Asn) -> Items<Items<Cap>>
     }
 }
 
-// An OPEN of this number; its spelling has no width.
+// The OPEN of this number. Its spelling does not depend on the width.
 fn open_message(alloc: Global, width: Width, number: Asn, hold: u16, id: u32) -> Message
     requires hold { IsHoldTime hold }
     requires id { IsUnicast id }
@@ -61,7 +61,7 @@ fn open_message(alloc: Global, width: Width, number: Asn, hold: u16, id: u32) ->
     })
 }
 
-/// What a router says of itself (RFC 4271 section 4.2). It takes no memory.
+/// The OPEN of a router (RFC 4271 section 4.2). It takes no memory.
 pub(crate) fn own_open(alloc: Global, network: &Network, number: Asn) -> Message
     requires { IsRouter network.now.routers number }
     ensures open { result ≡ open_of network.now number }
@@ -79,7 +79,7 @@ pub fn is_peer(network: &Network, number: Asn, other: Asn) -> bool
     network.linked(number, other)
 }
 
-/// The linked routers by rising number, towards each of which nothing was said yet.
+/// The linked routers by rising number. Nothing was said yet towards any of them.
 pub(crate) fn new_peers(
     alloc: Global,
     network: &Network,

@@ -59,7 +59,7 @@ impl<'a> Model for Router<'a> {
     ghost invariant = { λ r. IsSound (record { net = r.network.now; number = r.number; own_open = r.own_open; peers = r.peers.items; tables = r.tables; marks = r.marks; stamp = r.stamp }) };
 }
 
-// The stamp behind this one, where one is left.
+// The stamp behind this one, if one is left.
 fn next_stamp(last: u64) -> Result<u64, RouterError>
     requires { last ≤ GREATEST_STAMP }
     ensures { MatchResult result (λ next. (next ≡ last + 1) × (nat_lt GREATEST_STAMP (last + 1) ≡ false)) (λ why. (why ≡ StampEnd) × (nat_lt GREATEST_STAMP (last + 1) ≡ true)) }
@@ -71,7 +71,7 @@ fn next_stamp(last: u64) -> Result<u64, RouterError>
     Ok(next)
 }
 
-// The same, refused too where the caller has no room for the event.
+// The stamp behind this one, if one is left and the caller has room for the event.
 fn next_stamp_in(last: u64, room: Result<(), AllocError>) -> Result<u64, RouterError>
     requires { last ≤ GREATEST_STAMP }
     ensures next { IfOk result (λ next. (next ≡ last + 1) × (nat_lt GREATEST_STAMP (last + 1) ≡ false)) }
@@ -85,7 +85,7 @@ fn next_stamp_in(last: u64, room: Result<(), AllocError>) -> Result<u64, RouterE
 
 impl<'a> Router<'a> {
     /// A router of the network, as it starts: every session is Idle, and nothing was said, kept or
-    /// originated. Refused [`RouterError::Memory`] where a growth was.
+    /// originated. Refused with [`RouterError::Memory`] if a growth is refused.
     pub fn new(alloc: Global, network: &'a Network, number: Asn) -> Result<Router<'a>, RouterError>
         requires { IsRouter network.now.routers number }
         ensures { MatchResult result (Opens network.now number) (λ why. why ≡ Memory) }
@@ -127,14 +127,14 @@ impl<'a> Router<'a> {
         self.stamp
     }
 
-    /// The number of the last snapshot that it recorded, 0 where it recorded none.
+    /// The number of the last snapshot that it recorded; 0 if it recorded none.
     pub fn last_snapshot(&self) -> u32
         ensures { result ≡ (plain_of self.now).router.snapshots.last }
     {
         self.marks.last()
     }
 
-    /// The path that it keeps for a prefix (Loc-RIB, RFC 4271 section 3.2): empty where it keeps none.
+    /// The path that it keeps for a prefix (Loc-RIB, RFC 4271 section 3.2); empty if it keeps none.
     pub fn kept(&self, prefix: &Prefix) -> &[Asn]
         ensures { result.now ≡ (plain_of self.now).router.kept prefix.now }
     {

@@ -1,4 +1,4 @@
-//! The tables of a router, as the session with one peer goes on.
+//! The tables of a router follow the session with one peer.
 
 ghost use Rattle.ranked_policy.specs.Plans.{Linked};
 ghost use Rattle.router_core.specs.Following.{Followed};
@@ -6,8 +6,8 @@ ghost use Rattle.router_core.specs.Following.{Followed};
 use ranked_policy::Asn;
 use rib_tables::Rib;
 
-/// The tables after the session with a peer moved: it was Established in the incarnation `was`, where it
-/// was, and is in the incarnation `now`, where it is. It takes no memory.
+/// Lets the tables follow the session with a peer. `was` is the incarnation in which it was Established before, if it
+/// was; `now` is the one in which it is now, if it is. It takes no memory.
 pub(crate) fn follow(tables: &mut Rib<'_>, peer: Asn, was: Option<u32>, now: Option<u32>)
     requires { Linked tables.old.net.links tables.old.router peer }
     ensures { Followed tables.old tables.new peer was now }

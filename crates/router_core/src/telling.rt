@@ -1,4 +1,4 @@
-//! What tells of a kept path (RFC 4271 sections 4.3 and 5.1).
+//! The UPDATE that tells a kept path (RFC 4271 sections 4.3 and 5.1).
 
 ghost use Rattle.std.specs.Prelude.{◌≡◌, IfOk};
 ghost use Rattle.bgp_codec.specs.declared.message.Message.TheVariants.{UpdateMsg};
@@ -14,8 +14,8 @@ use router_side::Route;
 use router_side::laws::tellings_are_sayable;
 use std::alloc::{AllocError, Global};
 
-/// What tells the path that a router of the network keeps for a prefix: an announcement with its
-/// identifier as NEXT_HOP, or a withdrawal where the path is empty. It is refused only where memory was.
+/// The UPDATE that tells the path that a router of the network keeps for a prefix: an announcement with its identifier
+/// as NEXT_HOP, or a withdrawal if the path is empty. It is refused only for want of memory.
 pub(crate) fn telling(
     alloc: Global,
     network: &Network,

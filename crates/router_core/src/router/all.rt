@@ -1,4 +1,4 @@
-//! What comes to all peers of a router: a second that passes, and a restart.
+//! Events that come to all peers of a router: a second that passes, and a restart.
 
 ghost use Rattle.bgp_values.specs.declared.width.Width as widths;
 ghost use Rattle.std.specs.Prelude.{◌≡◌, ◌<◌, ℕ, false, length, get_or, IfOk};
@@ -24,7 +24,7 @@ use router_side::{Given, SideEnd, Sketch};
 use session_fsm::FsmEvent;
 use std::alloc::{AllocError, Global};
 
-// What comes to each peer's side.
+// The event that comes to each peer's side.
 #[derive(Clone, Copy)]
 pub(super) enum Whole {
     // A second passes.
@@ -33,7 +33,7 @@ pub(super) enum Whole {
     Stop,
 }
 
-// What it will make of a side.
+// The draft of a side for such an event.
 fn drafted(whole: Whole, end: &SideEnd, own_open: &Message) -> Sketch
     ensures { draft own_open.now NoMessage result ≡ draft_by whole own_open.now (side end.now) }
 {
@@ -75,7 +75,7 @@ fn prepare_each(
     Ok(drafts)
 }
 
-// The same of all peers.
+// Drafts the sides of all peers, with room for each. A refusal leaves the sides as they were.
 fn prepare(
     alloc: Global,
     whole: Whole,
@@ -101,7 +101,7 @@ fn runs_out(peers: &[Peer]) -> bool
     false
 }
 
-// The timers of each of these sessions have one second less left.
+// Counts the timers of each of these sessions down by one second.
 fn count_down_each(peers: &mut [Peer])
     ensures { Become counted_down peers.old peers.new }
 {
@@ -110,7 +110,7 @@ fn count_down_each(peers: &mut [Peer])
     }
 }
 
-// The timers of each session have.
+// Counts the timers of all sessions down by one second.
 fn count_down_all(peers: &mut Vec<Peer>)
     ensures { Become counted_down peers.old.items peers.new.items }
 {
@@ -118,7 +118,7 @@ fn count_down_all(peers: &mut Vec<Peer>)
 }
 
 impl Router<'_> {
-    // The draft of the side at a place is carried out, for which there is room. The stamp stays.
+    // Carries out the draft of the side at a place, for which there is room. The stamp stays.
     fn move_side(&mut self, whole: Whole, at: usize, made: &Sketch)
         requires below { at < length self.old.peers }
         requires ready { (d : peer.Peer) → IsReady self.old.own_open (draft_by whole self.old.own_open) (get_or self.old.peers at d) made.now }
@@ -133,7 +133,7 @@ impl Router<'_> {
         close(&mut self.marks, peer, made.left);
     }
 
-    // The drafts of all sides are carried out, peers rising.
+    // Carries out the drafts of all sides, peers rising.
     fn move_all(&mut self, whole: Whole, made: &[Sketch])
         requires ready { AreReady self.old.own_open (draft_by whole self.old.own_open) self.old.peers made.now }
         requires fits { overflow_in (draft_by whole self.old.own_open) self.old.peers ≡ false }
@@ -144,10 +144,10 @@ impl Router<'_> {
         }
     }
 
-    /// A second passes: at most one timer of each session runs out, peers rising (RFC 4271 section 8).
+    /// Lets a second pass: at most one timer of each session runs out, peers rising (RFC 4271 section 8).
     ///
-    /// Refused [`RouterError::StampEnd`], [`RouterError::EpochEnd`], and [`RouterError::Memory`] where a
-    /// growth was; then all is as it was.
+    /// Refused with [`RouterError::StampEnd`], with [`RouterError::EpochEnd`], and with [`RouterError::Memory`] if a
+    /// growth is refused; then all is as it was.
     pub fn tick(&mut self) -> Result<Stepped, RouterError>
         ensures answers { Answers result self.old Tick self.new }
         ensures same { IsSame self.old self.new }
@@ -155,7 +155,7 @@ impl Router<'_> {
         self.tick_in(Ok(()))
     }
 
-    // The same; where the caller has no room for the event, no step is done.
+    // Does what `tick` does; if the caller has no room for the event, no step is done.
     pub(super) fn tick_in(&mut self, room: Result<(), AllocError>) -> Result<Stepped, RouterError>
         ensures answers { Answers result self.old Tick self.new }
         ensures full { NeedsRoom result room }
@@ -168,8 +168,8 @@ impl Router<'_> {
         }
     }
 
-    // A second in which no timer runs out says, dials and leaves nothing. So it needs no draft, and no memory of its
-    // own, and moves the timers alone.
+    // Lets a second pass in which no timer runs out. It says, dials and leaves nothing: it needs no draft and no memory
+    // of its own, and moves the timers alone.
     fn count_down(&mut self, room: Result<(), AllocError>) -> Result<Stepped, RouterError>
         requires { runs_out_in self.old.peers ≡ false }
         ensures answers { Answers result self.old Tick self.new }
@@ -182,7 +182,7 @@ impl Router<'_> {
         Ok(Stepped::Did)
     }
 
-    // Any second: all sides are drafted, given room, and moved.
+    // Lets any second pass: all sides are drafted, given room, and moved.
     #[inline(never)]
     fn tick_by_drafts(&mut self, room: Result<(), AllocError>) -> Result<Stepped, RouterError>
         ensures answers { Answers result self.old Tick self.new }
@@ -203,7 +203,7 @@ impl Router<'_> {
         Ok(Stepped::Did)
     }
 
-    // Every session stops, rising; then what is kept and originated is forgotten.
+    // Stops every session, rising; then forgets what is kept and originated.
     pub(super) fn restart(&mut self, room: Result<(), AllocError>) -> Result<Stepped, RouterError>
         ensures answers { Answers result self.old (Obey Restart) self.new }
         ensures full { NeedsRoom result room }

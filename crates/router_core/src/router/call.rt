@@ -1,9 +1,9 @@
-//! What a router is asked to do.
+//! The calls of a router.
 
 use ranked_policy::Asn;
 use router_model::Command;
 
-/// What a router is asked to do, but for putting and taking items.
+/// A call of a router, but for puts and takes of items.
 #[derive(Clone, Copy)]
 pub enum Call {
     /// To obey a command.

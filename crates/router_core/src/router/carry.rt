@@ -1,4 +1,4 @@
-//! Drafts that are carried out.
+//! Carrying out drafts.
 
 ghost use Rattle.bgp_values.specs.declared.width.Width as widths;
 ghost use Rattle.std.specs.Prelude.{◌≡◌, true, false, ℕ, List, None};
@@ -27,15 +27,15 @@ use run_model::GREATEST_STAMP;
 use snap_marker::MarkState;
 use std::alloc::{AllocError, Global};
 
-/// The incarnation in which the session is Established, where it is.
+/// The incarnation in which the session is Established, if it is.
 fn standing(end: &SideEnd) -> Option<u32>
     ensures { result ≡ standing (side end.now) }
 {
     if end.is_up() { Some(end.epoch()) } else { None }
 }
 
-/// The draft of an event that brings no message is carried out, for which there is room; the tables
-/// follow the session. It takes no memory.
+/// Carries out the draft of an event that brings no message, for which there is room. The tables follow the session. It
+/// takes no memory.
 pub(super) fn carry(
     alloc: Global,
     end: &mut SideEnd,
@@ -56,8 +56,8 @@ pub(super) fn carry(
     follow(tables, peer, was, now);
 }
 
-/// The draft of the message or fault in front is carried out, for which there is room; the tables follow
-/// the session. It takes no memory.
+/// Carries out the draft of the message or fault in front, for which there is room. The tables follow the session. It
+/// takes no memory.
 pub(super) fn carry_front(
     alloc: Global,
     end: &mut SideEnd,
@@ -82,8 +82,7 @@ pub(super) fn carry_front(
     follow(tables, peer, was, now);
 }
 
-/// A session that leaves Established in an incarnation loses the unfinished recording. It takes no
-/// memory.
+/// Loses the unfinished recording, if a session leaves Established in an incarnation. It takes no memory.
 pub(super) fn close(marks: &mut MarkState, peer: Asn, left: Option<u32>)
     ensures closed { snapshots_of marks.new ≡ closed (close_at peer left) (snapshots_of marks.old) }
     ensures over { (peers : List ℕ) → IsOver peers marks.old.unfinished → IsOver peers marks.new.unfinished }
@@ -95,8 +94,8 @@ pub(super) fn close(marks: &mut MarkState, peer: Asn, left: Option<u32>)
 }
 
 impl Router<'_> {
-    // Carries out the draft of one side at a stamp, where the caller has room for the event, or refuses it
-    // and changes nothing.
+    // Carries out the draft of one side at a stamp, if the caller has room for the event; else refuses it and changes
+    // nothing.
     pub(super) fn carry_out(
         &mut self,
         peer: Asn,

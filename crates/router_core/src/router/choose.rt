@@ -1,4 +1,4 @@
-//! What a router chooses, and whom it tells of it (RFC 4271 section 9).
+//! The path that a router chooses, and the peer that it tells (RFC 4271 section 9).
 
 ghost use Rattle.std.specs.Prelude.{ℕ};
 ghost use Rattle.router_model.specs.Calls.{Decide, Advertise};
@@ -14,21 +14,21 @@ use ranked_policy::Asn;
 use router_model::{OUTBOX_LIMIT, RouterError, Stepped};
 use std::alloc::AllocError;
 
-// Whom to tell next.
+// The peer to tell next.
 pub(super) enum Next {
-    // The least peer that waits and has room, at its place, and its least prefix, at its own.
+    // The least peer that waits and has room, and its least prefix, each with its place.
     Peer(usize, usize, Prefix),
-    // Each peer that waits is at the limit: the least of them.
+    // Each peer that waits is at the limit. This is the least of them.
     Blocked(Asn),
     // Nobody waits.
     Nobody,
 }
 
 impl Router<'_> {
-    /// Decides once (RFC 4271 section 9.1): the least prefix, by address and then by length, whose kept
-    /// path is not the best of the choices gets its best. Nothing where each kept path is.
+    /// Decides one prefix (RFC 4271 section 9.1): the least, by address and then by length, whose kept path is not the
+    /// best of the choices. It gets its best path. There is nothing to do if each kept path is the best.
     ///
-    /// Refused [`RouterError::StampEnd`], and [`RouterError::Memory`] where a growth was; then all is as
+    /// Refused with [`RouterError::StampEnd`], and with [`RouterError::Memory`] if a growth is refused; then all is as
     /// it was.
     pub fn decide(&mut self) -> Result<Stepped, RouterError>
         ensures answers { Answers result self.old Decide self.new }
@@ -37,7 +37,7 @@ impl Router<'_> {
         self.decide_in(Ok(()))
     }
 
-    // The same; where the caller has no room for the event, no step is done.
+    // Does what `decide` does; if the caller has no room for the event, no step is done.
     pub(super) fn decide_in(&mut self, room: Result<(), AllocError>) -> Result<Stepped, RouterError>
         ensures answers { Answers result self.old Decide self.new }
         ensures full { NeedsRoom result room }
@@ -64,7 +64,7 @@ impl Router<'_> {
         }
     }
 
-    // Whom to tell next.
+    // The peer to tell next.
     pub(super) fn next_to_tell(&self) -> Next
         ensures { IsNext self.now result }
     {
@@ -88,12 +88,13 @@ impl Router<'_> {
         }
     }
 
-    /// Tells one peer of one prefix (RFC 4271 section 9.2): the least Established peer that was not told
-    /// some kept path and whose outbox has less than 65,536 octets is told the kept path of the least
-    /// such prefix, in one UPDATE. Nothing where each was told all.
+    /// Tells one peer of one prefix, in one UPDATE (RFC 4271 section 9.2). The peer is the least Established one that
+    /// was not told some kept path and whose outbox has less than 65,536 octets. It is told the kept path of the least
+    /// such prefix. There is nothing to do if each peer was told all.
     ///
-    /// Refused [`RouterError::Blocked`] where each peer that waits is at the limit,
-    /// [`RouterError::StampEnd`], and [`RouterError::Memory`] where a growth was; then all is as it was.
+    /// Refused with [`RouterError::Blocked`] if each peer that waits is at the limit, with [`RouterError::StampEnd`],
+    /// and with [`RouterError::Memory`] if a growth is refused; then all is as it was. [`RouterError::StampEnd`], and
+    /// [`RouterError::Memory`] if a growth is refused; then all is as it was.
     pub fn advertise(&mut self) -> Result<Stepped, RouterError>
         ensures answers { Answers result self.old Advertise self.new }
         ensures same { IsSame self.old self.new }
@@ -101,7 +102,7 @@ impl Router<'_> {
         self.advertise_in(Ok(()))
     }
 
-    // The same; where the caller has no room for the event, no step is done.
+    // Does what `advertise` does; if the caller has no room for the event, no step is done.
     pub(super) fn advertise_in(
         &mut self,
         room: Result<(), AllocError>,
@@ -117,8 +118,7 @@ impl Router<'_> {
         }
     }
 
-    // The kept path of a prefix is told to the peer at a place. The prefix is looked for at its own
-    // first.
+    // Tells the kept path of a prefix to the peer at a place. The prefix is looked for at its own place first.
     fn tell(
         &mut self,
         at: usize,

@@ -14,11 +14,12 @@ use session_fsm::FsmEvent;
 use std::alloc::AllocError;
 
 impl Router<'_> {
-    /// Obeys a command. Nothing where a prefix is originated already, or is not.
+    /// Obeys a command. There is nothing to do if a prefix to originate is originated already, or one to withdraw is
+    /// not.
     ///
-    /// Refused [`RouterError::NoSuchPeer`], [`RouterError::NotOrigin`], [`RouterError::OldSnapshot`],
-    /// [`RouterError::StampEnd`], [`RouterError::EpochEnd`], and [`RouterError::Memory`] where a growth
-    /// was; then all is as it was.
+    /// Refused with [`RouterError::NoSuchPeer`], [`RouterError::NotOrigin`], [`RouterError::OldSnapshot`],
+    /// [`RouterError::StampEnd`], [`RouterError::EpochEnd`], and with [`RouterError::Memory`] if a growth is refused;
+    /// then all is as it was.
     pub fn command(&mut self, command: Command) -> Result<Stepped, RouterError>
         ensures answers { Answers result self.old (Obey command) self.new }
         ensures same { IsSame self.old self.new }
@@ -26,7 +27,7 @@ impl Router<'_> {
         self.command_in(command, Ok(()))
     }
 
-    // The same; where the caller has no room for the event, no step is done.
+    // Does what `command` does; if the caller has no room for the event, no step is done.
     fn command_in(
         &mut self,
         command: Command,
@@ -47,11 +48,11 @@ impl Router<'_> {
         }
     }
 
-    /// Does what the router is asked to do, but for putting and taking items: each call by its own name.
-    /// Refused as that call is; then all is as it was.
+    /// Makes one call of the router, but for puts and takes of items, by the method of its name. Refused as that method
+    /// is; then all is as it was.
     ///
-    /// `room`: whether the caller has room for the event where the call steps; where it has none, a step
-    /// is refused [`RouterError::Memory`], and any other answer is as it would be.
+    /// `room` says whether the caller has room for the event if the call steps. Without room, a step is refused with
+    /// [`RouterError::Memory`]; any other answer is as it would be.
     pub fn perform(
         &mut self,
         call: &Call,
@@ -70,7 +71,7 @@ impl Router<'_> {
         }
     }
 
-    // The session with a peer starts.
+    // Starts the session with a peer.
     fn start(&mut self, peer: Asn, room: Result<(), AllocError>) -> Result<Stepped, RouterError>
         ensures answers { Answers result self.old (Obey (Start peer)) self.new }
         ensures full { NeedsRoom result room }
@@ -87,7 +88,7 @@ impl Router<'_> {
         self.carry_out(peer, at, &made, overflows, stamp, room)
     }
 
-    // It stops.
+    // Stops the session with a peer.
     fn stop(&mut self, peer: Asn, room: Result<(), AllocError>) -> Result<Stepped, RouterError>
         ensures answers { Answers result self.old (Obey (Stop peer)) self.new }
         ensures full { NeedsRoom result room }
@@ -104,7 +105,7 @@ impl Router<'_> {
         self.carry_out(peer, at, &made, false, stamp, room)
     }
 
-    // It stops, and starts again.
+    // Stops the session with a peer, and starts it again.
     fn reset(&mut self, peer: Asn, room: Result<(), AllocError>) -> Result<Stepped, RouterError>
         ensures answers { Answers result self.old (Obey (Reset peer)) self.new }
         ensures full { NeedsRoom result room }
@@ -119,7 +120,7 @@ impl Router<'_> {
         self.carry_out(peer, at, &made, overflows, stamp, room)
     }
 
-    // A prefix is originated from now on.
+    // Originates a prefix from now on.
     fn originate(
         &mut self,
         prefix: &Prefix,
@@ -141,7 +142,7 @@ impl Router<'_> {
         Ok(Stepped::Did)
     }
 
-    // It is originated no longer.
+    // Originates a prefix no longer.
     fn withdraw(
         &mut self,
         prefix: &Prefix,

@@ -31,7 +31,7 @@ use router_side::{Given, Route, SideEnd, opened};
 use snap_marker::MarkState;
 use std::alloc::{AllocError, Global};
 
-// A copy of the UPDATE that is acted on, for the channel of its peer where that is being recorded.
+// A copy of the UPDATE that is acted on, for the channel of its peer, if that is being recorded.
 fn copy_for(
     alloc: Global,
     marks: &mut MarkState,
@@ -58,7 +58,7 @@ fn copy_for(
     }
 }
 
-// The tables take the UPDATE that is acted on.
+// Lets the tables take the UPDATE that is acted on.
 fn hear(tables: &mut Rib<'_>, peer: Asn, acts: bool, given: &Given) -> Result<(), AllocError>
     requires { Linked tables.old.net.links tables.old.router peer }
     ensures ok { OnOk result (Hears tables.old tables.new peer (update_acted acts (hand given.now))) }
@@ -76,7 +76,7 @@ fn hear(tables: &mut Rib<'_>, peer: Asn, acts: bool, given: &Given) -> Result<()
     }
 }
 
-// What is recorded sees a session that leaves Established, or else the UPDATE.
+// Lets the recording see a session that leaves Established, or else the UPDATE.
 fn record(marks: &mut MarkState, peer: Asn, left: Option<u32>, copy: Option<Update>)
     requires link { IsLink marks.old.unfinished peer }
     requires copy { IfSome copy (λ _. is_heard marks.old.unfinished peer ≡ true) }
@@ -91,8 +91,8 @@ fn record(marks: &mut MarkState, peer: Asn, left: Option<u32>, copy: Option<Upda
     }
 }
 
-// The UPDATE in front of a side that is up tells a path, and is acted on: there is no draft. A refusal leaves all
-// as it was.
+// Acts on the UPDATE in front of a side that is up, which tells a path. There is no draft. A refusal leaves all as it
+// was.
 fn act_on(
     end: &mut SideEnd,
     tables: &mut Rib<'_>,
@@ -117,7 +117,7 @@ fn act_on(
     Ok(())
 }
 
-// The message or fault in front of a side is handled, as what its peer says. A refusal leaves all as it was.
+// Handles the message or fault in front of a side, as its peer says it. A refusal leaves all as it was.
 fn handle_front(
     alloc: Global,
     rule: &Rule,
@@ -149,8 +149,8 @@ fn handle_front(
     handle_by_draft(alloc, rule, end, tables, marks, own_open, peer)
 }
 
-// Any message or fault: it is read, and what it makes of the side is drafted, given room, and carried out. A draft is
-// large, and a function pays for what it may hold as it begins: so `handle_front` holds none.
+// Handles any message or fault: it is read, and its draft is made, given room, and carried out. A draft is large, and a
+// function reserves as it begins what it may hold: `handle_front` therefore holds none.
 #[inline(never)]
 fn handle_by_draft(
     alloc: Global,
@@ -185,13 +185,13 @@ fn handle_by_draft(
 }
 
 impl Router<'_> {
-    /// Handles the message or fault of a peer that waits in front: its event comes to the session, and
-    /// what the session wants is done (RFC 4271 section 8). An UPDATE that is acted on changes the words
-    /// heard of the prefixes that the network names (section 3.1), and joins the channel of its peer
-    /// where that is being recorded. Nothing where none waits.
+    /// Handles the message or fault of a peer that waits in front: its event comes to the session, and what the session
+    /// wants is done (RFC 4271 section 8). An UPDATE that is acted on changes the words heard of the prefixes that the
+    /// network names (section 3.1). It joins the channel of its peer, if that is being recorded. There is nothing to do
+    /// if neither waits.
     ///
-    /// Refused [`RouterError::NoSuchPeer`], [`RouterError::StampEnd`], and [`RouterError::Memory`]
-    /// where a growth was; then all is as it was.
+    /// Refused with [`RouterError::NoSuchPeer`], with [`RouterError::StampEnd`], and with [`RouterError::Memory`] if a
+    /// growth is refused; then all is as it was.
     pub fn handle(&mut self, peer: Asn) -> Result<Stepped, RouterError>
         ensures answers { Answers result self.old (Handle peer) self.new }
         ensures same { IsSame self.old self.new }
@@ -199,7 +199,7 @@ impl Router<'_> {
         self.handle_in(peer, Ok(()))
     }
 
-    // The same; where the caller has no room for the event, no step is done.
+    // Does what `handle` does; if the caller has no room for the event, no step is done.
     pub(super) fn handle_in(
         &mut self,
         peer: Asn,

@@ -1,4 +1,4 @@
-//! What a router offers of its recordings, and whether it has nothing to do alone.
+//! The offers that a router makes of its recordings, and whether it has nothing to do alone.
 
 ghost use Rattle.std.specs.Prelude.{◌≡◌, ◌≤◌, ◌<◌, true, [], ◌∷◌, Ok, None, IfSome, OnOk, OnErr, MatchOption};
 ghost use Rattle.run_model.specs.Offers.{made_of};
@@ -16,15 +16,15 @@ use snap_marker::Offer;
 use std::alloc::AllocError;
 
 impl Router<'_> {
-    /// The offer that waits in front, where one does.
+    /// The offer that waits in front, if one does.
     pub fn next_offer(&self) -> Option<&Offer>
         ensures { MatchOption result (next_offer (plain_of self.now).router ≡ None) (λ offer. IsOffered self.now offer.now) }
     {
         self.marks.next_offer()
     }
 
-    /// Whether the router has nothing to decide, nobody to tell and nothing to offer, where that is seen without a look
-    /// at a path. It takes no memory.
+    /// Whether it is seen without a look at a path that the router has nothing to decide, nobody to tell and nothing to
+    /// offer. `false` says nothing. It takes no memory.
     pub fn is_idle(&self) -> bool
         ensures decide { result ≡ true → Answers (Ok Nothing) self.now Decide self.now }
         ensures advertise { result ≡ true → Answers (Ok Nothing) self.now Advertise self.now }
@@ -34,8 +34,7 @@ impl Router<'_> {
         self.tables.rests() && self.next_offer().is_none()
     }
 
-    /// The offer in front is made, by an event with this stamp. It takes no memory, and cannot be
-    /// refused.
+    /// Makes the offer in front, by an event with this stamp. It takes no memory, and cannot be refused.
     pub fn offer_made(&mut self, stamp: u64)
         requires waits { HasOffer self.old }
         requires later { self.old.stamp < stamp }
@@ -47,8 +46,8 @@ impl Router<'_> {
         self.stamp = stamp;
     }
 
-    /// The offer in front is made to a collector, by an event with this stamp: it moves there. Where a growth
-    /// is refused the router and the collector stay as they were.
+    /// Makes the offer in front to a collector, by an event with this stamp: the offer moves there. If a growth is
+    /// refused, the router and the collector stay as they were.
     pub fn offer_to(&mut self, collector: &mut Collector, stamp: u64) -> Result<(), AllocError>
         requires waits { HasOffer self.old }
         requires later { self.old.stamp < stamp }

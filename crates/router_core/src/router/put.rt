@@ -11,12 +11,11 @@ use ranked_policy::Asn;
 use router_model::RouterError;
 
 impl Router<'_> {
-    /// A copy of the item that is put next towards a peer, with the stamp of its put: a control item,
-    /// or as many octets of one incarnation as a piece may have. None where nothing waits. It changes
-    /// nothing.
+    /// A copy of the item that is put next towards a peer, with the stamp of its put. It is a control item, or as many
+    /// octets of one incarnation as a piece may have. `None` if nothing waits. It changes nothing.
     ///
-    /// Refused [`RouterError::NoSuchPeer`], [`RouterError::StampEnd`], and [`RouterError::Memory`]
-    /// where the copy was.
+    /// Refused with [`RouterError::NoSuchPeer`], with [`RouterError::StampEnd`], and with [`RouterError::Memory`] if
+    /// the copy is refused.
     pub fn next_item(&self, peer: Asn) -> Result<Option<Item>, RouterError>
         ensures { ShowsNext result self.now peer }
     {
@@ -35,7 +34,7 @@ impl Router<'_> {
         }
     }
 
-    /// The item is put that `next_item` shows. It takes no memory, and cannot be refused.
+    /// Puts the item that `next_item` answers. It takes no memory, and cannot be refused.
     pub fn item_put(&mut self, peer: Asn)
         requires { HasNext self.old peer }
         ensures answers { Answers (Ok Did) self.old (Put peer) self.new }

@@ -70,7 +70,7 @@ fn originated(
     Ok(own)
 }
 
-// Whether the marker of a peer is still to come, where that of the first came.
+// Whether the marker of a peer is still to come, if that of `first` came.
 fn awaits(first: Option<Asn>, peer: Asn) -> bool
     ensures { result ≡ awaits first peer }
 {
@@ -109,7 +109,7 @@ fn first_down(peers: &[Peer]) -> Option<Asn>
     None
 }
 
-// Makes room for a marker to each of these.
+// Makes room for a marker to each of these peers.
 fn reserve_each(peers: &mut [Peer]) -> Result<(), AllocError>
     ensures same { Become (λ s. s) peers.old peers.new }
     ensures room { OnOk result (HaveRoomToMark peers.new) }
@@ -120,7 +120,7 @@ fn reserve_each(peers: &mut [Peer]) -> Result<(), AllocError>
     Ok(())
 }
 
-// Makes room for a marker to each peer.
+// Makes room for a marker to every peer of the router.
 fn reserve_markers(peers: &mut Vec<Peer>) -> Result<(), AllocError>
     ensures same { Become (λ s. s) peers.old.items peers.new.items }
     ensures room { OnOk result (HaveRoomToMark peers.new.items) }
@@ -128,7 +128,7 @@ fn reserve_markers(peers: &mut Vec<Peer>) -> Result<(), AllocError>
     reserve_each(peers.as_mut_slice())
 }
 
-// The marker of a snapshot goes to a peer in Established, behind all that waits.
+// Sends the marker of a snapshot to a peer in Established, behind all that waits.
 fn mark(peer: &mut Peer, number: u32)
     requires { HaveRoomToMark (peer.old ∷ []) }
     ensures { Become (marked_if_up number) (peer.old ∷ []) (peer.new ∷ []) }
@@ -138,7 +138,7 @@ fn mark(peer: &mut Peer, number: u32)
     }
 }
 
-// It goes to each of these.
+// Sends the marker to each of these peers.
 fn mark_each(peers: &mut [Peer], number: u32)
     requires { HaveRoomToMark peers.old }
     ensures { Become (marked_if_up number) peers.old peers.new }
@@ -148,7 +148,7 @@ fn mark_each(peers: &mut [Peer], number: u32)
     }
 }
 
-// It goes to each peer.
+// Sends the marker to every peer of the router.
 fn mark_all(peers: &mut Vec<Peer>, number: u32)
     requires { HaveRoomToMark peers.old.items }
     ensures { Become (marked_if_up number) peers.old.items peers.new.items }
@@ -163,7 +163,7 @@ fn heeds(end: &SideEnd, epoch: u32) -> bool
     end.is_up() && end.uses(epoch)
 }
 
-// What a router is now, as its part of a snapshot.
+// The part of a snapshot that a router records now.
 fn part_now(
     alloc: Global,
     number: Asn,
@@ -190,7 +190,7 @@ fn part_now(
 }
 
 impl Router<'_> {
-    // The snapshot is recorded, and its markers go out. A refusal leaves the router as it was.
+    // Records the snapshot, and sends its markers. A refusal leaves the router as it was.
     fn begin(&mut self, alloc: Global, number: u32, first: Option<Asn>) -> Result<(), AllocError>
         requires first { IsPeer self.old.peers first }
         ensures ok { OnOk result (Records self.old number first self.new) }
@@ -222,12 +222,11 @@ impl Router<'_> {
         }
     }
 
-    /// What the router would record of a snapshot now, as a copy: the path kept for each prefix, the
-    /// prefixes that it originates, the incarnation of each link, and whether a kept path is not the
-    /// route or an Established peer was not told of one. Its number is 0, which no snapshot has; its
-    /// channels are empty, and wait for their markers.
+    /// What the router would record of a snapshot now, as a copy: the path kept for each prefix, the prefixes that it
+    /// originates, the incarnation of each link, and whether a kept path is not the route or an Established peer was
+    /// not told of one. Its number is 0, which no snapshot has. Its channels are empty, and wait for their markers.
     ///
-    /// Refused [`RouterError::Memory`] alone. The router stays as it was.
+    /// Refused only with [`RouterError::Memory`]. The router stays as it was.
     pub fn part_state(&mut self) -> Result<Part, RouterError>
         ensures state { MatchResult result (IsStateOf self.old) (λ why. why ≡ Memory) }
         ensures same { self.new ≡ self.old }
@@ -274,7 +273,7 @@ impl Router<'_> {
         }
     }
 
-    // The command to record a snapshot.
+    // Obeys the command to record a snapshot.
     pub(super) fn snapshot(
         &mut self,
         number: u32,
@@ -292,7 +291,7 @@ impl Router<'_> {
         self.records(number, None, stamp)
     }
 
-    // The marker of a peer is taken at a stamp that is left, where the caller has room for the event.
+    // Takes the marker of a peer at a stamp that is left, if the caller has room for the event.
     pub(super) fn take_mark(
         &mut self,
         peer: Asn,

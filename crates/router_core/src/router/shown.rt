@@ -1,4 +1,4 @@
-//! What a router shows of itself: its sessions, what of a peer it handles next, and the words of its peers.
+//! What a router shows of itself: its sessions, the message of a peer that it handles next, and the words of its peers.
 
 ghost use Rattle.std.specs.Prelude.{◌≡◌, ◌≢◌, true, false, slice_get, IfOk, MatchOption};
 ghost use Rattle.outbox.specs.Items.{octets_waiting};
@@ -21,7 +21,7 @@ use session_fsm::State;
 use std::alloc::{AllocError, Global};
 
 impl Router<'_> {
-    /// The peer at a place, counted from 0 by rising number. None behind the last.
+    /// The peer at a place, counted from 0 by rising number. `None` behind the last.
     pub fn peer_at(&self, place: usize) -> Option<Asn>
         ensures { result ≡ slice_get (peers self.now.net self.now.number) place }
     {
@@ -31,7 +31,7 @@ impl Router<'_> {
         Some(self.peers[place].number)
     }
 
-    /// The state of the session with a peer (RFC 4271 section 8.2.2). None where no link leads to the peer.
+    /// The state of the session with a peer (RFC 4271 section 8.2.2). `None` if no link leads to the peer.
     pub fn state(&self, peer: Asn) -> Option<State>
         ensures { result ≡ of_peer self.now peer (λ side. side.session.state) }
     {
@@ -39,8 +39,8 @@ impl Router<'_> {
         Some(self.peers[at].end.state())
     }
 
-    /// The incarnation of the link to a peer: the last number that the router dialled, 0 at first. None where no
-    /// link leads to the peer.
+    /// The incarnation of the link to a peer: the last number that the router dialled, 0 at first. `None` if no link
+    /// leads to the peer.
     pub fn epoch(&self, peer: Asn) -> Option<u32>
         ensures { result ≡ of_peer self.now peer (λ side. side.link.epoch) }
     {
@@ -48,7 +48,7 @@ impl Router<'_> {
         Some(self.peers[at].end.epoch())
     }
 
-    /// How many octets of messages wait to be put towards a peer. None where no link leads to the peer.
+    /// How many octets of messages wait to be put towards a peer. `None` if no link leads to the peer.
     pub fn octets_waiting(&self, peer: Asn) -> Option<usize>
         ensures { result ≡ of_peer self.now peer (λ side. octets_waiting side.outbox) }
     {
@@ -56,8 +56,8 @@ impl Router<'_> {
         Some(self.peers[at].end.octets_waiting())
     }
 
-    /// The message or fault of a peer that is handled next. None where no link leads to the peer, and where
-    /// neither waits. It is refused only where memory was.
+    /// The message or fault of a peer that is handled next. `None` if no link leads to the peer, or if neither waits.
+    /// It is refused only for want of memory.
     pub fn front(
         &self,
         alloc: Global,
@@ -78,8 +78,8 @@ impl Router<'_> {
         Some(end.front_to_show(alloc, &rule))
     }
 
-    /// The word heard last from a peer for a prefix (Adj-RIB-In, RFC 4271 section 3.2). None exactly where it is
-    /// the empty path, as in every state but Established.
+    /// The word heard last from a peer for a prefix (Adj-RIB-In, RFC 4271 section 3.2). `None` exactly where it is the
+    /// empty path, as in every state but Established.
     pub fn word_heard(&self, peer: Asn, prefix: &Prefix) -> Option<&Word>
         ensures word { MatchOption result (word_of self.now.tables.heard peer prefix.now ≡ nothing) (λ word. (word.now ≡ word_of self.now.tables.heard peer prefix.now) × (word.now ≢ nothing)) }
         ensures plain { linked self.now.net self.now.number peer ≡ true → IsNamed self.now.net.origins prefix.now → word_of self.now.tables.heard peer prefix.now ≡ heard_now (sides_of self.now peer) prefix.now }
@@ -87,7 +87,7 @@ impl Router<'_> {
         self.tables.word_heard(peer, prefix)
     }
 
-    /// The word sent last to a peer for a prefix (Adj-RIB-Out, RFC 4271 section 3.2). None exactly where it is the
+    /// The word sent last to a peer for a prefix (Adj-RIB-Out, RFC 4271 section 3.2). `None` exactly where it is the
     /// empty path, as in every state but Established.
     pub fn word_sent(&self, peer: Asn, prefix: &Prefix) -> Option<&Word>
         ensures word { MatchOption result (word_of self.now.tables.sent peer prefix.now ≡ nothing) (λ word. (word.now ≡ word_of self.now.tables.sent peer prefix.now) × (word.now ≢ nothing)) }
@@ -104,15 +104,15 @@ impl Router<'_> {
     }
 
     /// The prefix whose kept path [`Router::decide`] sets next: the least, by address and then by length, whose kept
-    /// path is not the best of the choices. None exactly where each kept path is.
+    /// path is not the best of the choices. `None` exactly where each kept path is the best.
     pub fn undecided(&self) -> Option<Prefix>
         ensures { MatchOption result (HoldsOfAll self.now.tables.net.origins (IsSettled self.now.tables)) (IsLeastWithout self.now.tables.net.origins (IsSettled self.now.tables)) }
     {
         self.tables.undecided()
     }
 
-    /// Whom [`Router::advertise`] tells next, and of which prefix: the least Established peer that was not told some
-    /// kept path and whose outbox has room, and its least such prefix. None where there is no such peer.
+    /// The peer that [`Router::advertise`] tells next, and the prefix: the least Established peer that was not told
+    /// some kept path and whose outbox has room, and its least such prefix. `None` if there is no such peer.
     pub fn next_told(&self) -> Option<(Asn, Prefix)>
         ensures { IsToldNext self.now result }
     {

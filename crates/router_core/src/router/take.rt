@@ -19,9 +19,9 @@ impl Router<'_> {
     /// Pieces and markers are used in the incarnation that the end joined, and markers in Established
     /// alone; all others are dropped.
     ///
-    /// Refused [`RouterError::NoSuchPeer`], [`RouterError::Held`] where a whole message or a fault of
-    /// that peer waits, [`RouterError::StampEnd`], [`RouterError::EpochEnd`], and
-    /// [`RouterError::Memory`] where a growth was; then all is as it was.
+    /// Refused with [`RouterError::NoSuchPeer`], with [`RouterError::Held`] if a whole message or a fault of that peer
+    /// waits, with [`RouterError::StampEnd`], with [`RouterError::EpochEnd`], and with [`RouterError::Memory`] if a
+    /// growth is refused; then all is as it was.
     pub fn take_item(&mut self, peer: Asn, item: &Item) -> Result<Stepped, RouterError>
         ensures answers { Answers result self.old (Take peer item.now.stamp item.now.what) self.new }
         ensures same { IsSame self.old self.new }
@@ -31,8 +31,8 @@ impl Router<'_> {
 
     /// Takes the next item of a peer as [`Router::take_item`] does, and is refused as that is.
     ///
-    /// `room`: whether the caller has room for the event where the call steps; where it has none, a step
-    /// is refused [`RouterError::Memory`], and any other answer is as it would be.
+    /// `room` says whether the caller has room for the event if the call steps. Without room, a step is refused with
+    /// [`RouterError::Memory`]; any other answer is as it would be.
     pub fn take(
         &mut self,
         peer: Asn,
@@ -66,8 +66,8 @@ impl Router<'_> {
         }
     }
 
-    // Takes a Dial or a Shut at this stamp, or refuses it and changes nothing. Its draft is large, and a
-    // function pays for what it may hold as it begins: so `take`, which mostly takes pieces, holds none.
+    // Takes a Dial or a Shut at this stamp, or refuses it and changes nothing. Its draft is large, and a function
+    // reserves as it begins what it may hold: `take`, which mostly takes pieces, therefore holds none.
     #[inline(never)]
     fn take_sign(
         &mut self,
