@@ -1,5 +1,5 @@
--- What each call of a router answers: a step, nothing, or a refusal. Everything that the definition of a step leaves open is
--- settled here: a put takes as much as it may, an UPDATE goes to the least peer that waits and has room.
+-- What each call of a router answers: a step, nothing, or a refusal. A call settles what the definition of a step
+-- leaves open: a put takes as much as it may, and an UPDATE goes to the least peer that waits and has room.
 use Rattle.std.specs.Prelude.{ℕ, ◌+◌, ◌≡◌, max, nat_lt, Bool, true, false, ◌&&◌, not, Option, None, Some, is_some, Result, Ok, Err, MatchResult}
 use Rattle.std.specs.List.{find}
 use Rattle.bgp_framing.specs.Held.{is_waiting}
@@ -39,7 +39,7 @@ pub data Answer : Type 0 where
   Idle : Answer
   Refuses : (why : RouterError) → Answer
 
--- ---- the order of judging: what bars the event, that there is none, its stamp, its numbers; want of memory comes last
+-- ---- the order of judging: what bars the event, whether there is one, its stamp, its numbers, and want of memory last
 
 abbrev pub judged : Option RouterError → Option RouterEvent → (stamp_ends : Bool) → (overflows : Bool) → Answer
 judged (Some why) event stamp_ends overflows = Refuses why
@@ -68,7 +68,7 @@ abbrev pub advertise_event : Option ℕ → Option RouterEvent
 advertise_event None = None
 advertise_event (Some v) = Some (alone (Advertises v))
 
--- every peer that waits is at the limit: the least one
+-- the refusal if every peer that waits is at the limit: it names the least one
 abbrev pub blocked : Option ℕ → Option ℕ → Option RouterError
 blocked (Some v) waiting = None
 blocked None None = None
@@ -99,7 +99,7 @@ module _ (g : Setting) (u : ℕ) where
   bars x Decide = None
   bars x Advertise = blocked (find (has_room x) (peers g.net u)) (find (is_waiting_peer g u x) (peers g.net u))
 
-  -- the event of a call, where there is one
+  -- the event of a call, if there is one
   abbrev pub command_event : Router → Command → Option RouterEvent
   command_event x (command.Originate q) = if_so (not (x.originated q)) (alone (Obeys (command.Originate q)))
   command_event x (command.Withdraw q) = if_so (x.originated q) (alone (Obeys (command.Withdraw q)))
@@ -130,7 +130,7 @@ module _ (g : Setting) (u : ℕ) where
   abbrev pub stamped_after : Stamped → Call → RouterEvent → Stamped
   stamped_after x call e = record { router = after g u x.router e; stamp = stamp_of x call }
 
-  -- what a call is to give and to leave: a step is done, or wants memory; all else changes nothing
+  -- what a call has to give and to leave: a step is done, or wants memory; any other answer changes nothing
   abbrev pub Gives : Result Stepped RouterError → Answer → Stamped → Call → Stamped → Type 0
   Gives r (Steps e) x call y =
       MatchResult r (λ s. (s ≡ stepped.Did) × (y ≡ stamped_after x call e)) (λ why. (why ≡ error.Memory) × (y ≡ x))

@@ -61,7 +61,7 @@ abbrev pub answers : ℕ → Stamped → List Call → List Answer
 answers u x [] = []
 answers u x (c ∷ cs) = answer setting u x c ∷ answers u (left_by x c (answer setting u x c) u) cs
 
--- a prefix is originated and decided once; nobody is there to be told; router 2 is no origin
+-- a prefix is originated and decided once; no peer is there to be told; router 2 is no origin
 abbrev pub OriginatesOnce : Type 0
 OriginatesOnce =
     (answers 1 (fresh 1) (Obey (command.Originate p) ∷ Obey (command.Originate p) ∷ Decide ∷ Decide ∷ Advertise ∷ Obey (command.Start 3) ∷ [])
@@ -102,7 +102,7 @@ from_2 i = Take 2 0 i
 abbrev pub hears : List Call → Stamped
 hears cs = after_calls 1 started cs
 
--- a faulty header is held until it is handled; then the fault is told, and the incarnation is shut
+-- a faulty header is held until it is handled; its fault is told then, and the incarnation is shut
 abbrev pub faulty : List ℕ
 faulty = 254 ∷ replicate 18 255
 
@@ -119,7 +119,7 @@ FaultyHeaderCloses =
     × (two_puts (hears (Put 2 ∷ from_2 (item.Dial 1) ∷ from_2 (item.Piece 1 faulty) ∷ Handle 2 ∷ []))
     ≡ (Some (item.Piece 1 (open_1 ++ unmarked_notice)), Some (item.Shut 1)))
 
--- octets of another incarnation, a marker before Established and an old dial change nothing but what was taken
+-- octets of another incarnation, a marker before Established and an old dial change only what was taken
 abbrev pub with_strays : Stamped
 with_strays = hears (from_2 (item.Dial 1) ∷ from_2 (item.Piece 2 (marker ++ 0 ∷ 19 ∷ 4 ∷ [])) ∷ from_2 (item.Mark 1 5) ∷ from_2 (item.Dial 0) ∷ [])
 
@@ -144,7 +144,7 @@ NoIncarnationIsLeft =
     × (answer setting 1 (after_calls 1 greatest_shut (ticks 118)) Tick ≡ Steps (alone Ticks))
     × (answer setting 1 (after_calls 1 greatest_shut (ticks 119)) Tick ≡ Refuses error.EpochEnd)
 
--- what was held of an incarnation is gone as it closes
+-- the octets held of an incarnation are gone as it closes
 abbrev pub open_2 : List ℕ
 open_2 = marker ++ 0 ∷ 29 ∷ 1 ∷ 4 ∷ 0 ∷ 2 ∷ 0 ∷ 90 ∷ 10 ∷ 0 ∷ 0 ∷ 2 ∷ 0 ∷ []
 
@@ -156,7 +156,7 @@ abbrev pub OldOctetsAreGone : Type 0
 OldOctetsAreGone =
     ((second_incarnation.router.sides 2).session.state ≡ OpenConfirm) × ((second_incarnation.router.sides 2).link.epoch ≡ 2)
 
--- the last stamp
+-- no event has a stamp above the last
 abbrev pub NoStampIsLeft : Type 0
 NoStampIsLeft = answer setting 1 started (Take 2 4611686018427387904 (item.Dial 1)) ≡ Refuses error.StampEnd
 
@@ -190,7 +190,7 @@ StrangePathCloses =
     × (two_puts after_strange ≡ (Some (item.Piece 1 (marker ++ 0 ∷ 21 ∷ 3 ∷ 3 ∷ 11 ∷ [])), Some (item.Shut 1)))
     × ((after_strange.router.sides 2).session.state ≡ Idle) × ((after_strange.router.sides 2).acted 1 ≡ [])
 
--- ---- the order of judging at the last stamp: what bars a call and what is nothing stand before it
+-- ---- the order of judging at the last stamp: what bars a call, and that there is nothing to do, come before it
 
 abbrev pub at_last_stamp : Stamped → Stamped
 at_last_stamp x = record x { stamp = 4611686018427387904 }
@@ -284,7 +284,7 @@ wide = record {
 abbrev pub open_wide : List ℕ
 open_wide = marker ++ 0 ∷ 37 ∷ 1 ∷ 4 ∷ 91 ∷ 160 ∷ 0 ∷ 90 ∷ 10 ∷ 0 ∷ 0 ∷ 2 ∷ 8 ∷ 2 ∷ 6 ∷ 65 ∷ 4 ∷ 0 ∷ 1 ∷ 17 ∷ 112 ∷ []
 
--- an OPEN without it, and the fault that router 1 tells of: the capability that it says itself
+-- an OPEN without that capability, and the fault that router 1 tells: it has the capability that router 1 says itself
 abbrev pub open_unsaid : List ℕ
 open_unsaid = marker ++ 0 ∷ 29 ∷ 1 ∷ 4 ∷ 91 ∷ 160 ∷ 0 ∷ 90 ∷ 10 ∷ 0 ∷ 0 ∷ 2 ∷ 0 ∷ []
 

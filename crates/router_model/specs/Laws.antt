@@ -1,4 +1,4 @@
--- What the definitions of one router say together.
+-- Laws of the definitions of one router.
 use Rattle.std.specs.Prelude.{ℕ, ◌≡◌, ◌≢◌, ◌<◌, max, nat_eq, true, false, ◌++◌, List, [], ◌∷◌}
 use Rattle.std.specs.List.{list_any}
 use Rattle.bgp_codec.specs.declared.message.Message.{Message}
@@ -37,25 +37,26 @@ pub record AreLinked (net : Plan) (u v : ℕ) : Type 0 where
 abbrev pub LinkedRoutersArePeers : Type 0
 LinkedRoutersArePeers = (net : Plan) → IsNetwork net → (u v : ℕ) → linked net u v ≡ true → AreLinked net u v
 
--- what a step appends towards a peer is what it says; what it puts stood in front and is gone; nothing else changes there
+-- what a step says towards a peer is appended; what it puts stood in front, and is gone; nothing else changes there
 abbrev pub StepsAppendWhatTheySay : Type 0
 StepsAppendWhatTheySay =
     (g : Setting) (u v : ℕ) (x y : Router) (e : RouterEvent) → Step g u x e y
     → all_passes (put_towards v e) ++ (y.sides v).outbox ≡ (x.sides v).outbox ++ passing (written (x.sides v).width) (says g u x e v)
 
--- a step that a call answers is one, of an event that the call can be
+-- if a call answers a step, it is a step of an event that the call can be
 abbrev pub AnswersAreSteps : Type 0
 AnswersAreSteps =
     (g : Setting) → IsNetwork g.net → (u : ℕ) (x : Stamped) (call : Call) (e : RouterEvent)
     → answer g u x call ≡ Steps e → IsEventOf call e × Step g u x.router e (after g u x.router e)
 
--- and a call is idle only where none of the events that it can be may come
+-- a call is idle only if none of the events that it can be may come
 abbrev pub IdleWhereNothingMayCome : Type 0
 IdleWhereNothingMayCome =
     (g : Setting) → IsNetwork g.net → (u : ℕ) (x : Stamped) (call : Call)
     → answer g u x call ≡ Idle → (e : RouterEvent) → IsEventOf call e → May g u x.router e → ⊥
 
--- the history of UPDATEs sent, incarnation by incarnation, is that of what is said: an Advertise alone says one, and joins it
+-- the history of UPDATEs sent, incarnation by incarnation, is that of the UPDATEs said: only an Advertise says one, and
+-- it joins the history
 abbrev pub SentIsWhatIsSaid : Type 0
 SentIsWhatIsSaid =
     (g : Setting) (u v n : ℕ) (x y : Router) (e : RouterEvent) → Step g u x e y
@@ -68,24 +69,24 @@ HasNumbers (item.Piece e octets) = Unit {0}
 HasNumbers (item.Mark e s) = Unit {0}
 HasNumbers (item.Shut e) = Unit {0}
 
--- whatever a peer hands in is taken where no message of it waits to be handled and a stamp is left
+-- whatever a peer hands in is taken, if no message of the peer waits to be handled and a stamp is left
 abbrev pub AnyItemIsTaken : Type 0
 AnyItemIsTaken =
     (g : Setting) (u v stamp : ℕ) (x : Stamped) (i : What) → linked g.net u v ≡ true → HasNumbers i
     → is_waiting (x.router.sides v).held ≡ false → max x.stamp stamp < GREATEST_STAMP
     → answer g u x (Take v stamp i) ≡ Steps (takes v i)
 
--- and what waits is handled, be it a message or a fault
+-- a message or a fault that waits is handled
 abbrev pub WhatWaitsIsHandled : Type 0
 WhatWaitsIsHandled =
     (g : Setting) (u v : ℕ) (x : Stamped) → linked g.net u v ≡ true → is_waiting (x.router.sides v).held ≡ true → x.stamp < GREATEST_STAMP
     → answer g u x (Handle v) ≡ Steps (alone (Handles v))
 
--- a put may change places with each event that puts nothing in its direction: so runs pass through their cuts
+-- a put may change places with each event that puts nothing in its direction: runs pass through their cuts
 abbrev pub RouterPutsCommute : Type 0
 RouterPutsCommute = (g : Setting) → PutsCommute (Step g)
 
--- and what an event says is the same before a put and behind it
+-- what an event says is the same before a put and behind it
 abbrev pub PutsLeaveWhatIsSaid : Type 0
 PutsLeaveWhatIsSaid =
     (g : Setting) (u v : ℕ) (i : What) (x y : Router) → Step g u x (puts v i) y → (e : RouterEvent) (w : ℕ) → says g u y e w ≡ says g u x e w

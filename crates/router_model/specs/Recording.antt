@@ -1,4 +1,4 @@
--- What the steps of one router do to its recordings of snapshots.
+-- How the steps of one router change its recordings of snapshots.
 use Rattle.std.specs.Prelude.{ℕ, ◌≡◌, ◌<◌, ◌≤◌, Bool, true, false, ◌++◌, [], ◌∷◌, Option, None, Some}
 use mathlib.Core.Logic.{◌⊎◌}
 use Rattle.bgp_codec.specs.declared.message.Message.{Message}
@@ -23,19 +23,19 @@ pub record LeavesFirst (g : Setting) (u v : ℕ) (x y : Router) : Type 0 where
   pub is : is_up (y.sides v) ≡ false
   pub least : (w : ℕ) → w < v → linked g.net u w ≡ true → is_up (x.sides w) ≡ true → is_up (y.sides w) ≡ true
 
--- where a session leaves Established while s is recorded, the loss of s is queued, by that peer and in that incarnation, and
--- nothing is recorded any more
+-- if a session leaves Established while s is recorded, the loss of s is queued, by that peer and in that incarnation,
+-- and nothing is recorded any more
 abbrev pub LeavingLosesTheRecording : Type 0
 LeavingLosesTheRecording =
     (g : Setting) → IsNetwork g.net → (u v s : ℕ) (x y : Router) (e : RouterEvent) → Step g u x e y → IsRecording x.snapshots s → LeavesFirst g u v x y
     → (y.snapshots.queue ≡ x.snapshots.queue ++ Lost s v (x.sides v).link.epoch Closed ∷ []) × (y.snapshots.unfinished ≡ None)
 
--- what is recorded behind a step: what was before it, or a number above the last one
+-- what is recorded behind a step: what was recorded before it, or a number above the last one
 abbrev pub IsNext : Snapshots → Snapshots → ℕ → Type 0
 IsNext x y k = IsRecording x k ⊎ (x.last < k) × (k ≤ y.last)
 
--- numbers rise; what is recorded goes on, or is new; and a part that is queued is of what was recorded or is new, and is recorded no
--- more
+-- numbers rise; a recording goes on, or is new; a part that is queued is of the recording before or of a new one, which
+-- then ends
 pub record GoesOn (x y : Snapshots) : Type 0 where
   pub rises : x.last ≤ y.last
   pub records : (k : ℕ) → IsRecording y k → IsNext x y k
@@ -47,13 +47,14 @@ RecordingsGoOn = (g : Setting) (u : ℕ) (x y : Router) (e : RouterEvent) → St
 
 -- ---- what the draft of a session's event leaves
 
--- the incarnation that is left: by whether the session was up, and whether it is
+-- the incarnation that is left, by whether the session was up and whether it is up now
 abbrev pub left_of : Bool → Bool → ℕ → Option ℕ
 left_of true true e = None
 left_of true false e = Some e
 left_of false now e = None
 
--- a draft leaves the incarnation exactly where the session was Established and is not any more; a reset leaves it that was up
+-- a draft leaves the incarnation exactly where the session was Established and is no more; a reset leaves it if the
+-- session was up
 pub record LeavesEstablished (own_open : Message) (s : Side) : Type 0 where
   pub met_by : (e : FsmEvent) → (met own_open s e).left ≡ left_of (is_up s) (is_established (met own_open s e).session.state) s.link.epoch
   pub reset_is : (reset own_open s).left ≡ left_of (is_up s) false s.link.epoch

@@ -8,12 +8,13 @@ use Rattle.ranked_policy.specs.declared.network.Origin.{Origin}
 use Rattle.ranked_policy.specs.declared.network.Router as network
 use Rattle.stable_paths.specs.Stable.{IsBest}
 
--- a network, and the best path of each router for a prefix, by whether it originates the prefix and by the path heard from each peer
+-- a network, and the best path of each router for a prefix, by whether it originates the prefix and by the path heard
+-- from each peer
 pub record Setting : Type 0 where
   pub net : Plan
   pub best : ℕ → PrefixView → Bool → (ℕ → List ℕ) → List ℕ
 
--- every router chooses by rank: what `best` gives is the best of its choices
+-- every router chooses by rank: `best` gives the best of its choices
 abbrev pub ChoosesByRank : Setting → Type 0
 ChoosesByRank g =
     (u : ℕ) → IsRouter g.net.routers u → (q : PrefixView) → IsNamed g.net.origins q → (originated : Bool) (words : ℕ → List ℕ)
@@ -44,7 +45,7 @@ peers net u = filter (linked net u) (numbers net.routers)
 abbrev pub names : List Origin → PrefixView → Bool
 names origins q = list_any (λ o. is_prefix o.prefix q) origins
 
--- it names router u
+-- the network names router u as an origin of the prefix
 abbrev pub is_origin : List Origin → ℕ → PrefixView → Bool
 is_origin origins u q = list_any (λ o. is_prefix o.prefix q && (o.router == u)) origins
 

@@ -36,24 +36,26 @@ pub record Router : Type 0 where
 
 -- ---- the messages that a router says of itself
 
--- the field AS of its OPEN: its number, or AS_TRANS where two octets do not hold it (RFC 6793 section 9)
+-- the field AS of a router's OPEN: its number, or AS_TRANS if two octets do not hold it (RFC 6793 section 9)
 abbrev pub asn_field : ℕ → ℕ
 asn_field u = cond (nat_le u (greatest_asn Two)) u AS_TRANS
 
--- its parameters: none, or where AS numbers have four octets the capability that says its number so (RFC 6793 section 3)
+-- the parameters of a router's OPEN: none, or, with AS numbers of four octets, the capability that says its number (RFC
+-- 6793 section 3)
 abbrev pub params_of : Width → ℕ → List (List Cap)
 params_of Two u = []
 params_of Four u = (cap_of FOUR_OCTET_ASN (to_be_bytes w32 u) ∷ []) ∷ []
 
--- its OPEN has these, the network's hold time and its identifier (RFC 4271 section 4.2)
+-- the OPEN of a router: these, the network's hold time, and its identifier (RFC 4271 section 4.2)
 abbrev pub open_of : Plan → ℕ → Message
 open_of net u = OpenMsg (record { asn = asn_field u; hold = net.settings.hold; id = identifier net.routers u; params = params_of net.settings.width u })
 
--- one withdrawn prefix, and no attributes (section 4.3)
+-- an UPDATE of one withdrawn prefix, without attributes (section 4.3)
 abbrev pub withdrawal : PrefixView → Update
 withdrawal q = record { withdrawn = q ∷ []; attrs = no_attrs; nlri = [] }
 
--- one prefix with ORIGIN IGP, the path as one AS_SEQUENCE, and the router's identifier as NEXT_HOP (section 5.1)
+-- an UPDATE of one prefix with ORIGIN IGP, the path as one AS_SEQUENCE, and the router's identifier as NEXT_HOP
+-- (section 5.1)
 abbrev pub announcement : ℕ → PrefixView → List ℕ → Update
 announcement id q path = record {
   withdrawn = [];
@@ -66,7 +68,7 @@ abbrev pub telling : ℕ → PrefixView → List ℕ → Update
 telling id q [] = withdrawal q
 telling id q (v ∷ path) = announcement id q (v ∷ path)
 
--- what peer v says is read by u as the peer's: its OPEN and its paths name its number (sections 6.2 and 6.3)
+-- u reads what peer v says as the peer's: its OPEN and its paths name its number (sections 6.2 and 6.3)
 abbrev pub rule_of : Plan → ℕ → ℕ → Rule
 rule_of net u v = record { width = net.settings.width; peer = Some v; own = Some u }
 
@@ -100,7 +102,7 @@ module _ (g : Setting) (u : ℕ) where
   abbrev pub undecided : Router → Option PrefixView
   undecided x = find (is_undecided x) (prefixes g)
 
-  -- the least prefix whose last word to a peer is not the kept path, where the session is Established
+  -- the least prefix whose kept path is not the last word told to a peer, if the session is Established
   abbrev pub is_untold : Router → ℕ → PrefixView → Bool
   is_untold x v q = not (same_path (x.kept q) (path_in (last_told (x.sides v) q)))
 

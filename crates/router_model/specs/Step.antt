@@ -1,5 +1,5 @@
--- The steps of one router: where each event may come, and what it leaves. What a router may choose stands in the event: how many
--- octets a put takes, and the peer that an UPDATE is told.
+-- The steps of one router: where each event may come, and what it leaves. The event itself has what a router may
+-- choose: how many octets a put takes, and which peer is told an UPDATE.
 use Rattle.std.specs.Prelude.{ℕ, ◌≡◌, ◌≤◌, ◌==◌, nat_lt, Bool, true, false, ◌&&◌, not, cond, List, [], ◌∷◌, length, drop, slice_get, Option, None, Some, is_some}
 use Rattle.std.specs.List.{list_any}
 use mathlib.Core.List.{IsPrefix}
@@ -67,14 +67,14 @@ seen true NoMessage v x = x
 seen true (HasFault fault) v x = x
 seen false h v x = x
 
--- the draft of one side is carried out; what leaves Established loses the recording
+-- the draft of one side is carried out; a side that leaves Established loses the recording
 abbrev pub moved : Router → ℕ → AtHand → Draft → Router
 moved x v h a = record x {
   sides = λ y. cond (y == v) (carried h (x.sides y) a) (x.sides y);
   snapshots = seen a.acts h v (closed (close_at v a.left) x.snapshots);
 }
 
--- what is put was in front of the outbox
+-- an item is put: it was in front of the outbox
 abbrev pub put_from : Side → What → Side
 put_from s x = record s { outbox = drop (length (passes x)) s.outbox }
 
@@ -101,7 +101,7 @@ awaits (Some first) v = not (v == first)
 abbrev pub is_greater : Router → ℕ → Bool
 is_greater x s = nat_lt x.snapshots.last s
 
--- the offer that waits in front, and the router once it is made
+-- the offer that waits in front, and the router once that offer is made
 abbrev pub next_offer : Router → Option RouterOffer
 next_offer x = slice_get x.snapshots.queue 0
 
@@ -190,8 +190,8 @@ module _ (g : Setting) (u : ℕ) where
   obeyed x (command.Snapshot s) = records x s None
   obeyed x command.Restart = forgetting (all_moved x (λ v. meets_at x v ManualStop))
 
-  -- where an event may come: what is originated already, or not originated, is no event; a message is handled where a whole
-  -- one or a fault waits, and an item is taken where none does
+  -- where an event may come: to originate twice, or to withdraw what is not originated, is no event; a message is
+  -- handled if a whole one or a fault waits, and an item is taken if none does
   abbrev pub MayObey : Router → Command → Type 0
   MayObey x (command.Start v) = linked g.net u v ≡ true
   MayObey x (command.Stop v) = linked g.net u v ≡ true
@@ -223,8 +223,8 @@ module _ (g : Setting) (u : ℕ) where
   after x (takes v i) = taken x v i
   after x (offers made) = without_offer x
 
-  -- a dial of an event would pass the greatest incarnation: a start, a reset and a tick dial a number, and a Dial taken may be
-  -- answered by one
+  -- a dial of an event would pass the greatest incarnation: a start, a reset and a tick dial a number, and a Dial that
+  -- is taken may be answered by one
   abbrev pub overflows_by : Router → Command → Bool
   overflows_by x (command.Start v) = (meets_at x v ManualStart).overflows
   overflows_by x (command.Reset v) = (resets_at x v).overflows

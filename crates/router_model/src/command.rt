@@ -1,4 +1,4 @@
-//! What a router is told to do.
+//! Commands to a router.
 
 use prefix_lanes::Prefix;
 use ranked_policy::Asn;
@@ -8,15 +8,15 @@ use ranked_policy::Asn;
 pub enum Command {
     /// Start the session with this peer (RFC 4271 section 8.1.2, event 1).
     Start(Asn),
-    /// Stop it (event 2).
+    /// Stop the session with this peer (event 2).
     Stop(Asn),
-    /// Stop it, and start it again.
+    /// Stop the session with this peer, and start it again.
     Reset(Asn),
     /// Originate a prefix that the network names with this router as its origin.
     Originate(Prefix),
-    /// Originate it no longer.
+    /// Originate a prefix no longer.
     Withdraw(Prefix),
-    /// Record a snapshot with this number, which is to be above the last recorded.
+    /// Record a snapshot with this number, which has to be above the last recorded.
     Snapshot(u32),
     /// Stop every session, and forget what is kept and originated.
     Restart,

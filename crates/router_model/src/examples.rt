@@ -3,8 +3,8 @@
 
 ghost use Rattle.router_model.specs.Examples.{OriginatesOnce, StartsAndSaysOpen, FaultyHeaderCloses, StrayItemsAreDropped, NoIncarnationIsLeft, OldOctetsAreGone, NoStampIsLeft, WrongNumberCloses, StrangePathCloses, NothingBesideTheLastStamp, TellingSetsTheTimer, AnnouncementWins, TellsBelowTheLimit, WideNumberIsSaid};
 
-/// A prefix is originated once and decided once; there is nobody to tell; a router that is no peer, and a router that is
-/// no origin, are refused.
+/// A prefix is originated once and decided once, and there is nobody to tell. A router that is no peer, and a router
+/// that is no origin, are refused.
 pub fn originates_once()
     ensures { OriginatesOnce }
 {}
@@ -19,7 +19,7 @@ pub fn no_stamp_is_left()
     ensures { NoStampIsLeft }
 {}
 
-/// A faulty header waits until it is handled; then its fault is told, and the incarnation is shut.
+/// A faulty header waits until it is handled; its fault is told then, and the incarnation is shut.
 pub fn faulty_header_closes()
     ensures { FaultyHeaderCloses }
 {}
@@ -34,7 +34,7 @@ pub fn no_incarnation_is_left()
     ensures { NoIncarnationIsLeft }
 {}
 
-/// What was held of an incarnation is gone as it closes.
+/// The octets held of an incarnation are gone as it closes.
 pub fn old_octets_are_gone()
     ensures { OldOctetsAreGone }
 {}
@@ -46,7 +46,8 @@ pub fn faults_close()
     ensures path { StrangePathCloses }
 {}
 
-/// At the last stamp what bars a call, and that there is nothing to do, are answered before the stamp's end.
+/// At the last stamp, a call that is barred and a call with nothing to do are answered as such, and not with the
+/// stamp's end.
 pub fn nothing_beside_the_last_stamp()
     ensures { NothingBesideTheLastStamp }
 {}
@@ -66,7 +67,7 @@ pub fn tells_below_the_limit()
     ensures { TellsBelowTheLimit }
 {}
 
-/// Where AS numbers have four octets, an OPEN says a greater number than 65535 in its capability, and one without the
+/// If AS numbers have four octets, an OPEN says a number greater than 65535 in its capability, and an OPEN without the
 /// capability is refused.
 pub fn wide_number_is_said()
     ensures { WideNumberIsSaid }
