@@ -1,4 +1,4 @@
--- What an UPDATE that comes in Established does, and what can be said of a path.
+-- How an UPDATE that comes in Established is acted on, and which paths can be said.
 use Rattle.std.specs.Prelude.{ℕ, ◌≡◌, ◌^◌, ◌<◌, ◌≤◌, true, List, length, Some, Ok}
 use Rattle.std.specs.List.{AllByRecursion}
 use Rattle.bgp_values.specs.Ranges.{is_unicast}
@@ -16,12 +16,13 @@ use Rattle.router_side.specs.declared.route.TheConstants.{MOST_NUMBERS}
 use Rattle.router_side.specs.Sayings.{IsSayable}
 use Rattle.router_side.specs.SideOf.{acting}
 
--- the frame of a peer tells the UPDATE, which can be said: whoever reads it as the peer's reads this
+-- the frame of a peer tells the UPDATE, which can be said: whoever reads the frame as the peer's reads this UPDATE
 pub record IsToldBy (width : Width) (peer : ℕ) (frame : List ℕ) (u : Update) : Type 0 where
   pub sayable : IsSayable width (UpdateMsg u)
   pub reads : (rule : Rule) → rule.width ≡ width → rule.peer ≡ Some peer → reading rule frame ≡ Ok (UpdateMsg u)
 
--- the same of what stands in front of octets
+-- the message in front of octets is a peer's UPDATE, which can be said: whoever reads it as the peer's reads this
+-- UPDATE
 pub record IsRouteInFront (width : Width) (peer : ℕ) (octets : List ℕ) (u : Update) : Type 0 where
   pub sayable : IsSayable width (UpdateMsg u)
   pub reads : (rule : Rule) → rule.width ≡ width → rule.peer ≡ Some peer → front rule octets ≡ Ok (UpdateMsg u)

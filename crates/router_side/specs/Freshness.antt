@@ -1,4 +1,4 @@
--- Histories of a side by incarnation: what an incarnation has before its session is Established, and what stays so.
+-- The history of a side by incarnation: it is empty before the session of an incarnation is Established, and stays so.
 use Rattle.std.specs.Prelude.{ℕ, ◌≡◌, ◌<◌, ◌≤◌, Bool, true, false, [], ◌⊎◌}
 use Rattle.bgp_codec.specs.declared.message.Message.{Message}
 use Rattle.link_epoch.specs.declared.link_end.Phase.TheVariants.{Shut}
@@ -42,13 +42,13 @@ pub record IsFresh (s : Side) : Type 0 where
 abbrev pub ComesUpUnsaid : Side → Draft → Type 0
 ComesUpUnsaid s a = is_up (carried NoMessage s a) ≡ true → (is_up s ≡ false) ⊎ (s.link.epoch < a.link.epoch) → IsUnsaid s a.link.epoch
 
--- a draft that keeps this
+-- a draft that leaves a side fresh
 pub record KeepsFresh (s : Side) (h : AtHand) (a : Draft) : Type 0 where
   pub fresh : IsFresh (carried h s a)
   pub up : ComesUpUnsaid s a
   pub onward : s.link.epoch ≤ a.link.epoch
 
--- a start, a stop, a reset and a second keep it, where no dial passes the greatest incarnation
+-- a start, a stop, a reset and a second leave a side fresh, if no dial passes the greatest incarnation
 pub record EventsKeepFresh (own_open : Message) (s : Side) : Type 0 where
   pub start : (met own_open s ManualStart).overflows ≡ false → KeepsFresh s NoMessage (met own_open s ManualStart)
   pub stop : KeepsFresh s NoMessage (met own_open s ManualStop)
@@ -58,7 +58,7 @@ pub record EventsKeepFresh (own_open : Message) (s : Side) : Type 0 where
 abbrev pub SessionsKeepFresh : Type 0
 SessionsKeepFresh = (own_open : Message) (s : Side) → IsFresh s → EventsKeepFresh own_open s
 
--- a Dial or a Shut of the peer that is taken keeps it, where no dial passes the greatest incarnation
+-- a Dial or a Shut of the peer that is taken leaves a side fresh, if no dial passes the greatest incarnation
 abbrev pub SignsKeepFresh : Type 0
 SignsKeepFresh =
     (own_open : Message) (s : Side) (x : Sign) → IsFresh s → (signed own_open s x).overflows ≡ false → KeepsFresh s NoMessage (signed own_open s x)
@@ -67,7 +67,7 @@ SignsKeepFresh =
 abbrev pub ActsWhereUp : Side → Draft → Type 0
 ActsWhereUp s a = a.acts ≡ true → (is_up s ≡ true) × (is_established a.session.state ≡ true) × (a.link.epoch ≡ s.link.epoch)
 
--- a message or a fault that is handled keeps it, and dials nothing
+-- a message or a fault that is handled leaves a side fresh, and dials nothing
 pub record HandlingKeepsFresh (own_open : Message) (m : Result Message Fault) (s : Side) : Type 0 where
   pub fits : (handled own_open m s).overflows ≡ false
   pub fresh : IsFresh (carried (at_hand m) (without_front s) (handled own_open m s))

@@ -19,7 +19,7 @@ abbrev pub history : List Told → ℕ → List Update
 history [] n = []
 history (t ∷ ts) n = cond (n == t.epoch) (t.update ∷ history ts n) (history ts n)
 
--- what was read, where it is an UPDATE
+-- the UPDATE that was read, if it is one
 abbrev pub updates_read : Result Message Fault → List Update
 updates_read (Ok (OpenMsg message)) = []
 updates_read (Ok (UpdateMsg update)) = update ∷ []
@@ -41,37 +41,37 @@ abbrev pub told_in : Width → List Place → List ℕ → List Told
 told_in width [] octets = []
 told_in width (p ∷ ps) octets = dated p.epoch (updates_read (reading (nobody width) (take p.len octets))) ++ told_in width ps (drop p.len octets)
 
--- the octets of each place are a frame, and no others are there
+-- the octets of each place are a frame, and there are no others
 abbrev pub AreKept : List Place → List ℕ → Type 0
 AreKept [] octets = octets ≡ []
 AreKept (p ∷ ps) octets = (p.len ≤ length octets) × IsFrame (take p.len octets) × AreKept ps (drop p.len octets)
 
--- what is spelt by an UPDATE's octets, which are all of its `len`, or those behind `told_front`
+-- the octets of an UPDATE from its stored ones: all of its `len`, or those behind `told_front`
 abbrev pub spelt_by : Bool → ℕ → List ℕ → List ℕ
 spelt_by short len octets = cond short (told_front len (get_or octets 0 0) ++ octets) octets
 
 abbrev pub spelt : Stored → List ℕ → List ℕ
 spelt p octets = spelt_by p.short p.len octets
 
--- how many of its octets are stored
+-- how many octets of an UPDATE are stored
 abbrev pub stored_len : Stored → ℕ
 stored_len p = cond p.short (p.len - 29) p.len
 
--- what is spelt by stored octets, of which each place takes the next
+-- the octets that stored ones spell; each place takes the next
 abbrev pub spelt_in : List Stored → List ℕ → List ℕ
 spelt_in [] octets = []
 spelt_in (p ∷ ps) octets = spelt p (take (stored_len p) octets) ++ spelt_in ps (drop (stored_len p) octets)
 
--- what is spelt at a place by its stored octets is a frame, of the length that it says
+-- the stored octets of a place spell a frame, of the length that the place says
 abbrev pub IsStored : Stored → List ℕ → Type 0
 IsStored p octets = IsFrame (spelt p octets) × (p.len ≡ length (spelt p octets))
 
--- so it is at each place, and no other octets are there
+-- the stored octets of each place spell a frame, and there are no other octets
 abbrev pub AreStored : List Stored → List ℕ → Type 0
 AreStored [] octets = octets ≡ []
 AreStored (p ∷ ps) octets = (stored_len p ≤ length octets) × IsStored p (take (stored_len p) octets) × AreStored ps (drop (stored_len p) octets)
 
--- octets are appended: of an UPDATE that announces a path those behind the front
+-- octets are appended; of an UPDATE that announces a path, those behind the front
 pub record PutsBehind (front whole old new : List ℕ) : Type 0 where
   pub rest : List ℕ
   pub appended : new ≡ old ++ rest
@@ -83,7 +83,7 @@ abbrev pub places_of : List Stored → List Place
 places_of [] = []
 places_of (s ∷ ss) = record { epoch = s.epoch; len = s.len } ∷ places_of ss
 
--- what was told by stored octets
+-- the UPDATEs that were told, by stored octets
 abbrev pub told_stored : Width → List Stored → List ℕ → List Told
 told_stored width ss octets = told_in width (places_of ss) (spelt_in ss octets)
 
@@ -96,12 +96,12 @@ abbrev pub octets_in : List Block → List ℕ
 octets_in [] = []
 octets_in (b ∷ bs) = spelt_in b.places.items b.octets.items ++ octets_in bs
 
--- what was told in blocks
+-- the UPDATEs that were told, by blocks
 abbrev pub told_by_blocks : Width → List Block → List Told
 told_by_blocks width [] = []
 told_by_blocks width (b ∷ bs) = told_stored width b.places.items b.octets.items ++ told_by_blocks width bs
 
--- blocks whose octets are stored so
+-- the octets of each block are stored in this way
 abbrev pub AreAllStored : List Block → Type 0
 AreAllStored bs = AllByRecursion (λ (b : Block). AreStored b.places.items b.octets.items) bs
 
@@ -112,6 +112,6 @@ pub record Past : Type 0 where
   pub room : ℕ
   pub places : ℕ
 
--- what was told, where numbers have this width
+-- the UPDATEs that were told, if AS numbers have this width
 abbrev pub told_with : Width → Past → List Told
 told_with width p = told_in width p.entries p.octets

@@ -16,7 +16,7 @@ marked rest = 255 ∷ 255 ∷ 255 ∷ 255 ∷ 255 ∷ 255 ∷ 255 ∷ 255 ∷ 25
 abbrev pub field : ℕ → List ℕ → List ℕ
 field n rest = get_or (to_be_bytes w16 n) 0 0 ∷ get_or (to_be_bytes w16 n) 1 0 ∷ rest
 
--- a withdrawal up to the octets of its prefix, which are so many
+-- a withdrawal up to the octets of its prefix, of which there are `count`
 abbrev pub withdrawal_front : ℕ → ℕ → List ℕ
 withdrawal_front len count = marked (field (24 + count) (2 ∷ field (1 + count) (len ∷ [])))
 
@@ -24,7 +24,7 @@ withdrawal_front len count = marked (field (24 + count) (2 ∷ field (1 + count)
 abbrev pub told_head : ℕ → ℕ → List ℕ
 told_head len path = field len (2 ∷ 0 ∷ 0 ∷ field (14 + path) (64 ∷ 1 ∷ 1 ∷ 0 ∷ 64 ∷ 2 ∷ []))
 
--- the same from its Marker on
+-- an announcement of `len` octets from its Marker on, up to the length of its AS_PATH, `path`, which comes next
 abbrev pub told_front : ℕ → ℕ → List ℕ
 told_front len path = marked (told_head len path)
 
@@ -32,7 +32,7 @@ told_front len path = marked (told_head len path)
 abbrev pub announcement_front : ℕ → ℕ → ℕ → List ℕ
 announcement_front numbers size count = marked (field (40 + size + count) (2 ∷ 0 ∷ 0 ∷ field (16 + size) (64 ∷ 1 ∷ 1 ∷ 0 ∷ 64 ∷ 2 ∷ (2 + size) ∷ 2 ∷ numbers ∷ [])))
 
--- and behind them, up to the octets of its prefix
+-- an announcement behind the numbers of its path, up to the octets of its prefix
 abbrev pub announcement_hop : ℕ → ℕ → List ℕ
 announcement_hop id len = 64 ∷ 3 ∷ 4 ∷ get_or (to_be_bytes w32 id) 0 0 ∷ get_or (to_be_bytes w32 id) 1 0 ∷ get_or (to_be_bytes w32 id) 2 0 ∷ get_or (to_be_bytes w32 id) 3 0 ∷ len ∷ []
 

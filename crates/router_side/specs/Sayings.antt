@@ -1,4 +1,4 @@
--- What is said in short, as entries, and how many octets they have.
+-- Short sayings as entries, and how many octets they have.
 use Rattle.std.specs.Prelude.{ℕ, ◌+◌, ◌≤◌, Bool, cond, List, [], ◌∷◌, ◌++◌, length, Option, None, Some}
 use Rattle.bgp_values.specs.declared.width.Width.{Width}
 use Rattle.bgp_values.specs.declared.messages.TheConstants.{MESSAGE_LIMIT, HEADER_LEN, LEAST_NOTIFICATION}
@@ -38,7 +38,7 @@ abbrev pub size_where : Width → Option Message → ℕ
 size_where width None = 0
 size_where width (Some m) = length (written width m)
 
--- the octets of what is said, where the OPEN has so many, and the message that tells of what is at hand so many
+-- how many octets a saying has, if the OPEN has so many, and the message that tells of what is at hand so many
 abbrev pub size_of : ℕ → ℕ → Say → ℕ
 size_of own_open told (say.Dial e) = 0
 size_of own_open told (say.Shut e) = 0

@@ -46,7 +46,7 @@ pub record HasRoom (own_open : Message) (told : Option Message) (a : Sketch) (s 
   pub acted : MESSAGE_LIMIT ≤ s.acted.room
   pub acted_places : 1 ≤ s.acted.places
 
--- what there was room for in a side there is room for in this one
+-- the second side has at least the room of the first
 pub record KeepsRoom (s t : SideEnd) : Type 0 where
   pub octets : s.outbox.room ≤ t.outbox.room
   pub places : s.outbox.places ≤ t.outbox.places

@@ -1,5 +1,5 @@
-//! What an event will make of a side: worked out first, so that nothing has changed where it is
-//! refused.
+//! What an event will make of a side. It is worked out first: if it is refused, nothing has
+//! changed.
 
 ghost use Rattle.std.specs.Prelude.{◌≡◌, ◌≤◌, ◌<◌, ◌+◌, ◌*◌, [], length};
 ghost use Rattle.session_fsm.specs.Table.{IsGoodEvent};
@@ -12,9 +12,8 @@ use bgp_codec::Message;
 use link_epoch::{Heard, LinkEnd};
 use session_fsm::{Action, FsmEvent, Session, State};
 
-/// A draft: the session and the link end as they are to be, and what is to be done besides. The
-/// router's OPEN and what is at hand are only named by its contracts, since what is said is kept in
-/// short.
+/// A draft: the session and the link end as they are to be, and what has to be done besides. Only
+/// contracts read the router's OPEN and what is at hand, since what is said is kept in short.
 #[derive(Drop)]
 pub struct Sketch {
     /// The session as it is to be.
@@ -27,9 +26,9 @@ pub struct Sketch {
     pub drops: bool,
     /// Whether the UPDATE at hand is acted on.
     pub acts: bool,
-    /// The incarnation in which Established is left, where it is.
+    /// The incarnation in which Established is left, if it is left.
     pub left: Option<u32>,
-    /// Whether a dial would pass the greatest incarnation: then the draft is not to be carried out.
+    /// Whether a dial would pass the greatest incarnation. Such a draft must not be carried out.
     pub overflows: bool,
 }
 
@@ -165,7 +164,7 @@ impl Sketch {
         self.obeys_all(own_open, given, actions.as_slice());
     }
 
-    /// What a sign of the peer means to the session.
+    /// Does what a sign of the peer means to the session.
     #[tactic(auto, unfolding(router_model::specs::Sides::answers))]
     pub fn answers(&mut self, own_open: &Message, heard: Heard)
         requires { self.old.says ≡ [] }

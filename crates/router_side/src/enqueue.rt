@@ -1,4 +1,4 @@
-//! What is said in short is appended to an outbox, a message as its octets.
+//! Appends what is said in short to an outbox, a message as its octets.
 
 ghost use Rattle.std.specs.Prelude.{◌≡◌, ◌≤◌, ◌<◌, ◌+◌, ◌*◌, ◌++◌, length};
 ghost use Rattle.bgp_values.specs.declared.messages.TheConstants.{MESSAGE_LIMIT};
@@ -32,7 +32,7 @@ fn size_of(say: Say, own_open: usize, told: usize) -> usize
 }
 
 #[tactic(auto, using(crate::proofs::Sizes::one_size))]
-// How many octets all entries have, where the OPEN and the message that tells of a fault have so many.
+// How many octets all entries have, if the OPEN has `own_open`, and the message that tells of a fault has `told`.
 pub(crate) fn size_of_all(says: &[Say], own_open: usize, told: usize) -> usize
     requires own { own_open ≤ MESSAGE_LIMIT }
     requires told { told ≤ MESSAGE_LIMIT }

@@ -1,31 +1,30 @@
-//! What the definitions of a side say together. Each is the contract of a function without work of
-//! its own.
+//! Laws of the definitions of a side. Each is the contract of a function without work of its own.
 
 ghost use Rattle.router_side.specs.Acting.{UpdatesAreActedOn, TellingsAreSayable};
 ghost use Rattle.router_side.specs.Freshness.{SessionsKeepFresh, SignsKeepFresh, MessagesKeepFresh};
 
 use bgp_codec::laws::written_has_a_header;
 
-/// A start, a stop, a reset and a second leave an incarnation without UPDATEs acted on or sent until its
-/// session is Established: so a session that comes up begins with no words. An incarnation never
-/// goes back.
+/// A start, a stop, a reset and a second leave an incarnation without UPDATEs acted on or sent until its session is
+/// Established: a session that comes up begins with no words. An incarnation never goes back.
 pub fn sessions_keep_fresh()
     ensures { SessionsKeepFresh }
 {}
 
-/// The same of a Dial or a Shut of the peer that is taken, and of a message or a fault that is handled.
-/// That dials nothing, and acts on an UPDATE only in Established, which it does not leave then.
+/// A Dial or a Shut of the peer that is taken, and a message or a fault that is handled, leave an incarnation without
+/// UPDATEs acted on or sent until its session is Established. Handling dials nothing. It acts on an UPDATE only in
+/// Established, which it does not leave then.
 pub fn what_comes_keeps_fresh()
     ensures signs { SignsKeepFresh }
     ensures messages { MessagesKeepFresh }
 {}
 
-/// An UPDATE that comes in Established is acted on, and its draft does nothing else but to set the HoldTimer again.
+/// An UPDATE that comes in Established is acted on. Its draft does nothing else but to set the HoldTimer again.
 pub fn updates_are_acted_on()
     ensures { UpdatesAreActedOn }
 {}
 
-/// What tells a path of at most [`crate::MOST_NUMBERS`] numbers that fit the width can be said.
+/// An UPDATE that tells a path of at most [`crate::MOST_NUMBERS`] numbers, which fit the width, can be said.
 pub fn tellings_are_sayable()
     ensures { TellingsAreSayable }
 {

@@ -1,4 +1,4 @@
-//! What stands in front of the octets of a peer, and the event that it brings.
+//! The message or fault in front of the octets of a peer, and the event that it brings.
 
 ghost use Rattle.std.specs.Prelude.{◌≡◌, true, Ok, Err, IfOk};
 ghost use Rattle.bgp_codec.specs.declared.message.Message.TheVariants.{NoticeMsg};
@@ -23,7 +23,7 @@ use bgp_values::{MESSAGE_HEADER_ERROR, OPEN_MESSAGE_ERROR, UNSUPPORTED_VERSION_N
 use session_fsm::FsmEvent;
 use std::alloc::{AllocError, Global};
 
-// What a frame reads as, decoded.
+// The message or fault of a frame, decoded.
 fn decode_frame(
     alloc: Global,
     frame: &[u8],
@@ -47,8 +47,8 @@ fn decode_frame(
     }
 }
 
-/// What a frame reads as: a message or a fault. Where it is the one UPDATE that tells a path, the path is
-/// read from its octets, and nothing is decoded. It is refused only where memory was.
+/// The message or fault of a frame. If the frame is the one UPDATE that tells a path, the path is read from its octets,
+/// and nothing is decoded. It is refused only for want of memory.
 pub fn read_frame(
     alloc: Global,
     frame: &[u8],
@@ -68,8 +68,7 @@ pub fn read_frame(
     decode_frame(alloc, frame, rule)
 }
 
-/// What stands in front of the octets held, as a message or a fault. It is refused only where
-/// memory was.
+/// The message or fault in front of the octets held. It is refused only for want of memory.
 pub fn read_front(
     alloc: Global,
     framer: &Framer,
@@ -114,7 +113,7 @@ fn notice_event(notice: &Notice) -> FsmEvent
     }
 }
 
-/// The event that it brings, and what is at hand with it. An UPDATE is moved.
+/// The event that a message or fault brings, and what is at hand with it. An UPDATE is moved.
 pub fn opened(read: Result<Message, Fault>) -> (FsmEvent, Given)
     ensures event { result.0 ≡ event_of read }
     ensures given { hand result.1 ≡ at_hand read }

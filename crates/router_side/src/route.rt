@@ -1,9 +1,8 @@
 //! A path that a router tells of a prefix, and the octets of the UPDATE that tells it (RFC 4271 sections
 //! 4.3 and 5.1).
 //!
-//! Such an UPDATE has one of two shapes: what stands before the numbers of the path, and what stands
-//! behind them, are known by their counts. So its octets are put from the path, and no message is made
-//! and measured first.
+//! Such an UPDATE has one of two shapes. What stands before the numbers of the path, and what stands behind them, is
+//! known by their counts. Its octets are put from the path, and no message is made and measured first.
 
 ghost use Rattle.std.specs.Prelude.{◌≡◌, ◌+◌, ◌≤◌, ◌*◌, ◌++◌, length, ℕ, true, IfOk, IfSome, IsOk, MatchOption, vec_len, vec_capacity};
 ghost use Rattle.std.specs.List.{AllByRecursion};
@@ -35,8 +34,7 @@ use prefix_lanes::Prefix;
 use std::alloc::{AllocError, Global};
 use std::marker::Model;
 
-/// So many numbers at most has a path that is told: then the length of AS_PATH has one octet, whatever
-/// the width of the numbers.
+/// The most numbers of a told path. The length of AS_PATH then has one octet, whatever the width of the numbers.
 pub const MOST_NUMBERS: usize = 63;
 
 // The octets of an announcement in front of the length of its AS_PATH.
@@ -67,7 +65,7 @@ impl Model for Route {
     ghost invariant = { λ r. length r.path ≤ MOST_NUMBERS };
 }
 
-// The octets of a withdrawal before those of its prefix, which are so many.
+// The octets of a withdrawal before those of its prefix, of which there are `count`.
 fn withdrawal_front(len: u8, count: usize) -> [u8; 22]
     requires { count ≤ 4 }
     ensures { result ≡ withdrawal_front len count }
@@ -92,7 +90,8 @@ fn told_head(len: u16, path_len: u8) -> [u8; FRONT - MARKER_LEN]
     ]
 }
 
-// The same from its Marker on.
+// The octets of an announcement of `len` octets from its Marker on, up to the length of its AS_PATH, `path_len`, which
+// comes next.
 pub(crate) fn told_front(len: u16, path_len: u8) -> [u8; FRONT]
     ensures { result ≡ told_front len path_len }
 {
@@ -103,7 +102,7 @@ pub(crate) fn told_front(len: u16, path_len: u8) -> [u8; FRONT]
     ]
 }
 
-// Whether a frame begins as `told_front` has it, and what stands behind that: all of a frame that does not.
+// Whether a frame begins as `told_front` has it, and what stands behind that; else the whole frame.
 pub(crate) fn shortened(frame: &[u8]) -> (bool, &[u8])
     requires { IsFrame frame.now }
     ensures spells { spelt_by result.0 (length frame.now) result.1.now ≡ frame.now }
@@ -121,7 +120,7 @@ pub(crate) fn shortened(frame: &[u8]) -> (bool, &[u8])
     (false, frame)
 }
 
-// Those behind the numbers, before those of its prefix.
+// The octets of an announcement behind the numbers of its path, before those of its prefix.
 fn announcement_hop(id: u32, len: u8) -> [u8; 8]
     ensures { result ≡ announcement_hop id len }
 {
@@ -142,7 +141,7 @@ fn put_withdrawal(out: &mut Vec<u8>, prefix: &Prefix)
     out.extend_from_slice(&[0, 0]).unwrap();
 }
 
-// Appends the octets of the UPDATE that announces a path from the length of its AS_PATH on, for which there is room.
+// Appends the octets of the UPDATE that announces a path, from the length of its AS_PATH on. There is room for them.
 // Answers what stands in front of them.
 fn put_announcement(
     out: &mut Vec<u8>,
@@ -171,7 +170,7 @@ fn put_announcement(
     )
 }
 
-// The prefix of so many bits whose octets these are.
+// The prefix of so many bits that has these octets.
 fn prefix_of(len: u8, octets: &[u8]) -> Option<Prefix>
     ensures len { IfSome result (λ prefix. prefix.len ≡ len) }
     ensures octets { IfSome result (λ prefix. octets.now ≡ address prefix) }
@@ -192,7 +191,7 @@ fn prefix_of(len: u8, octets: &[u8]) -> Option<Prefix>
     }
 }
 
-// Whether octets are these.
+// Whether two lists of octets are the same.
 fn are(octets: &[u8], these: &[u8]) -> bool
     ensures { result ≡ true → octets.now ≡ these.now }
 {
@@ -215,7 +214,7 @@ fn begin_with(width: Width, octets: &[u8], asn: Asn) -> bool
     }
 }
 
-// The prefix that a frame withdraws, where it is what `put_withdrawal` puts for it.
+// The prefix that a frame withdraws, if the frame is what `put_withdrawal` puts for it.
 fn withdrawn(frame: &[u8]) -> Option<Prefix>
     ensures { IfSome result (λ prefix. IsCanonical prefix × IsWithdrawal frame.now prefix) }
 {
@@ -229,7 +228,7 @@ fn withdrawn(frame: &[u8]) -> Option<Prefix>
     }
 }
 
-// What a frame announces: the NEXT_HOP, the prefix, and the octets of the numbers of the path.
+// The parts of an announcement: the NEXT_HOP, the prefix, and the octets of the numbers of the path.
 #[derive(Drop)]
 struct Announcement<'a> {
     id: u32,
@@ -237,7 +236,7 @@ struct Announcement<'a> {
     numbers: &'a [u8],
 }
 
-// What a frame announces, where it is what `put_announcement` puts for it.
+// The parts of the announcement that a frame is, if it is what `put_announcement` puts for them.
 #[inline(always)]
 fn announced(width: Width, frame: &[u8]) -> Option<Announcement<'_>>
     ensures { IfSome result (λ told. IsCanonical told.prefix × IsAnnouncement width frame.now told.id told.prefix told.numbers.now) }
@@ -274,8 +273,8 @@ fn announced(width: Width, frame: &[u8]) -> Option<Announcement<'_>>
 }
 
 impl Route {
-    /// The path that a router with this identifier tells of a prefix, the empty one by a withdrawal. It is
-    /// refused only where memory was, and never for eight numbers or fewer.
+    /// The path that a router with this identifier tells of a prefix; the empty path is told by a withdrawal. It is
+    /// refused only for want of memory, and never for eight numbers or fewer.
     pub fn new(alloc: Global, id: u32, prefix: &Prefix, path: &[Asn]) -> Result<Route, AllocError>
         requires { length path.now ≤ MOST_NUMBERS }
         ensures ok { IfOk result (λ route. route ≡ telling id prefix.now path.now) }
@@ -288,8 +287,8 @@ impl Route {
         })
     }
 
-    /// The path that a frame of a peer tells, where the frame is the one UPDATE that tells it, and a path that
-    /// is announced begins with the peer. It is refused only where memory was.
+    /// The path that a frame of a peer tells, if the frame is the one UPDATE that tells it, and a path that is
+    /// announced begins with the peer. It is refused only for want of memory.
     #[inline(always)]
     pub fn read(
         alloc: Global,
@@ -302,7 +301,7 @@ impl Route {
         a_peers_writing_is_read();
         tellings_are_sayable();
         if let Some(told) = announced(width, frame) {
-            // one that does not begin with the peer is faulty, whatever memory there is
+            // a path that does not begin with the peer is faulty, whatever memory there is
             if !begin_with(width, told.numbers, peer) {
                 return Ok(None);
             }
@@ -319,7 +318,7 @@ impl Route {
         }
     }
 
-    /// The prefix, and the path that is told of it: the empty one where it is withdrawn.
+    /// The prefix, and the path that is told of it; the empty path if the prefix is withdrawn.
     pub fn told(&self) -> (&Prefix, &[Asn])
         ensures { (id : ℕ) × (self.now ≡ telling id result.0.now result.1.now) }
     {
@@ -365,8 +364,8 @@ impl Route {
         }
     }
 
-    // Appends the octets of the UPDATE, for which there is room: of one that announces a path those behind the front
-    // that is answered.
+    // Appends the octets of the UPDATE, for which there is room. Of one that announces a path, it appends those behind
+    // the front, and answers the front.
     pub(crate) fn put(&self, width: Width, out: &mut Vec<u8>) -> Option<[u8; FRONT]>
         requires sayable { IsSayable width (UpdateMsg self.now) }
         requires room { vec_len out.old + length (written width (UpdateMsg self.now)) ≤ vec_capacity out.old }

@@ -4,7 +4,8 @@ ghost use Rattle.std.specs.Prelude.{◌≡◌, ◌≤◌, ◌<◌, ◌++◌, ◌
 
 use std::marker::Model;
 
-/// Something to append towards a peer, a message in short: which one it is, and its incarnation.
+/// Something to append towards a peer. A message stands in short: which one it is, and its
+/// incarnation.
 #[derive(Clone, Copy, Debug, PartialEq, Eq)]
 pub enum Say {
     /// An offer to connect in this incarnation.
@@ -17,7 +18,7 @@ pub enum Say {
     Alive(u32),
     /// A NOTIFICATION of this code, without data.
     Notice(u32, u8),
-    /// The NOTIFICATION of the fault at hand, where there is one.
+    /// The NOTIFICATION of the fault at hand, if there is one.
     Given(u32),
 }
 
@@ -50,7 +51,7 @@ impl Says {
         }
     }
 
-    /// One more, behind the others.
+    /// Adds one more, behind the others.
     pub fn push(&mut self, say: Say)
         requires { length self.old < 40 }
         ensures { self.new ≡ self.old ++ say ∷ [] }

@@ -37,8 +37,8 @@ pub struct SideEnd {
 }
 
 impl SideEnd {
-    /// A side whose session is Idle, and towards whose peer nothing was ever said. It is refused only
-    /// where memory was.
+    /// A side whose session is Idle, and towards whose peer nothing was ever said. It is refused only for want of
+    /// memory.
     pub fn new(alloc: Global, config: SessionConfig, width: Width) -> Result<SideEnd, AllocError>
         requires { IsHoldTime config.hold }
         ensures { IfOk result (λ made. side made ≡ side_opening config width) }
@@ -55,7 +55,7 @@ impl SideEnd {
         })
     }
 
-    /// Whether octets and markers of an incarnation are used: it is the one that the end joined.
+    /// Whether octets and markers of an incarnation are used: they are if the end joined that incarnation.
     pub fn uses(&self, epoch: u32) -> bool
         ensures { result ≡ uses (side self.now).link epoch }
     {
@@ -97,16 +97,15 @@ impl SideEnd {
         self.framer.is_waiting()
     }
 
-    /// The UPDATEs that were acted on, in their order, each with its incarnation. It is refused only where
-    /// memory was.
+    /// The UPDATEs that were acted on, in their order, each with its incarnation. It is refused only for want of
+    /// memory.
     pub fn acted(&self, alloc: Global) -> Result<Vec<Told>, AllocError>
         ensures { IfOk result (λ told. history told.items ≡ (side self.now).acted) }
     {
         self.acted.told(alloc, self.width)
     }
 
-    /// The UPDATEs that were sent, in their order, each with its incarnation. It is refused only where
-    /// memory was.
+    /// The UPDATEs that were sent, in their order, each with its incarnation. It is refused only for want of memory.
     pub fn sent(&self, alloc: Global) -> Result<Vec<Told>, AllocError>
         ensures { IfOk result (λ told. history told.items ≡ (side self.now).sent) }
     {
