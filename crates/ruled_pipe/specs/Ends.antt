@@ -2,13 +2,13 @@
 use Rattle.std.specs.Prelude.{ℕ, List, [], ◌∷◌, ◌++◌, length, drop}
 pub use Rattle.atomic_table.specs.Seated.{TableId, table_id_coded}
 
--- one end: which pipe it is of, how many items that holds at most, and the items that this end put, or took, oldest first
+-- one end: its pipe, the most items that the pipe holds, and the items that this end put, or took, oldest first
 pub record End (T : Type 0) : Type 0 where
   pub pipe : TableId
   pub room : ℕ
   pub items : List T
 
--- a closed pipe: what was put into it, and what was taken out of it, also since it was closed
+-- a closed pipe: what was put into it, and what was taken out of it, after it was closed too
 pub record Closed (T : Type 0) : Type 0 where
   pub pipe : TableId
   pub room : ℕ

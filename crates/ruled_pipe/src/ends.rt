@@ -63,8 +63,8 @@ impl<T> Model for TakeEnd<T> {
 }
 
 impl<T: Drop> PutEnd<T> {
-    /// Puts an item behind the others. The item comes back, and nothing changes, only where this end
-    /// had put at least as many items as the pipe holds. It takes no memory.
+    /// Puts an item behind the others. The item comes back, and nothing changes, only if this end had put at least as
+    /// many items as the pipe holds. It takes no memory.
     pub fn put<R: Wait>(&mut self, rt: &R, item: T) -> Result<(), T>
         ensures ok { OnOk result (self.new ≡ with_item self.old item) }
         ensures back { IfErr result (λ back. back ≡ item) }
@@ -74,8 +74,7 @@ impl<T: Drop> PutEnd<T> {
         self.line.push_as::<Put, R>(rt, &mut self.seat, item)
     }
 
-    /// Whether the pipe is full. It is only where this end had put at least as many items as the pipe holds. Nothing
-    /// changes.
+    /// Whether the pipe is full: only if this end had put at least as many items as the pipe holds. Nothing changes.
     pub fn is_full(&mut self) -> bool
         ensures full { IsTrue result → self.old.room ≤ length self.old.items }
         ensures same { self.new ≡ self.old }
@@ -85,7 +84,7 @@ impl<T: Drop> PutEnd<T> {
 }
 
 impl<T: Drop> TakeEnd<T> {
-    /// Takes the oldest item that the pipe holds. Where it finds none, nothing changes.
+    /// Takes the oldest item that the pipe holds. If it finds none, nothing changes.
     pub fn take<R: Wait>(&mut self, rt: &R) -> Option<T>
         ensures taken { MatchOption result (self.new ≡ self.old) (λ item. self.new ≡ with_item self.old item) }
     {
@@ -110,9 +109,9 @@ fn seated<T: Drop>(alloc: Global, capacity: usize) -> Result<(PutEnd<T>, TakeEnd
     Ok((put, take))
 }
 
-/// Makes a pipe that holds at most `capacity` items, and answers its two ends. Refused
-/// [`PipeError::BadCapacity`] exactly where the capacity is not from 1 to [`MOST_ITEMS`], and
-/// [`PipeError::Memory`] only where a growth was refused.
+/// Makes a pipe that holds at most `capacity` items, and answers its two ends. Refused with [`PipeError::BadCapacity`]
+/// exactly if the capacity is not from 1 to [`MOST_ITEMS`], and with [`PipeError::Memory`] only if a growth was
+/// refused.
 pub fn with_ends<T: Drop>(
     alloc: Global,
     capacity: usize,

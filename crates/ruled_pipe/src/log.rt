@@ -2,12 +2,12 @@
 
 use std::collections::LinkedList;
 
-/// What a seat may do, and the items that it has put and taken, oldest first. Proofs alone speak of
+/// What a seat may do, and the items that it has put and taken, oldest first. Only proofs speak of
 /// it: no value of it is made.
 pub struct Log<T> {
-    /// It may put.
+    /// Whether the seat may put.
     pub puts: bool,
-    /// It may take.
+    /// Whether the seat may take.
     pub takes: bool,
     /// The items that it has put.
     pub put: LinkedList<T>,

@@ -1,9 +1,9 @@
 //! The rule of a pipe, and the kinds of step that keep it.
 //!
-//! Seven kinds of step touch the queue: a push that succeeds, a pop that gives an item, a push that
-//! finds the queue full, a pop that finds it empty, and the question whether it is full (these three
-//! change nothing), the split of the first seat in two as the pipe is made, and the join of the two
-//! seats as it is closed. The join also asks how many items are held.
+//! Seven kinds of step touch the queue. A push may succeed, or find the queue full. A pop may give an item, or find the
+//! queue empty. A call may ask whether the queue is full. The first seat is split in two as the pipe is made. The two
+//! seats are joined as it is closed; the join also asks how many items are held. A push that fails, a pop that fails
+//! and the question change nothing.
 
 ghost use Rattle.std.specs.Prelude.{◌≡◌, true, false, List, [], ◌∷◌, ◌++◌, ⊤};
 ghost use Rattle.ruled_pipe.specs.Rule.{log, Carried, StartsWith};
@@ -43,7 +43,7 @@ impl<T> Outcome<T, Log<T>> for Put {
     ghost then = { λ v x w. w ≡ log v.puts v.takes (v.put ++ x ∷ []) v.taken };
 }
 
-/// A seat that puts knows that what is held is the end of what it has put.
+/// A seat that puts knows that the items held are the last of those that it has put.
 impl<T> Lesson<T, Log<T>> for Put {
     ghost fact = { λ v items. (taken : List T) × (v.put ≡ taken ++ items) };
 }
@@ -59,7 +59,7 @@ impl<T> Lesson<T, Log<T>> for Took {
     ghost fact = { λ v items. ⊤ };
 }
 
-/// An item was taken by a seat with both roles, which knows that it is the next of those put.
+/// An item was taken by a seat with both roles, which knows that the item is the next of those put.
 pub struct Drained;
 
 impl<T> Outcome<T, Log<T>> for Drained {

@@ -11,8 +11,8 @@ use std::alloc::Global;
 use std::marker::Model;
 use std::sync::{Arc, Wait};
 
-/// A closed pipe. Contracts see which pipe it is, how many items it holds at most, all items that
-/// were put into it and all that were taken out of it, oldest first.
+/// A closed pipe. Contracts see which pipe it is, the most items that it holds, all items that were
+/// put into it and all that were taken out of it, oldest first.
 #[derive(Drop)]
 pub struct Tail<T> {
     line: Arc<Line<T>, Global>,
