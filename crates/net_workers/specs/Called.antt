@@ -10,7 +10,7 @@ use Rattle.world_core.specs.Replays.{IsCalled}
 use Rattle.worker_loop.specs.declared.chore.Chore.{Chore}
 use Rattle.worker_loop.specs.Laws.{IsOrdered}
 
--- a step of router u that is what its call answers, and a command only where one of these chores is that command
+-- a step of router u is what its call answers, and is a command only if one of these chores is that command
 pub record CalledStep (g : Setting) (chores : List Chore) (u : ℕ) (old : Logged) (e : RouterEvent) (new : Logged) : Type 0 where
   pub step : LoggedStep g u old e new
   pub called : IsCalled g u old.router e

@@ -1,4 +1,4 @@
--- Which pipes the workers hold the ends of: of each link two, one that leads there and one that leads back.
+-- The pipes that the workers hold the ends of: two for each link, one in each direction.
 use Rattle.std.specs.Prelude.{ℕ, zero, suc, ◌≡◌, ◌≢◌, ◌==◌, cond, List, [], ◌∷◌, ◌++◌, map}
 use Rattle.ranked_policy.specs.Plans.{Plan, numbers}
 use Rattle.ranked_policy.specs.declared.network.Link.{Link}
@@ -34,13 +34,14 @@ IsFirst (m ∷ ms) (suc i) n = (m ≢ n) × IsFirst ms i n
 
 -- ---- the pipes of links
 
--- what the routers of a link hold of its pipes
+-- the ends that the routers of a link hold of its pipes
 abbrev pub wires_on : (room : ℕ) → Link → (there back : TableId) → ℕ → List Wire
 wires_on room link there back u =
     cond (link.one == u) (record { peer = link.other; out = there; room = room; into = back } ∷ [])
     (cond (link.other == u) (record { peer = link.one; out = back; room = room; into = there } ∷ []) [])
 
--- each router holds, of each of these links that joins it, an end of either pipe, and no others; the last link was dealt first
+-- for each of these links, each of its two routers holds one end of each pipe; no router holds another; the last link
+-- was dealt first
 abbrev pub Dealt : ℕ → List Link → (ℕ → List Wire) → Type 0
 Dealt room [] wires = (u : ℕ) → wires u ≡ []
 Dealt room (link ∷ links) wires =
@@ -53,9 +54,9 @@ wires_by ns ls u = map wire_of (lanes_by ns ls u)
 abbrev pub AreDealt : Plan → List Link → List Ends → Type 0
 AreDealt net links ends = Dealt net.settings.pipe links (wires_by (numbers net.routers) (lanes_in ends))
 
--- ---- a link more
+-- ---- one more link
 
--- the routers of a link, at these places, have a lane more each: the ends of two pipes over which nothing passed
+-- each router of a link, at these places, has one lane more: the ends of two pipes over which nothing passed
 pub record IsJoined (room : ℕ) (link : Link) (one other : ℕ) (old new : List (List Lane)) : Type 0 where
   pub here : Lane
   pub there : Lane
@@ -65,7 +66,7 @@ pub record IsJoined (room : ℕ) (link : Link) (one other : ℕ) (old new : List
 
 -- ---- closed pipes
 
--- what the lanes of each router had is what the ways between routers have
+-- the ways between routers have what the lanes of each router had
 abbrev pub HavePassed : (ℕ → List Lane) → List Way → Type 0
 HavePassed lanes ways =
     (u v : ℕ) → (put_of (lanes u) v ≡ way_has (λ w. w.tail.put) [] ways u v) × (taken_of (lanes v) u ≡ way_has (λ w. w.tail.taken) [] ways u v)

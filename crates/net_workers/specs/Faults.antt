@@ -9,8 +9,8 @@ use Rattle.net_workers.specs.declared.running.Ended.{Ended}
 use Rattle.net_workers.specs.Dealt.{AreDealt}
 use Rattle.net_workers.specs.Ran.{IsFresh, Ran, Ceased, lines_of, first_fault}
 
--- each worker began as one that did nothing yet, with its ends of the network's pipes, and did what its gate said where it has no
--- fault
+-- each worker began as one that had done nothing yet, with its ends of the network's pipes, and did what its gate said
+-- if it has no fault
 pub record HaveRun {G : Type 0} (given : G → List Chore) (plan : Plan) (turns : ℕ) (ends : List (Ended G)) : Type 0 where
   pub network : IsNetwork plan
   pub before : List (Ended G)
@@ -20,14 +20,15 @@ pub record HaveRun {G : Type 0} (given : G → List Chore) (plan : Plan) (turns 
   pub many : length ends ≡ length before
   pub ran : (i : ℕ) (d : Ended G) → i < length before → IfNone (slice_index_or ends i d).fault (Ran given turns (slice_index_or before i d).worker (slice_index_or ends i d).worker)
 
--- every worker of the network has ended, by rising router, each that has a fault for it
+-- every worker of the network has ended, by rising router; each that has a fault ended for it
 pub record HaveEnded {G : Type 0} (given : G → List Chore) (plan : Plan) (turns : ℕ) (ends : List (Ended G)) : Type 0 where
   pub routers : map (λ e. e.worker.router.number) ends ≡ numbers plan.routers
   pub nets : AllByRecursion (λ e. e.worker.router.net ≡ plan) ends
   pub faults : AllByRecursion (λ e. IfSome e.fault (Ceased given turns e.worker)) ends
   pub ran : HaveRun given plan turns ends
 
--- why these workers leave no record: the first fault; or none has one, and memory is wanting for the record or the board differs
+-- why these workers leave no record: the first fault; or, if none has one, memory is wanting for the record, or the
+-- board differs
 abbrev pub IsFaultOf : {G : Type 0} → List (Ended G) → RunFault → Type 0
 IsFaultOf ends why = (first_fault ends ≡ Some why) ⊎ ((first_fault ends ≡ None) × ((why ≡ fault.Memory) ⊎ (why ≡ fault.BoardDiffers)))
 
@@ -36,8 +37,8 @@ abbrev pub EndedSo : {G T : Type 0} → (G → List Chore) → (G → T) → Pla
 EndedSo {G} given told plan turns tellings first =
     (ends : List (Ended G)) × HaveEnded given plan turns ends × (map (λ e. told e.worker.gate) ends ≡ tellings) × (first_fault ends ≡ first)
 
--- why there is no record: the worker of the least router that has a fault was refused; or none has a fault, and the board differs.
--- Want of memory is a worker's or that of what is done around them
+-- why there is no record: the worker of the least router that has a fault was refused; or none has a fault, and the
+-- board differs. A want of memory may be a worker's, or that of the work around them
 abbrev pub FaultOf : {G T : Type 0} → (G → List Chore) → (G → T) → Plan → ℕ → List T → RunFault → Type 0
 FaultOf given told plan turns tellings fault.Memory = Unit {0}
 FaultOf given told plan turns tellings fault.BadLimits = Unit {0}

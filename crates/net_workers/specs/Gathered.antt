@@ -7,7 +7,7 @@ use Rattle.world_core.specs.declared.schedule.Event.TheVariants as event
 use Rattle.worker_loop.specs.declared.journal.Entry.{Entry}
 use Rattle.net_workers.specs.declared.record.Worked.{Worked}
 
--- whose event it is
+-- the router of an event
 abbrev pub router_of : Event → ℕ
 router_of (event.Command u c) = u
 router_of (event.Tick u) = u
@@ -23,7 +23,7 @@ abbrev pub all_events : {G : Type 0} → List (Worked G) → List Entry
 all_events [] = []
 all_events (w ∷ ws) = w.journal.events.items ++ all_events ws
 
--- sorted by stamp; of one stamp as they stood
+-- sorted by stamp; events of one stamp as they stood
 pub record IsSorted (all gathered : List Entry) : Type 0 where
   pub rising : IsNonDecreasingBy (λ e. e.stamp) gathered
   pub stable : IsStableByKey (λ e. e.stamp) nat_cmp all gathered

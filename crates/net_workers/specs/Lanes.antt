@@ -9,12 +9,12 @@ use Rattle.net_workers.specs.declared.ends.Ends.{Ends}
 abbrev pub is_to : ℕ → Lane → Bool
 is_to v l = l.peer == v
 
--- what the first lane to a peer has, or nothing where no lane leads to it
+-- what the first lane to a peer has, or `none` if no lane leads to it
 abbrev pub lane_has : {B : Type 0} → (Lane → B) → B → List Lane → ℕ → B
 lane_has what none [] v = none
 lane_has what none (l ∷ ls) v = cond (is_to v l) (what l) (lane_has what none ls v)
 
--- the items put towards each peer and taken from it, and how many items the pipe to it holds at most
+-- the items put towards each peer and taken from it, and the most items that the pipe to it holds
 abbrev pub put_of : List Lane → ℕ → List Item
 put_of lanes = lane_has (λ l. l.out.items) [] lanes
 
@@ -27,7 +27,7 @@ room_of lanes = lane_has (λ l. l.out.room) 0 lanes
 abbrev pub reaches : List Lane → ℕ → Bool
 reaches lanes = lane_has (λ l. true) false lanes
 
--- which pipes a lane is of
+-- the pipes of a lane
 pub record Wire : Type 0 where
   pub peer : ℕ
   pub out : TableId
@@ -49,7 +49,7 @@ IsAt (l ∷ ls) v (suc i) = (l.peer ≢ v) × IsAt ls v i
 abbrev pub IsFound : List Lane → ℕ → ℕ → Type 0
 IsFound lanes v i = (i < length lanes) × IsAt lanes v i
 
--- nothing passed yet
+-- a lane over which nothing passed yet
 pub record IsNew (l : Lane) : Type 0 where
   pub put : l.out.items ≡ []
   pub taken : l.into.items ≡ []

@@ -1,4 +1,4 @@
--- What a worker makes of the answer of the board.
+-- How a worker takes the answer of the board.
 use Rattle.std.specs.Prelude.{ℕ, ◌≡◌, Result, Ok, Err}
 use Rattle.snap_marker.specs.declared.part.Offer.{Offer}
 use Rattle.snap_collector.specs.declared.answer.Taken.{Taken}
@@ -8,7 +8,7 @@ use Rattle.offer_board.specs.Boards.{BoardView, Offers}
 use Rattle.worker_loop.specs.declared.worker.WorkerFault.{WorkerFault}
 use Rattle.worker_loop.specs.declared.worker.WorkerFault.TheVariants as worker
 
--- why a worker ends whose offer was refused: want of memory is that, and every other reason a refusal
+-- why a worker ends if its offer was refused: want of memory stays that, and every other reason is a refusal
 abbrev pub ended_by : CollectError → WorkerFault
 ended_by refusal.Memory = worker.Memory
 ended_by (refusal.Stranger u) = worker.Refused
@@ -19,6 +19,6 @@ abbrev pub told_by : Result (Taken × ℕ) CollectError → Result ℕ WorkerFau
 told_by (Ok answer) = Ok answer.1
 told_by (Err why) = Err (ended_by why)
 
--- the board answered so, from x to y
+-- the board gave this answer, and went from x to y
 abbrev pub OffersAt : BoardView → BoardView → ℕ → Offer → Result ℕ WorkerFault → Type 0
 OffersAt x y stamp o r = (answer : Result (Taken × ℕ) CollectError) × Offers x y stamp o answer × (r ≡ told_by answer)

@@ -1,4 +1,4 @@
--- What each worker did from its first chore to its last.
+-- The work of each worker from its first chore to its last.
 use Rattle.std.specs.Prelude.{ℕ, ◌≡◌, ◌≤◌, ◌<◌, ◌==◌, true, cond, List, [], ◌∷◌, length, map, filter, Option, None, Some}
 use Rattle.std.specs.List.{AllByRecursion}
 use Rattle.ranked_policy.specs.Plans.{IsRouter, numbers}
@@ -53,13 +53,14 @@ pub record Ran {G : Type 0} (given : G → List Chore) (turns : ℕ) (v w : Work
   pub follows : Did (λ g. Follows g v.router.number v.peers.items (given w.gate)) v.router.net (seen v) (seen w)
   pub same : IsLaterWorker wires_of v w
 
--- the items that each router put towards each other, and that it took from it
+-- the items that each router put towards each other router, and that it took from it
 pub record Passed : Type 0 where
   pub put : ℕ → ℕ → List Item
   pub taken : ℕ → ℕ → List Item
 
--- the journal of a router from its opening on, where nothing had passed its pipes, which hold as many items as the network says:
--- its events are exactly those that follow from its chores, and lead it to where it is; and its offers are theirs
+-- the journal of a router from its opening on. At first nothing had passed its pipes, which hold as many items as the
+-- network says. Its events are exactly those that follow from its chores, and lead it to where it is; its offers are
+-- theirs
 pub record IsTold {G : Type 0} (given : G → List Chore) (g : Setting) (p : Passed) (w : Worked G) : Type 0 where
   pub first : Seen
   pub last : Seen
@@ -76,7 +77,8 @@ pub record IsTold {G : Type 0} (given : G → List Chore) (g : Setting) (p : Pas
   pub events : map entry_of acts ≡ w.journal.events.items
   pub offers : stamped_offers acts ≡ collected_in w.journal.offers.items
 
--- what a router did: the chores are those that its gate gave, so many or up to the first Stop, and its journal follows them
+-- the work of a router: the chores are those that its gate gave, so many or up to the first Stop, and its journal
+-- follows them
 pub record HasWorked {G : Type 0} (given : G → List Chore) (plan : Plan) (turns : ℕ) (p : Passed) (w : Worked G) : Type 0 where
   pub net : w.router.net ≡ plan
   pub chores : w.journal.chores.items ≡ given w.gate
@@ -85,7 +87,7 @@ pub record HasWorked {G : Type 0} (given : G → List Chore) (plan : Plan) (turn
 
 -- ---- how long a network runs
 
--- from 1 to the most chores, and a gate for each router
+-- the limits of a run: from 1 to the most chores, and a gate for each router
 pub record AreLimits (plan : Plan) (turns gates : ℕ) : Type 0 where
   pub some : 0 < turns
   pub few : turns ≤ MOST_TURNS
@@ -93,7 +95,7 @@ pub record AreLimits (plan : Plan) (turns gates : ℕ) : Type 0 where
 
 -- ---- the record of a run
 
--- what is handed back of a worker
+-- what a record hands back of a worker
 abbrev pub worked_of : {G : Type 0} → Ended G → Worked G
 worked_of e = record {
   router = e.worker.router;
@@ -101,7 +103,7 @@ worked_of e = record {
   gate = e.worker.gate;
 }
 
--- and the ends of pipes that it held
+-- the ends of pipes that a worker held
 abbrev pub lines_of : {G : Type 0} → Ended G → Ends
 lines_of e = e.worker.lines
 
@@ -128,7 +130,8 @@ Ceased given turns w why = EndsFor (λ e. taken_of e.lanes.items) turns (given w
 abbrev pub OffersOf : {G : Type 0} → List Made → Ended G → Type 0
 OffersOf board e = filter (λ o. o.router == e.worker.router.number) (collected_in board) ≡ collected_in e.worker.desk.made.items
 
--- the collector has all offers made, by their numbers, and these are, router by router, those of the journals, at rising stamps
+-- the collector has all offers made, by their numbers; router by router they are those of the journals, at rising
+-- stamps
 pub record Collects {G : Type 0} (plan : Plan) (workers : List (Worked G)) (c : CollectorView) : Type 0 where
   pub offers : List (Collected MadeOffer)
   pub rising : Pairwise (λ a b. a.stamp < b.stamp) offers

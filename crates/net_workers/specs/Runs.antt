@@ -1,4 +1,4 @@
--- What the threads did is one run of the network.
+-- The threads' events are one run of the network.
 use Rattle.std.specs.Prelude.{ℕ, ◌≡◌, ◌==◌, true, cond, List, [], ◌∷◌, map}
 use mathlib.Core.List.{IsPrefix}
 use Rattle.std.specs.List.{AllByRecursion}
@@ -32,9 +32,9 @@ abbrev pub chores_of : {G : Type 0} → List (Worked G) → ℕ → List Chore
 chores_of [] u = []
 chores_of (w ∷ ws) u = cond (w.router.number == u) w.journal.chores.items (chores_of ws u)
 
--- the gathered events are a run of the network, and its last state has the routers, the items that were put and taken, and the
--- offers that the collector was made; each event is what its router's call answers, and a command only where one of the router's
--- chores is that command
+-- the gathered events are a run of the network. Its last state has the routers, the items that were put and taken, and
+-- the offers that were made to the collector. Each event is what its router's call answers, and is a command only if
+-- one of the router's chores is that command
 pub record IsRunOfThreads {G : Type 0} (g : Setting) (p : Passed) (workers : List (Worked G)) (gathered : List Entry) : Type 0 where
   pub order : RunOrder
   pub state : RunState
@@ -46,15 +46,16 @@ pub record IsRunOfThreads {G : Type 0} (g : Setting) (p : Passed) (workers : Lis
   pub put : (u v : ℕ) → state.put u v ≡ map (λ i. i.what) (p.put u v)
   pub taken : (u v : ℕ) → state.taken u v ≡ map (λ i. i.what) (p.taken v u)
 
--- so every record is one of a run
+-- every record is one of a run
 abbrev pub RecordsAreRuns : {G : Type 0} → (G → List Chore) → Type 0
 RecordsAreRuns {G} given =
     (plan : Plan) (turns : ℕ) (p : Passed) (workers : List (Worked G)) (c : CollectorView) (gathered : List Entry)
     → (record_of : IsRecord given plan turns p workers c gathered) → InTurn p → (g : Setting) → g.net ≡ plan → IsSetting g
     → (run : IsRunOfThreads g p workers gathered) × (run.state.offered ≡ offers_on record_of.collects.offers)
 
--- and the promises of runs hold of it, and a run of the same events passes through the cut of each snapshot whose parts all routers
--- made; the collector has just the offers of that run, and how a snapshot comes out by it is how it comes out in that run
+-- the promises of runs hold of a record, and a run of the same events passes through the cut of each snapshot whose
+-- parts all routers made; the collector has exactly the offers of that run, and its verdict on a snapshot is how the
+-- snapshot comes out in that run
 pub record KeepsPromises {G : Type 0} (g : Setting) (p : Passed) (workers : List (Worked G)) (c : CollectorView) (gathered : List Entry) : Type 0 where
   pub run : IsRunOfThreads g p workers gathered
   pub in_order : (u v e : ℕ) → linked g.net u v ≡ true → PassesInOrder g run.state u v e × IsPrefix ((side_of run.state v u).acted e) ((side_of run.state u v).sent e)
@@ -71,6 +72,6 @@ RecordsKeepTheirPromises {G} given =
     → IsRecord given plan turns p workers c gathered → InTurn p → (g : Setting) → g.net ≡ plan → IsSetting g
     → KeepsPromises g p workers c gathered
 
--- in every setting of the network that chooses by rank
+-- the promises hold in every setting of the network that chooses by rank
 abbrev pub RunKeepsPromises : {G : Type 0} → Plan → Passed → List (Worked G) → CollectorView → List Entry → Type 0
 RunKeepsPromises plan p workers c gathered = (g : Setting) → g.net ≡ plan → IsSetting g → KeepsPromises g p workers c gathered

@@ -7,11 +7,11 @@ use Rattle.ruled_pipe.specs.Ends.{left}
 use Rattle.net_workers.specs.declared.record.Way.{Way}
 use Rattle.net_workers.specs.Ran.{Passed}
 
--- the way from u to v
+-- the way leads from u to v
 abbrev pub leads : ℕ → ℕ → Way → Bool
 leads u v w = (w.from == u) && (w.to == v)
 
--- what the first way from u to v has, or nothing where no way leads there
+-- what the first way from u to v has, or `none` if no way leads there
 abbrev pub way_has : {B : Type 0} → (Way → B) → B → List Way → ℕ → ℕ → B
 way_has what none [] u v = none
 way_has what none (w ∷ ws) u v = cond (leads u v w) (what w) (way_has what none ws u v)
@@ -23,17 +23,17 @@ passed_in ways = record {
   taken = λ u v. way_has (λ w. w.tail.taken) [] ways v u;
 }
 
--- what was put into a pipe is what was taken, followed by what is left in it: no more than the network says
+-- what was put into a pipe is what was taken, followed by what is left in it, which is no more than the network says
 pub record IsWay (net : Plan) (w : Way) : Type 0 where
   pub in_turn : w.tail.put ≡ w.tail.taken ++ left w.tail
   pub room : w.tail.room ≡ net.settings.pipe
   pub held : length (left w.tail) ≤ net.settings.pipe
 
--- there and back
+-- the two ways of a link, there and back
 abbrev pub both_ways : Link → List (ℕ × ℕ)
 both_ways link = (link.one, link.other) ∷ (link.other, link.one) ∷ []
 
--- of each link of the network both ways, in its order
+-- both ways of each link of the network, in its order
 pub record AreWays (net : Plan) (ways : List Way) : Type 0 where
   pub between : map (λ w. (w.from, w.to)) ways ≡ flat_map both_ways net.links
   pub each : AllByRecursion (IsWay net) ways

@@ -1,4 +1,4 @@
-//! Pipes that are dealt out to workers, and come together again when these have ended.
+//! Dealing pipes out to workers, and bringing their ends together again.
 
 ghost use Rattle.std.specs.Prelude.{◌≡◌, ◌≤◌, ◌<◌, ◌++◌, ◌∷◌, [], length, IfOk, IfSome, IfNone, slice_index_or};
 ghost use Rattle.std.specs.List.{AllByRecursion, HoldsAt};
@@ -16,7 +16,7 @@ use ruled_pipe::{PutEnd, TakeEnd, close, with_ends};
 use std::alloc::{AllocError, Global};
 use std::sync::Wait;
 
-// The ends of a pipe.
+// Makes a pipe, and answers its two ends.
 fn pipe(alloc: Global, room: usize) -> Result<(PutEnd<Item>, TakeEnd<Item>), AllocError>
     ensures one_pipe { IfOk result (λ ends. ends.1.pipe ≡ ends.0.pipe) }
     ensures room { IfOk result (λ ends. ends.0.room ≡ room) }
@@ -29,7 +29,7 @@ fn pipe(alloc: Global, room: usize) -> Result<(PutEnd<Item>, TakeEnd<Item>), All
     }
 }
 
-// No lanes, for each of so many workers.
+// Empty lanes for each of so many workers.
 fn no_lanes(alloc: Global, workers: usize) -> Result<Vec<Ends>, AllocError>
     ensures many { IfOk result (λ ends. length ends.items ≡ workers) }
     ensures new { IfOk result (λ ends. AllByRecursion AreNew ends.items) }
@@ -45,7 +45,7 @@ fn no_lanes(alloc: Global, workers: usize) -> Result<Vec<Ends>, AllocError>
     Ok(ends)
 }
 
-// A lane joins those of a worker.
+// Adds a lane to those of a worker.
 fn add(ends: &mut Vec<Ends>, at: usize, lane: Lane) -> Result<(), AllocError>
     requires below { at < length ends.old.items }
     requires put { lane.out.items ≡ [] }
@@ -92,7 +92,7 @@ fn join(
     Ok(())
 }
 
-// Where a router of the network stands.
+// The place of a router of the network.
 fn place_of(network: &Network, number: Asn) -> usize
     requires { IsRouter network.now.routers number }
     ensures below { result < length network.now.routers }
@@ -124,7 +124,7 @@ pub(crate) fn deal(alloc: Global, network: &Network) -> Result<Vec<Ends>, AllocE
     Ok(ends)
 }
 
-// The last lane of a worker leaves the others.
+// Removes the last lane of a worker, and answers it.
 fn last_lane(ends: &mut Vec<Ends>, at: usize) -> Option<Lane>
     requires below { at < length ends.old.items }
     ensures many { length ends.new.items ≡ length ends.old.items }
@@ -134,7 +134,7 @@ fn last_lane(ends: &mut Vec<Ends>, at: usize) -> Option<Lane>
     ends[at].lanes.pop()
 }
 
-// The pipe from one router to another, closed.
+// Closes the pipe from one router to another.
 fn way<R: Wait>(rt: &R, from: Asn, to: Asn, put: PutEnd<Item>, take: TakeEnd<Item>) -> Way
     requires one_pipe { put.pipe ≡ take.pipe }
     ensures from { result.from ≡ from }
@@ -150,7 +150,8 @@ fn way<R: Wait>(rt: &R, from: Asn, to: Asn, put: PutEnd<Item>, take: TakeEnd<Ite
     }
 }
 
-/// Closes the pipes of a network: of each link the one that leads there and the one that leads back.
+/// Closes the pipes of a network: for each link, the one that leads there and the one that leads
+/// back.
 pub(crate) fn close_all<R: Wait>(
     rt: &R,
     alloc: Global,

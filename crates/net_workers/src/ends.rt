@@ -10,14 +10,14 @@ use ruled_pipe::{PutEnd, TakeEnd};
 use std::sync::Wait;
 use worker_loop::Lines;
 
-/// The two pipes between a worker and that of a peer, as far as the worker holds them.
+/// A worker's ends of the two pipes between it and the worker of a peer.
 #[derive(Drop)]
 pub struct Lane {
     /// The peer.
     pub peer: Asn,
-    /// Where it puts towards the peer.
+    /// The end that puts towards the peer.
     pub out: PutEnd<Item>,
-    /// Where it takes from the peer.
+    /// The end that takes from the peer.
     pub into: TakeEnd<Item>,
 }
 

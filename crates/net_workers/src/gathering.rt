@@ -18,7 +18,7 @@ fn all_events<G>(alloc: Global, workers: &[Worked<'_, G>]) -> Result<Vec<Entry>,
     Ok(all)
 }
 
-/// The events of journals that stand by rising router, by stamp, then by router.
+/// The events of all journals, which stand by rising router, ordered by stamp, then by router.
 pub(crate) fn gather<G>(alloc: Global, workers: &[Worked<'_, G>]) -> Result<Vec<Entry>, AllocError>
     ensures { IfOk result (λ gathered. IsSorted (all_events workers.now) gathered.items) }
 {

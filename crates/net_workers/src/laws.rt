@@ -1,5 +1,4 @@
-//! What the threads of a network did is one run of it. The law is the contract of a function without work
-//! of its own.
+//! The threads' events are one run of the network. The law is the contract of a function without work of its own.
 
 ghost use Rattle.net_workers.specs.Runs.{RecordsAreRuns, RecordsKeepTheirPromises};
 
@@ -32,7 +31,7 @@ impl JournalLines for Lines {
     ghost router = { λ e. router_of e.event };
 }
 
-/// The events of which they are the lines, with their items. No value of it is made.
+/// The events of those lines, with their items. No value of it is made.
 struct Events;
 
 impl WholeLines for Events {
@@ -51,8 +50,8 @@ impl WholeLines for Events {
     ghost router = { λ e. router_of e.event };
 }
 
-/// The routers of a network at the word of their chores: each event is what the call of its router answers, and a
-/// command only where one of the chores is that command. No value of it is made.
+/// The routers of a network at the word of their chores: each event is what the call of its router answers, and is a
+/// command only if one of the chores is that command. No value of it is made.
 struct CalledRouters;
 
 impl Routers for CalledRouters {
@@ -77,10 +76,11 @@ impl Routers for CalledRouters {
 
 /// Every record is one of a run of the network: the gathered events are that run, and its last state has the routers,
 /// the items that were put and taken, and the offers of the record (`runs`). Each event is what the call of its router
-/// answers, and a command only where one of the router's chores is that command. So all promises of runs hold of it:
-/// UPDATEs and octets passed in order, none was acted on after a close, a close lost the recording of its router, how a
-/// snapshot comes out by the collector is how it comes out in that run, what is settled is a stable path assignment that
-/// stays, and a run of the same events passes through the cut of each snapshot whose parts all routers made (`promises`).
+/// answers, and is a command only if one of the router's chores is that command. All promises of runs hold of the
+/// record (`promises`). UPDATEs and octets passed in order; none was acted on after a close; a close lost the recording
+/// of its router. The collector's verdict on a snapshot is how it comes out in that run. A settled snapshot is a stable
+/// path assignment that stays. A run of the same events passes through the cut of each snapshot whose parts all routers
+/// made.
 ///
 /// Premises: the record is one ([`crate::run_net`]), and in each direction the items that were taken are the first of those that
 /// were put, one after another; the network is one, routers choose by rank. It does not say that two threads ever ran at

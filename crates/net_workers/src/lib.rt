@@ -1,9 +1,8 @@
 //! A network in threads: each router with a worker in a thread of its own, pipes between them, and one
 //! board for their offers.
 //!
-//! Its one contract: where [`run_net`] answers a record, what the threads did, put into one order by its
-//! stamps, is a run of the network's routers, and the record's routers, pipes and offers are those of
-//! its last state.
+//! Its one contract: if [`run_net`] answers a record, the threads' events, put into one order by their stamps, are a
+//! run of the network's routers, and the record's routers, pipes and offers are those of its last state.
 //!
 //! Left out: that a thread gets on, that two of them run at once, and when anything arrives.
 #![tactic(auto)]

@@ -1,4 +1,4 @@
-//! A network that runs.
+//! Running a network.
 
 ghost use Rattle.std.specs.Prelude.{◌≡◌, ◌≢◌, ◌<◌, ◌↔◌, ℕ, [], length, map, true, All, IsTrue, IfOk, IfErr, OnOk, IfNone, IfSome, slice_index_or, MatchOption};
 ghost use Rattle.std.specs.List.{AllByRecursion};
@@ -47,7 +47,7 @@ fn first_fault<G>(workers: &[Ended<'_, G>]) -> Option<RunFault>
     None
 }
 
-// Whether the board has of each router the offers that its worker made.
+// Whether the offers that the board has of each router are those that its worker made.
 fn agrees<G>(board: &BoardState, workers: &[Ended<'_, G>]) -> bool
     ensures { result ≡ true → AllByRecursion (OffersOf board.now.offers) workers.now }
 {
@@ -72,7 +72,7 @@ fn are_known(network: &Network, offers: &[Made]) -> bool
     true
 }
 
-// What the workers did, and the ends of pipes that they held.
+// The work of the workers, and the ends of pipes that they held.
 fn parted<G: Drop>(
     alloc: Global,
     workers: Vec<Ended<'_, G>>,
@@ -98,8 +98,8 @@ fn parted<G: Drop>(
     Ok((done, ends))
 }
 
-// The collector of these offers. It is made anew, since of what lay under a lock nothing is known but
-// what its type says.
+// The collector of these offers. It is made anew, since nothing is known of a value under a lock but what its type
+// says.
 fn collect(alloc: Global, network: &Network, offers: Vec<Made>) -> Result<Collector, AllocError>
     ensures made { IfOk result (λ c. made_for c ≡ with_offers (λ s. []) (offers_in offers.items)) }
     ensures members { IfOk result (λ c. AreMembers network.now c.members) }
@@ -140,9 +140,9 @@ where
     Ok(workers)
 }
 
-/// The record of workers that have ended, or why there is none.
+/// Makes the record of workers that have ended.
 ///
-/// Refused with the fault of the least router that has one; where none has, only with
+/// Refused with the fault of the least router that has one. If no router has one, refused only with
 /// [`RunFault::BoardDiffers`] or [`RunFault::Memory`]. Nothing is handed back then.
 ///
 /// Premise: the workers are those of the network, each begun as one that did nothing and run to its end.
@@ -157,7 +157,7 @@ where
     R: Wait,
     G: Gate + Drop,
     requires ended { (turns : ℕ) × HaveEnded G.given network.now turns workers.items }
-    // The first fault is answered; memory is wanting, or the board differs, only where there is none.
+    // The first fault is answered. Want of memory, or that the board differs, is answered only if there is none.
     ensures fault { IfErr result (IsFaultOf workers.entry.items) }
     ensures none { OnOk result (first_fault workers.entry.items ≡ None) }
     // The record is that of these workers, and its collector has the offers of this board.
@@ -216,18 +216,18 @@ where
     record_of(rt, alloc, network, board.into_state(), workers)
 }
 
-/// Runs a network: each router in a thread of its own, at the word of its gate, and ends as all
-/// threads have. Gates stand by rising router, and have given no chore yet.
+/// Runs a network: each router in a thread of its own, at the word of its gate. It returns once all threads have ended.
+/// Gates stand by rising router, and have given no chore yet.
 ///
-/// A worker ends at its first Stop, or after so many chores. Refused [`RunFault::BadLimits`] where the
-/// chores are not 1 to [`MOST_TURNS`] or there is not one gate for each router, and nowhere else;
-/// [`RunFault::WorkerRefused`] only with the least router that has a fault, where it was refused;
-/// [`RunFault::BoardDiffers`] only where no worker has a fault: so the clause says of some workers that were
-/// told the same. [`RunFault::Memory`] is a worker's want of memory or that of what is done around them: no
-/// clause says when. After a fault the other workers go on to their own end, and nothing is handed back.
+/// A worker ends at its first Stop, or after so many chores. Refused with [`RunFault::BadLimits`] exactly if the chores
+/// are not 1 to [`MOST_TURNS`] or there is not one gate for each router. Refused with [`RunFault::WorkerRefused`] only
+/// for the least router that has a fault, if that was a refusal. Refused with [`RunFault::BoardDiffers`] only if no
+/// worker has a fault; of that the clause speaks for some workers that were told the same. [`RunFault::Memory`] is a
+/// worker's want of memory, or that of the work around them: no clause says when. After a fault the other workers go on
+/// to their own end, and nothing is handed back.
 ///
-/// What a record says is what the threads did, each router at the word of the gate that was given for it:
-/// it is one run of the network, and its pipes hold what was put into them and not taken.
+/// A record says what the threads did, each router at the word of the gate that was given for it. It is one run of the
+/// network, and its pipes hold what was put into them and not taken.
 pub fn run_net<'a, R, G>(
     rt: &R,
     alloc: Global,
@@ -241,9 +241,10 @@ where
     requires fresh { AllByRecursion (λ gate. G.given gate ≡ []) gates.items }
     ensures limits { OnOk result (AreLimits network.now limits.turns (length gates.items)) }
     ensures refused { IfErr result (λ why. why ≡ RunFault.BadLimits ↔ (AreLimits network.now limits.turns (length gates.items) → ⊥)) }
-    // Of some workers that were told so: the fault is the least router's that has one, it ended for it, those before it did their chores.
+    // Of some workers that were told the same: the fault is that of the least router that has one; it ended for it, and
+    // those before it did their chores.
     ensures fault { IfErr result (FaultOf G.given G.told network.now limits.turns (map G.told gates.items)) }
-    // Router by router, what the gate that comes back was told is what the one given was told.
+    // Router by router, the gate that comes back was told what the given one was told.
     ensures told { IfOk result (λ r. map (λ w. G.told w.gate) r.workers.items ≡ map G.told gates.items) }
     ensures ways { IfOk result (λ r. AreWays network.now r.ways.items) }
     ensures recorded { IfOk result (λ r. IsRecord G.given network.now limits.turns (passed_in r.ways.items) r.workers.items r.collector r.gathered.items) }

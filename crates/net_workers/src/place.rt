@@ -45,7 +45,7 @@ pub struct Place {
     pub made: Vec<Made>,
 }
 
-// Why a worker ends whose offer was refused.
+// Why a worker ends if its offer was refused.
 fn ended_by(error: CollectError) -> WorkerFault
     ensures { result ≡ ended_by error }
 {
@@ -58,8 +58,7 @@ fn ended_by(error: CollectError) -> WorkerFault
 }
 
 impl Place {
-    // A copy of an offer, for which there is room. It is refused only where a growth was, here or with the
-    // caller.
+    // A copy of an offer, for which there is room. It is refused only if a growth was, here or with the caller.
     fn prepared(&mut self, offer: &Offer, room: Result<(), AllocError>) -> Result<Offer, AllocError>
         ensures made { self.new.made.items ≡ self.old.made.items }
         ensures room { OnOk result (vec_len self.new.made < vec_capacity self.new.made) }
@@ -72,11 +71,11 @@ impl Place {
         offer.copied(*self.made.allocator())
     }
 
-    /// Makes an offer at a board, of a router whose last event has the given stamp, and answers that of the offer.
+    /// Makes an offer at a board, of a router whose last event has the given stamp, and answers the offer's stamp.
     ///
-    /// Refused [`WorkerFault::Memory`] where the board refuses for want of memory, and [`WorkerFault::Refused`] where
-    /// it does for another reason, which comes first. `room`: as for [`Desk::offer`]; and where no copy can be made
-    /// for the worker, the board is asked as if there were none. A refusal leaves the board.
+    /// Refused with [`WorkerFault::Memory`] if the board refuses for want of memory, and with [`WorkerFault::Refused`]
+    /// if it refuses for another reason, which comes first. `room` is as for [`Desk::offer`]; if no copy can be made
+    /// for the worker, the board is asked as if there were none. A refusal leaves the board as it was.
     pub fn offer_at(
         &mut self,
         board: &mut BoardState,

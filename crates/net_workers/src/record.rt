@@ -1,4 +1,4 @@
-//! What the threads of a network did.
+//! The record of a network's threads.
 
 use offer_board::Made;
 use outbox::Item;
@@ -29,7 +29,7 @@ pub enum RunFault {
     /// A router had no stamp or no incarnation left, or its offer was refused.
     #[error("the worker of {router} was refused")]
     WorkerRefused {
-        /// The router: the least, where there are several.
+        /// The router: the least, if there are several.
         router: Asn,
     },
     /// The chores are not 1 to [`MOST_TURNS`], or there is not one gate for each router.
@@ -51,7 +51,7 @@ impl From<AllocError> for RunFault {
     }
 }
 
-/// What a worker was told, did and offered, in its order.
+/// A worker's chores, events and offers, in its order.
 #[derive(Debug, Drop)]
 pub struct Journal {
     /// The chores that its gate gave.
@@ -67,7 +67,7 @@ pub struct Journal {
 pub struct Worked<'a, G> {
     /// The router, as it is in the end.
     pub router: Router<'a>,
-    /// What its worker was told, did and offered.
+    /// The chores, events and offers of its worker.
     pub journal: Journal,
     /// Its gate.
     pub gate: G,
@@ -85,13 +85,13 @@ pub struct Way {
     pub tail: Tail<Item>,
 }
 
-/// What the threads of a network did, and what they left.
+/// The record of a network's threads: what they did, and what they left.
 #[derive(Drop)]
 pub struct Record<'a, G> {
     /// The routers, rising, each with its journal and its gate.
     pub workers: Vec<Worked<'a, G>>,
-    /// The pipes: of each link, in the order of the network, the one that leads there and the one that
-    /// leads back.
+    /// The pipes: for each link, in the order of the network, the one that leads there and the one
+    /// that leads back.
     pub ways: Vec<Way>,
     /// The collector.
     pub collector: Collector,

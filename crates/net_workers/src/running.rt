@@ -21,7 +21,7 @@ use std::thread::Threads;
 use worker_loop::{Desk, Gate, Lines, Worker, WorkerFault};
 use world_core::new_router;
 
-/// A worker that has ended, and its fault where it ended before its last chore.
+/// A worker that has ended, and its fault if it ended before its last chore.
 #[derive(Drop)]
 pub struct Ended<'a, G> {
     /// The worker.
@@ -116,7 +116,7 @@ fn run_one<R: Wait, G: Gate>(rt: &R, board: &Board, turns: u32, ended: &mut Ende
     board.sleepers.leave();
 }
 
-// Runs each of these in a thread of its own.
+// Runs each of these workers in a thread of its own.
 fn run_each<'a, R, G>(rt: &R, board: &Board, turns: u32, workers: &mut [Ended<'a, G>])
 where
     R: Threads + Wait + Sync,
@@ -142,8 +142,8 @@ where
     );
 }
 
-/// Runs each worker in a thread of its own, and ends as all have. A worker that ends without a fault
-/// did what its gate said, and one with a fault ended for it.
+/// Runs each worker in a thread of its own, and returns once all have ended. A worker that ends
+/// without a fault did what its gate said, and one with a fault ended for it.
 pub(crate) fn run_all<'a, R, G>(rt: &R, board: &Board, turns: u32, workers: &mut Vec<Ended<'a, G>>)
 where
     R: Threads + Wait + Sync,

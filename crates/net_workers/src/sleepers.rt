@@ -1,7 +1,7 @@
 //! Which workers sleep, and who wakes them.
 //!
-//! A worker is awake as it begins. Where a Turn did nothing it is drowsy, and where the next one did nothing either it
-//! falls asleep, until one of these comes:
+//! A worker is awake as it begins. If a Turn did nothing, it is drowsy. If the next Turn did nothing either, it falls
+//! asleep, until one of these comes:
 //! - a peer has put an item towards it, or has taken one of a pipe for whose room it waits
 //! - a worker has ended
 //! - all workers sleep: then those go on that have a chore before them which is no Turn, through their Turns to it; where
@@ -22,7 +22,7 @@ use std::time::Duration;
 use worker_loop::{Between, Entry};
 use world_core::Event;
 
-// How a worker is: it has work; it found none, and looks once more; it sleeps; it goes on to what is due.
+// The states of a worker: it has work; it found none, and looks once more; it sleeps; it goes on to what is due.
 const AWAKE: u64 = 0;
 
 const DROWSY: u64 = 1;
@@ -31,19 +31,19 @@ const ASLEEP: u64 = 2;
 
 const GOING: u64 = 3;
 
-// What workers do that find no work: they sleep; they yield, since it was not worth waiting; they go on, since nothing
-// is to come.
+// What workers do that find no work: they sleep; or they yield, since it was not worth waiting; or they go on, since
+// nothing is to come.
 const RESTING: u64 = 0;
 
 const HURRIED: u64 = 1;
 
 const OVER: u64 = 2;
 
-// Of a worker for which nothing is due: its chores are Turns up to its last.
+// The due place of a worker for which nothing is due: its chores are Turns up to its last.
 const NEVER: u64 = u64::MAX;
 
-// How often a worker that fell asleep looks whether it was woken, before its first nap: some microseconds, in which it
-// does not leave its processor.
+// How often a worker that fell asleep looks whether it was woken, before its first nap. It takes some microseconds, in
+// which it does not leave its processor.
 const LOOKS: u32 = 7;
 
 // How long a nap is, in milliseconds, and how many are taken while no worker does anything.
@@ -55,9 +55,9 @@ const NAPS: u32 = 250;
 #[derive(Drop)]
 struct Bed {
     state: AtomicU64,
-    // Whether it waits for room in a pipe, as it fell asleep.
+    // Whether it waited for room in a pipe as it fell asleep.
     is_blocked: AtomicBool,
-    // How many chores stand in front of its next that is no Turn, as it fell asleep.
+    // How many chores stood in front of its next that is no Turn, as it fell asleep.
     due: AtomicU64,
     // How many chores it was given as it last did something.
     given: AtomicU64,
@@ -74,7 +74,7 @@ fn new_bed() -> Bed {
     }
 }
 
-// How many chores stand in front of the next that is no Turn, where one comes.
+// How many chores stand in front of the next that is no Turn, if one comes.
 fn due_of(between: &Between<'_>) -> u64 {
     let due = u64::from(between.given) + u64::from(between.turns);
     if due < u64::from(between.most) {
@@ -124,7 +124,7 @@ impl Sleepers {
         self.beds.as_slice().get(place)
     }
 
-    /// Whether workers still sleep where they find no work.
+    /// Whether workers still sleep if they find no work.
     pub fn are_resting(&self) -> bool {
         self.mode.load(Ordering::SeqCst) == RESTING
     }
@@ -137,8 +137,8 @@ impl Sleepers {
         }
     }
 
-    // Makes a worker awake, however it is. It counts before it is awake, and no longer where it did not sleep: so the
-    // count is never less than those that are awake.
+    // Makes a worker awake, whatever its state. It counts the worker before it is awake, and takes it off the count
+    // again if it did not sleep: the count is never less than the number of those that are awake.
     fn wake(&self, bed: &Bed) {
         self.awake.fetch_add(1, Ordering::SeqCst);
         if bed.state.swap(AWAKE, Ordering::SeqCst) == ASLEEP {
@@ -148,7 +148,7 @@ impl Sleepers {
         }
     }
 
-    // Lets a worker that sleeps go on to what is due; answers whether it slept. It counts as in `wake`.
+    // Lets a worker that sleeps go on to what is due, and answers whether it slept. It counts as `wake` does.
     fn let_go(&self, bed: &Bed) -> bool {
         self.awake.fetch_add(1, Ordering::SeqCst);
         let state = &bed.state;
@@ -161,7 +161,7 @@ impl Sleepers {
         was.is_ok()
     }
 
-    // Lets all go on for whom something is due; answers whether any was let.
+    // Lets all workers go on for which something is due, and answers whether there was any.
     fn let_go_to_due(&self) -> bool {
         let mut any = false;
         for bed in self.beds.as_slice() {
@@ -180,8 +180,8 @@ impl Sleepers {
         }
     }
 
-    // A worker is awake no longer. The last one lets others go on; it counts while it does, so that no other does so
-    // meanwhile.
+    // Takes a worker off the count of those awake. The last one lets others go on; it counts while it does, so that no
+    // other worker does so meanwhile.
     fn one_less(&self) {
         for _ in 0..u32::MAX {
             if self.awake.fetch_sub(1, Ordering::SeqCst) != 1 {
@@ -195,7 +195,7 @@ impl Sleepers {
         }
     }
 
-    // Wakes whoever an event may have given work: an item was put towards it, or it has room for one.
+    // Wakes the worker that an event may have given work: an item was put towards it, or it has room for one.
     fn wake_for(&self, event: &Event) {
         let (router, is_put) = match *event {
             Event::Put(_, peer) => (peer, true),
@@ -218,7 +218,7 @@ impl Sleepers {
         }
     }
 
-    // The chores of all workers, each as it last did something.
+    // The chores given to all workers, each as it last did something.
     fn given_in_all(&self) -> u64 {
         let mut all = 0u64;
         for bed in self.beds.as_slice() {
@@ -238,8 +238,8 @@ impl Sleepers {
         bed.state.load(Ordering::SeqCst) == ASLEEP && self.are_resting()
     }
 
-    // Naps until another worker has done something, and answers whether this one sleeps on. Where none does anything it
-    // ends the rest of all.
+    // Naps until another worker has done something, and answers whether this one sleeps on. If no worker does anything,
+    // it ends the rest of all.
     fn naps<R: Wait>(&self, rt: &R, bed: &Bed, due: u64) -> bool {
         let before = self.given_in_all();
         for _ in 0..NAPS {
@@ -283,7 +283,7 @@ impl Sleepers {
         self.let_go(bed);
     }
 
-    // A Turn did nothing, and Turns are next.
+    // Takes note of a Turn that did nothing, with Turns next.
     fn rest<R: Wait>(&self, rt: &R, bed: &Bed, between: &Between<'_>) {
         match bed.state.load(Ordering::SeqCst) {
             AWAKE => {
@@ -295,7 +295,7 @@ impl Sleepers {
         }
     }
 
-    // It did something, or what is next may be no Turn.
+    // Takes note that the worker did something, or that the next chore may be no Turn.
     fn go_on(&self, bed: &Bed, between: &Between<'_>) {
         bed.given.store(u64::from(between.given), Ordering::SeqCst);
         if bed.state.load(Ordering::SeqCst) != AWAKE {
@@ -304,8 +304,8 @@ impl Sleepers {
         yield_where(between.done.is_empty());
     }
 
-    /// Between two chores of a worker: wakes those to whom the last one may have given work, and waits where it did
-    /// nothing and Turns are next.
+    /// Is called between two chores of a worker. It wakes those to whom the last chore may have given work. It waits if
+    /// that chore did nothing and Turns are next.
     pub fn pause<R: Wait>(&self, rt: &R, between: &Between<'_>) {
         match self.mode.load(Ordering::SeqCst) {
             RESTING => {}
@@ -328,7 +328,7 @@ impl Sleepers {
         }
     }
 
-    /// A worker has ended: it wakes the others, and is awake no longer.
+    /// Takes note that a worker has ended: it wakes the others, and is awake no longer.
     pub fn leave(&self) {
         if !self.are_resting() {
             return;
