@@ -1,4 +1,4 @@
--- A step of a side as events of the network of the laws of runs, where no UPDATE is told and no marker is sent or taken.
+-- A step of a side as events of the network of the laws of runs, if no UPDATE is told and no marker is sent or taken.
 use Rattle.std.specs.Prelude.{ℕ, ◌≡◌, ◌≢◌, ◌==◌, false, List, [], ◌∷◌}
 use Rattle.prefix_lanes.specs.Bits.{PrefixView}
 use Rattle.bgp_codec.specs.declared.message.Message.{Message}
@@ -17,7 +17,7 @@ ModelRouters = routes.Routers Message PrefixView (List ℕ)
 abbrev pub ModelStep : Type 0
 ModelStep = NetworkStep Message PrefixView (List ℕ)
 
--- neither an UPDATE nor a marker
+-- the entries have neither an UPDATE nor a marker
 abbrev pub SaysNoUpdate : List (Entry Message) → Type 0
 SaysNoUpdate [] = Unit {0}
 SaysNoUpdate (Dial e ∷ xs) = SaysNoUpdate xs
@@ -25,7 +25,7 @@ SaysNoUpdate (Says e m ∷ xs) = (is_update m ≡ false) × SaysNoUpdate xs
 SaysNoUpdate (Mark e n ∷ xs) = ⊥
 SaysNoUpdate (Shut e ∷ xs) = SaysNoUpdate xs
 
--- no marker
+-- the entries have no marker
 abbrev pub HasNoMark : List (Entry Message) → Type 0
 HasNoMark [] = Unit {0}
 HasNoMark (Dial e ∷ xs) = HasNoMark xs
@@ -33,8 +33,8 @@ HasNoMark (Says e m ∷ xs) = HasNoMark xs
 HasNoMark (Mark e n ∷ xs) = ⊥
 HasNoMark (Shut e ∷ xs) = HasNoMark xs
 
--- events of router u that may come, and leave its end towards v as the side t; nothing else changes of ends, tables and what was
--- recorded, but for the channel from v and for a recording that a close loses
+-- events of router u that may come, and leave its end towards v as the side t; of ends, tables and recordings nothing
+-- else changes but the channel from v, and a recording that a close loses
 pub record ActsAs (g : Setting) (w : ModelRouters) (u v : ℕ) (t : Side) : Type 0 where
   pub steps : List ModelStep
   pub run : IsNetworkRun (network_of g) w steps

@@ -1,4 +1,4 @@
--- Events of a session that a step of one side is in the laws of runs.
+-- The events of a session in the laws of runs that make up a step of one side.
 use Rattle.std.specs.Prelude.{◌≡◌, ◌≢◌, Bool, true, false, ◌&&◌, ◌||◌, not, List, [], ◌∷◌, ◌++◌, Ok}
 use mathlib.Core.Logic.{◌⊎◌}
 use Rattle.bgp_codec.specs.declared.message.Message.{Message}
@@ -10,7 +10,7 @@ use Rattle.run_model.specs.Facts.{EndFacts}
 use Rattle.router_model.specs.Sides.{Side, Draft, AtHand, at_hand, carried, without_front, is_up}
 use Rattle.router_runs.specs.Reading.{Reads, MayComeAll, sides_after, state_of, model_side}
 
--- a side is this end, whose peer's end is b, and what holds of both in every run holds
+-- a side is this end, whose peer's end is b; what holds of both ends in every run holds of them
 pub record Stands (s : Side) (a b : End Message) : Type 0 where
   pub reads : Reads s a
   pub fits : Fits (state_of s.session.state) a
@@ -46,7 +46,7 @@ abbrev pub leaves_in : model.Side Message → List (SessionEvent Message) → Bo
 leaves_in x [] = false
 leaves_in x (e ∷ es) = (is_up_in x.state && closes e) || leaves_in (side_after x e) es
 
--- from one side to the other by events of its session, which append and take these entries
+-- events of a session lead from one side to the other, and append and take these entries
 pub record Does (s t : Side) (new past : List (Entry Message)) (a b : End Message) : Type 0 where
   pub events : List (SessionEvent Message)
   pub may : MayComeAll (model_side s a) b events

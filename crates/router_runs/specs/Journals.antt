@@ -1,4 +1,4 @@
--- What routers' journals show of a run: every causal order of them is one.
+-- The runs that routers' journals show: every causal order of the journals is one.
 use Rattle.std.specs.Prelude.{ℕ, List}
 use Rattle.run_model.specs.Journals.{IsJournal}
 use Rattle.run_model.specs.CausalOrder.{IsCausalOrder, closing, TakesHaveTheirPuts}
@@ -20,6 +20,6 @@ CausalOrdersAreRunsOfRouters =
     → ((u : ℕ) → LeadsTo g u (journal u) (last u)) → IsCausalOrder journal collected order
     → IsRunTo g order (closing last collected order)
 
--- causal: the k-th take of a direction has the item of its k-th put, which stands before it
+-- an order is causal if the k-th take of a direction has the item of its k-th put, and stands behind it
 abbrev pub TakesOfRoutersHaveTheirPuts : Type 0
 TakesOfRoutersHaveTheirPuts = TakesHaveTheirPuts Own What MadeOffer

@@ -1,4 +1,4 @@
--- What is kept through a run of routers, of one link.
+-- What holds of one link through a run of routers.
 use Rattle.std.specs.Prelude.{ℕ, ◌≡◌, ◌≢◌, true, List, [], ◌++◌, Ok}
 use Rattle.bgp_codec.specs.declared.message.Message.{Message}
 use Rattle.bgp_codec.specs.Header.{IsFrame}
@@ -23,7 +23,8 @@ use Rattle.router_runs.specs.Doing.{Stands, Does}
 abbrev pub IsGood : Setting → ℕ → Message → Type 0
 IsGood g u m = IsFrame (written_in g m) × ((v : ℕ) → reading (rule_of g.net v u) (written_in g m) ≡ Ok m)
 
--- what was taken is what the end took, and then octets that are held where the side is joined, and were dropped elsewhere
+-- the items taken are what the end took, and then octets that are held if the side is joined, and were dropped
+-- otherwise
 pub record Holds (g : Setting) (s : Side) (items : List (Passing Message)) (a : End Message) : Type 0 where
   pub rest : List (Passing Message)
   pub only : OnlyOctets rest
@@ -37,7 +38,7 @@ pub record Advances (g : Setting) (s t : Side) (new : List (Entry Message)) (bef
   pub does : Does s t new past a b
   pub holds : Holds g t (before ++ items) (sides_after (model_side s a) does.events).end
 
--- the side of a session in the laws of runs, and the side of a router that it is: its log, and what it took
+-- the side of a session in the laws of runs, and the side of a router that it stands for, with its log and what it took
 pub record SideKept (g : Setting) (s : Side) (said : List (Entry Message)) (items : List What) (x : model.Side Message) (b : End Message) : Type 0 where
   pub state : x.state ≡ state_of s.session.state
   pub stands : Stands s x.end b
@@ -54,7 +55,7 @@ pub record LinkKept (g : Setting) (u v : ℕ) (s t : Side) (log other : List (En
 abbrev pub LinkAt : Setting → RunState → ℕ → ℕ → Type 0
 LinkAt g state u v = LinkKept g u v (side_of state u v) (side_of state v u) (log_of state u v) (log_of state v u) (state.taken v u) (state.taken u v)
 
--- what was put, and what waits to be, is what was said
+-- what was put, and then what waits to be put, is what was said
 abbrev pub PutsItsLog : Setting → RunState → ℕ → ℕ → Type 0
 PutsItsLog g state u v = all_passes (state.put u v) ++ (side_of state u v).outbox ≡ passing (written_in g) (log_of state u v)
 

@@ -1,4 +1,5 @@
--- A network of routers, and the network of the laws of runs that it is: router by router, recording by recording.
+-- A network of routers, and the network of the laws of runs that it stands for: router by router, recording by
+-- recording.
 use Rattle.std.specs.Prelude.{ℕ, ◌≡◌, ◌<◌, true, List, [], ◌∷◌, ◌++◌, Option, None, Some}
 use Rattle.std.specs.List.{list_any}
 use mathlib.Core.Logic.{◌⊎◌}
@@ -41,7 +42,7 @@ ModelSteps = List (OfferStep Message PrefixView (List ℕ))
 
 -- ---- one router
 
--- towards each peer a side is its end, and up where the end is
+-- towards each peer a side is its end, and is up exactly where the end is
 pub record AreAlike (g : Setting) (u : ℕ) (x : Router) (ends : ℕ → End Message) : Type 0 where
   pub reads : (v : ℕ) → linked g.net u v ≡ true → Reads (x.sides v) (ends v)
   pub up : (v : ℕ) → linked g.net u v ≡ true → links.is_up (ends v) ≡ is_up (x.sides v)
@@ -50,7 +51,7 @@ abbrev pub number_of : Option Recording → Option ℕ
 number_of None = None
 number_of (Some r) = Some r.number
 
--- the unfinished recording: it waits for the same peers, for one at least, and its part is what was recorded
+-- the unfinished recording waits for the same peers, at least one, and its part is what was recorded
 pub record ReadsPart (g : Setting) (u : ℕ) (r : Recording) (n : ModelRouter) : Type 0 where
   pub waits : (v : ℕ) → linked g.net u v ≡ true → n.recorder.waits v ≡ r.waits v
   pub some : list_any r.waits (peers g.net u) ≡ true
@@ -108,7 +109,8 @@ IsLocallyQuiet g u s n (l ∷ ls) =
     ((c : ℕ → End Message) → n.recorder.copy s ≡ Some c → IsQuietEvent n l.event)
     × IsLocallyQuiet g u s (router_after (network_of g) u n l.event) ls
 
--- events of router u lead from n to m, and queue these offers; where they are to be still, each behind a recording is quiet
+-- events of router u lead from n to m, and queue these offers; if they have to be still, each behind a recording is
+-- quiet
 pub record Goes (g : Setting) (u : ℕ) (far : ℕ → End Message) (Still : Type 0) (n m : ModelRouter) (offers : List RouterOffer) : Type 0 where
   pub events : List Local
   pub run : IsLocalRun g u far n events
@@ -116,7 +118,7 @@ pub record Goes (g : Setting) (u : ℕ) (far : ℕ → End Message) (Still : Typ
   pub queues : queued_by events ≡ offers
   pub calm : (s : ℕ) → (Still ⊎ (n.recorder.copy s ≡ None)) → IsLocallyQuiet g u s n events
 
--- what stands as recorded: as it was, or the router as it is now, under a number above its last
+-- what stands as recorded stayed, or is the router as it is now, under a number above its last
 abbrev pub IsRecordedAs : ModelRouter → ModelRouter → ℕ → (ℕ → End Message) → Type 0
 IsRecordedAs n m k c = (m.recorder.copy k ≡ Some c) × (m.kept_at k ≡ n.kept_at k) × (m.originated_at k ≡ n.originated_at k)
 
@@ -139,7 +141,7 @@ pub record Mirrors (g : Setting) (state : RunState) (w : ModelOffering) : Type 0
   pub queued : (u : ℕ) → w.queued u ≡ made_by u w.made ++ (state.routers u).router.snapshots.queue
   pub made : w.made ≡ state.offered
 
--- what a copy of the ends of router u is: its sides where it recorded, with what it had said and taken by then
+-- a copy of the ends of router u is its sides where it recorded, with what it had said and taken by then
 pub record IsCopyAt (g : Setting) (u : ℕ) (at : RunState) (c : ℕ → End Message) : Type 0 where
   pub reads : (v : ℕ) → linked g.net u v ≡ true → Reads (side_of at u v) (c v)
   pub up : (v : ℕ) → linked g.net u v ≡ true → links.is_up (c v) ≡ is_up (side_of at u v)
@@ -152,7 +154,8 @@ pub record Copied (g : Setting) (order : RunOrder) (state : RunState) (n : Model
   pub ends : IsCopyAt g u at c
   pub kept : n.kept_at s ≡ (at.routers u).router.kept
   pub originated : n.originated_at s ≡ (at.routers u).router.originated
-  -- no octet that was taken behind the marker of a peer is held: it is the marker's own event, or the marker was not taken yet
+  -- no octet that was taken behind the marker of a peer is held: the event is the marker's own, or the marker was not
+  -- taken yet
   pub unmarked : (v : ℕ) (near : linked g.net u v ≡ true) → links.is_up (c v) ≡ true
       → ((ends.holds v near).rest ≡ []) ⊎ (offers.IsIn (links.Mark (links.incarnation (c v)) s) (c v).taken → ⊥)
 
@@ -166,7 +169,7 @@ pub record Mirrored (g : Setting) (order : RunOrder) (state : RunState) : Type 0
   pub quiet : (s : ℕ) → IsQuietSince g s order state
       → model.IsQuietSince (network_of g) s (routes.first_routers (network_of g)) (network_steps (network_of g) steps)
 
--- the run of the laws goes on where the run of routers does, and forgets nothing that was recorded
+-- the run of the laws goes on as the run of routers does, and forgets nothing that was recorded
 pub record GoesOn (g : Setting) (before : RunOrder) (at : RunState) (m : Mirrored g before at) (later : RunOrder) (last : RunState) : Type 0 where
   pub whole : Mirrored g (before ++ later) last
   pub more : ModelSteps
@@ -183,7 +186,7 @@ MirrorsGoOn =
     (g : Setting) → IsSetting g → (before later : RunOrder) (at last : RunState) (m : Mirrored g before at) → IsRunTo g before at
     → Run (logged_steps g) at later last → GoesOn g before at m later last
 
--- and where a router recorded, there is one whose router has that recording
+-- if a router recorded, there is a run of the laws whose router has that recording
 abbrev pub RecordingsAreMirrored : Type 0
 RecordingsAreMirrored =
     (g : Setting) → IsSetting g → (order : RunOrder) (state : RunState) (u s : ℕ) (at : RunState) → RecordedAt g order state u s at

@@ -1,5 +1,5 @@
--- The network of the laws of runs that a network of routers is: its messages are those of BGP-4, and its routers choose as the
--- setting says.
+-- The network of the laws of runs that a network of routers stands for: its messages are those of BGP-4, and its
+-- routers choose as the setting says.
 use Rattle.std.specs.Prelude.{ℕ, List, [], ◌++◌, map}
 use Rattle.prefix_lanes.specs.Bits.{PrefixView, is_prefix}
 use Rattle.bgp_codec.specs.declared.message.Message.{Message}
@@ -9,7 +9,7 @@ use Rattle.run_model.specs.Routes as model
 use Rattle.router_model.specs.Messages.{is_update}
 use Rattle.router_model.specs.Settings.{Setting, is_router, linked, names}
 
--- what a message says of prefixes, the empty path where it withdraws one
+-- what a message says of prefixes; the empty path if it withdraws one
 abbrev pub withdrawn_mentions : List PrefixView → List (PrefixView × List ℕ)
 withdrawn_mentions qs = map (λ q. (q, [])) qs
 

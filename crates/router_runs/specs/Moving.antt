@@ -63,7 +63,7 @@ abbrev pub takes_by : List (Move Message) → List (Entry Message)
 takes_by [] = []
 takes_by (m ∷ ms) = takes_of m ++ takes_by ms
 
--- an end that a side is, and moves on, is the side that the move leaves
+-- if a side is an end, and the end moves on, the side that the move leaves is that end
 pub record Read (t : Side) (new past : List (Entry Message)) (a c : End Message) : Type 0 where
   pub reads : Reads t c
   pub appends : c.appended ≡ a.appended ++ new

@@ -28,14 +28,15 @@ pub record PassesInOrder (g : Setting) (state : RunState) (u v e : ℕ) : Type 0
   pub acted : updates_in used ≡ (side_of state v u).acted e
   pub sent : updates_in (said e (log_of state u v)) ≡ (side_of state u v).sent e
 
--- so the UPDATEs that v acted on are a beginning of those that u sent: in order, once each
+-- the UPDATEs that v acted on are a beginning of those that u sent: in order, once each
 abbrev pub UpdatesPassInOrder : Type 0
 UpdatesPassInOrder =
     (g : Setting) → IsSetting g → (order : RunOrder) (state : RunState) → IsRunTo g order state
     → (u v e : ℕ) → linked g.net u v ≡ true
     → PassesInOrder g state u v e × IsPrefix ((side_of state v u).acted e) ((side_of state u v).sent e)
 
--- nothing is acted on after the close: where an event leaves Established, no later one acts on an UPDATE of that incarnation
+-- nothing is acted on after the close: if an event leaves Established, no later one acts on an UPDATE of that
+-- incarnation
 abbrev pub NothingIsActedOnAfterTheClose : Type 0
 NothingIsActedOnAfterTheClose =
     (g : Setting) → IsSetting g → (before later : RunOrder) (d : NetworkEvent Own What MadeOffer) (old new last : RunState)
@@ -45,11 +46,11 @@ NothingIsActedOnAfterTheClose =
 
 -- ---- in one run
 
--- from each router to each of its peers, in each incarnation
+-- octets pass in order from each router to each of its peers, in each incarnation
 abbrev pub OctetsPassInOrder : Setting → RunState → Type 0
 OctetsPassInOrder g state = (u v e : ℕ) → linked g.net u v ≡ true → PassesInOrder g state u v e
 
--- where one of its events leaves Established, no later one acts on an UPDATE of that incarnation
+-- if an event of one run leaves Established, no later one acts on an UPDATE of that incarnation
 abbrev pub ActsOnNothingAfterCloses : Setting → RunOrder → RunState → Type 0
 ActsOnNothingAfterCloses g order last =
     (d : NetworkEvent Own What MadeOffer) (old new : RunState) → IsEventOf g order last d old new

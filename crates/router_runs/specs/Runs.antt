@@ -67,7 +67,7 @@ log_of state u v = (state.routers u).log v
 abbrev pub written_in : Setting → Message → List ℕ
 written_in g m = written g.net.settings.width m
 
--- one behind another (RFC 4271 section 4)
+-- the octets of messages, one behind another (RFC 4271 section 4)
 abbrev pub octets_of_all : Setting → List Message → List ℕ
 octets_of_all g ms = concat (map (written_in g) ms)
 

@@ -43,11 +43,12 @@ IsSaid g u (UpdateMsg x) = IsToldBy g u x
 IsSaid g u (NoticeMsg n) = n.extra ≡ []
 IsSaid g u AliveMsg = Unit {0}
 
--- it is written as a frame, and each peer of the router reads it back
+-- a message that a router may say is written as a frame, and each peer of the router reads it back
 abbrev pub SaidIsGood : Type 0
 SaidIsGood = (g : Setting) → IsSetting g → (u : ℕ) → IsRouter g.net.routers u → (m : Message) → IsSaid g u m → IsGood g u m
 
--- what is kept through a run of all routers: of each link, of what is said, and of the kept paths; and no session is up where there is no link
+-- what every state of a run keeps, for each link, for what is said and for the kept paths; and no session is up without
+-- a link
 pub record Kept (g : Setting) (state : RunState) : Type 0 where
   pub reached : Reached g state
   pub said : (u v : ℕ) → linked g.net u v ≡ true → AllGood (IsSaid g u) (log_of state u v)

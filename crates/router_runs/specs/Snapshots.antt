@@ -41,7 +41,7 @@ CloseLosesTheRecording =
     → ((snapshots_of new d.router).queue ≡ (snapshots_of old d.router).queue ++ Lost s v (side_of old d.router v).link.epoch Closed ∷ [])
     × ((part : RouterPart) → HasMade last s d.router part → ⊥)
 
--- so does each of the events of one run that leave Established
+-- each event of one run that leaves Established loses the recording in this way
 abbrev pub ClosesLoseRecordings : Setting → RunOrder → RunState → Type 0
 ClosesLoseRecordings g order last =
     (d : NetworkEvent Own What MadeOffer) (old new : RunState) → IsEventOf g order last d old new
@@ -49,7 +49,7 @@ ClosesLoseRecordings g order last =
     → ((snapshots_of new d.router).queue ≡ (snapshots_of old d.router).queue ++ Lost s v (side_of old d.router v).link.epoch Closed ∷ [])
     × ((part : RouterPart) → HasMade last s d.router part → ⊥)
 
--- ---- where a router recorded a snapshot
+-- ---- the place where a router recorded a snapshot
 
 -- router u recorded s in a run to `last`: by the event that made s its last number; `new` is the state of the run behind it
 pub record RecordedAt (g : Setting) (order : RunOrder) (last : RunState) (u s : ℕ) (new : RunState) : Type 0 where
@@ -64,7 +64,8 @@ pub record RecordedAt (g : Setting) (order : RunOrder) (last : RunState) (u s : 
   pub greater : (snapshots_of old u).last < s
   pub records : (snapshots_of new u).last ≡ s
 
--- ---- the cut of a snapshot (Chandy and Lamport 1985): inside are, of each router, its events up to the one that recorded
+-- ---- the cut of a snapshot (Chandy and Lamport 1985): of each router, its events up to the one that recorded are
+-- inside
 
 -- a part says what this router is, of the prefixes that the network names and of its peers
 pub record IsPartOf (g : Setting) (u : ℕ) (x : Router) (part : RouterPart) : Type 0 where
@@ -73,9 +74,9 @@ pub record IsPartOf (g : Setting) (u : ℕ) (x : Router) (part : RouterPart) : T
   pub incarnation : (v : ℕ) → linked g.net u v ≡ true → part.incarnation v ≡ (x.sides v).link.epoch
   pub pending : part.pending ≡ is_pending g u x
 
--- the link from u to v in a cut, by the states of the run as u and as v recorded, and the part of v: what v took inside, u appended
--- inside, octet by octet; both recorded in one incarnation; and the recorded channel is the UPDATEs that u sent in it inside and v
--- did not act on inside
+-- the link from u to v in a cut, by the states of the run as u and as v recorded, and the part of v. What v took
+-- inside, u appended inside, octet by octet; both recorded in one incarnation; the recorded channel is the UPDATEs that
+-- u sent in it inside and v did not act on inside
 pub record IsCutLink (g : Setting) (at_u at_v : RunState) (u v : ℕ) (part : RouterPart) : Type 0 where
   pub consistent : IsPrefix (all_passes (at_v.taken u v)) (passing (written_in g) (log_of at_u u v))
   pub one_incarnation : (side_of at_u u v).link.epoch ≡ (side_of at_v v u).link.epoch
@@ -93,7 +94,7 @@ pub record IsCutOf (g : Setting) (order : RunOrder) (last : RunState) (s : ℕ) 
 abbrev pub HaveMade : Setting → RunState → ℕ → (ℕ → RouterPart) → Type 0
 HaveMade g state s parts = (u : ℕ) → is_router g u ≡ true → HasMade state s u (parts u)
 
--- the parts of a snapshot are those of a consistent cut, whatever they say
+-- the parts of a snapshot are those of a consistent cut, whatever they hold
 abbrev pub PartsAreOfACut : Type 0
 PartsAreOfACut =
     (g : Setting) → IsSetting g → (order : RunOrder) (state : RunState) → IsRunTo g order state → (s : ℕ) (parts : ℕ → RouterPart)
@@ -104,20 +105,20 @@ PartsAreOfACut =
 abbrev pub ComesOut : Setting → RunState → ℕ → Outcome → Type 0
 ComesOut g state s outcome = HasOutcome (network_of g) s state.offered outcome
 
--- one that is settled or moving has a part of every router
+-- a snapshot that is settled or moving has a part of every router
 abbrev pub DecidedHasAllParts : Type 0
 DecidedHasAllParts =
     (g : Setting) → IsSetting g → (order : RunOrder) (state : RunState) → IsRunTo g order state → (s u : ℕ) → is_router g u ≡ true
     → ComesOut g state s Settled ⊎ ((v : ℕ) × (why : Why) × ComesOut g state s (Moving v why))
     → (part : RouterPart) × HasMade state s u part
 
--- the two parts of a link name one incarnation, so that no snapshot is moving by a mismatch
+-- the two parts of a link name one incarnation: no snapshot is moving by a mismatch
 abbrev pub MismatchNeverComes : Type 0
 MismatchNeverComes =
     (g : Setting) → IsSetting g → (order : RunOrder) (state : RunState) → IsRunTo g order state → (s u v : ℕ)
     → ComesOut g state s (Moving u (Mismatch v)) → ⊥
 
--- ---- what settled is worth
+-- ---- what holds of a settled snapshot
 
 -- the prefix is originated or not, as its origin's part says
 abbrev pub AsOriginated : Setting → PrefixView → (ℕ → RouterPart) → Bool → Type 0
@@ -148,7 +149,7 @@ IsCommand (puts v i) = ⊥
 IsCommand (takes v i) = ⊥
 IsCommand (offers made) = ⊥
 
--- a step of router u that does no command, and in which no session leaves Established
+-- a step of router u does no command, and no session leaves Established in it
 pub record IsQuiet (g : Setting) (u : ℕ) (x y : Router) (e : RouterEvent) : Type 0 where
   pub no_command : IsCommand e → ⊥
   pub stays_up : (v : ℕ) → linked g.net u v ≡ true → is_up (x.sides v) ≡ true → is_up (y.sides v) ≡ true
@@ -174,7 +175,7 @@ SettledStays =
     → (u : ℕ) (recording : RunState) (part : RouterPart) → RecordedAt g before at u s recording → HasMade last s u part
     → (q : PrefixView) → names g.net.origins q ≡ true → HasRoute g at u q (part.kept q)
 
--- ---- all of it: a snapshot that is settled can be believed
+-- ---- all of this together: a settled snapshot can be believed
 
 -- these parts are what a consistent cut leaves, their paths are a stable path assignment, and stay at `at`, a place of the run
 pub record IsBelievable (g : Setting) (before later : RunOrder) (at last : RunState) (s : ℕ) (parts : ℕ → RouterPart) : Type 0 where
@@ -184,7 +185,7 @@ pub record IsBelievable (g : Setting) (before later : RunOrder) (at last : RunSt
   pub stays : IsQuietSince g s before at → (u : ℕ) (recording : RunState) → is_router g u ≡ true → RecordedAt g before at u s recording
       → (q : PrefixView) → names g.net.origins q ≡ true → HasRoute g at u q ((parts u).kept q)
 
--- the parts that all routers made of a settled snapshot; that they made them says `DecidedHasAllParts`
+-- the parts that all routers made of a settled snapshot; they made them by `DecidedHasAllParts`
 abbrev pub SettledSnapshotsCanBeBelieved : Type 0
 SettledSnapshotsCanBeBelieved =
     (g : Setting) → IsSetting g → (before later : RunOrder) (at last : RunState) → IsRunTo g before at
@@ -194,13 +195,13 @@ SettledSnapshotsCanBeBelieved =
 -- ---- the snapshots of one run
 
 pub record SnapshotsHold (g : Setting) (order : RunOrder) (state : RunState) : Type 0 where
-  -- one that is settled or moving has a part of every router, and no two parts name two incarnations of a link
+  -- a snapshot that is settled or moving has a part of every router, and no two parts name two incarnations of a link
   pub all : (s u : ℕ) → is_router g u ≡ true → ComesOut g state s Settled ⊎ ((v : ℕ) × (why : Why) × ComesOut g state s (Moving v why))
       → (part : RouterPart) × HasMade state s u part
   pub mismatch : (s u v : ℕ) → ComesOut g state s (Moving u (Mismatch v)) → ⊥
   -- the parts are what a consistent cut leaves
   pub cut : (s : ℕ) (parts : ℕ → RouterPart) → HaveMade g state s parts → (at : ℕ → RunState) × IsCutOf g order state s parts at
-  -- one that is settled is a stable path assignment, which stays
+  -- the paths of a settled snapshot are a stable path assignment, which stays
   pub settled : (s : ℕ) → ComesOut g state s Settled → (parts : ℕ → RouterPart) → HaveMade g state s parts
       → (before later : RunOrder) (at : RunState) → order ≡ before ++ later → IsRunTo g before at → runs.Run (logged_steps g) at later state
       → IsBelievable g before later at state s parts

@@ -1,4 +1,4 @@
-//! What the journals of routers show: which runs they are.
+//! The runs that the journals of routers show.
 
 ghost use Rattle.router_runs.specs.Journals.{CausalOrdersAreRunsOfRouters, TakesOfRoutersHaveTheirPuts};
 
@@ -28,10 +28,10 @@ impl Routers for NetworkRouters {
     ghost step = { LoggedStep };
 }
 
-/// Every causal order of the journals of a network's routers is a run of the network: so what
-/// threads did, each router in one of them, is a run of routers, and every promise of runs holds of
-/// it. In such an order the k-th take of a direction has the item of the k-th put, which stands
-/// before it.
+/// Every causal order of the journals of a network's routers is a run of the network (`runs`). What
+/// threads did, each router in one of them, is thus a run of routers, and every promise of runs
+/// holds of it. In such an order the k-th take of a direction has the item of the k-th put, and
+/// stands behind it (`items`).
 pub fn causal_orders_are_runs_of_routers()
     ensures runs { CausalOrdersAreRunsOfRouters }
     ensures items { TakesOfRoutersHaveTheirPuts }

@@ -28,7 +28,7 @@ impl Framing for Frames {
     ghost is_frame = { IsFrame };
 }
 
-/// What the crates below say of link ends, sessions, octets and the steps of one router.
+/// The laws of the crates below on link ends, sessions, octets and the steps of one router.
 pub(crate) fn laws_below()
     ensures { LawsBelow }
 {
@@ -58,17 +58,19 @@ pub fn what_is_said_is_good()
     laws_below();
 }
 
-/// What is kept through a run holds of every state of it: a run of the sessions of the laws of runs leads to the two sides of each
-/// link, octets that were taken are those of messages said, each message said is good, and each kept path may be kept.
+/// Every state of a run has what is kept through it. A run of the sessions of the laws of runs leads to the two sides
+/// of each link. Octets that were taken are those of messages said. Each message said is good, and each kept path may
+/// be kept.
 pub fn runs_keep()
     ensures { RunsKeep }
 {
     laws_below();
 }
 
-/// Updates pass in order. In every run, from each router to each peer and for each incarnation: the messages used are a beginning of
-/// those said, their octets were taken, what was taken was put, what was put was said; while the peer is joined in the incarnation,
-/// it holds what it took behind those octets; and the UPDATEs acted on are a beginning of those sent.
+/// UPDATEs pass in order. In every run this holds from each router to each peer, for each incarnation: the messages
+/// used are a beginning of those said; their octets were taken; what was taken was put; what was put was said. While
+/// the peer is joined in the incarnation, it holds what it took behind those octets. The UPDATEs acted on are a
+/// beginning of those sent.
 ///
 /// Premises: the network is one (`IsNetwork`), routers choose by rank, the hold time fits an OPEN. It does not say that anything
 /// arrives.
@@ -78,17 +80,17 @@ pub fn updates_pass_in_order()
     laws_below();
 }
 
-/// Nothing is acted on after the close: where an event of a router leaves Established, no later one acts on an UPDATE of that
-/// incarnation.
+/// Nothing is acted on after the close: if an event of a router leaves Established, no later event acts on an UPDATE of
+/// that incarnation.
 pub fn nothing_is_acted_on_after_the_close()
     ensures { NothingIsActedOnAfterTheClose }
 {
     laws_below();
 }
 
-/// A close loses the recording. Where a session leaves Established while its router records a snapshot, the router queues
-/// the loss of that snapshot, by the least such peer of the event and in the incarnation that was left; and it never makes
-/// a part of it.
+/// A close loses the recording. If a session leaves Established while its router records a snapshot, the router queues
+/// the loss of that snapshot, by the least such peer of the event and in the incarnation that was left. It never makes
+/// a part of that snapshot.
 ///
 /// It does not say that the loss is ever offered.
 pub fn close_loses_the_recording()
@@ -97,20 +99,19 @@ pub fn close_loses_the_recording()
     leaving_loses_the_recording();
 }
 
-/// A step of a side that tells no UPDATE and neither sends nor takes a marker is a list of events of the network of the laws
-/// of runs; they may come, and leave everything else as it was.
+/// A step of a side that tells no UPDATE and neither sends nor takes a marker is a list of events of the network of the
+/// laws of runs. They may come, and leave everything else as it was.
 pub fn quiet_steps_are_acts()
     ensures { QuietStepsAreActs }
 {
     laws_below();
 }
 
-/// Each network has a setting: there is one over it in which every router chooses by rank, by the
-/// function of [`best_by_rank_is_best`]. So the promises of runs, whose premise is such a setting,
-/// speak of every network.
+/// Each network has a setting in which every router chooses by rank, by the function of [`best_by_rank_is_best`]. The
+/// promises of runs, whose premise is such a setting, thus speak of every network.
 ///
-/// Premises: it is one (`IsNetwork`), and for the setting of the promises (`IsSetting`) the hold time
-/// fits an OPEN, as that of every network in the code does: it is a `u16`.
+/// Premises: the network is one (`IsNetwork`). For the setting of the promises (`IsSetting`) the hold time fits an
+/// OPEN; that of every network in the code does, since it is a `u16`.
 pub fn each_network_has_a_setting()
     ensures { EachNetworkHasASetting }
 {

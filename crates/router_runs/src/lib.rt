@@ -1,8 +1,8 @@
-//! What holds of every run of a network of routers, in which each router steps by itself and a take gets the next item
-//! that the peer put.
+//! The promises of every run of a network of routers, in which each router steps by itself and a take gets the next
+//! item that the peer put.
 //!
 //! The promises are the contracts of public functions with empty bodies, about the definitions of `router_model` and of
-//! runs (`specs/Runs`): so a crate whose calls are steps of these routers has them by calling the functions.
+//! runs (`specs/Runs`). A crate whose calls are steps of these routers has them by calling the functions.
 //!
 //! Left out: that anything arrives, ends or settles.
 #![tactic(auto)]

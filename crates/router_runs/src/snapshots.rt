@@ -1,5 +1,5 @@
-//! The snapshots of every run (Chandy and Lamport 1985): what is recorded is a consistent cut, and what is
-//! settled is a stable path assignment, which stays (Griffin, Shepherd and Wilfong 2002).
+//! The snapshots of every run (Chandy and Lamport 1985). The parts of a snapshot are a consistent cut; the paths of a
+//! settled one are a stable path assignment, which stays (Griffin, Shepherd and Wilfong 2002).
 
 ghost use Rattle.router_runs.specs.SnapshotLaws.{SnapshotLaws};
 ghost use Rattle.router_runs.specs.Snapshots.{PartsAreOfACut, DecidedHasAllParts, MismatchNeverComes, SettledIsStable, SettledStays, SettledSnapshotsCanBeBelieved, SnapshotsHoldInRuns};
@@ -13,7 +13,7 @@ use run_model::{
     settled_outcome_is_stable_and_stays,
 };
 
-/// What the laws of network runs say of snapshots.
+/// The laws of network runs on snapshots.
 fn snapshot_laws_below()
     ensures { SnapshotLaws }
 {
@@ -26,16 +26,16 @@ fn snapshot_laws_below()
 
 /// The snapshots of every run of a network of routers.
 ///
-/// The parts of a snapshot that every router made are those of a consistent cut: inside are each router's events up to the one that
-/// recorded; each part is its router's state there, of each link both ends recorded one incarnation, what was taken inside was
-/// appended inside, octet by octet, and each recorded channel is the UPDATEs that were sent inside and not acted on inside
-/// (`cut`). A snapshot that is settled or moving has a part of every router (`all`), and none is moving by a mismatch
-/// (`mismatch`).
+/// The parts of a snapshot that every router made are those of a consistent cut: of each router, the events up to the
+/// one that recorded are inside. Each part is its router's state there. Both ends of each link recorded one
+/// incarnation. What was taken inside was appended inside, octet by octet. Each recorded channel is the UPDATEs that
+/// were sent inside and not acted on inside (`cut`). A snapshot that is settled or moving has a part of every router
+/// (`all`), and none is moving by a mismatch (`mismatch`).
 ///
-/// Where the outcome is Settled, the paths of the parts are a stable path assignment for each prefix (`stable`), and they are every
-/// router's kept paths and routes at every place from its own recording on up to which the run is quiet: no session left
-/// Established and no command but a snapshot came at a router after its recording (`stays`). All of this together is `believed`,
-/// and of one run `hold`.
+/// If the outcome is Settled, the paths of the parts are a stable path assignment for each prefix (`stable`). They are
+/// every router's kept paths and routes at every place from its own recording on up to which the run is quiet: no
+/// session left Established, and no command but a snapshot came, at a router after its recording (`stays`). All of this
+/// together is `believed`, and for one run `hold`.
 ///
 /// Premises: the network is one, routers choose by rank, the hold time fits an OPEN; each offer is made in its router's order. It does
 /// not say that a snapshot is ever decided, nor which stable assignment is found.
