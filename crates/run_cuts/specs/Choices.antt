@@ -1,5 +1,5 @@
--- What a router's calls choose where its steps leave a choice: a put takes as much as it may, and an UPDATE goes to the least peer
--- that waits. A run of these choices passes through a cut by these choices, as long as no outbox is full.
+-- The choices of a router's calls where its steps leave one: a put takes as much as it may, and an UPDATE goes to the
+-- least peer that waits. A run of these choices passes through a cut by these choices, as long as no outbox is full.
 use Rattle.std.specs.Prelude.{ℕ, ◌≡◌, ◌<◌, [], ◌∷◌, ◌++◌, Some}
 use Rattle.std.specs.List.{find}
 use Rattle.outbox.specs.Items.{next_item, octets_waiting}

@@ -13,7 +13,7 @@ use run_model::{
     runs_have_their_cuts, runs_pass_through_cuts,
 };
 
-/// What the crates below say of orders of events, of steps of routers and of snapshots.
+/// The laws of the crates below on orders of events, steps of routers and snapshots.
 fn laws_below()
     ensures { CutLaws }
 {
@@ -31,11 +31,11 @@ fn laws_below()
     snapshots_of_runs();
 }
 
-/// Every run passes through the cut of each snapshot that is settled or moving in it, and of each of which every router
-/// made its part: a run of the same events whose first part has what each router did up to its recording, and the puts
-/// of what was taken by then, and its second part the rest. Between the two each router is as it recorded, but for those
-/// puts, and each channel is what was recorded of it; at the end all is as at the end of the run, but for the order of
-/// the offers for other snapshots.
+/// Every run passes through the cut of each snapshot of which every router made its part (`through`), as of each that
+/// is settled or moving in it (`decided`). A run of the same events has two parts. Its first part has what each router
+/// did up to its recording, and the puts of what was taken by then; its second part has the rest. Between the two each
+/// router is as it recorded, but for those puts, and each channel is what was recorded of it. At the end all is as at
+/// the end of the run, but for the order of the offers for other snapshots.
 ///
 /// Premises: the network is one, routers choose by rank, the hold time fits an OPEN. It does not say that a snapshot is
 /// ever decided.
@@ -46,19 +46,19 @@ pub fn runs_pass_through_snapshots()
     laws_below();
 }
 
-/// A run of the choices that calls make passes through the cut of a snapshot by the choices that calls make: a put that comes
-/// early takes what it took, and each UPDATE goes to the peer that it went to.
+/// A run in which each event is what its router's call chooses passes through the cut of a snapshot by such choices. A
+/// put that comes early takes what it took, and each UPDATE goes to the peer that it went to.
 ///
-/// Premises: as above; each event of the run is what its router's call chooses, and no outbox of the router is full as it
-/// comes. Where one is full a call may choose another peer.
+/// Premises: those of `runs_pass_through_snapshots`; each event of the run is what its router's call chooses, and no
+/// outbox of the router is full as it comes. If one is full, a call may choose another peer.
 pub fn chosen_runs_pass_through()
     ensures { ChosenRunsPassThrough }
 {
     laws_below();
 }
 
-/// A router records a number by one of its events, so that the cut of a snapshot is one (`one`); and an event is inside
-/// exactly where the last number that its router recorded before it is below that of the snapshot (`inside`).
+/// A router records a number by one of its events: the cut of a snapshot is one (`one`). An event is inside exactly
+/// where the last number that its router recorded before it is below that of the snapshot (`inside`).
 pub fn cuts_are_one()
     ensures one { CutsAreOne }
     ensures inside { InsideByNumber }
