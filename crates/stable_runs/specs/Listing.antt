@@ -25,7 +25,7 @@ use Rattle.net_workers.specs.Runs.{InTurn, KeepsPromises}
 abbrev pub originated : Plan → PrefixView → Problem
 originated net q = record { net = net; prefix = q; originated = true }
 
--- these paths are of each part one of its choices
+-- the paths have one of the choices of each part
 abbrev pub AreListed : (ℕ → List ℕ) → Every → Type 0
 AreListed paths every = All (HasChoice paths) every.parts
 
@@ -39,15 +39,15 @@ ListsOne every = All (λ part. length part.choices ≡ 1) every.parts
 
 -- the settled snapshots of a state of a run
 pub record SettlesInListed (g : Setting) (state : RunState) : Type 0 where
-  -- their paths are listed, for each prefix that the origin's part originates
+  -- the paths of a settled snapshot are listed, for each prefix that the origin's part originates
   pub listed : (s : ℕ) → ComesOut g state s Settled → (parts : ℕ → RouterPart) → HaveMade g state s parts
       → (q : PrefixView) → names g.net.origins q ≡ true → AsOriginated g q parts true
       → (every : Every) → IsEveryStable (originated g.net q) every → AreListed (λ u. (parts u).kept q) every
-  -- where none is stable, no snapshot is settled whose origin's part originates the prefix
+  -- if no assignment is stable, no snapshot is settled whose origin's part originates the prefix
   pub none : (s u : ℕ) (q : PrefixView) → names g.net.origins q ≡ true → IsOrigin g.net.origins u q
       → (part : RouterPart) → HasMade state s u part → part.originated q ≡ true
       → (every : Every) → IsEveryStable (originated g.net q) every → ListsNone every → ComesOut g state s Settled → ⊥
-  -- where one is stable, each of them has its paths
+  -- if one assignment is stable, each settled snapshot has its paths
   pub one : (s : ℕ) → ComesOut g state s Settled → (parts : ℕ → RouterPart) → HaveMade g state s parts
       → (q : PrefixView) → names g.net.origins q ≡ true → AsOriginated g q parts true
       → (every : Every) → IsEveryStable (originated g.net q) every → ListsOne every
@@ -57,13 +57,13 @@ pub record SettlesInListed (g : Setting) (state : RunState) : Type 0 where
 abbrev pub RunsSettleInListed : Type 0
 RunsSettleInListed = (g : Setting) → IsSetting g → (order : RunOrder) (state : RunState) → IsRunTo g order state → SettlesInListed g state
 
--- so do the runs that a world stands at the end of
+-- the runs that a world stands at the end of settle in listed assignments
 abbrev pub WorldsSettleInListed : Type 0
 WorldsSettleInListed =
     (g : Setting) → IsSetting g → (events : List Event) (w : World) → played g (new_world g) 0 events ≡ Ok w
     → HoldsOfItsRuns g w (λ order state. SettlesInListed g state)
 
--- and the run of a record of threads, which keeps the promises of runs
+-- the run of a record of threads, which keeps the promises of runs, settles in listed assignments
 abbrev pub RecordsSettleInListed : {G : Type 0} → (G → List Chore) → Type 0
 RecordsSettleInListed {G} given =
     (plan : Plan) (turns : ℕ) (p : Passed) (workers : List (Worked G)) (c : CollectorView) (gathered : List Entry)

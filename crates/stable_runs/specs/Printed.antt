@@ -1,4 +1,4 @@
--- What `play` prints of a settled snapshot, and what `stable` prints of the same network.
+-- The routes that `play` prints of a settled snapshot, and the assignments that `stable` prints of the same network.
 use Rattle.std.specs.Prelude.{ℕ, ◌≡◌, Bool, true, List, Ok}
 use Rattle.std.specs.List.{Contains}
 use Rattle.stable_search.specs.declared.every.Every.{Every}
@@ -13,8 +13,8 @@ use Rattle.play_engine.specs.Playing.{IsReport}
 use Rattle.stable_engine.specs.Answers.{Answer, AreAnswered}
 use Rattle.stable_runs.specs.Listing.{AreListed}
 
--- the routes that a report has of a settled snapshot are of each part one of the choices of an answer that knows all, for each
--- prefix that the origin's part originates
+-- the routes that a report has of a settled snapshot are one of the choices of each part of an answer that knows all,
+-- for each prefix that the origin's part originates
 abbrev pub PrintedSettledAreListed : Type 0
 PrintedSettledAreListed =
     (g : Setting) (set : IsSetting g) (w : World) (out : Output) (report : IsReport g w out)

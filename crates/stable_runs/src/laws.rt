@@ -9,10 +9,10 @@ use router_runs::snapshots_of_runs;
 use run_cuts::laws::runs_pass_through_snapshots;
 
 /// In every run, the paths of a settled snapshot are among the stable assignments of each prefix that its origin
-/// originates: of each part of the routers it has one of the choices (`listed`). So where a part has no choice no
-/// snapshot is settled while the origin originates (`none`), and where each part has one choice alone the snapshot
-/// has the paths of every stable assignment (`one`). It holds of the runs that a world stands at the end of
-/// (`worlds`), and of the run of a record of threads (`records`).
+/// originates: they have one of the choices of each part of the routers (`listed`). If a part has no choice, no
+/// snapshot is settled while the origin originates (`none`). If each part has exactly one choice, the snapshot has the
+/// paths of the one stable assignment (`one`). This holds of the runs that a world stands at the end of (`worlds`), and
+/// of the run of a record of threads (`records`).
 ///
 /// Premises: the network is one, routers choose by rank, the hold time fits an OPEN; the parts are all stable
 /// assignments (`IsEveryStable`). It does not say that a snapshot is ever settled.
