@@ -21,7 +21,7 @@ Act = stamps.Stamped Own What MadeOffer
 abbrev pub passed : Item → StampedItem What
 passed i = record { stamp = i.stamp; item = i.what }
 
--- an event whose item, where it has one, has this stamp
+-- an event; its item, if it has one, has this stamp
 abbrev pub with_stamp : ℕ → RouterEvent → Event Own (StampedItem What) MadeOffer
 with_stamp s (alone e) = alone e
 with_stamp s (puts v i) = puts v (record { stamp = s; item = i })
@@ -47,13 +47,13 @@ pub record Moves (g : Setting) (u : ℕ) (x : Stamped) (a : Act) (y : Stamped) :
   pub fits : FitsItem a.stamp a.event.event
   pub step : Step g u x.router (without_stamp a.event.event) y.router
 
--- and so do several, one after another
+-- several events lead a router from one of its states to another, one after another
 abbrev pub Leads : Setting → ℕ → Stamped → List Act → Stamped → Type 0
 Leads g u x [] z = x ≡ z
 Leads g u x (a ∷ acts) z = (y : Stamped) × Moves g u x a y × Leads g u y acts z
 
--- a worker as contracts see it: its router, what it put towards each peer and took from it, how many items each line holds at
--- most, the offers that it made, and the events of its journal
+-- a worker as contracts see it: its router, what it put towards each peer and took from it, the most items that each
+-- line holds, the offers that it made, and the events of its journal
 pub record Seen : Type 0 where
   pub router : Stamped
   pub put : ℕ → List Item
@@ -77,6 +77,6 @@ pub record Does (g : Setting) (u : ℕ) (a : Seen) (acts : List Act) (b : Seen) 
 abbrev pub grown : (ℕ → List Item) → ℕ → Item → ℕ → List Item
 grown old v x w = cond (v == w) (old w ++ x ∷ []) (old w)
 
--- one more offer
+-- the offers made, with one more
 abbrev pub with_offer : List (Collected MadeOffer) → ℕ → MadeOffer → List (Collected MadeOffer)
 with_offer made stamp o = made ++ record { stamp = stamp; router = o.router; offer = o } ∷ []

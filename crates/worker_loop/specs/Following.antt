@@ -14,11 +14,11 @@ use Rattle.worker_loop.specs.declared.chore.Chore.{Chore}
 use Rattle.worker_loop.specs.declared.chore.Chore.TheVariants as chore
 use Rattle.worker_loop.specs.Acts.{Act, act_of, Seen, Does}
 
--- what is done from one state of a worker to another
+-- events that lead from one state of a worker to another
 abbrev pub Stage : Type 1
 Stage = Seen → List Act → Seen → Type 0
 
--- one after the other
+-- one stage, and then another
 abbrev pub Then : Stage → Stage → Stage
 Then P Q a acts b = (m : Seen) × (front rest : List Act) × (acts ≡ front ++ rest) × P a front m × Q m rest b
 
@@ -45,7 +45,7 @@ goes_on (Steps e) = true
 goes_on Idle = true
 goes_on (Refuses why) = is_passed_over why
 
--- the one event of a call that is a step, and none of any other
+-- the one event of a call that is a step; no event of any other call
 abbrev pub acts_by : ℕ → ℕ → Answer → List Act
 acts_by u stamp (Steps e) = act_of u stamp stamp e ∷ []
 acts_by u stamp Idle = []
@@ -58,19 +58,19 @@ acts_of g u a call = acts_by u (stamp_of g u a.router call) (answer g u a.router
 abbrev pub TakesOne : ℕ → ℕ → Seen → List Act → Type 0
 TakesOne u v a acts = (acts ≡ []) ⊎ ((i : Item) × (acts ≡ act_of u (max a.router.stamp i.stamp + 1) i.stamp (takes v i.what) ∷ []))
 
--- the offer that waits in front is made
+-- the offer that waits in front, if any, is made
 abbrev pub OffersOne : ℕ → Option RouterOffer → List Act → Type 0
 OffersOne u None acts = acts ≡ []
 OffersOne u (Some o) acts = (stamp : ℕ) × (acts ≡ act_of u stamp stamp (offers (record { router = u; offer = o })) ∷ [])
 
 module _ (g : Setting) (u : ℕ) where
-  -- a call of the router is tried: its event, exactly where it is a step
+  -- a call of the router is tried: its event is done exactly if it is a step
   pub record Calls (call : Call) (a : Seen) (acts : List Act) (b : Seen) : Type 0 where
     pub only : acts ≡ acts_of g u a call
     pub goes_on : goes_on (answer g u a.router call) ≡ true
     pub does : Does g u a acts b
 
-  -- a put towards v: missing only where there is nothing to put, or as many were put as the line holds at most
+  -- a put towards v: it is missing only if there is nothing to put, or if as many were put as the line holds at most
   pub record Puts (v : ℕ) (a : Seen) (acts : List Act) (b : Seen) : Type 0 where
     pub only : (acts ≡ acts_of g u a (Put v)) ⊎ ((acts ≡ []) × (a.room v ≤ length (a.put v)))
     pub goes_on : goes_on (answer g u a.router (Put v)) ≡ true
@@ -98,10 +98,10 @@ module _ (g : Setting) (u : ℕ) where
   Obeys peers (chore.Command c) = Calls (calls.Obey c)
   Obeys peers chore.Stop = Nothing
 
-  -- chore by chore
+  -- the chores are done one after another
   abbrev pub Follows : List ℕ → List Chore → Stage
   Follows peers chores = Each (Obeys peers) chores
 
--- in every setting of the network some events are what was done
+-- in every setting of the network, events of this stage were done
 abbrev pub Did : (Setting → Stage) → Plan → Seen → Seen → Type 0
 Did P net a b = (g : Setting) → g.net ≡ net → IsSetting g → (acts : List Act) × P g a acts b

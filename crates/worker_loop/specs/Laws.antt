@@ -1,4 +1,4 @@
--- What follows from chores.
+-- Laws of what follows from chores.
 use Rattle.std.specs.Prelude.{ℕ, ◌≡◌, List, [], ◌∷◌, All}
 use Rattle.std.specs.List.{Contains}
 use Rattle.std.specs.List.Sorted.{IsNonDecreasingBy}
@@ -17,7 +17,7 @@ use Rattle.worker_loop.specs.declared.chore.Chore.TheVariants as chore
 use Rattle.worker_loop.specs.Acts.{Act, Seen, Does, Moves, Leads, journal_of}
 use Rattle.worker_loop.specs.Following.{Follows}
 
--- what follows from chores was done
+-- the events that follow from chores were done
 abbrev pub WhatFollowsIsDone : Type 0
 WhatFollowsIsDone =
     (g : Setting) (u : ℕ) (peers : List ℕ) (chores : List Chore) (a b : Seen) (acts : List Act) → Follows g u peers chores a acts b → Does g u a acts b
@@ -43,9 +43,9 @@ StampsRise =
     (g : Setting) (u : ℕ) (x y : Stamped) (acts : List Act) → Leads g u x acts y
     → IsNonDecreasingBy (λ a. a.stamp) acts × All (IsOf u) acts
 
--- ---- what is done is what calls answer, at the word of chores
+-- ---- each event is what its router's call answers, at the word of chores
 
--- an event is a command only where a chore is that command
+-- an event is a command only if a chore is that command
 abbrev pub IsOrdered : List Chore → RouterEvent → Type 0
 IsOrdered chores (alone (step.Obeys c)) = Contains chores (chore.Command c)
 IsOrdered chores (alone step.Ticks) = Unit {0}
@@ -56,7 +56,8 @@ IsOrdered chores (puts v i) = Unit {0}
 IsOrdered chores (takes v i) = Unit {0}
 IsOrdered chores (offers made) = Unit {0}
 
--- events lead a router on, one after another, each of them what its call answers, and a command only where a chore is that command
+-- events lead a router on, one after another; each is what its call answers, and is a command only if a chore is that
+-- command
 abbrev pub LeadsByCalls : Setting → ℕ → List Chore → Stamped → List Act → Stamped → Type 0
 LeadsByCalls g u chores x [] z = x ≡ z
 LeadsByCalls g u chores x (a ∷ acts) z =

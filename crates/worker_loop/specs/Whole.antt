@@ -29,7 +29,7 @@ seen_of put taken room made w = record {
   events = w.journal.events.items;
 }
 
--- so many chores, or up to the first Stop
+-- so many chores, or the chores up to the first Stop
 abbrev pub IsWhole : ℕ → List Chore → Type 0
 IsWhole turns cs =
     (All (λ c. c ≢ Stop) cs × (length cs ≡ turns))
@@ -38,7 +38,7 @@ IsWhole turns cs =
 abbrev pub entry : ℕ → Event → Entry
 entry stamp event = record { stamp = stamp; event = event }
 
--- what a refusal of the router is to a worker
+-- the refusal of the router, as a worker sees it
 abbrev pub passing : RouterError → Result (Unit {0}) WorkerFault
 passing error.NoSuchPeer = Ok tt
 passing error.NotOrigin = Ok tt
@@ -53,20 +53,20 @@ passing error.Memory = Err fault.Memory
 abbrev pub IsNamedBy : Event → ℕ → Call → Type 0
 IsNamedBy event u call = (e : RouterEvent) → IsEventOf call e → event ≡ name_of u e
 
--- which router, peers and lines a worker has
+-- two states of one worker: its network, its number, its peers and its lines are the same
 pub record IsLaterWorker {L D G W : Type 0} (wiring : L → W) (a b : Worker L D G) : Type 0 where
   pub net : b.router.net ≡ a.router.net
   pub number : b.router.number ≡ a.router.number
   pub peers : b.peers.items ≡ a.peers.items
   pub lines : wiring b.lines ≡ wiring a.lines
 
--- and its chores
+-- two states of one worker, with the same gate and chores too
 pub record IsSameWorker {L D G W : Type 0} (wiring : L → W) (a b : Worker L D G) : Type 0 where
   pub later : IsLaterWorker wiring a b
   pub gate : b.gate ≡ a.gate
   pub chores : b.journal.chores.items ≡ a.journal.chores.items
 
--- all but its gate and chores
+-- two states of one worker: all but its gate and chores are the same
 pub record IsSameBut {L D G : Type 0} (a b : Worker L D G) : Type 0 where
   pub router : b.router ≡ a.router
   pub peers : b.peers ≡ a.peers

@@ -1,4 +1,4 @@
-//! What a worker meets: its gate, its lines, and the desk at which it makes offers and waits for the others.
+//! What a worker works with: its gate, its lines, and the desk at which it makes offers and waits for the others.
 
 ghost use Rattle.std.specs.Prelude.{◌≡◌, ◌<◌, ◌≤◌, ◌++◌, ◌∷◌, [], List, ℕ, length, OnOk, OnErr, IfErr, IsErr, IsTrue, IfOk, MatchOption};
 ghost use Rattle.outbox.specs.declared.item.Item.{Item};
@@ -18,9 +18,9 @@ use snap_marker::Offer;
 use std::alloc::AllocError;
 use std::sync::Wait;
 
-/// Says what a worker is to do next. It may wait.
+/// Gives a worker its chores, one after the other. A call may wait.
 pub trait Gate {
-    /// What no call changes: what the gate was told.
+    /// What the gate was told, which no call changes.
     ghost Told: { Type 0 };
 
     ghost told: { Self → Told };
@@ -34,8 +34,8 @@ pub trait Gate {
         ensures given { given self.new ≡ given self.old ++ result ∷ [] }
         ensures told { told self.new ≡ told self.old };
 
-    /// How many of its chores from a turn on are Turns, at least, as far as it can say: for so long its worker may
-    /// wait for the others. A gate that waits for another one answers 0.
+    /// At least how many of its chores from a turn on are Turns, as far as it can say: for so long its worker may wait
+    /// for the others. A gate that waits for another one answers 0.
     fn turns_from(&self, _turn: u32) -> u32 {
         0
     }
@@ -49,16 +49,15 @@ pub trait Lines {
     /// The items taken from each peer.
     ghost taken_from: { Self → ℕ → List Item };
 
-    /// The most items that the line to each peer holds: none where there is no line.
+    /// The most items that the line to each peer holds; none if there is no line.
     ghost room: { Self → ℕ → ℕ };
 
-    /// What no call changes: which lines these are.
+    /// Which lines these are, which no call changes.
     ghost Wiring: { Type 0 };
 
     ghost wiring: { Self → Wiring };
 
-    /// Puts an item towards a peer. It comes back only where as many were put as the line holds at
-    /// most.
+    /// Puts an item towards a peer. It comes back only if as many were put as the line holds at most.
     fn put<R: Wait>(&mut self, rt: &R, peer: Asn, item: Item) -> Result<(), Item>
         ensures ok { OnOk result (put_to self.new ≡ grown (put_to self.old) peer item) }
         ensures err { OnErr result (put_to self.new ≡ put_to self.old) }
@@ -67,8 +66,8 @@ pub trait Lines {
         ensures room { room self.new ≡ room self.old }
         ensures wiring { wiring self.new ≡ wiring self.old };
 
-    /// Whether the line to a peer is full, or there is none. It is only where as many items were put as it holds at
-    /// most. Nothing changes.
+    /// Whether the line to a peer is full, or there is none: only if as many items were put as it holds at most.
+    /// Nothing changes.
     fn is_full(&mut self, peer: Asn) -> bool
         ensures full { IsTrue result → room self.old peer ≤ length (put_to self.old peer) }
         ensures put { put_to self.new ≡ put_to self.old }
@@ -76,7 +75,7 @@ pub trait Lines {
         ensures room { room self.new ≡ room self.old }
         ensures wiring { wiring self.new ≡ wiring self.old };
 
-    /// Takes the next item of a peer, where it finds one.
+    /// Takes the next item of a peer, if it finds one.
     fn take<R: Wait>(&mut self, rt: &R, peer: Asn) -> Option<Item>
         ensures taken { MatchOption result (taken_from self.new ≡ taken_from self.old) (λ item. taken_from self.new ≡ grown (taken_from self.old) peer item) }
         ensures put { put_to self.new ≡ put_to self.old }
@@ -95,13 +94,13 @@ pub struct Between<'a> {
     pub is_blocked: bool,
     /// How many chores it was given.
     pub given: u32,
-    /// How many of the next chores are Turns, at least; 0 where the last chore was none.
+    /// At least how many of the next chores are Turns; 0 if the last chore was none.
     pub turns: u32,
     /// The most chores that it is given.
     pub most: u32,
 }
 
-/// Where a worker makes its offers, and waits for the others.
+/// The desk where a worker makes its offers, and waits for the others.
 pub trait Desk {
     /// What the desks of all workers share.
     type Board;
@@ -109,10 +108,10 @@ pub trait Desk {
     /// The offers made here, with their stamps.
     ghost made: { Self → List (Collected MadeOffer) };
 
-    /// Makes an offer of a router whose last event has the given stamp, and answers that of the offer.
+    /// Makes an offer of a router whose last event has the given stamp, and answers the offer's stamp.
     ///
-    /// `room`: whether the caller has room for the event where the offer is made; where it has none, an
-    /// offer that would be made is refused [`WorkerFault::Memory`], and any other answer is as it would be.
+    /// `room` says whether the caller has room for the event if the offer is made. Without room, an offer that would be
+    /// made is refused with [`WorkerFault::Memory`]; any other answer is as it would be.
     fn offer<R: Wait>(
         &mut self,
         rt: &R,
@@ -126,7 +125,7 @@ pub trait Desk {
         ensures few { IfOk result (λ at. at ≤ GREATEST_STAMP) }
         ensures full { OnErr room (IsErr result) };
 
-    /// Lets the workers of its peers know what a worker did for a chore. Where it did nothing, and Turns are next, it
-    /// may wait for them. A desk that says nothing of it lets nobody know, and never waits.
+    /// Lets the workers of its peers know what a worker did for a chore. If it did nothing, and Turns are next, it may
+    /// wait for them. A desk without a body of its own lets nobody know, and never waits.
     fn pause<R: Wait>(&self, _rt: &R, _board: &Self::Board, _between: &Between<'_>) {}
 }

@@ -1,11 +1,11 @@
-//! What a worker is told to do.
+//! The chores of a worker.
 
 ghost use Rattle.std.specs.Prelude.{◌≡◌, IsTrue};
 ghost use Rattle.worker_loop.specs.declared.chore.Chore.TheVariants.{Turn};
 
 use router_model::Command;
 
-/// What a worker is told to do.
+/// What a gate tells a worker to do.
 #[derive(Clone, Copy, Debug, PartialEq, Eq)]
 pub enum Chore {
     /// A turn: with each peer, rising, one Put, one Take and one Handle are tried; then one Decide, one
@@ -20,7 +20,7 @@ pub enum Chore {
 }
 
 impl Chore {
-    /// Whether it is a Turn.
+    /// Whether the chore is a Turn.
     pub fn is_turn(&self) -> bool
         ensures { IsTrue result → self.now ≡ Turn }
     {

@@ -1,4 +1,4 @@
-//! What a worker writes down.
+//! The journal that a worker writes.
 
 ghost use Rattle.std.specs.Prelude.{◌≡◌, []};
 

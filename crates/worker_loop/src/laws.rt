@@ -1,20 +1,19 @@
-//! What follows from the chores of a worker. Each law is the contract of a function without work of its
-//! own.
+//! Laws of the chores of a worker. Each is the contract of a function without work of its own.
 
 ghost use Rattle.worker_loop.specs.Laws.{ActsAreJournals, StampsRise, WhatFollowsIsCalled, WhatFollowsIsDone};
 
 use router_model::laws::answers_are_steps;
 use world_core::laws::answers_are_called;
 
-/// The events that follow from chores lead the worker's router from one of its states to the other, each
-/// by a step of its own and at a later stamp; and they are the items that it put and took, the offers that
-/// it made, and the lines of its journal.
+/// The events that follow from chores lead the worker's router from one of its states to the other, each by a step of
+/// its own and at a later stamp. They are the items that it put and took, the offers that it made, and the lines of its
+/// journal.
 pub fn what_follows_is_done()
     ensures { WhatFollowsIsDone }
 {}
 
-/// Events that lead a router of the network from one of its states to another are a journal of it, as the
-/// laws of runs have it: from the one, with whatever it ever appended, to the other.
+/// Events that lead a router of the network from one of its states to another are a journal of it, as the laws of runs
+/// have it. The journal leads from the first state, with whatever the router ever appended, to the other.
 pub fn acts_are_journals()
     ensures { ActsAreJournals }
 {}
@@ -25,7 +24,7 @@ pub fn stamps_rise()
     ensures { StampsRise }
 {}
 
-/// Each event that follows from chores is what the call of its router answers, and a command only where one of the
+/// Each event that follows from chores is what the call of its router answers, and is a command only if one of the
 /// chores is that command.
 ///
 /// Premise: the network is one.

@@ -1,9 +1,8 @@
 //! One worker of a network: a router, and what it does at its gate's word.
 //!
-//! The worker is generic over what it meets: the gate that gives its chores, the lines to its peers, the
-//! desk at which it makes offers. Its one contract: where it ends without a fault its journal has the
-//! chores that its gate gave, and the events that follow from them, each with its stamp
-//! ([`Worker::work`]).
+//! The worker is generic over the gate that gives its chores, the lines to its peers, and the desk at which it makes
+//! offers. Its one contract: if it ends without a fault, its journal has the chores that its gate gave, and the events
+//! that follow from them, each with its stamp ([`Worker::work`]).
 //!
 //! Left out: threads, and how long a call waits.
 #![tactic(auto)]

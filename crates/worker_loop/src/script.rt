@@ -8,7 +8,7 @@ use crate::chore::Chore;
 use ranked_policy::Asn;
 use std::sync::Wait;
 
-/// Gives the first chore that is listed for a turn, else a Turn.
+/// A gate that gives the first chore that is listed for a turn, else a Turn.
 #[derive(Debug, Drop)]
 pub struct ScriptGate {
     script: Vec<(u32, Chore)>,
@@ -25,7 +25,7 @@ impl ScriptGate {
     }
 }
 
-// The first chore listed for a turn.
+// The first chore that is listed for a turn, else a Turn.
 fn chore_at(script: &[(u32, Chore)], turn: u32) -> Chore
     ensures { result ≡ chore_at script.now turn }
 {
@@ -37,7 +37,7 @@ fn chore_at(script: &[(u32, Chore)], turn: u32) -> Chore
     Chore::Turn
 }
 
-// How far behind a turn the next one stands that a line names.
+// How far behind a turn the next one stands that the script names.
 fn turns_from(script: &[(u32, Chore)], turn: u32) -> u32 {
     let mut least = u32::MAX;
     for line in script {

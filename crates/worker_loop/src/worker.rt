@@ -41,7 +41,7 @@ impl From<AllocError> for WorkerFault {
     }
 }
 
-/// A router, with all that its worker meets and its journal.
+/// A router, with the lines, the desk, the gate and the journal of its worker.
 #[derive(Drop)]
 pub struct Worker<'a, L, D, G> {
     /// The router.
@@ -58,7 +58,7 @@ pub struct Worker<'a, L, D, G> {
     pub journal: Journal,
 }
 
-// What a refusal of the router is to a worker: some say only that there is nothing to do.
+// The refusal of the router, as a worker sees it: some refusals say only that there is nothing to do.
 fn passed_over(error: RouterError) -> Result<(), WorkerFault>
     ensures { result ≡ passing error }
 {
@@ -73,7 +73,7 @@ fn passed_over(error: RouterError) -> Result<(), WorkerFault>
     }
 }
 
-// An event joins those of a journal that has room for it.
+// Adds an event to a journal that has room for it.
 fn note(events: &mut Vec<Entry>, stamp: u64, event: Event)
     requires { vec_len events.old < vec_capacity events.old }
     ensures { events.new.items ≡ events.old.items ++ entry stamp event ∷ [] }
@@ -102,8 +102,8 @@ impl<'a, L: Lines, D: Desk, G: Gate> Worker<'a, L, D, G> {
         peers.any(|peer| !self.router.puts_nothing(*peer))
     }
 
-    // Lets others know what was done for the last of so many chores, and may wait for them where that was a Turn and
-    // nothing was.
+    // Lets others know what was done for the last of so many chores. If that was a Turn and nothing was done, it may
+    // wait for them.
     fn pause<R: Wait>(
         &self,
         rt: &R,
@@ -130,14 +130,14 @@ impl<'a, L: Lines, D: Desk, G: Gate> Worker<'a, L, D, G> {
         self.desk.pause(rt, board, &between);
     }
 
-    /// Does the chores that the gate gives: so many, or up to the first Stop. After each it tells its desk what it
-    /// did, and may wait there where it did nothing.
+    /// Does the chores that the gate gives: so many, or up to the first Stop. After each chore it tells its desk what
+    /// it did, and may wait there if it did nothing.
     ///
-    /// Refused [`WorkerFault::Refused`] only where the router, as it is then, has no stamp or incarnation
-    /// left for a call of the last chore; [`WorkerFault::Memory`] only where the next chore was to be
-    /// written down and the list of chores has no room left, or a call of the last chore has a step due;
-    /// and either where an offer waits in the router. So a growth that is refused ends no turn in which
-    /// nothing is due. Such a call may be of the item that was taken last from a peer, which is lost.
+    /// Refused with [`WorkerFault::Refused`] only if the router, as it is then, has no stamp or incarnation left for a
+    /// call of the last chore. Refused with [`WorkerFault::Memory`] only if the next chore was to be written down and
+    /// the list of chores has no room left, or if a call of the last chore has a step due. Refused with either if an
+    /// offer waits in the router. A refused growth thus ends no turn in which nothing is due. Such a call may be of the
+    /// item that was taken last from a peer; that item is lost.
     pub fn work<R: Wait>(&mut self, rt: &R, board: &D::Board, turns: u32) -> Result<(), WorkerFault>
         requires fresh { G.given self.old.gate ≡ [] }
         requires blank { self.old.journal.chores.items ≡ [] }

@@ -1,4 +1,4 @@
-//! Chores, done.
+//! Doing chores.
 
 ghost use Rattle.std.specs.Prelude.{◌≡◌, ◌<◌, ◌++◌, ◌∷◌, [], vec_len, vec_capacity};
 
@@ -11,7 +11,7 @@ use router_model::Command;
 use std::sync::Wait;
 use world_core::Event;
 
-// A chore joins those of a journal that has room for it.
+// Adds a chore to a journal that has room for it.
 fn write_down(chores: &mut Vec<Chore>, chore: &Chore)
     requires { vec_len chores.old < vec_capacity chores.old }
     ensures { chores.new.items ≡ chores.old.items ++ chore.now ∷ [] }
@@ -27,7 +27,7 @@ impl<'a, L: Lines, D: Desk, G: Gate> Worker<'a, L, D, G> {
     ghost use Rattle.worker_loop.specs.Ending.{EndsCall, EndsMeet, EndsMeeting, EndsTurn, EndsChore};
     ghost use Rattle.std.specs.Prelude.{◌≤◌, length, vec_capacity, [], ◌∷◌, ◌++◌};
 
-    // The next chore, written down.
+    // Gets the next chore, and writes it down.
     pub(super) fn next_chore<R: Wait>(&mut self, rt: &R, turn: u32) -> Result<Chore, WorkerFault>
         requires turn { turn ≡ length (G.given self.old.gate) }
         ensures given { IfOk result (λ chore. G.given self.new.gate ≡ G.given self.old.gate ++ chore ∷ []) }
@@ -45,7 +45,7 @@ impl<'a, L: Lines, D: Desk, G: Gate> Worker<'a, L, D, G> {
         Ok(chore)
     }
 
-    // One Put, one Take and one Handle with a peer are tried.
+    // Tries one Put, one Take and one Handle with a peer.
     fn meet<R: Wait>(&mut self, rt: &R, peer: Asn) -> Result<(), WorkerFault>
         ensures done { let a = seen_of L.put_to L.taken_from L.room D.made self.old in let b = seen_of L.put_to L.taken_from L.room D.made self.new in IfOk result (λ _. Did (λ g. Meets g self.old.router.number peer) self.old.router.net a b) }
         ensures same { IsSameWorker L.wiring self.old self.new }
@@ -58,7 +58,7 @@ impl<'a, L: Lines, D: Desk, G: Gate> Worker<'a, L, D, G> {
         Ok(())
     }
 
-    // The same with each peer, rising.
+    // Tries one Put, one Take and one Handle with each peer, rising.
     fn meet_all<R: Wait>(&mut self, rt: &R) -> Result<(), WorkerFault>
         ensures done { let a = seen_of L.put_to L.taken_from L.room D.made self.old in let b = seen_of L.put_to L.taken_from L.room D.made self.new in IfOk result (λ _. Did (λ g. Each (Meets g self.old.router.number) self.old.peers.items) self.old.router.net a b) }
         ensures same { IsSameWorker L.wiring self.old self.new }
@@ -71,7 +71,7 @@ impl<'a, L: Lines, D: Desk, G: Gate> Worker<'a, L, D, G> {
         Ok(())
     }
 
-    // A turn.
+    // Does a turn.
     fn turn<R: Wait>(&mut self, rt: &R, board: &D::Board) -> Result<(), WorkerFault>
         ensures done { let a = seen_of L.put_to L.taken_from L.room D.made self.old in let b = seen_of L.put_to L.taken_from L.room D.made self.new in IfOk result (λ _. Did (λ g. Turns g self.old.router.number self.old.peers.items) self.old.router.net a b) }
         ensures same { IsSameWorker L.wiring self.old self.new }
@@ -85,7 +85,7 @@ impl<'a, L: Lines, D: Desk, G: Gate> Worker<'a, L, D, G> {
         Ok(())
     }
 
-    // A command.
+    // Obeys a command.
     fn command(&mut self, command: &Command) -> Result<(), WorkerFault>
         ensures done { let a = seen_of L.put_to L.taken_from L.room D.made self.old in let b = seen_of L.put_to L.taken_from L.room D.made self.new in IfOk result (λ _. Did (λ g. Calls g self.old.router.number (calls.Obey command.now)) self.old.router.net a b) }
         ensures same { IsSameWorker L.wiring self.old self.new }
@@ -95,7 +95,7 @@ impl<'a, L: Lines, D: Desk, G: Gate> Worker<'a, L, D, G> {
         self.try_call(&Call::Obey(*command), event)
     }
 
-    // One chore.
+    // Does one chore.
     pub(super) fn obey<R: Wait>(
         &mut self,
         rt: &R,

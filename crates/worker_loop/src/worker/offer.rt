@@ -1,4 +1,4 @@
-//! What the router of a worker offers.
+//! The offers of a worker's router.
 
 use super::{Worker, WorkerFault, note};
 use crate::around::{Desk, Gate, Lines};
@@ -11,7 +11,7 @@ impl<'a, L: Lines, D: Desk, G: Gate> Worker<'a, L, D, G> {
     ghost use Rattle.worker_loop.specs.Whole.{seen_of, IsSameWorker};
     ghost use Rattle.worker_loop.specs.Ending.{EndsOffer};
 
-    // Makes the offer that waits in front, where one does.
+    // Makes the offer that waits in front, if one does.
     pub(super) fn try_offer<R: Wait>(&mut self, rt: &R, board: &D::Board) -> Result<(), WorkerFault>
         ensures done { let a = seen_of L.put_to L.taken_from L.room D.made self.old in let b = seen_of L.put_to L.taken_from L.room D.made self.new in IfOk result (λ _. Did (λ g. Offers g self.old.router.number) self.old.router.net a b) }
         ensures same { IsSameWorker L.wiring self.old self.new }

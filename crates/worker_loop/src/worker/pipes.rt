@@ -11,7 +11,7 @@ use router_model::{RouterError, Stepped};
 use std::sync::Wait;
 use world_core::Event;
 
-// Why a worker ends whose router refused an item that was taken off its line.
+// Why a worker ends if its router refused an item that was taken off its line.
 fn lost(error: RouterError) -> WorkerFault
     ensures { result ≡ lost error }
 {
@@ -27,7 +27,7 @@ fn lost(error: RouterError) -> WorkerFault
     }
 }
 
-// What a put is for which memory is wanting: nothing to do where the line is full, and else the worker's end.
+// The answer to a put for which memory is wanting: there is nothing to do if the line is full, else the worker ends.
 fn full_or_ended<L: Lines>(lines: &mut L, peer: Asn) -> Result<(), WorkerFault>
     ensures full { OnOk result (L.room lines.old peer ≤ length (L.put_to lines.old peer)) }
     ensures memory { IfErr result (λ why. why ≡ WorkerFault.Memory) }
@@ -76,8 +76,8 @@ impl<'a, L: Lines, D: Desk, G: Gate> Worker<'a, L, D, G> {
         }
     }
 
-    // Tries to take the next item of a peer. Nothing is taken where a message of the peer waits, since
-    // the router would refuse the item.
+    // Tries to take the next item of a peer. Nothing is taken if a message of the peer waits, since the router would
+    // refuse the item.
     pub(super) fn try_take<R: Wait>(&mut self, rt: &R, peer: Asn) -> Result<(), WorkerFault>
         ensures done { let a = seen_of L.put_to L.taken_from L.room D.made self.old in let b = seen_of L.put_to L.taken_from L.room D.made self.new in IfOk result (λ _. Did (λ g. Takes g self.old.router.number peer) self.old.router.net a b) }
         ensures same { IsSameWorker L.wiring self.old self.new }
