@@ -10,7 +10,7 @@ use Rattle.world_core.specs.Tested.{test_of, tested}
 use Rattle.world_core.specs.World.{new_world, world_answer, world_of, played}
 use Rattle.world_core.specs.Views.{WorldView, plain_world}
 
--- the event is done and its flag joins the others, or there is nothing to do; or it is refused
+-- the event is done and its flag joins the others, or there is nothing to do, or the event is refused
 abbrev pub Flags : Result (Unit {0}) StepFault → ℕ → WorldView → List Bool → Event → WorldView → List Bool → Type 0
 Flags r s x flags event y flags_after =
     (g : Setting) → g.net ≡ x.net → ChoosesByRank g
@@ -25,7 +25,7 @@ pub record FlagsTo (plan : Plan) (events : List Event) (s : ℕ) (x : WorldView)
   pub played : (g : Setting) → g.net ≡ plan → ChoosesByRank g → played g (new_world g) 0 events ≡ Ok (plain_world x)
   pub tests : (g : Setting) → g.net ≡ plan → ChoosesByRank g → flags ≡ tested g s (new_world g) events
 
--- these are played behind any others, so the place of a refused one is that among all
+-- these events are played behind any others: the place of a refused one counts from the first of all
 abbrev pub PlaysOn : Result (Unit {0}) PlayFault → ℕ → WorldView → List Bool → List Event → WorldView → List Bool → Type 0
 PlaysOn r s x flags events y flags_after =
     (net : Plan) (before : List Event) → FlagsTo net before s x flags

@@ -18,14 +18,15 @@ use Rattle.world_core.specs.declared.schedule.Event.{Event}
 use Rattle.world_core.specs.declared.schedule.Event.TheVariants as schedule
 use Rattle.world_core.specs.World.{World, Does, Nothing, new_world, world_answer, world_after, played, name_of, AgreesWith, IsRunOfWorld, IsReplayed}
 
--- this holds of each run that the world stands at the end of
+-- a property holds of each run that the world stands at the end of
 abbrev pub HoldsOfItsRuns : Setting → World → (RunOrder → RunState → Type 0) → Type 0
 HoldsOfItsRuns g w Holds = (order : RunOrder) (state : RunState) → IsRunTo g order state → AgreesWith g w state → Holds order state
 
--- it stands at the end of a run; the UPDATEs that each router acted on in an incarnation of a session are a beginning of those that
--- its peer sent in it; and of each run that it stands at the end of: so are the octets, from end to end, nothing is acted on after a
--- close, a close loses the recording of its router, the snapshots are consistent cuts, what is settled is a stable path
--- assignment, which stays, and a run of the same events passes through the cut of each snapshot whose parts all routers made
+-- the promises of a world. It stands at the end of a run. The UPDATEs that each router acted on in an incarnation of a
+-- session are a beginning of those that its peer sent in it. For each run that it stands at the end of: octets pass in
+-- order too, from end to end; nothing is acted on after a close; a close loses the recording of its router; the
+-- snapshots are consistent cuts; a settled one is a stable path assignment, which stays; and a run of the same events
+-- passes through the cut of each snapshot whose parts all routers made
 pub record KeepsItsPromises (g : Setting) (w : World) : Type 0 where
   pub run : IsRunOfWorld g w
   pub in_order : (u v e : ℕ) → linked g.net u v ≡ true
@@ -36,7 +37,7 @@ pub record KeepsItsPromises (g : Setting) (w : World) : Type 0 where
   pub snapshots : HoldsOfItsRuns g w (SnapshotsHold g)
   pub through : HoldsOfItsRuns g w (PassesThroughItsCuts g)
 
--- what is played is a run
+-- the events that are played are a run
 abbrev pub WhatIsPlayedIsARun : Type 0
 WhatIsPlayedIsARun =
     (g : Setting) → IsSetting g → (events : List Event) (w : World) → played g (new_world g) 0 events ≡ Ok w → IsRunOfWorld g w
@@ -45,7 +46,8 @@ abbrev pub PlayedWorldsKeepTheirPromises : Type 0
 PlayedWorldsKeepTheirPromises =
     (g : Setting) → IsSetting g → (events : List Event) (w : World) → played g (new_world g) 0 events ≡ Ok w → KeepsItsPromises g w
 
--- what is played comes out again when its events that were done are played alone; so does the world that a step leaves
+-- a world that was played comes out again when the events that it did are played alone; so does the world that a step
+-- leaves
 abbrev pub WhatIsPlayedIsReplayed : Type 0
 WhatIsPlayedIsReplayed = (g : Setting) (events : List Event) (w : World) → played g (new_world g) 0 events ≡ Ok w → IsReplayed g w
 
@@ -58,7 +60,7 @@ StepsAreReplayed =
 abbrev pub IsBlocked : Setting → World → Event → Type 0
 IsBlocked g w event = (u v : ℕ) × (event ≡ schedule.Advertise u) × (answer g u (w.routers u) Advertise ≡ Refuses (error.Blocked v))
 
--- an event answers that there is nothing to do only where no step has its name, full outboxes aside
+-- an event answers that there is nothing to do only if no step has its name, or outboxes are full
 abbrev pub NothingWhereNoStepIs : Type 0
 NothingWhereNoStepIs =
     (g : Setting) → IsSetting g → (w : World) (order : RunOrder) (state : RunState) → IsRunTo g order state → AgreesWith g w state

@@ -1,4 +1,4 @@
--- The run that a world played is one, and so is the cut of a snapshot in it.
+-- A world played one run, and a snapshot has one cut in it.
 use Rattle.std.specs.Prelude.{ℕ, ◌≡◌}
 use Rattle.snap_marker.specs.Recordings.{RouterPart}
 use Rattle.router_model.specs.Settings.{Setting}
@@ -10,7 +10,7 @@ use Rattle.world_core.specs.Through.{inside_part}
 abbrev pub PlayedRunsAreOne : Type 0
 PlayedRunsAreOne = (g : Setting) (w : World) (a b : PlayedRun g w) → (a.order ≡ b.order) × (a.state ≡ b.state)
 
--- whatever parts are spoken of
+-- the cut of a snapshot in a played run is one, whatever parts are spoken of
 abbrev pub PlayedCutsAreOne : Type 0
 PlayedCutsAreOne =
     (g : Setting) (w : World) (a b : PlayedRun g w) (s : ℕ) (parts others : ℕ → RouterPart) (t : ThroughItsCut g a.order a.state s parts)

@@ -1,4 +1,4 @@
--- The orders of a schedule as the events that they stand for, and what a call that obeys one is to give.
+-- The orders of a schedule as the events that they stand for, and what a call that obeys one has to give.
 use Rattle.std.specs.Prelude.{ℕ, zero, suc, ◌≡◌, List, [], ◌∷◌, ◌++◌, length, map, Result, Ok, Err, MatchResult}
 use Rattle.std.specs.List.{flat_map}
 use mathlib.Core.Logic.{◌⊎◌}
@@ -38,7 +38,7 @@ events_of net (order.Ticks n) = repeated n (second net)
 
 -- ---- what stops a list of events
 
--- the event is refused so, or is a step that wants memory
+-- the event is refused for this cause, or is a step that wants memory
 abbrev pub IsRefused : Setting → World → Event → StepFault → Type 0
 IsRefused g w event why =
     (world_answer g w event ≡ Stops why)
@@ -54,12 +54,12 @@ pub record StopsAt (g : Setting) (w : World) (events : List Event) (at : ℕ) (w
   pub reached : played g w 0 before ≡ Ok y
   pub refused : IsRefused g y event why
 
--- what a call that obeys an order is to give and to leave: the events before the first that is refused stay done
+-- what a call that obeys an order has to give and to leave: the events before the first that is refused stay done
 abbrev pub IsObeyed : Setting → World → List Event → Result (Unit {0}) StepFault → World → Type 0
 IsObeyed g w events r y = MatchResult r (λ _. played g w 0 events ≡ Ok y) (λ why. (at : ℕ) × StopsAt g w events at why y)
 
--- what a call that plays a schedule is to answer: the world that it leads to, or the place and the cause of the first refusal;
--- want of memory at the opening has place 0
+-- what a call that plays a schedule has to answer: the world that the schedule leads to, or the place and the cause of
+-- the first refusal; want of memory at the opening has place 0
 abbrev pub IsPlayed : Setting → List Event → Played → Type 0
 IsPlayed g events (Ok w) = played g (new_world g) 0 events ≡ Ok w
 IsPlayed g events (Err fault) =

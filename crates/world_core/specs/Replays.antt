@@ -1,4 +1,5 @@
--- What a run of the choices of calls is to a world: its events, as a schedule names them, are played to the end of that run.
+-- A run of the choices of calls, played by a world: its events, as a schedule names them, are played to the end of that
+-- run.
 use Rattle.std.specs.Prelude.{ℕ, ◌≡◌, ◌<◌, ◌≤◌, List, [], ◌∷◌, ◌++◌, length, Ok, Some}
 use Rattle.std.specs.List.{find}
 use Rattle.outbox.specs.Items.{next_item, octets_waiting}
@@ -20,7 +21,7 @@ use Rattle.run_cuts.specs.ThroughSnapshot.{ThroughItsCut}
 use Rattle.world_core.specs.declared.schedule.Event.{Event}
 use Rattle.world_core.specs.World.{World, new_world, played, named, AgreesWith}
 
--- the world that plays them stands at the end of that run, and did all of them
+-- a world that plays these events stands at the end of that run, and did all of them
 pub record PlaysTo (g : Setting) (order : RunOrder) (last : RunState) : Type 0 where
   pub world : World
   pub plays : played g (new_world g) 0 (named order) ≡ Ok world
@@ -32,7 +33,7 @@ ChosenRunsArePlayed =
     (g : Setting) → IsSetting g → (order : RunOrder) (last : RunState) → IsChosenRun g (runs.opening (λ u. new_logged g)) order last
     → length order ≤ GREATEST_STAMP → PlaysTo g order last
 
--- ---- the run of a world: what a call leaves open is as the call chooses
+-- ---- the run of a world, in which each event is what a call answers
 
 -- the event is the one that its router's call answers: a put takes as much as it may, an UPDATE goes to the least peer that waits
 -- and has room
@@ -58,7 +59,7 @@ CalledRunsArePlayed =
     (g : Setting) → IsSetting g → (order : RunOrder) (last : RunState) → IsCalledRun g (runs.opening (λ u. new_logged g)) order last
     → length order ≤ GREATEST_STAMP → PlaysTo g order last
 
--- and a step that a call answers is what that call answers
+-- if a call answers a step, the event is the one that its router's call answers
 abbrev pub AnswersAreCalled : Type 0
 AnswersAreCalled =
     (g : Setting) → IsNetwork g.net → (u : ℕ) (x : Stamped) (call : Call) (e : RouterEvent) → answer g u x call ≡ Steps e → IsCalled g u x.router e

@@ -11,10 +11,10 @@ Rests x u = Obeys (Ok tt) x (turn x.net u) x
 abbrev pub AreResting : WorldView → List Bool → Type 0
 AreResting x marks = (i b : ℕ) → slice_get marks i ≡ Some true → slice_get (numbers x.net.routers) i ≡ Some b → Rests x b
 
--- so it is while router u has its turn, which has no mark
+-- each router with a mark rests while router u, which has no mark, has its turn
 abbrev pub AreRestingBeside : WorldView → ℕ → List Bool → Type 0
 AreRestingBeside x u marks = (i b : ℕ) → slice_get marks i ≡ Some true → slice_get (numbers x.net.routers) i ≡ Some b → (u ≢ b) × Rests x b
 
--- each mark that is left was there, and is not that of router v
+-- each mark that is left was there before, and is not that of router v
 abbrev pub Woken : Plan → ℕ → List Bool → List Bool → Type 0
 Woken net v old new = (i b : ℕ) → slice_get new i ≡ Some true → slice_get (numbers net.routers) i ≡ Some b → (slice_get old i ≡ Some true) × (v ≢ b)

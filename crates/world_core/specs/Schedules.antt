@@ -69,7 +69,7 @@ abbrev pub all_said : List MadeOffer → List Said
 all_said [] = []
 all_said (m ∷ ms) = said_of m.router m.offer ∷ all_said ms
 
--- for one snapshot
+-- what was offered for one snapshot
 abbrev pub offered_by : ℕ → Played → List Said
 offered_by s (Err fault) = []
 offered_by s (Ok w) = all_said (w.made s)

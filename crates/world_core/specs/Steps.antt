@@ -1,4 +1,4 @@
--- What the parts of a step find and leave.
+-- What the parts of a step start from and leave.
 use Rattle.std.specs.Prelude.{ℕ, ◌≡◌, true, false, get_or, Result, Ok, MatchResult}
 use Rattle.router_model.specs.declared.refusal.Stepped.{Stepped}
 use Rattle.router_model.specs.declared.refusal.Stepped.TheVariants as stepped
@@ -40,7 +40,7 @@ abbrev pub Asks : Result Stepped StepFault → WorldView → ℕ → Event → C
 Asks r x u event call y =
     (g : Setting) → g.net ≡ x.net → ChoosesByRank g → Gives g r (where_router g u (called g (plain_world x) u call)) (plain_world x) event (plain_world y)
 
--- the router and the pipes to it stand there
+-- the router, and the inbox of the pipes to it, stand at that place
 pub record StandsAt (x : WorldView) (u i : ℕ) : Type 0 where
   pub router : IsAt (λ r. r.number) x.routers u i
   pub inbox : IsAt (λ b. b.router) x.inboxes u i
@@ -50,7 +50,7 @@ abbrev pub IsPlaceOf : Result ℕ StepFault → WorldView → ℕ → Type 0
 IsPlaceOf r x u =
     MatchResult r (StandsAt x u) (λ why. (why ≡ NoSuchRouter) × ((g : Setting) → g.net ≡ x.net → is_router g u ≡ false))
 
--- so does the pipe from a peer that a link joins to it
+-- the router stands at that place, and the pipe from a linked peer at this one
 pub record LinkAt (x : WorldView) (u v i k : ℕ) : Type 0 where
   pub here : StandsAt x u i
   pub pipe : (b : Inbox) → IsAt (λ p. p.peer) (get_or x.inboxes i b).pipes.items v k
@@ -66,7 +66,7 @@ FindsLinkTo r x u v =
 
 -- ---- what is at rest
 
--- nothing is to be put, taken or handled between the two: each of the three events finds nothing to do
+-- nothing has to be put, taken or handled between the two: each of the three events finds nothing to do
 pub record IsQuiet (x : WorldView) (u v : ℕ) : Type 0 where
   pub put : Answers (Ok stepped.Nothing) x (schedule.Put u v) x
   pub take : Answers (Ok stepped.Nothing) x (schedule.Take u v) x

@@ -1,5 +1,5 @@
--- Whether each event of a played schedule is inside, as its world tells: its router's last recorded number is below that of the
--- snapshot.
+-- Whether each event of a played schedule is inside. Its world tells: its router's last recorded number is below that
+-- of the snapshot.
 use Rattle.std.specs.Prelude.{ℕ, ◌≡◌, nat_lt, Bool, List, [], ◌∷◌, ◌++◌, Ok, true}
 use Rattle.ranked_policy.specs.Plans.{IsNetwork}
 use Rattle.router_model.specs.Settings.{Setting, is_router}
@@ -21,12 +21,12 @@ module _ (g : Setting) (s : ℕ) where
   world_next w event Nothing = w
   world_next w event (Stops fault) = w
 
-  -- of each event that was done
+  -- the test of each event that was done
   abbrev pub tested : World → List Event → List Bool
   tested w [] = []
   tested w (event ∷ events) = test_of w (world_answer g w event) ++ tested (world_next w event (world_answer g w event)) events
 
--- a run that the events played, by whose cut of s these tests say what is inside
+-- a run that the events played; these tests say what is inside its cut of s
 pub record TestedRun (g : Setting) (s : ℕ) (events : List Event) (w : World) : Type 0 where
   pub run : PlayedRun g w
   pub inside : (cut : ℕ → ℕ) (at : ℕ → RunState) → ((u : ℕ) → is_router g u ≡ true → RecordsBy g run.order run.state u s (at u) (cut u))

@@ -1,4 +1,4 @@
--- What `through_cut` is to answer: the events of the run through the cut of a snapshot, as a schedule names them.
+-- What `through_cut` has to answer: the events of the run through the cut of a snapshot, as a schedule names them.
 use Rattle.std.specs.Prelude.{ℕ, ◌+◌, ◌≡◌, ◌≤◌, ltb, Bool, cond, List, [], ◌∷◌, ◌++◌, length, Ok}
 use mathlib.Core.Logic.{◌⊎◌}
 use Rattle.run_model.specs.Network as runs
@@ -16,7 +16,7 @@ use Rattle.world_core.specs.Picking.{taken_inside, firsts, laters}
 use Rattle.world_core.specs.Replays.{PlayedRun, PlaysTo, NoneIsFull, through_cut_of}
 use Rattle.world_core.specs.Tested.{tested}
 
--- events, how many were done up to each router's recording, and how many of the first lead to the cut
+-- the events, how many of them were done up to each router's recording, and how many of the first lead to the cut
 pub record ThroughView : Type 0 where
   pub events : List Event
   pub recorded : ℕ
@@ -26,7 +26,8 @@ pub record ThroughView : Type 0 where
 abbrev pub inside_part : (ℕ → ℕ) → RunOrder → RunOrder
 inside_part cut order = selected (λ u before e. ltb (length before) (cut u)) [] order
 
--- they are the run of the world through the cut of s; and where no outbox ever reached the limit, they are played to its end
+-- the events are the run of the world through the cut of s; if no outbox ever reached the limit, they are played to its
+-- end
 pub record IsThrough (g : Setting) (w : World) (run : PlayedRun g w) (s : ℕ) (t : ThroughView) : Type 0 where
   pub parts : ℕ → RouterPart
   pub made : HaveMade g run.state s parts
@@ -41,7 +42,7 @@ abbrev pub count_true : List Bool → ℕ
 count_true [] = 0
 count_true (b ∷ bs) = cond b 1 0 + count_true bs
 
--- what is picked by names and tests
+-- the events that are picked by names and tests
 abbrev pub picked_by : List Bool → List Event → ThroughView
 picked_by tests events = record {
   events = firsts (λ u v. taken_inside u v tests events) [] tests events ++ laters (λ u v. taken_inside u v tests events) [] tests events;
@@ -52,7 +53,7 @@ picked_by tests events = record {
 abbrev pub IsDecided : (g : Setting) (w : World) → PlayedRun g w → ℕ → Type 0
 IsDecided g w run s = ComesOut g run.state s Settled ⊎ ((v : ℕ) × (why : Why) × ComesOut g run.state s (Moving v why))
 
--- so what is picked is the answer, where s is settled or moving
+-- the events picked are the answer, if s is settled or moving
 abbrev pub PickedIsThrough : Type 0
 PickedIsThrough =
     (g : Setting) → IsSetting g → (s : ℕ) (events : List Event) (w : World) → played g (new_world g) 0 events ≡ Ok w

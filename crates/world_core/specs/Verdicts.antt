@@ -32,7 +32,7 @@ MembersAreTheRouters =
 abbrev pub judged : CollectorView → ℕ → Outcome
 judged c s = verdict (map member_of c.members) (kept_of (map member_of c.members) (made_for c s))
 
--- that is how each snapshot comes out by all offers of a run that the world stands at the end of
+-- the collector's verdict is how each snapshot comes out, by all offers of a run that the world stands at the end of
 abbrev pub JudgesItsRuns : WorldView → Type 0
 JudgesItsRuns x =
     (g : Setting) → g.net ≡ x.net → (state : RunState) → AgreesWith g (plain_world x) state → (s : ℕ)

@@ -37,7 +37,7 @@ pub record WorldView : Type 0 where
 
 -- ---- lists as functions of numbers
 
--- what the first element of a number has, or nothing where none bears it
+-- what the first element of a number has, or `none` if no element bears it
 abbrev pub at_number : {A B : Type 0} → (A → ℕ) → (A → B) → B → List A → ℕ → B
 at_number number what none [] u = none
 at_number number what none (x ∷ xs) u = cond (number x == u) (what x) (at_number number what none xs u)
@@ -112,11 +112,11 @@ IsNoRouter x u = IsRouter x.net.routers u → ⊥
 abbrev pub comes_next : WorldView → ℕ → ℕ → Option Item
 comes_next x u v = slice_get (pipes_of x.inboxes v u) 0
 
--- none is on its way, or a take is refused in every setting of the network, since no link joins the two
+-- no item is on its way, or a take is refused in every setting of the network, since no link joins the two
 abbrev pub NothingComes : WorldView → ℕ → ℕ → Type 0
 NothingComes x u v = (comes_next x u v ≡ None) ⊎ ((why : StepFault) × ((g : Setting) → g.net ≡ x.net → (a : WorldAnswer) → where_linked g u v a ≡ Stops why))
 
--- it comes out of its own events again, in every setting of its network
+-- a world comes out of its own events again, in every setting of its network
 abbrev pub ComesOut : WorldView → Type 0
 ComesOut x = (g : Setting) → g.net ≡ x.net → ChoosesByRank g → IsReplayed g (plain_world x)
 
@@ -128,7 +128,7 @@ Answers r x event y = (g : Setting) → g.net ≡ x.net → ChoosesByRank g → 
 abbrev pub Obeys : Result (Unit {0}) StepFault → WorldView → List Event → WorldView → Type 0
 Obeys r x events y = (g : Setting) → g.net ≡ x.net → ChoosesByRank g → IsObeyed g (plain_world x) events r (plain_world y)
 
--- what a call answers, its world as the definitions have it
+-- the answer of a call, its world as the definitions have it
 abbrev pub played_as : Result WorldView PlayFault → Played
 played_as (Ok x) = Ok (plain_world x)
 played_as (Err fault) = Err fault
@@ -139,9 +139,9 @@ Plays r net events = (g : Setting) → g.net ≡ net → ChoosesByRank g → IsP
 abbrev pub KeepsPromises : WorldView → Type 0
 KeepsPromises x = (g : Setting) → g.net ≡ x.net → IsSetting g → KeepsItsPromises g (plain_world x)
 
--- ---- a call of one router, whose event joins the run where it is done
+-- ---- a call of one router, whose event joins the run if it is done
 
--- what a refusal of a router is in a world
+-- the refusal of a router, as a world answers it
 abbrev pub refusal : RouterError → Result Stepped StepFault
 refusal error.NoSuchPeer = Err (Refused error.NoSuchPeer)
 refusal error.NotOrigin = Err (Refused error.NotOrigin)
@@ -152,11 +152,11 @@ refusal error.StampEnd = Err (Refused error.StampEnd)
 refusal error.EpochEnd = Err (Refused error.EpochEnd)
 refusal error.Memory = Err Memory
 
--- a step is done, and then this holds; or it wants memory, and then that
+-- a step is done, and `done` holds; or it wants memory, and `still` holds
 abbrev pub DoneOr : Result Stepped StepFault → Type 0 → Type 0 → Type 0
 DoneOr r done still = MatchResult r (λ s. (s ≡ stepped.Did) × done) (λ why. (why ≡ Memory) × still)
 
--- the answer of router u to a call: where it is a step, this holds once it is done
+-- the answer of router u to a call: if it is a step, `done` holds once the step is done
 abbrev pub Entered : Result Stepped StepFault → Answer → (RouterEvent → Type 0) → Type 0 → Type 0
 Entered r (Steps e) done still = DoneOr r (done e) still
 Entered r Idle done still = (r ≡ Ok stepped.Nothing) × still
@@ -170,7 +170,7 @@ Enters r x run event call y run_after =
     (λ e. (plain_of y ≡ stamped_after g x.number (plain_of x) call e) × (run_after ≡ run ++ event ∷ []))
     ((plain_of y ≡ plain_of x) × (run_after ≡ run))
 
--- and what is put joins the pipe
+-- an event that is done joins the run, and the item that is put joins the pipe
 abbrev pub EntersPut : Result Stepped StepFault → RouterView → List Event → List Item → Event → ℕ → RouterView → List Event → List Item → Type 0
 EntersPut r x run items event v y run_after items_after =
     (g : Setting) → g.net ≡ x.net → ChoosesByRank g
@@ -179,7 +179,7 @@ EntersPut r x run items event v y run_after items_after =
     × (items_after ≡ piped x.number (x.stamp + 1) e x.number v items))
     ((plain_of y ≡ plain_of x) × (run_after ≡ run) × (items_after ≡ items))
 
--- what is taken leaves the pipe
+-- the item that is taken leaves the pipe
 abbrev pub TakesFrom : Result Stepped StepFault → RouterView → List Event → List Item → Event → ℕ → RouterView → List Event → List Item → Option Item → Type 0
 TakesFrom r x run items event v y run_after items_after None =
     (r ≡ Ok stepped.Nothing) × (plain_of y ≡ plain_of x) × (run_after ≡ run) × (items_after ≡ items)
@@ -193,7 +193,7 @@ TakesFrom r x run items event v y run_after items_after (Some i) =
 abbrev pub EntersTake : Result Stepped StepFault → RouterView → List Event → List Item → Event → ℕ → RouterView → List Event → List Item → Type 0
 EntersTake r x run items event v y run_after items_after = TakesFrom r x run items event v y run_after items_after (slice_get items 0)
 
--- an offer that is made is kept
+-- the collector keeps an offer that is made
 abbrev pub OffersTo : Result Stepped StepFault → RouterView → List Event → CollectorView → ℕ → Event → RouterView → List Event → CollectorView → ℕ → WorldAnswer → Type 0
 OffersTo r x run kept board event y run_after kept_after board_now (Does u e stamp) =
     DoneOr r

@@ -32,7 +32,7 @@ pub record World : Type 0 where
   pub board : ℕ  -- the stamp of the last
   pub run : List Event  -- the events that were done
 
--- nothing was done
+-- a world in which nothing was done
 abbrev pub new_world : Setting → World
 new_world g = record {
   routers = λ u. record { router = new_router g; stamp = 0 };
@@ -50,7 +50,7 @@ pub data WorldAnswer : Type 0 where
   Nothing : WorldAnswer
   Stops : (fault : StepFault) → WorldAnswer
 
--- in a world full outboxes, and a message that waits to be handled, are nothing to do
+-- full outboxes, and a message that waits to be handled, count as nothing to do in a world
 abbrev pub refused_by : RouterError → WorldAnswer
 refused_by error.NoSuchPeer = Stops (Refused error.NoSuchPeer)
 refused_by error.NotOrigin = Stops (Refused error.NotOrigin)
@@ -66,7 +66,7 @@ of_answer u stamp (Steps e) = Does u e stamp
 of_answer u stamp calls.Idle = Nothing
 of_answer u stamp (Refuses why) = refused_by why
 
--- an offer is made where one waits
+-- an offer is made if one waits
 abbrev pub of_offer : ℕ → ℕ → Option RouterOffer → WorldAnswer
 of_offer u stamp None = Nothing
 of_offer u stamp (Some o) =
@@ -91,7 +91,7 @@ board_after stamp (puts v i) board = board
 board_after stamp (takes v i) board = board
 
 module _ (g : Setting) where
-  -- what the call of a router answers
+  -- the answer of a world, by the call of a router
   abbrev pub called : World → ℕ → Call → WorldAnswer
   called w u call = of_answer u (stamp_of g u (w.routers u) call) (answer g u (w.routers u) call)
 
@@ -100,7 +100,7 @@ module _ (g : Setting) where
   taking_of w u v None = Nothing
   taking_of w u v (Some i) = called w u (Take v i.stamp i.what)
 
-  -- an event of a router, and of two that a link joins
+  -- the answer to an event of a router, and of two that a link joins
   abbrev pub where_router : ℕ → WorldAnswer → WorldAnswer
   where_router u a = cond (is_router g u) a (Stops NoSuchRouter)
 
@@ -118,7 +118,7 @@ module _ (g : Setting) where
   world_answer w (schedule.Advertise u) = where_router u (called w u Advertise)
   world_answer w (schedule.Offer u) = where_router u (of_offer u (max (w.routers u).stamp w.board + 1) (next_offer (w.routers u).router))
 
-  -- what an event leaves
+  -- the world after an event
   abbrev pub world_after : World → Event → ℕ → RouterEvent → ℕ → World
   world_after w event u e stamp = record {
     routers = λ y. cond (y == u) (record { router = after g u (w.routers u).router e; stamp = stamp }) (w.routers y);
@@ -164,7 +164,7 @@ name_of u (offers made) = schedule.Offer u
 abbrev pub named : RunOrder → List Event
 named order = map (λ d. name_of d.router d.event) order
 
--- a state of a run has what the world holds
+-- the last state of a run has all that the world holds
 pub record AgreesWith (g : Setting) (w : World) (state : RunState) : Type 0 where
   pub routers : (u : ℕ) → IsRouter g.net.routers u → (w.routers u).router ≡ (state.routers u).router
   pub pipes : (u v : ℕ) → state.put u v ≡ state.taken u v ++ map (λ i. i.what) (w.pipes u v)
@@ -178,13 +178,13 @@ pub record IsRunOfWorld (g : Setting) (w : World) : Type 0 where
   pub events : named order ≡ w.run
   pub agrees : AgreesWith g w state
 
--- a world that comes out of its own events again, none of them refused: so is the new one, and each step leaves it so
+-- a world comes out of its own events again, none of them refused; the new world does, and each step keeps it so
 abbrev pub IsReplayed : Setting → World → Type 0
 IsReplayed g w = played g (new_world g) 0 w.run ≡ Ok w
 
 -- ---- the clauses of the calls
 
--- what a call that does one event is to give and to leave: want of memory stands only where there is a step
+-- what a call that does one event has to give and to leave: want of memory is answered only if there is a step
 abbrev pub Gives : Setting → Result Stepped StepFault → WorldAnswer → World → Event → World → Type 0
 Gives g r (Does u e stamp) w event y =
     MatchResult r (λ s. (s ≡ stepped.Did) × (y ≡ world_after g w event u e stamp)) (λ why. (why ≡ Memory) × (y ≡ w))

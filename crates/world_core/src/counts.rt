@@ -14,7 +14,7 @@ pub(crate) struct Counts {
 }
 
 impl Counts {
-    /// Nothing was done.
+    /// The counts before anything was done.
     pub fn new(alloc: Global) -> Counts
         ensures { (u v : ℕ) → count_of result u v ≡ 0 }
     {
@@ -23,7 +23,7 @@ impl Counts {
         }
     }
 
-    /// How often it was done.
+    /// How often something was done from one router to the other.
     pub fn at(&self, from: Asn, to: Asn) -> usize
         ensures { result ≡ count_of self.now from to }
     {
@@ -33,7 +33,7 @@ impl Counts {
         }
     }
 
-    /// It is done once more.
+    /// Counts one more from one router to the other.
     pub fn add(&mut self, from: Asn, to: Asn) -> Result<(), AllocError>
         requires { count_of self.old from to < usize.MAX }
         ensures { OnOk result ((u v : ℕ) → count_of self.new u v ≡ count_of self.old u v + cond ((from == u) && (to == v)) 1 0) }

@@ -1,4 +1,4 @@
-//! Events of one router, which join the run where they are done.
+//! Events of one router, which join the run if they are done.
 
 ghost use Rattle.std.specs.Prelude.{◌≡◌};
 ghost use Rattle.router_core.specs.Calling.{call_of};
@@ -14,8 +14,8 @@ use run_model::GREATEST_STAMP;
 use snap_collector::Collector;
 use std::collections::VecDeque;
 
-// What a refusal of a router is in a world: that its outboxes are full, or that a message waits to be
-// handled, is nothing to do.
+// The refusal of a router, as a world answers it. Full outboxes, and a message that waits to be handled, are nothing to
+// do.
 fn refusal(error: RouterError) -> Result<Stepped, StepFault>
     ensures { result ≡ refusal error }
 {
@@ -30,7 +30,7 @@ fn refusal(error: RouterError) -> Result<Stepped, StepFault>
     }
 }
 
-/// Does what a router is asked to do.
+/// Makes a call of a router. An event that is done joins the run.
 pub(crate) fn enter(
     router: &mut Router<'_>,
     run: &mut Vec<Event>,

@@ -24,7 +24,7 @@ fn is_inside(world: &World<'_>, event: &Event, number: u32) -> bool
     }
 }
 
-// Does one event. Where it is a step, its flag joins the others.
+// Does one event. If it is a step, its flag joins the others.
 fn step_with_flag(
     world: &mut World<'_>,
     inside: &mut Vec<bool>,
@@ -46,8 +46,8 @@ fn step_with_flag(
     }
 }
 
-// Plays events behind those that were played, and says of each that was done whether it is inside. The place of a refused one
-// is counted from the first of these.
+// Plays events behind those that were played, and notes of each that was done whether it is inside. The place of a
+// refused one is counted from the first of these events.
 fn play_on(
     world: &mut World<'_>,
     inside: &mut Vec<bool>,
@@ -65,8 +65,8 @@ fn play_on(
     Ok(())
 }
 
-/// Plays events, and says of each that was done whether it is inside the cut of a snapshot: its router had not recorded the
-/// snapshot of this number before it.
+/// Plays events, and notes of each that was done whether it is inside the cut of a snapshot: its router had not
+/// recorded the snapshot of this number before it.
 pub(crate) fn play_with_flags<'a>(
     alloc: Global,
     network: &'a Network,
@@ -87,7 +87,8 @@ pub(crate) fn play_with_flags<'a>(
     Ok((world, inside))
 }
 
-/// The same, of events that are given up: the half that was played is dropped before the other is played.
+/// Does what `play_with_flags` does, and gives the events up: the half that was played is dropped before the other is
+/// played.
 pub(crate) fn play_halves<'a>(
     alloc: Global,
     network: &'a Network,

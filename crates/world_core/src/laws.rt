@@ -1,4 +1,4 @@
-//! The laws of a world of routers, over every list of events.
+//! The laws of a world of routers, for every list of events.
 
 ghost use Rattle.world_core.specs.Keeping.{WhatIsPlayedIsARun, WhatIsPlayedIsReplayed, StepsAreReplayed, PlayedWorldsKeepTheirPromises, NothingWhereNoStepIs};
 ghost use Rattle.world_core.specs.Verdicts.{MembersAreOfTheNetwork, CollectorsJudgeTheirRuns, MembersAreTheRouters};
@@ -29,22 +29,22 @@ pub fn what_is_played_is_a_run()
     answers_are_steps();
 }
 
-/// A world that was played comes out again where the events that it did are played alone; none of them is refused.
+/// A world that was played comes out again if the events that it did are played alone; none of them is refused.
 pub fn what_is_played_is_replayed()
     ensures { WhatIsPlayedIsReplayed }
 {}
 
-/// A step from a world that comes out of its own events leads to one that does.
+/// A step from a world that comes out of its own events leads to a world that does too.
 pub fn steps_are_replayed()
     ensures { StepsAreReplayed }
 {}
 
-/// Every world that was played stands at the end of a run, and in it the UPDATEs that each router acted on in an
-/// incarnation of a session are a beginning of those that its peer sent in it: in order, once each. In each run that it stands
-/// at the end of the octets pass in order, from end to end; nothing is acted on after a close; a close queues the loss of the
-/// snapshot that its router records; the snapshots are consistent cuts, the paths of one that is settled being a stable
-/// path assignment, which stays while the run is quiet; and a run of the same events passes through the cut of each
-/// snapshot whose parts all routers made.
+/// Every world that was played stands at the end of a run. In it the UPDATEs that each router acted on in an
+/// incarnation of a session are a beginning of those that its peer sent in it: in order, once each. For each run that
+/// it stands at the end of: octets pass in order, from end to end. Nothing is acted on after a close. A close queues
+/// the loss of the snapshot that its router records. The snapshots are consistent cuts; the paths of a settled one are
+/// a stable path assignment, which stays while the run is quiet. A run of the same events passes through the cut of
+/// each snapshot whose parts all routers made.
 pub fn played_worlds_keep_their_promises()
     ensures { PlayedWorldsKeepTheirPromises }
 {
@@ -57,8 +57,8 @@ pub fn played_worlds_keep_their_promises()
     runs_pass_through_snapshots();
 }
 
-/// An event answers that there is nothing to do only where no step of the network has its name; or all outboxes of a router
-/// whose peers wait to be told are full.
+/// An event answers that there is nothing to do only if no step of the network has its name, or if all outboxes of a
+/// router whose peers wait to be told are full.
 pub fn nothing_where_no_step_is()
     ensures { NothingWhereNoStepIs }
 {
@@ -78,8 +78,8 @@ pub fn members_are_the_routers()
     linked_routers_are_peers();
 }
 
-/// What the collector of a world says of a snapshot is how it comes out by all offers of the run that the world stands at
-/// the end of, those that came late among them.
+/// The verdict of a world's collector on a snapshot is how the snapshot comes out by all offers of the run that the
+/// world stands at the end of, late ones among them.
 pub fn collectors_judge_their_runs()
     ensures { CollectorsJudgeTheirRuns }
 {
@@ -87,8 +87,8 @@ pub fn collectors_judge_their_runs()
     collected_are_kept();
 }
 
-/// The events of a run in which each event is what its router's call chooses, and no outbox is full as one comes, are
-/// played to the end of that run.
+/// If each event of a run is what its router's call chooses, and no outbox is full as one comes, the events are played
+/// to the end of that run.
 ///
 /// Premises: the network is one, routers choose by rank, the hold time fits an OPEN; the run has no more events than there
 /// are stamps.
@@ -99,8 +99,8 @@ pub fn chosen_runs_are_played()
     linked_routers_are_peers();
 }
 
-/// The events of a run in which each event is what its router's call answers are played to the end of that run,
-/// whatever waits in the outboxes.
+/// If each event of a run is what its router's call answers, the events are played to the end of that run, whatever
+/// waits in the outboxes.
 ///
 /// Premises: the network is one, routers choose by rank, the hold time fits an OPEN; the run has no more events than
 /// there are stamps.
@@ -111,7 +111,7 @@ pub fn called_runs_are_played()
     linked_routers_are_peers();
 }
 
-/// Where the call of a router answers a step, a put takes as much as it may, and an UPDATE goes to the least peer that
+/// If the call of a router answers a step, a put takes as much as it may, and an UPDATE goes to the least peer that
 /// waits and has room.
 pub fn answers_are_called()
     ensures { AnswersAreCalled }
@@ -119,14 +119,14 @@ pub fn answers_are_called()
     answers_are_steps();
 }
 
-/// What is played is a run in which each event is what its router's call answers.
+/// Each world that was played has its run, in which each event is what its router's call answers.
 pub fn worlds_have_their_runs()
     ensures { WorldsHaveTheirRuns }
 {
     answers_are_steps();
 }
 
-/// The run that a world played is one: its order and its state (`run`). So is the cut of a snapshot in it: the events that
+/// A world that was played has one run: one order and one state (`run`). A snapshot has one cut in it: the events that
 /// are inside, and the run through the cut (`cut`).
 pub fn played_runs_are_one()
     ensures run { PlayedRunsAreOne }
@@ -136,8 +136,8 @@ pub fn played_runs_are_one()
     cuts_are_one();
 }
 
-/// The run through the cut of a snapshot, played: where no outbox reached the limit, its events lead from a new world to one
-/// that stands at the end of it.
+/// The run through the cut of a snapshot can be played: if no outbox reached the limit, its events lead from a new
+/// world to one that stands at the end of that run.
 pub fn cuts_are_played()
     ensures { CutsArePlayed }
 {
@@ -146,13 +146,13 @@ pub fn cuts_are_played()
     chosen_runs_pass_through();
 }
 
-/// Which events of a run come first, and in which part, can be read off their names and off whether each is inside.
+/// Which events of a run come first, and in which part, can be read off their names, and off whether each is inside.
 pub fn names_are_enough()
     ensures { NamesAreEnough }
 {}
 
-/// Whether each event of a played schedule is inside the cut of a snapshot is told by its world: its router's last recorded
-/// number is below that of the snapshot.
+/// A world tells whether each event of its played schedule is inside the cut of a snapshot: the last recorded number of
+/// the event's router is below that of the snapshot.
 pub fn tests_tell_what_is_inside()
     ensures { TestsTellWhatIsInside }
 {
@@ -160,8 +160,8 @@ pub fn tests_tell_what_is_inside()
     cuts_are_one();
 }
 
-/// What is picked by names and tests is the run through the cut of a snapshot that is settled or moving; and where no outbox
-/// ever reached the limit its events are played to its end.
+/// The events picked by names and tests are the run through the cut of a snapshot that is settled or moving. If no
+/// outbox ever reached the limit, they are played to its end.
 pub fn picked_is_through()
     ensures { PickedIsThrough }
 {
@@ -172,12 +172,12 @@ pub fn picked_is_through()
     cuts_are_one();
 }
 
-/// What is picked of events, and a world's tests of them, with one event more: the steps of loops over them.
+/// The events picked, and a world's tests of events, with one event more: the steps of loops over them.
 pub fn one_more()
     ensures { OneMore }
 {}
 
-/// What is picked is the answer where a snapshot is settled or moving, else there is none.
+/// The events picked are the answer if a snapshot is settled or moving; else there is none.
 pub fn answers_are_through()
     ensures { AnswersAreThrough }
 {

@@ -6,7 +6,7 @@ ghost use Rattle.world_core.specs.Resting.{Woken};
 use ranked_policy::{Asn, Network};
 use std::alloc::Global;
 
-/// Room for a mark of each of so many routers, and no mark. Where memory is refused none can be made.
+/// Room for a mark of each of so many routers, and no mark. If memory is refused, no mark can be made.
 pub fn no_marks(alloc: Global, routers: usize) -> Vec<bool>
     ensures { (i : ℕ) → slice_get result.items i ≡ Some true → ⊥ }
 {
@@ -25,7 +25,7 @@ pub fn is_marked(marks: &[bool], place: usize) -> bool
     }
 }
 
-/// Marks the router at a place where there is room for it, or takes its mark away.
+/// Marks the router at a place if there is room for it, or takes its mark away.
 pub fn mark(marks: &mut Vec<bool>, place: usize, rests: bool)
     ensures here { slice_get marks.new.items place ≡ Some true → rests ≡ true }
     ensures others { (other : ℕ) → other ≢ place → slice_get marks.new.items other ≡ slice_get marks.old.items other }

@@ -45,7 +45,7 @@ impl<'a> World<'a> {
         }
     }
 
-    // So many rounds. Behind one in which nothing was done all others do nothing.
+    // Does so many rounds. Behind a round in which nothing was done, all others do nothing.
     fn rounds(&mut self, times: u32) -> Result<(), StepFault>
         ensures obeys { Obeys result self.old (repeated times (round self.old.net)) self.new }
         ensures same { self.new.net ≡ self.old.net }
@@ -61,7 +61,7 @@ impl<'a> World<'a> {
         Ok(())
     }
 
-    // So many seconds.
+    // Lets so many seconds pass.
     fn ticks(&mut self, times: u32) -> Result<(), StepFault>
         ensures obeys { Obeys result self.old (repeated times (second self.old.net)) self.new }
         ensures same { self.new.net ≡ self.old.net }
@@ -72,7 +72,7 @@ impl<'a> World<'a> {
         Ok(())
     }
 
-    // Each router, rising, has its turn, but for those that rest.
+    // Gives each router a turn, rising, but for those that rest.
     fn round(&mut self, marks: &mut Vec<bool>) -> Result<(), StepFault>
         requires { AreResting self.old marks.old.items }
         ensures obeys { Obeys result self.old (round self.old.net) self.new }
@@ -85,8 +85,8 @@ impl<'a> World<'a> {
         Ok(())
     }
 
-    // The turn of the router at a place, unless it rests: its last turn did nothing, and nothing was put
-    // towards it since.
+    // Gives the router at a place its turn, unless it rests: its last turn did nothing, and nothing was put towards it
+    // since.
     fn visit(&mut self, place: usize, number: Asn, marks: &mut Vec<bool>) -> Result<(), StepFault>
         requires place { slice_get (numbers self.old.net.routers) place ≡ Some number }
         requires resting { AreResting self.old marks.old.items }
@@ -107,7 +107,7 @@ impl<'a> World<'a> {
         Ok(())
     }
 
-    // A second passes at each router, rising.
+    // Lets a second pass at each router, rising.
     fn second(&mut self) -> Result<(), StepFault>
         ensures obeys { Obeys result self.old (second self.old.net) self.new }
         ensures same { self.new.net ≡ self.old.net }
@@ -118,7 +118,7 @@ impl<'a> World<'a> {
         Ok(())
     }
 
-    // What the router that stands there tries with each peer, rising, and then alone.
+    // Does what the router at a place tries with each peer, rising, and then alone.
     fn turn(&mut self, at: usize, number: Asn, marks: &mut Vec<bool>) -> Result<(), StepFault>
         requires resting { AreRestingBeside self.old number marks.old.items }
         requires stands { StandsAt self.old number at }
@@ -135,8 +135,8 @@ impl<'a> World<'a> {
         self.alone(at, number)
     }
 
-    // What a router tries with one peer, where it and the pipe from the peer stand there: nothing where nothing is to be
-    // done between them. A peer towards which something is put rests no longer.
+    // Does what a router tries with one peer. The router and the pipe from the peer stand at these places. Nothing is
+    // done if nothing waits between them. A peer towards which something is put rests no longer.
     fn exchange(
         &mut self,
         at: usize,
@@ -160,7 +160,7 @@ impl<'a> World<'a> {
         self.take_and_handle(at, pipe, number, peer)
     }
 
-    // A router puts what is next towards a peer, which rests no longer where something is.
+    // Lets a router put the next item towards a peer, if there is one. The peer then rests no longer.
     fn put(
         &mut self,
         at: usize,
@@ -187,8 +187,8 @@ impl<'a> World<'a> {
         Ok(())
     }
 
-    // A router puts what is next towards a peer, where it and the pipe from the peer stand there. The pipe to the peer is
-    // not looked for where nothing is next.
+    // Lets a router put the next item towards a peer. The router and the pipe from the peer stand at these places. If
+    // nothing is next, the pipe to the peer is not looked for.
     fn put_from(
         &mut self,
         at: usize,
@@ -208,7 +208,7 @@ impl<'a> World<'a> {
         self.state.put_from(at, number, peer)
     }
 
-    // So a router takes what comes next.
+    // Lets a router take the next item of a peer, if the router and the pipe stand at these places.
     fn take_at(
         &mut self,
         at: usize,
@@ -225,7 +225,7 @@ impl<'a> World<'a> {
         self.state.take_at(at, pipe, number, peer)
     }
 
-    // So it handles the message.
+    // Lets a router handle the message of a peer. The router and the pipe stand at these places.
     fn handle_at(
         &mut self,
         at: usize,
@@ -245,7 +245,8 @@ impl<'a> World<'a> {
         self.state.handle_at(at, pipe, number, peer)
     }
 
-    // So it does both, one after the other.
+    // Lets a router take the next item of a peer, and then handle its message. The router and the pipe stand at these
+    // places.
     fn take_and_handle(
         &mut self,
         at: usize,
@@ -263,7 +264,7 @@ impl<'a> World<'a> {
         Ok(())
     }
 
-    // The router that stands there chooses, tells and offers, each once: nothing where it has nothing to do.
+    // Lets the router at a place decide, tell and offer, each once. Nothing is done if it has nothing to do.
     fn alone(&mut self, at: usize, number: Asn) -> Result<(), StepFault>
         requires { StandsAt self.old number at }
         ensures obeys { Obeys result self.old (Decide number ∷ Advertise number ∷ Offer number ∷ []) self.new }
@@ -278,7 +279,7 @@ impl<'a> World<'a> {
         Ok(())
     }
 
-    // It chooses.
+    // Lets the router at a place decide.
     fn decide_at(&mut self, at: usize, number: Asn) -> Result<Stepped, StepFault>
         requires { StandsAt self.old number at }
         ensures answers { Answers result self.old (Decide number) self.new }
@@ -290,7 +291,7 @@ impl<'a> World<'a> {
         self.state.ask_at(at, &event, number, &Call::Decide)
     }
 
-    // It tells.
+    // Lets the router at a place tell a peer.
     fn advertise_at(&mut self, at: usize, number: Asn) -> Result<Stepped, StepFault>
         requires { StandsAt self.old number at }
         ensures answers { Answers result self.old (Advertise number) self.new }
@@ -302,7 +303,7 @@ impl<'a> World<'a> {
         self.state.ask_at(at, &event, number, &Call::Advertise)
     }
 
-    // It offers.
+    // Lets the router at a place offer.
     fn offer_at(&mut self, at: usize, number: Asn) -> Result<Stepped, StepFault>
         requires { StandsAt self.old number at }
         ensures answers { Answers result self.old (Offer number) self.new }

@@ -1,4 +1,4 @@
-//! What a world holds before anything was done.
+//! The routers, pipes and offers of a world before anything was done.
 
 ghost use Rattle.std.specs.Prelude.{◌≡◌, [], map, IfOk};
 ghost use Rattle.std.specs.List.{AllByRecursion};
@@ -15,7 +15,7 @@ use snap_collector::Collector;
 use std::alloc::{AllocError, Global};
 use std::collections::VecDeque;
 
-/// A router of the network, as it starts. It is refused only where memory was.
+/// A router of the network, as it starts. It is refused only for want of memory.
 pub fn new_router<'a>(
     alloc: Global,
     network: &'a Network,
@@ -61,7 +61,7 @@ fn new_pipes(alloc: Global, network: &Network, number: Asn) -> Result<Vec<Pipe>,
     Ok(made)
 }
 
-// Those of every router.
+// The empty pipes that lead to every router.
 fn new_inboxes(alloc: Global, network: &Network) -> Result<Vec<Inbox>, AllocError>
     ensures routers { IfOk result (λ made. map (λ i. i.router) made.items ≡ numbers network.now.routers) }
     ensures peers { IfOk result (λ made. AllByRecursion (λ i. map (λ p. p.peer) i.pipes.items ≡ peers network.now i.router) made.items) }
@@ -78,7 +78,7 @@ fn new_inboxes(alloc: Global, network: &Network) -> Result<Vec<Inbox>, AllocErro
     Ok(made)
 }
 
-/// What a world holds before anything was done. It is refused only where memory was.
+/// The state of a world before anything was done. It is refused only for want of memory.
 pub(crate) fn opening<'a>(alloc: Global, network: &'a Network) -> Result<State<'a>, AllocError>
     ensures whole { IfOk result (λ state. IsWhole (view_of state)) }
     ensures opens { IfOk result (λ state. Opens network.now (view_of state)) }

@@ -1,4 +1,4 @@
-//! Schedules that are played.
+//! Playing schedules.
 
 ghost use Rattle.std.specs.Prelude.{IfOk};
 ghost use Rattle.world_core.specs.Views.{KeepsPromises, Plays};
@@ -8,11 +8,11 @@ use crate::world::World;
 use ranked_policy::Network;
 use std::alloc::Global;
 
-/// The world that the events of a schedule lead to from one in which nothing was done, one after the
-/// other.
+/// Plays the events of a schedule one after the other, from a world in which nothing was done, and answers the world
+/// that they lead to.
 ///
-/// Refused with the place and the cause of the first event that is refused; with place 0 and
-/// [`StepFault::Memory`](crate::StepFault::Memory) too where memory was refused at the opening.
+/// Refused with the place and the cause of the first event that is refused. If memory is refused at the opening,
+/// refused with place 0 and [`StepFault::Memory`](crate::StepFault::Memory) too.
 pub fn play<'a>(
     alloc: Global,
     network: &'a Network,

@@ -10,7 +10,7 @@ use crate::schedule::Event;
 use crate::through::Through;
 use std::alloc::{AllocError, Global};
 
-/// How many events are inside.
+/// How many of the flags are set.
 pub(crate) fn count_true(inside: &[bool]) -> usize
     ensures { result ≡ count_true inside.now }
 {
@@ -23,7 +23,7 @@ pub(crate) fn count_true(inside: &[bool]) -> usize
     count
 }
 
-// How many items each router took from each peer inside.
+// How many items each router took from each peer, by events inside.
 fn taken_inside(alloc: Global, run: &[Event], inside: &[bool]) -> Result<Counts, AllocError>
     requires { length inside.now ≡ length run.now }
     ensures { IfOk result (λ counts. (u v : ℕ) → count_of counts u v ≡ taken_inside u v inside.now run.now) }

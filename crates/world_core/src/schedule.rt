@@ -31,7 +31,7 @@ pub enum Event {
 }
 
 impl Event {
-    /// The router that does it.
+    /// The router that does the event.
     pub fn router(&self) -> Asn
         ensures { result ≡ router_of self.now }
     {
@@ -53,10 +53,10 @@ impl Event {
 pub enum Order {
     /// One event.
     One(Event),
-    /// So many times each router, rising, a turn: for each peer, rising, one Put, one Take, one Handle; then one
-    /// Decide, one Advertise, one Offer.
+    /// So many rounds. In a round each router has a turn, rising: for each peer, rising, one Put,
+    /// one Take and one Handle; then one Decide, one Advertise and one Offer.
     Rounds(u32),
-    /// So many times each router, rising, a Tick.
+    /// So many times a Tick of each router, rising.
     Ticks(u32),
 }
 
@@ -91,13 +91,13 @@ impl From<AllocError> for StepFault {
 /// Why a schedule was not played to its end.
 #[derive(Clone, Copy, Debug, PartialEq, Eq)]
 pub struct PlayFault {
-    /// The place of the refused event, counted from 0; 0 too where memory was refused at the opening.
+    /// The place of the refused event, counted from 0; 0 also if memory was refused at the opening.
     pub at: usize,
     /// Why it was refused.
     pub why: StepFault,
 }
 
-/// An event joins a run that has room for it.
+/// Adds an event to a run that has room for it.
 pub(crate) fn join(run: &mut Vec<Event>, event: &Event)
     requires { vec_len run.old < vec_capacity run.old }
     ensures { run.new.items ≡ run.old.items ++ event.now ∷ [] }

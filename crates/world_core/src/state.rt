@@ -1,4 +1,4 @@
-//! What a world holds, and what each event does to it.
+//! The state of a world, and how each event changes it.
 
 ghost use Rattle.std.specs.Prelude.{◌≡◌, ◌<◌, length, map, MatchResult, MatchOption, Some, Ok, IfOk, true, false};
 ghost use Rattle.router_model.specs.declared.refusal.Stepped.TheVariants.{Nothing};
@@ -18,7 +18,7 @@ use router_model::Stepped;
 use router_model::laws::{answers_are_steps, linked_routers_are_peers};
 use snap_collector::Collector;
 
-/// What a world holds.
+/// The state of a world.
 #[derive(Drop)]
 pub(crate) struct State<'a> {
     pub network: &'a Network,
@@ -44,7 +44,7 @@ impl<'a> State<'a> {
         }
     }
 
-    // A router is asked to do what touches no pipe.
+    // Makes a call of a router that touches no pipe.
     fn ask(&mut self, event: &Event, number: Asn, call: &Call) -> Result<Stepped, StepFault>
         requires whole { IsWhole (view_of self.old) }
         ensures asks { Asks result (view_of self.old) number event.now (call_of call.now) (view_of self.new) }
@@ -55,7 +55,7 @@ impl<'a> State<'a> {
         self.ask_at(at, event, number, call)
     }
 
-    /// So is the router that stands there.
+    /// Makes a call, which touches no pipe, of the router at a place.
     pub fn ask_at(
         &mut self,
         at: usize,
@@ -95,7 +95,7 @@ impl<'a> State<'a> {
         self.link(peer, number)
     }
 
-    // A router handles the message of a peer.
+    // Lets a router handle the message of a peer.
     fn handle(&mut self, number: Asn, peer: Asn) -> Result<Stepped, StepFault>
         requires whole { IsWhole (view_of self.old) }
         ensures answers { Answers result (view_of self.old) (Handle number peer) (view_of self.new) }
@@ -106,7 +106,7 @@ impl<'a> State<'a> {
         self.handle_at(at, pipe, number, peer)
     }
 
-    /// A router handles the message of a peer, where the router and the pipe from the peer stand there.
+    /// Lets a router handle the message of a peer. The router and the pipe from the peer stand at these places.
     pub fn handle_at(
         &mut self,
         at: usize,
@@ -124,7 +124,7 @@ impl<'a> State<'a> {
         self.ask_at(at, &event, number, &Call::Handle(peer))
     }
 
-    // A router puts its next item into the pipe to a peer.
+    // Lets a router put its next item into the pipe to a peer.
     fn put(&mut self, number: Asn, peer: Asn) -> Result<Stepped, StepFault>
         requires whole { IsWhole (view_of self.old) }
         ensures answers { Answers result (view_of self.old) (Put number peer) (view_of self.new) }
@@ -135,7 +135,7 @@ impl<'a> State<'a> {
         self.put_from(from, number, peer)
     }
 
-    /// So does the router that stands there.
+    /// Lets the router at a place put its next item into the pipe to a peer.
     pub fn put_from(&mut self, from: usize, number: Asn, peer: Asn) -> Result<Stepped, StepFault>
         requires whole { IsWhole (view_of self.old) }
         requires stands { StandsAt (view_of self.old) number from }
@@ -150,7 +150,7 @@ impl<'a> State<'a> {
         enter_put(&mut self.routers[from], &mut self.run, items, &event, peer)
     }
 
-    // A router takes the next item of the pipe from a peer.
+    // Lets a router take the next item of the pipe from a peer.
     fn take(&mut self, number: Asn, peer: Asn) -> Result<Stepped, StepFault>
         requires whole { IsWhole (view_of self.old) }
         ensures answers { Answers result (view_of self.old) (Take number peer) (view_of self.new) }
@@ -161,7 +161,7 @@ impl<'a> State<'a> {
         self.take_at(at, pipe, number, peer)
     }
 
-    /// So does a router, where it and the pipe from the peer stand there.
+    /// Lets a router take the next item of the pipe from a peer. The router and the pipe stand at these places.
     pub fn take_at(
         &mut self,
         at: usize,
@@ -181,7 +181,7 @@ impl<'a> State<'a> {
         enter_take(&mut self.routers[at], &mut self.run, items, &event, peer)
     }
 
-    // A router makes the offer that waits in front.
+    // Lets a router make the offer that waits in front.
     fn offer(&mut self, number: Asn) -> Result<Stepped, StepFault>
         requires whole { IsWhole (view_of self.old) }
         ensures answers { Answers result (view_of self.old) (Offer number) (view_of self.new) }
@@ -192,7 +192,7 @@ impl<'a> State<'a> {
         self.offer_at(at, number)
     }
 
-    /// So does the router that stands there.
+    /// Lets the router at a place make the offer that waits in front.
     pub fn offer_at(&mut self, at: usize, number: Asn) -> Result<Stepped, StepFault>
         requires whole { IsWhole (view_of self.old) }
         requires stands { StandsAt (view_of self.old) number at }
@@ -210,7 +210,7 @@ impl<'a> State<'a> {
         )
     }
 
-    /// The pipes that lead to the router that stands there, by rising peer.
+    /// The pipes that lead to the router at a place, by rising peer.
     pub fn pipes_at(&self, at: usize, number: Asn) -> &[Pipe]
         requires whole { IsWhole (view_of self.now) }
         requires stands { StandsAt (view_of self.now) number at }
@@ -219,8 +219,8 @@ impl<'a> State<'a> {
         self.inboxes[at].pipes.as_slice()
     }
 
-    /// Whether nothing is to be put, taken or handled between a router and a peer, where the router and the pipe from
-    /// the peer stand there.
+    /// Whether nothing has to be put, taken or handled between a router and a peer. The router and the pipe from the
+    /// peer stand at these places.
     pub fn is_quiet_at(&self, at: usize, pipe: usize, number: Asn, peer: Asn) -> bool
         requires whole { IsWhole (view_of self.now) }
         requires link { LinkAt (view_of self.now) number peer at pipe }
@@ -232,7 +232,7 @@ impl<'a> State<'a> {
         }
     }
 
-    /// Whether a router has nothing to put towards a peer, where the router and the pipe from the peer stand there.
+    /// Whether a router has nothing to put towards a peer. The router and the pipe from the peer stand at these places.
     pub fn puts_nothing_at(&self, at: usize, pipe: usize, number: Asn, peer: Asn) -> bool
         requires whole { IsWhole (view_of self.now) }
         requires link { LinkAt (view_of self.now) number peer at pipe }
@@ -241,7 +241,7 @@ impl<'a> State<'a> {
         self.routers[at].puts_nothing(peer)
     }
 
-    /// Whether a router has nothing of a peer to handle, where the router and the pipe from the peer stand there.
+    /// Whether a router has nothing of a peer to handle. The router and the pipe from the peer stand at these places.
     pub fn handles_nothing_at(&self, at: usize, pipe: usize, number: Asn, peer: Asn) -> bool
         requires whole { IsWhole (view_of self.now) }
         requires link { LinkAt (view_of self.now) number peer at pipe }
@@ -250,8 +250,8 @@ impl<'a> State<'a> {
         self.routers[at].may_take(peer)
     }
 
-    /// Whether the router that stands there has nothing to decide, nobody to tell and nothing to offer, where that is
-    /// seen without a look at a path.
+    /// Whether it is seen without a look at a path that the router at a place has nothing to decide, nobody to tell and
+    /// nothing to offer.
     pub fn is_idle_at(&self, at: usize, number: Asn) -> bool
         requires whole { IsWhole (view_of self.now) }
         requires stands { StandsAt (view_of self.now) number at }
@@ -260,7 +260,7 @@ impl<'a> State<'a> {
         self.routers[at].is_idle()
     }
 
-    /// The item that a router takes next from a peer, where one is on its way.
+    /// The item that a router takes next from a peer, if one is on its way.
     pub fn next_to_take(&self, number: Asn, peer: Asn) -> Option<&Item>
         requires { IsWhole (view_of self.now) }
         ensures { MatchOption result (NothingComes (view_of self.now) number peer) (λ item. comes_next (view_of self.now) number peer ≡ Some item.now) }
@@ -290,7 +290,7 @@ impl<'a> State<'a> {
         }
     }
 
-    /// A router, where the network has one of that number.
+    /// The router with this number, if the network has one.
     pub fn router(&self, number: Asn) -> Option<&Router<'a>>
         requires { IsWhole (view_of self.now) }
         ensures { MatchOption result (IsNoRouter (view_of self.now) number) (λ router. IsRouterOf (view_of self.now) number router.now) }

@@ -34,7 +34,8 @@ impl Model for Through {
     ghost view = { λ t. record { events = t.events.items; recorded = t.recorded; place = t.place } };
 }
 
-// What is picked of the run of a world by which of its events are inside, where the snapshot is settled or moving.
+// The run through the cut, picked from a world's run by which of its events are inside, if the snapshot is settled or
+// moving.
 fn picked(
     alloc: Global,
     world: &World<'_>,
@@ -53,17 +54,17 @@ fn picked(
     }
 }
 
-/// The run of the same events that passes through the cut of a snapshot, where it is settled or moving at their end (Chandy
-/// and Lamport 1985): first what each router did up to its recording, and the puts of what was taken by then, then the rest,
-/// each part in the order of the events. Between the two each router is as it recorded but for those puts, what is in flight
-/// on each link is what was recorded of it, and at the end all is as at the end of the given events but for the order of the
-/// offers for other snapshots. Events that found nothing to do are left out. Where no outbox ever reached the limit,
-/// [`play`](crate::play) of the events ends there.
+/// The run of the same events that passes through the cut of a snapshot (Chandy and Lamport 1985), if the snapshot is
+/// settled or moving at their end. First comes what each router did up to its recording, and the puts of what was taken
+/// by then; then the rest; each part is in the order of the events. Between the two each router is as it recorded but
+/// for those puts, and what is in flight on each link is what was recorded of it. At the end all is as at the end of
+/// the given events, but for the order of the offers for other snapshots. Events that found nothing to do are left out.
+/// If no outbox ever reached the limit, [`play`](crate::play) of the events ends there.
 ///
-/// None where the snapshot is not decided, or is abandoned.
+/// `None` if the snapshot is not decided, or is abandoned.
 ///
-/// Refused as [`play`](crate::play) refuses the events; and where memory was refused once all were played, with their number
-/// as the place and [`StepFault::Memory`].
+/// Refused as [`play`](crate::play) refuses the events. If memory was refused once all were played, refused with their
+/// number as the place and [`StepFault::Memory`].
 pub fn through_cut(
     alloc: Global,
     network: &Network,
@@ -84,7 +85,7 @@ pub fn through_cut(
     }
 }
 
-// How many are inside, where the snapshot is settled or moving.
+// How many events are inside, if the snapshot is settled or moving.
 fn counted(world: &World<'_>, inside: &[bool], number: u32) -> Option<usize>
     ensures answer { result ≡ count_of (judged world.now.collector number) (count_true inside.now) }
     ensures judges { JudgesItsRuns world.now }
@@ -95,11 +96,11 @@ fn counted(world: &World<'_>, inside: &[bool], number: u32) -> Option<usize>
     }
 }
 
-/// How many of the events that were done are inside the cut of a snapshot, where it is settled or moving at their end: those of
-/// each router up to its recording, itself included. It is the [`recorded`](Through::recorded) of [`through_cut`], without the
-/// list of events. The events are given up as they are played, half of them at a time.
+/// How many of the events that were done are inside the cut of a snapshot, if the snapshot is settled or moving at
+/// their end: those of each router up to its recording, itself included. It is the [`recorded`](Through::recorded) of
+/// [`through_cut`], without the list of events. The events are given up as they are played, half of them at a time.
 ///
-/// None where the snapshot is not decided, or is abandoned. Refused as [`play`](crate::play) refuses the events.
+/// `None` if the snapshot is not decided, or is abandoned. Refused as [`play`](crate::play) refuses the events.
 pub fn count_inside(
     alloc: Global,
     network: &Network,

@@ -46,7 +46,7 @@ impl<'a> Model for World<'a> {
 }
 
 impl<'a> World<'a> {
-    /// A world in which nothing was done. It is refused [`StepFault::Memory`] alone.
+    /// A world in which nothing was done. Refused only with [`StepFault::Memory`].
     pub fn new(alloc: Global, network: &'a Network) -> Result<World<'a>, StepFault>
         ensures opens { IfOk result (Opens network.now) }
         ensures promises { IfOk result KeepsPromises }
@@ -57,14 +57,13 @@ impl<'a> World<'a> {
         Ok(World { state })
     }
 
-    /// Does one event. Nothing where its router had nothing to do: an empty outbox or pipe, nothing to
-    /// handle, decide, tell or offer; and where all outboxes that wait are full
-    /// ([`RouterError::Blocked`](router_model::RouterError::Blocked)), or a message waits to be handled
-    /// before the next item is taken ([`RouterError::Held`](router_model::RouterError::Held)).
+    /// Does one event. It answers `Nothing` if the router had nothing to do: an empty outbox or pipe, or nothing to
+    /// handle, decide, tell or offer. It answers `Nothing` too if all outboxes that wait are full
+    /// ([`RouterError::Blocked`](router_model::RouterError::Blocked)), or if a message waits to be handled before the
+    /// next item is taken ([`RouterError::Held`](router_model::RouterError::Held)).
     ///
-    /// Refused [`StepFault::NoSuchRouter`], [`StepFault::NoSuchLink`], [`StepFault::Refused`] with any
-    /// other refusal of the router, and [`StepFault::Memory`] where a growth was refused; then the world
-    /// is as it was.
+    /// Refused with [`StepFault::NoSuchRouter`], [`StepFault::NoSuchLink`], [`StepFault::Refused`] and any other
+    /// refusal of the router, and with [`StepFault::Memory`] if a growth is refused; then the world is as it was.
     pub fn step(&mut self, event: &Event) -> Result<Stepped, StepFault>
         ensures answers { Answers result self.old event.now self.new }
         ensures same { self.new.net ≡ self.old.net }
@@ -75,22 +74,22 @@ impl<'a> World<'a> {
         self.state.step(event)
     }
 
-    /// A router, where the network has one of that number.
+    /// The router with this number, if the network has one.
     pub fn router(&self, number: Asn) -> Option<&Router<'a>>
         ensures { MatchOption result (IsNoRouter self.now number) (λ router. IsRouterOf self.now number router.now) }
     {
         self.state.router(number)
     }
 
-    /// The item that a router takes next from a peer: the oldest that the peer put and it did not take. None where
-    /// there is none, and where no link joins the two.
+    /// The item that a router takes next from a peer: the oldest that the peer put and the router did not take. `None`
+    /// if there is none, or if no link joins the two.
     pub fn next_to_take(&self, number: Asn, peer: Asn) -> Option<&Item>
         ensures { MatchOption result (NothingComes self.now number peer) (λ item. comes_next self.now number peer ≡ Some item.now) }
     {
         self.state.next_to_take(number, peer)
     }
 
-    /// How many peers a router has, where it stands at that place of the network.
+    /// How many peers a router has. The router stands at that place of the network.
     pub fn count_peers(&self, at: usize, number: Asn) -> usize
         requires { slice_get (numbers self.now.net.routers) at ≡ Some number }
         ensures { result ≡ length (settings.peers self.now.net number) }
@@ -98,7 +97,7 @@ impl<'a> World<'a> {
         self.state.pipes_at(at, number).len()
     }
 
-    /// The peer at a place among those of a router, rising, where the router stands at that place of the network.
+    /// The peer at a place among those of a router, rising. The router stands at the place `at` of the network.
     pub fn peer_at(&self, at: usize, number: Asn, place: usize) -> Asn
         requires router { slice_get (numbers self.now.net.routers) at ≡ Some number }
         requires within { place < length (settings.peers self.now.net number) }
@@ -107,8 +106,8 @@ impl<'a> World<'a> {
         self.state.pipes_at(at, number)[place].peer
     }
 
-    /// Whether nothing is to be put, taken or handled between a router and a peer, where the router stands at that
-    /// place of the network and the peer at that place among its peers.
+    /// Whether nothing has to be put, taken or handled between a router and a peer. The router stands at the place `at`
+    /// of the network, and the peer at the place `place` among its peers.
     pub fn is_quiet_at(&self, at: usize, place: usize, number: Asn, peer: Asn) -> bool
         requires router { slice_get (numbers self.now.net.routers) at ≡ Some number }
         requires peer { slice_get (settings.peers self.now.net number) place ≡ Some peer }
@@ -118,8 +117,8 @@ impl<'a> World<'a> {
         self.state.is_quiet_at(at, place, number, peer)
     }
 
-    /// Whether a router has nothing to decide, nobody to tell and nothing to offer, where it stands at that place of the
-    /// network, and where that is seen without a look at a path.
+    /// Whether it is seen without a look at a path that a router has nothing to decide, nobody to tell and nothing to
+    /// offer. The router stands at that place of the network.
     pub fn is_idle_at(&self, at: usize, number: Asn) -> bool
         requires { slice_get (numbers self.now.net.routers) at ≡ Some number }
         ensures { result ≡ true → IsIdle self.now number }
@@ -141,7 +140,7 @@ impl<'a> World<'a> {
         self.state.run.as_slice()
     }
 
-    /// The events that were done, the first first, without the world, which is dropped. They lead to it again. It takes no
+    /// The events that were done, the first first. The world is dropped; the events lead to it again. It takes no
     /// memory.
     pub fn into_run(self) -> Vec<Event>
         ensures value { result.items ≡ self.entry.run }
@@ -150,9 +149,9 @@ impl<'a> World<'a> {
         self.state.run
     }
 
-    /// The offers that were made. Its outcomes are those of the run that the world stands at the end of; the parts of a
-    /// snapshot that it judges settled are a stable path assignment, recorded in a consistent cut, and stay while the
-    /// run is quiet.
+    /// The collector of the offers that were made. Its outcomes are those of the run that the world stands at the end
+    /// of. The parts of a snapshot that it judges settled are a stable path assignment, recorded in a consistent cut,
+    /// and stay while the run is quiet.
     pub fn collector(&self) -> &Collector
         ensures value { result.now ≡ self.now.collector }
         ensures members { AreMembers self.now.net result.now.members }
