@@ -1,9 +1,9 @@
 //! `bgpnet`: decodes BGP-4 messages, says whether paths are a stable assignment, lists all that are, plays
 //! schedules of a network, and runs a network in threads.
 //!
-//! The program reads its words, standard input and nothing else, and writes standard output. `main` hands
-//! them to [`command_line::run_with`], and ends with its status. What a refusal means, and what failed, it says in words
-//! on the standard error: those that [`error_words::said`] answers.
+//! The program reads its words and standard input and nothing else, and writes standard output. `main` hands them to
+//! [`command_line::run_with`], and ends with its status. On the standard error it says in words what a refusal means,
+//! and what failed, as [`error_words::said`] answers.
 //!
 //! Its one contract is that of the engine that the words ask for: `text_engines::decode_stream` for
 //! `bgpnet decode`, `text_engines::check_stream` for `bgpnet check`, `stable_engine::stable_stream` for
@@ -41,7 +41,7 @@ fn words_of(rt: &HostRuntime) -> Result<Vec<String>, WordsError> {
     }
 }
 
-// The first of the words and the last, where there are any.
+// The first of the words and the last, if there are any.
 fn ends_of(words: &Result<Vec<String>, WordsError>) -> (&[u8], &[u8]) {
     let Ok(words) = words else {
         return (b"", b"");
@@ -81,7 +81,7 @@ where
     }
 }
 
-// Says on the standard error how a run ended. Where that can't be written, or memory is refused, nobody is told.
+// Says on the standard error how a run ended. If that can't be written, or memory is refused, nobody is told.
 fn say(rt: &HostRuntime, end: &End<'_>) {
     if let Ok(text) = said(rt.alloc(), end) {
         if let Ok(text) = from_utf8(text.as_slice()) {
