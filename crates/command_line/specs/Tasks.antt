@@ -1,4 +1,4 @@
--- What is printed for a task.
+-- The text printed for a task.
 use Rattle.std.specs.Prelude.{ℕ, List}
 use Rattle.text_engines.specs.Decoding.{Output, Prints}
 use Rattle.text_engines.specs.Checking.{Checks}
@@ -13,7 +13,7 @@ use Rattle.command_line.specs.declared.tasks.Task.TheVariants as task
 use Rattle.command_line.specs.declared.tasks.ThreadTask.{ThreadTask}
 use Rattle.command_line.specs.declared.tasks.ThreadTask.TheVariants as threads
 
--- what a task that starts no thread prints for an input
+-- the text that a task without threads prints for an input
 abbrev pub TaskPrints : Task → List ℕ → Output → Type 0
 TaskPrints (task.Decode rule) = Prints rule
 TaskPrints task.Check = Checks
@@ -23,7 +23,7 @@ TaskPrints (task.Cut s) = Cuts s
 TaskPrints (task.Why u) = Whys u
 TaskPrints (task.Stable limits) = Lists limits
 
--- what a task of threads prints for an input
+-- the text that a task of threads prints for an input
 abbrev pub ThreadsPrint : ThreadTask → List ℕ → Output → Type 0
 ThreadsPrint (threads.Run options) = Runs options
 ThreadsPrint (threads.Record options) = Records options

@@ -1,7 +1,7 @@
-//! What the helps say below their options.
+//! The texts of the helps below their options.
 
-/// What the help of the program says below its words: the lines of a network, their limits, the codes of refusals,
-/// and the statuses.
+/// The help of the program below its words: the lines of a network, their limits, the codes of
+/// refusals, and the statuses.
 pub const TOP_HELP: &str = "\
 The input is the standard input: 'bgpnet play < schedule.txt'. 'bgpnet WORD --help' has an example.
 
@@ -45,7 +45,7 @@ rule and 16 routers a path; an input has at most 16777216 octets.
 Status 0: done. 1: a fault, a truncated end, or a refused input. 2: other words than these. 3: memory
 was refused ('memory'). 4: a read or a write failed. 5: a limit of 'stable' was met.";
 
-/// What the help of `decode` says below its options: an example, and the statuses.
+/// The help of `decode` below its options: an example, and the statuses.
 pub const DECODE_HELP: &str = "\
 The input is octets in hex, of one direction of one session. Blanks and line ends are skipped:
 
@@ -74,7 +74,7 @@ capability 65, where it has one.
 Status 0: all was read. 1: a fault, a truncated end, or a refused input. 2: other words than these.
 3: memory was refused ('memory'). 4: a read or a write failed.";
 
-/// What the help of `check` says below its options: an example, and the statuses.
+/// The help of `check` below its options: an example, and the statuses.
 pub const CHECK_HELP: &str = "\
 The input is a network, a line 'assignment', and the path of each router and prefix:
 
@@ -102,7 +102,7 @@ output is 'stable'. 'bgpnet --help' has the lines of a network and the codes of 
 Status 0: it is judged. 1: a refused input. 2: other words than these. 3: memory was refused ('memory').
 4: a read or a write failed.";
 
-/// What the help of `stable` says below its options: an example, and the statuses.
+/// The help of `stable` below its options: an example, and the statuses.
 pub const STABLE_HELP: &str = "\
 The input is a network; what stands behind a line 'assignment' or 'schedule' is left out:
 
@@ -140,7 +140,7 @@ lines of a network.
 Status 0: done. 1: a refused input. 2: other words than these. 3: memory was refused ('memory').
 4: a read or a write failed. 5: done, and a prefix is unknown.";
 
-/// What the help of `play` says below its options: an example, the orders, and the statuses.
+/// The help of `play` below its options: an example, the orders, and the statuses.
 pub const PLAY_HELP: &str = "\
 The input is a network, a line 'schedule', and the orders of the schedule:
 
@@ -169,7 +169,7 @@ order that is refused; 'bgpnet --help' has the codes, and the lines of a network
 Status 0: done. 1: a refused input. 2: other words than these. 3: memory was refused ('memory').
 4: a read or a write failed.";
 
-/// What the help of `trace` says below its options: an example, and the statuses.
+/// The help of `trace` below its options: an example, and the statuses.
 pub const TRACE_HELP: &str = "\
 The input is a network, a line 'schedule', and the orders of the schedule, as 'play --help' says:
 
@@ -205,7 +205,7 @@ last line is '# refused LINE CODE', and where a line can't be read 'refused LINE
 Status 0: done. 1: a refused input. 2: other words than these. 3: memory was refused ('memory').
 4: a read or a write failed.";
 
-/// What the help of `cut` says below its options: an example, and the statuses.
+/// The help of `cut` below its options: an example, and the statuses.
 pub const CUT_HELP: &str = "\
 The input is a network, a line 'schedule', and the orders of the schedule, as 'play --help' says:
 
@@ -241,7 +241,7 @@ not decided at the end, or it was abandoned. 'refused LINE CODE' is as for 'play
 Status 0: done. 1: a refused input. 2: other words than these. 3: memory was refused ('memory').
 4: a read or a write failed.";
 
-/// What the help of `why` says below its options: an example, and the statuses.
+/// The help of `why` below its options: an example, and the statuses.
 pub const WHY_HELP: &str = "\
 The input is a network, a line 'schedule', and the orders of the schedule, as 'play --help' says:
 
@@ -274,7 +274,7 @@ LINE CODE' is as for 'play'.
 Status 0: done. 1: a refused input. 2: other words than these. 3: memory was refused ('memory').
 4: a read or a write failed.";
 
-/// What the help of `run` says below its options: an example, and the statuses.
+/// The help of `run` below its options: an example, and the statuses.
 pub const RUN_HELP: &str = "\
 The input is a network:
 
@@ -298,7 +298,7 @@ to 1000000. 'bgpnet --help' has the codes, and the lines of a network.
 Status 0: done. 1: a refused input. 2: other words than these. 3: memory was refused ('memory').
 4: a read or a write failed.";
 
-/// What the help of `record` says below its options: an example, and the statuses.
+/// The help of `record` below its options: an example, and the statuses.
 pub const RECORD_HELP: &str = "\
 The input is a network:
 

@@ -2,10 +2,10 @@
 //!
 //! [`read_words`] says what the words ask for: a [`Task`] that starts no thread, a [`ThreadTask`], or a text, which is
 //! a help or what is wrong with the words. [`run_task`] and [`run_thread_task`] hand a task to an engine of
-//! `text_engines`, `stable_engine`, `play_engine`, `trace_engine`, `run_engine` or `record_engine`, a function over a
-//! reader and a writer that says exactly what it writes for what it reads, and say the same. `run_task` has no bound by which it
-//! could wait for a thread, so it returns. [`run_with`] does what the words ask for, and may wait: a status is answered
-//! where no read and no write failed, and only there. [`status_of`] is the status that the program ends with.
+//! `text_engines`, `stable_engine`, `play_engine`, `trace_engine`, `run_engine` or `record_engine`: a function over a
+//! reader and a writer that says exactly what it writes for what it reads. They say the same. `run_task` has no bound
+//! by which it could wait for a thread: it returns. [`run_with`] does what the words ask for, and may wait. It answers
+//! a status exactly where no read and no write failed. [`status_of`] is the status that the program ends with.
 #![tactic(auto)]
 
 ghost use Rattle.std.specs.Prelude.{◌≡◌, true, false, ◌⊎◌, IfOk, IsErr, OnOk, OnErr};
@@ -41,7 +41,7 @@ where
     T: Sink,
     ensures unfailed { OnOk result ((S.failed reader.new ≡ S.failed reader.old) × (T.failed writer.new ≡ T.failed writer.old)) }
     ensures failed { OnErr result ((S.failed reader.new ≡ true) ⊎ (T.failed writer.new ≡ true)) }
-    // Where a read failed nothing is written.
+    // If a read failed, nothing is written.
     ensures silent { S.failed reader.old ≡ false → S.failed reader.new ≡ true → T.contents writer.new ≡ T.contents writer.old }
 {
     match read_words(alloc, words) {
@@ -55,7 +55,7 @@ where
     }
 }
 
-/// The status that the program ends with: that of the run, or 4 where a read or a write failed.
+/// The status that the program ends with: that of the run, or 4 if a read or a write failed.
 pub fn status_of(ended: Result<u8, IoStopped>) -> u8
     ensures done { IfOk ended (λ status. result ≡ status) }
     ensures stopped { IsErr ended → result ≡ STOPPED }

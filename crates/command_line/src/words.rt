@@ -1,4 +1,4 @@
-//! What the words behind the program's name ask for.
+//! What the words behind the program's name ask for, as a value.
 
 ghost use Rattle.std.specs.Prelude.{◌≡◌};
 ghost use Rattle.std.specs.List.{list_all};
@@ -35,16 +35,16 @@ const VERSION: &str = "0.1.0";
 // The most snapshots that `--snapshots` takes.
 const MOST_SNAPSHOTS: u32 = 1_000;
 
-// The chores of each router where `--turns` does not say them.
+// The chores of each router if `--turns` does not name them.
 const TURNS: u32 = 20_000;
 
-// The snapshots where `--snapshots` does not say them.
+// The snapshots if `--snapshots` does not name them.
 const SNAPSHOTS: u32 = 20;
 
-// The most choices of a dispute where `--most` does not say them.
+// The most choices of a dispute if `--most` does not name them.
 const MOST_CHOICES: u32 = 1_000;
 
-// The most steps of the search of a dispute where `--steps` does not say them.
+// The most steps of the search of a dispute if `--steps` does not name them.
 const STEPS: u32 = 10_000_000;
 
 // Whether all octets are decimal digits.
@@ -58,7 +58,7 @@ fn are_digits(text: &[u8]) -> bool
     are_digits
 }
 
-// What is said of a sign before a number, where it has one.
+// The complaint about a sign before a number, if it has one.
 fn sign_of(
     alloc: Global,
     found: &ArgMatches,
@@ -77,7 +77,7 @@ fn sign_of(
     }
 }
 
-// What is said of a speaker's number that is above those of a width.
+// The complaint about a speaker's number that is above those of a width.
 fn above(alloc: Global, width: Width, peer: u32) -> Result<String, AllocError> {
     let greatest = greatest_asn(width);
     let text = format!(in alloc;
@@ -117,7 +117,7 @@ fn asked_cut(alloc: Global, found: &ArgMatches) -> Result<Asked, AllocError> {
     }
     match found.get_one::<u32>("number") {
         Some(number) => Ok(Asked::Task(Task::Cut(number))),
-        // The words were refused without it.
+        // The words were refused if they lack it.
         None => {
             let text = format!(in alloc; "error: the number of a snapshot is missing\n")?;
             Ok(Asked::Text(text, USAGE))
@@ -131,7 +131,7 @@ fn asked_why(alloc: Global, found: &ArgMatches) -> Result<Asked, AllocError> {
     }
     match found.get_one::<u32>("router") {
         Some(number) => Ok(Asked::Task(Task::Why(number))),
-        // The words were refused without it.
+        // The words were refused if they lack it.
         None => {
             let text = format!(in alloc; "error: the number of a router is missing\n")?;
             Ok(Asked::Text(text, USAGE))
@@ -154,7 +154,7 @@ fn asked_stable(alloc: Global, found: &ArgMatches) -> Result<Asked, AllocError> 
     })))
 }
 
-// The options of a run in threads, or what is said of the words.
+// The options of a run in threads, or the complaint about the words.
 fn run_options(
     alloc: Global,
     found: &ArgMatches,
@@ -323,7 +323,7 @@ fn command<'a>(alloc: Global) -> Result<Command<'a>, AllocError> {
         .subcommand(record_command(alloc)?)
 }
 
-// What words that were taken ask for.
+// The task or text that accepted words ask for.
 fn asked_by(alloc: Global, matches: &ArgMatches) -> Result<Asked, AllocError> {
     if matches.subcommand_matches("play").is_some() {
         return Ok(Asked::Task(Task::Play));
@@ -360,8 +360,8 @@ fn parse(alloc: Global, words: &[&str]) -> Result<Asked, Error> {
     Ok(asked_by(alloc, &matches)?)
 }
 
-/// What the words behind the program's name ask for; for words that the program does not take, what is said of them. It
-/// reads no input, and is refused only where memory was.
+/// Reads what the words behind the program's name ask for. Words that the program does not take ask
+/// for a text, the complaint about them. It reads no input, and is refused only for want of memory.
 pub fn read_words(alloc: Global, words: &[&str]) -> Result<Asked, AllocError> {
     let mut all = vec![in alloc; "bgpnet"]?;
     all.extend_from_slice(words)?;
