@@ -1,4 +1,4 @@
--- What a user may have meant who gave an input that is refused, or words that are not taken.
+-- What a user may have meant whose input is refused, or whose words are not taken.
 use Rattle.std.specs.Prelude.{ℕ, ◌==◌, ◌||◌, nat_eq, Bool, [], ◌∷◌, replicate, Option, None, Some, codes, if◌then◌else◌}
 use Rattle.std.specs.List.{list_any, starts_with}
 use Rattle.error_words.specs.declared.hints.Hint.{Hint}
@@ -8,30 +8,30 @@ use Rattle.net_text.specs.Lexing.{Text}
 abbrev pub has : ℕ → Text → Bool
 has x text = list_any (λ y. y == x) text
 
--- a byte order mark of UTF-8
+-- the input begins with a byte order mark of UTF-8
 abbrev pub is_marked : Text → Bool
 is_marked input = starts_with nat_eq input (239 ∷ 187 ∷ 191 ∷ [])
 
--- one of UTF-16
+-- the input begins with a byte order mark of UTF-16
 abbrev pub is_wide : Text → Bool
 is_wide input = starts_with nat_eq input (255 ∷ 254 ∷ []) || starts_with nat_eq input (254 ∷ 255 ∷ [])
 
--- the first octets of pcap, of both byte orders, with micro- or nanoseconds, and of pcapng
+-- the input begins as pcap does, in either byte order, with micro- or nanoseconds, or as pcapng does
 abbrev pub is_capture : Text → Bool
 is_capture input =
     starts_with nat_eq input (212 ∷ 195 ∷ 178 ∷ 161 ∷ []) || starts_with nat_eq input (161 ∷ 178 ∷ 195 ∷ 212 ∷ [])
     || starts_with nat_eq input (77 ∷ 60 ∷ 178 ∷ 161 ∷ []) || starts_with nat_eq input (161 ∷ 178 ∷ 60 ∷ 77 ∷ [])
     || starts_with nat_eq input (10 ∷ 13 ∷ 13 ∷ 10 ∷ [])
 
--- the Marker in front of a message, as octets
+-- the input begins with the Marker of a message, as octets
 abbrev pub is_message : Text → Bool
 is_message input = starts_with nat_eq input (replicate 16 255)
 
--- places end by a colon, characters stand between bars
+-- the line is one of a hexdump: places end by a colon, or characters stand between bars
 abbrev pub is_dump : Text → Bool
 is_dump line = has 58 line || has 124 line
 
--- of an input that is refused for this line
+-- the hint on an input that is refused for this line
 abbrev pub hint_of_line : Text → Text → Option Hint
 hint_of_line input line =
     if is_marked input then Some hint.Mark
@@ -39,7 +39,7 @@ hint_of_line input line =
     else if has 35 line then Some hint.Remark
     else None
 
--- of an input that is no hex, whose first line is this
+-- the hint on an input that is no hex, whose first line is this
 abbrev pub hint_of_hex : Text → Text → Option Hint
 hint_of_hex input first =
     if is_marked input then Some hint.Mark

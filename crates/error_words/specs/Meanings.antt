@@ -2,7 +2,7 @@
 use Rattle.std.specs.Prelude.{ℕ, zero, suc, codes, if◌then◌else◌}
 use Rattle.net_text.specs.Lexing.{Text, same}
 
--- of a run in threads
+-- the meaning of a code of a run in threads
 abbrev pub run_meaning : Text → Text
 run_meaning code =
     if same code (codes "G2") then codes "a router had no stamp or no incarnation left, or its offer was refused"
@@ -10,7 +10,7 @@ run_meaning code =
     else if same code (codes "G4") then codes "the offers on the board are not those that the workers wrote down"
     else codes "docs/TEXTS.md says what it means"
 
--- of an order
+-- the meaning of a code of an order
 abbrev pub order_meaning : Text → Text
 order_meaning code =
     if same code (codes "E1") then codes "a session with a router that is no peer"
@@ -22,7 +22,7 @@ order_meaning code =
     else if same code (codes "V2") then codes "no link"
     else run_meaning code
 
--- of a line of a network or an assignment
+-- the meaning of a code of a line of a network or an assignment
 abbrev pub meaning : Text → Text
 meaning code =
     if same code (codes "N1") then codes "an unknown first word, a wrong number of words, or an octet past ASCII"
@@ -36,14 +36,14 @@ meaning code =
     else if same code (codes "S1") then codes "a path that isn't permitted"
     else order_meaning code
 
--- of a whole input, which has no line that is at fault
+-- the meaning of a code of a whole input, which has no line at fault
 abbrev pub whole_meaning : Text → Text
 whole_meaning code =
     if same code (codes "N3") then codes "the network has no router of this number"
     else if same code (codes "N6") then codes "no router, or more than 16777216 octets"
     else meaning code
 
--- of a line, counted from 1, or of the whole input, whose number is 0
+-- the meaning of a code of a line, counted from 1, or of the whole input, whose number is 0
 abbrev pub meaning_at : ℕ → Text → Text
 meaning_at zero code = whole_meaning code
 meaning_at (suc before) code = meaning code

@@ -13,7 +13,7 @@ pub record Refused : Type 0 where
   pub at : ℕ
   pub code : Text
 
--- `refused`, a line and a code
+-- the refusal that words are: `refused`, a line and a code
 abbrev pub refusal_in : List Text → Option Refused
 refusal_in [] = None
 refusal_in (word ∷ []) = None

@@ -13,7 +13,7 @@ use Rattle.error_words.specs.Hints.{hint_text, hint_of_line, hint_of_hex, has}
 
 -- ---- refusals
 
--- an octet as it is shown: a question mark for one that is no printed one of ASCII, a space for a tab
+-- an octet as it is shown: a question mark if it is not a printable one of ASCII, a space for a tab
 abbrev pub shown_octet : ℕ → ℕ
 shown_octet x = if nat_le 32 x && nat_le x 126 then x else if x == 9 then 32 else 63
 
@@ -27,7 +27,7 @@ abbrev pub place_text : ℕ → Text
 place_text zero = []
 place_text (suc before) = codes "line " ++ (decimal (suc before) ++ codes ": ")
 
--- the line that is refused, where it is known
+-- the words on the line that is refused, if it is known
 abbrev pub found_text : Option Text → Text
 found_text None = []
 found_text (Some text) = codes ": " ++ shown text
@@ -44,7 +44,7 @@ abbrev pub hint_said : Option Hint → Text
 hint_said None = []
 hint_said (Some hint) = remark_text (hint_text hint)
 
--- ---- what is said where this line was printed last, for an input that begins so
+-- ---- the words if this line was printed last, for an input with this front
 
 abbrev pub no_hex : Text
 no_hex = codes "the input has an octet that is no hex digit and no blank, or half an octet"
@@ -93,7 +93,7 @@ abbrev pub used_said : Text → Option Text → Text → Text
 used_said word None name = []
 used_said word (Some usage) name = if is_file name then file_text word usage name else []
 
--- of the first and the last word
+-- the words on arguments that are not taken, by the first and the last
 abbrev pub words_said : Text → Text → Text
 words_said word name = used_said word (usage_of word) name
 

@@ -40,7 +40,7 @@ fn last_line(text: &[u8]) -> &[u8]
     line
 }
 
-// Pushes fewer octets than there are to the end: as many leave the front.
+// Pushes octets to the end, fewer than there are: as many leave the front.
 fn push_few(last: &mut [u8], octets: &[u8])
     requires { length octets.now ≤ length last.old }
     ensures { last.new ≡ drop (length octets.now) (last.old ++ octets.now) }
@@ -50,7 +50,7 @@ fn push_few(last: &mut [u8], octets: &[u8])
     last[end..].copy_from_slice(octets);
 }
 
-// Pushes as many octets or more: the last of them are left.
+// Pushes octets to the end, as many as there are or more: the last of them are left.
 fn push_many(last: &mut [u8], octets: &[u8])
     requires { length last.old ≤ length octets.now }
     ensures { last.new ≡ drop (length octets.now) (last.old ++ octets.now) }
@@ -60,19 +60,19 @@ fn push_many(last: &mut [u8], octets: &[u8])
 }
 
 impl<T> Ending<T> {
-    /// One that wrote nothing yet.
+    /// A writer that wrote nothing yet.
     pub fn new(inner: T) -> Ending<T>
         ensures { result.inner ≡ inner }
     {
-        // Line ends, so that the first line is one.
+        // Line ends: the first line that is written is then a line behind one.
         Ending {
             inner,
             last: [b'\n'; KEPT],
         }
     }
 
-    /// The line that was written last, where it has an end, without that: from the line end before its own on, as far
-    /// as it is kept.
+    /// The line that was written last, if it has an end, without that end. It goes from the line
+    /// end before it on, as far as it is kept.
     pub fn line(&self) -> &[u8]
         ensures back { result.now ≡ drop (63 - length result.now) (take 63 self.now.last) }
         ensures one { (k : ℕ) → 63 - length result.now ≤ k → k < 63 → slice_index (take 63 self.now.last) k ≢ 10 }

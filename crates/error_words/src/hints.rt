@@ -3,7 +3,7 @@
 ghost use Rattle.std.specs.Prelude.{◌≡◌};
 ghost use Rattle.error_words.specs.Hints.{has, is_marked, is_wide, is_capture, is_message, is_dump, hint_of_line, hint_of_hex, hint_text};
 
-/// What a user may have meant who gave an input that is refused.
+/// What a user may have meant whose input is refused.
 #[derive(Clone, Copy)]
 pub enum Hint {
     /// The input begins with a byte order mark of UTF-8.
@@ -61,7 +61,7 @@ fn is_dump(line: &[u8]) -> bool
     has(b':', line) || has(b'|', line)
 }
 
-/// What is said of an input that is refused for a line, where anything is.
+/// The hint on an input that is refused for a line, if there is one.
 pub(crate) fn hint_of_line(input: &[u8], line: &[u8]) -> Option<Hint>
     ensures { result ≡ hint_of_line input.now line.now }
 {
@@ -76,7 +76,7 @@ pub(crate) fn hint_of_line(input: &[u8], line: &[u8]) -> Option<Hint>
     }
 }
 
-/// What is said of an input that is no hex, by its first line, where anything is.
+/// The hint on an input that is no hex, by its first line, if there is one.
 pub(crate) fn hint_of_hex(input: &[u8], first: &[u8]) -> Option<Hint>
     ensures { result ≡ hint_of_hex input.now first.now }
 {

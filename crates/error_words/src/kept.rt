@@ -1,4 +1,4 @@
-//! A reader that keeps what its input begins with.
+//! A reader that keeps the front of its input.
 
 ghost use Rattle.std.specs.Prelude.{◌≡◌, ◌≤◌, ◌⊎◌, ◌++◌, [], take, vec_len, IfOk, OnOk, OnErr, true};
 ghost use Rattle.std.specs.Io.{ReadsAtMost};
@@ -7,8 +7,8 @@ ghost use Rattle.std.specs.Io.KnownBytes.{ReadConsumes};
 use std::alloc::Global;
 use text_engines::{IoStopped, Source};
 
-/// A reader that keeps the front of what it gave, up to a bound. Where a growth for it is refused it keeps nothing, from
-/// there on too.
+/// A reader that keeps the front of what it gave, up to a bound. If a growth for it is refused, it keeps nothing from
+/// then on.
 #[derive(Drop)]
 pub struct Kept<S> {
     inner: S,
@@ -18,7 +18,7 @@ pub struct Kept<S> {
 }
 
 impl<S> Kept<S> {
-    /// One that keeps at most so many octets, and gave none yet.
+    /// A reader that keeps at most `most` octets, and gave none yet.
     pub fn new(alloc: Global, inner: S, most: usize) -> Kept<S>
         ensures inner { result.inner ≡ inner }
         ensures most { result.most ≡ most }
@@ -31,7 +31,7 @@ impl<S> Kept<S> {
         }
     }
 
-    /// What is kept.
+    /// The front of the input that is kept.
     pub fn text(&self) -> &[u8]
         ensures { result.now ≡ self.now.text.items }
     {
@@ -45,7 +45,7 @@ impl<S> Kept<S> {
         &self.inner
     }
 
-    // Keeps octets that were given, as far as they are within the bound.
+    // Keeps octets that were given, up to the bound.
     fn keep(&mut self, octets: &[u8])
         ensures text { self.new.text.items ≡ take self.new.most (self.old.text.items ++ octets.now) }
         ensures most { (self.new.most ≡ self.old.most) ⊎ (self.new.most ≡ 0) }
@@ -70,7 +70,7 @@ impl<S: Source> Source for Kept<S> {
         ensures bytes { ReadConsumes (S.remaining self.old.inner) (S.remaining self.new.inner) result buf.new }
         ensures ok { OnOk result (S.failed self.new.inner ≡ S.failed self.old.inner) }
         ensures err { OnErr result (S.failed self.new.inner ≡ true) }
-        // What is given is kept, up to the bound, which a refused growth leaves at nothing.
+        // The octets that are given are kept, up to the bound; a refused growth makes the bound 0.
         ensures kept { IfOk result (λ n. self.new.text.items ≡ take self.new.most (self.old.text.items ++ take n buf.new)) }
         ensures most { IfOk result (λ n. (self.new.most ≡ self.old.most) ⊎ (self.new.most ≡ 0)) }
     {

@@ -1,10 +1,10 @@
 //! What the program says in words on the standard error, beside an output that stays as it is: what a refusal means,
 //! with the line that is refused, what failed, how an input is given, and what a user may have meant.
 //!
-//! [`said`] says it of how a run ended, exactly: each sentence is a definition of `specs/`. It is asked with the line
-//! that was printed last, which [`Ending`] keeps of a writer, and with the front of the input, which [`Kept`] keeps of
-//! a reader. The definitions: `Meanings` (the sentence of each code), `Refusals` (the line that a refusal names), `Hints`
-//! (what a user may have meant), `Saying` (the whole text).
+//! [`said`] says exactly this of how a run ended: each sentence is a definition of `specs/`. It takes the line that was
+//! printed last, which [`Ending`] keeps of a writer, and the front of the input, which [`Kept`] keeps of a reader. The
+//! definitions: `Meanings` (the sentence of each code), `Refusals` (the line that a refusal names), `Hints` (what a
+//! user may have meant), `Saying` (the whole text).
 #![tactic(auto)]
 
 mod ending;

@@ -1,11 +1,11 @@
-//! What the codes of refusals mean.
+//! The meanings of the codes of refusals.
 
 ghost use Rattle.std.specs.Prelude.{◌≡◌};
 ghost use Rattle.error_words.specs.Meanings.{run_meaning, order_meaning, meaning, whole_meaning, meaning_at};
 
 use net_text::lexing::same;
 
-// What a code means that is printed of a run in threads, or of what is no such.
+// The meaning of a code of a run in threads, or of an unknown code.
 fn run_meaning(code: &[u8]) -> &'static [u8]
     ensures { result.now ≡ run_meaning code.now }
 {
@@ -21,7 +21,7 @@ fn run_meaning(code: &[u8]) -> &'static [u8]
     b"docs/TEXTS.md says what it means"
 }
 
-// What a code means that is printed of an order, or of what is no such.
+// The meaning of a code of an order, or of another code.
 fn order_meaning(code: &[u8]) -> &'static [u8]
     ensures { result.now ≡ order_meaning code.now }
 {
@@ -49,7 +49,7 @@ fn order_meaning(code: &[u8]) -> &'static [u8]
     run_meaning(code)
 }
 
-// What a code means that is printed of a line of a network or an assignment, or of what is no such.
+// The meaning of a code of a line of a network or an assignment, or of another code.
 fn meaning(code: &[u8]) -> &'static [u8]
     ensures { result.now ≡ meaning code.now }
 {
@@ -83,7 +83,7 @@ fn meaning(code: &[u8]) -> &'static [u8]
     order_meaning(code)
 }
 
-// What a code means that is printed of the whole input.
+// The meaning of a code of the whole input.
 fn whole_meaning(code: &[u8]) -> &'static [u8]
     ensures { result.now ≡ whole_meaning code.now }
 {
@@ -96,7 +96,7 @@ fn whole_meaning(code: &[u8]) -> &'static [u8]
     meaning(code)
 }
 
-/// What a code means that is printed of a line, or of the whole input, whose number is 0.
+/// The meaning of a code of a line, or of the whole input, whose number is 0.
 pub fn meaning_at(line: u64, code: &[u8]) -> &'static [u8]
     ensures { result.now ≡ meaning_at line code.now }
 {

@@ -8,7 +8,7 @@ ghost use Rattle.error_words.specs.Refusals.{without_mark, refusal_in, line_at};
 use net_text::lexing::{next_line, next_word, same, two_words};
 use net_text::words::number_of;
 
-// What stands behind the mark of a comment, or the line.
+// The line behind the mark of a comment, or the whole line without such a mark.
 fn unmarked(line: &[u8]) -> &[u8]
     ensures { words_of result.now ≡ without_mark (words_of line.now) }
 {
@@ -31,8 +31,8 @@ fn refusal_in(line: &[u8]) -> Option<(u64, &[u8])>
     Some((at, code))
 }
 
-/// Which line is refused, counted from 1, or the whole input, whose number is 0; and the code of why. None where the
-/// line refuses nothing.
+/// The line that is refused, counted from 1, or 0 for the whole input; and the code of why. `None` if the line refuses
+/// nothing.
 pub fn refusal_of(line: &[u8]) -> Option<(u64, &[u8])>
     ensures { MatchOption result (refusal_in (without_mark (words_of line.now)) ≡ None) (λ p. refusal_in (without_mark (words_of line.now)) ≡ Some (record { at = p.0; code = p.1.now })) }
 {
@@ -56,7 +56,7 @@ fn line_behind(input: &[u8], before: u64) -> Option<&[u8]>
     None
 }
 
-/// The line of a number, counted from 1, without its end; none of the number 0, or where there are not so many.
+/// The line of a number, counted from 1, without its end. `None` for the number 0, and if there are not so many lines.
 pub fn line_at(input: &[u8], number: u64) -> Option<&[u8]>
     ensures { option_copied result ≡ line_at input.now number }
 {

@@ -1,4 +1,4 @@
-//! What is said on the standard error.
+//! The text said on the standard error.
 
 ghost use Rattle.std.specs.Prelude.{◌≡◌, ◌++◌, map, Some, OnOk, IfOk};
 ghost use Rattle.std.specs.Option.{option_copied};
@@ -14,7 +14,7 @@ use net_text::lexing::same;
 use std::alloc::{AllocError, Global};
 use text_engines::status::{REFUSED, STOPPED, USAGE};
 
-/// How many octets of a line are shown.
+/// How many octets of a line are shown at most.
 pub const MOST_SHOWN: usize = 60;
 
 /// How a run of the program ended, and what is known of it.
@@ -22,7 +22,7 @@ pub const MOST_SHOWN: usize = 60;
 pub struct End<'a> {
     /// The first word behind the program's name.
     pub word: &'a [u8],
-    /// The last one, where there are several.
+    /// The last word behind the program's name, if there are several.
     pub name: &'a [u8],
     /// The status.
     pub status: u8,
@@ -30,7 +30,7 @@ pub struct End<'a> {
     pub read_failed: bool,
     /// The line that was printed last.
     pub last: &'a [u8],
-    /// What the input begins with.
+    /// The front of the input.
     pub input: &'a [u8],
 }
 
@@ -82,7 +82,7 @@ fn write_place(out: &mut Tail, at: u64) -> Result<(), AllocError>
     out.put_text(b": ")
 }
 
-// Writes the line that is refused, where it is known.
+// Writes the line that is refused, if it is known.
 fn write_found(out: &mut Tail, found: Option<&[u8]>) -> Result<(), AllocError>
     ensures text { OnOk result (out.new.text ≡ out.old.text ++ found_text (option_copied found.entry)) }
     ensures front { out.new.front ≡ out.old.front }
@@ -133,7 +133,7 @@ fn write_hint(out: &mut Tail, hint: Option<Hint>) -> Result<(), AllocError>
     }
 }
 
-// Writes what is said of a line that is refused.
+// Writes the words on a line that is refused.
 fn write_named(out: &mut Tail, input: &[u8], at: u64, code: &[u8]) -> Result<(), AllocError>
     ensures text { OnOk result (out.new.text ≡ out.old.text ++ named_said input.now (Some (record { at = at; code = code.now }))) }
     ensures front { out.new.front ≡ out.old.front }
@@ -143,7 +143,7 @@ fn write_named(out: &mut Tail, input: &[u8], at: u64, code: &[u8]) -> Result<(),
     write_hint(out, hint_of_line(input, found.unwrap_or(b"")))
 }
 
-// Writes what is said of an input that is no hex.
+// Writes the words on an input that is no hex.
 fn write_no_hex(out: &mut Tail, input: &[u8]) -> Result<(), AllocError>
     ensures text { OnOk result (out.new.text ≡ out.old.text ++ (remark_text no_hex ++ hint_said (hint_of_hex input.now (first_line input.now)))) }
     ensures front { out.new.front ≡ out.old.front }
@@ -192,8 +192,8 @@ fn write_said(out: &mut Tail, end: &End) -> Result<(), AllocError>
     }
 }
 
-/// What is said of how a run ended: what a refusal means, how an input is given, or what failed; nothing where it was
-/// done. It is refused only where memory was.
+/// The words on how a run ended: what a refusal means, how an input is given, or what failed; no
+/// word if it was done. It is refused only for want of memory.
 pub fn said(alloc: Global, end: &End) -> Result<Vec<u8>, AllocError>
     ensures { IfOk result (λ text. text.items ≡ said end.now) }
 {

@@ -1,4 +1,4 @@
-//! What is said of words that the program does not take.
+//! The words on arguments that the program does not take.
 
 ghost use Rattle.std.specs.Prelude.{◌≡◌, ◌++◌, OnOk};
 ghost use Rattle.std.specs.Option.{option_copied};
@@ -14,7 +14,8 @@ use text_engines::INPUT_LIMIT;
 // How many octets of what `decode` reads are looked at.
 const LOOKED_AT: usize = 512;
 
-/// How many octets of an input are kept for what is said of it, by the word that reads it: of hex the first ones.
+/// How many octets at the front of an input are kept for the words on it, by the word that reads it: of hex the first
+/// ones.
 pub fn bound_of(word: &[u8]) -> usize
     ensures { result ≡ bound_of word.now }
 {
@@ -78,8 +79,8 @@ fn write_file(out: &mut Tail, word: &[u8], usage: &[u8], name: &[u8]) -> Result<
     out.put_text(b"\n")
 }
 
-/// Writes what is said of words that the program does not take, by the first and the last of them: how the input is
-/// given, where the last is a name of a file.
+/// Writes the words on arguments that the program does not take, by the first and the last of them: how the input is
+/// given, if the last is a name of a file.
 pub(crate) fn write_words(out: &mut Tail, word: &[u8], name: &[u8]) -> Result<(), AllocError>
     ensures text { OnOk result (out.new.text ≡ out.old.text ++ words_said word.now name.now) }
     ensures front { out.new.front ≡ out.old.front }
