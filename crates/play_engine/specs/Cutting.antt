@@ -1,4 +1,4 @@
--- What is printed of the cut of a snapshot, and which of the texts of a world is printed.
+-- The text printed of the cut of a snapshot, and the choice among the texts of a world.
 use Rattle.std.specs.Prelude.{◌≡◌, ℕ, true, List, [], ◌++◌, Some, length, codes, ◌⊎◌}
 use Rattle.std.specs.List.{flat_map}
 use Rattle.bgp_codec.specs.declared.message.Message.{Message}
@@ -41,15 +41,15 @@ flight_text f = message_text f.router f.peer f.message
 abbrev pub flights_text : List Flight → List ℕ
 flights_text flights = flat_map flight_text flights
 
--- what these offers recorded: the routes, and the UPDATEs in flight
+-- the text of what these offers recorded: the routes, and the UPDATEs in flight
 abbrev pub recorded_text : Plan → List Member → List MadeOffer → List ℕ
 recorded_text net members offers = parts_text net offers ++ flights_text (in_flight_of members offers)
 
--- so many of all events are inside; then what was recorded of s
+-- the text of the cut of s, with so many of all events inside: that line, then what was recorded of s
 abbrev pub cut_text : Plan → (ℕ → List MadeOffer) → ℕ → (inside all : ℕ) → List ℕ
 cut_text net made s inside all = cut_line s inside all ++ recorded_text net (members_of net) (deciding net made s)
 
--- ---- what it is worth
+-- ---- what holds of the text
 
 -- the cut of s, which is settled or moving: the routes and the UPDATEs in flight that are printed are those of the parts that all
 -- routers recorded; the run that the world played passes through the cut of these parts; and so many of its events are inside
@@ -62,20 +62,22 @@ pub record HasCut (g : Setting) (w : World) (s inside : ℕ) : Type 0 where
   pub through : ThroughItsCut g run.order run.state s parts
   pub counted : inside ≡ length (inside_part through.cut run.order)
 
--- s has no cut: it is not decided, or is abandoned, in every run that the world stands at the end of; or it has one
+-- the report of s: that it has no cut, since it is not decided, or is abandoned, in every run that the world stands at
+-- the end of; or its cut
 abbrev pub IsCutReport : ℕ → Setting → World → Output → Type 0
 IsCutReport s g w out =
     (((state : RunState) → AgreesWith g w state → IsUndecided g state s) × (out ≡ output (cut_none_line s) DONE))
     ⊎ ((inside : ℕ) × (IsSetting g → HasCut g w s inside) × (out ≡ output (cut_text g.net w.made s inside (length w.run)) DONE))
 
--- what the program prints of an input: that of the world that its schedule leads to, or what is refused, or that memory ran out
+-- the text that `cut` prints of an input: the report of the world that its schedule leads to, or what is refused, or
+-- that memory ran out
 abbrev pub Cuts : ℕ → List ℕ → Output → Type 0
 Cuts s input out = Prints (ScheduleGives (IsCutReport s)) (codes "schedule") input out
 
 -- ---- what a router knows
 
--- what the program prints of an input: the text of that router in the world that its schedule leads to, or what is refused, or that
--- memory ran out
+-- the text that `why` prints of an input: that of the router in the world that its schedule leads to, or what is
+-- refused, or that memory ran out
 abbrev pub Whys : ℕ → List ℕ → Output → Type 0
 Whys u input out = Prints (ScheduleGives (Explains u)) (codes "schedule") input out
 

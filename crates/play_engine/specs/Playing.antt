@@ -1,4 +1,4 @@
--- What is printed for a network and a schedule.
+-- The text printed for a network and a schedule.
 use Rattle.std.specs.Prelude.{◌≡◌, ◌≢◌, ℕ, true, List, ◌∷◌, ◌++◌, Some, Result, Ok, codes, MatchResult, ◌⊎◌}
 use Rattle.std.specs.List.{flat_map}
 use Rattle.ranked_policy.specs.Plans.{Plan}
@@ -29,10 +29,11 @@ use Rattle.text_engines.specs.Decoding.{Output, output, refused}
 use Rattle.play_engine.specs.Reporting.{AreDecided, deciding, outcome, recorded, snapshots_text, now_text}
 use Rattle.text_engines.specs.Inputs.{Prints}
 
--- ---- what is printed of a world
+-- ---- the text printed of a world
 
--- the routes that are printed of a settled snapshot: every router recorded them, they are a stable path assignment for each prefix,
--- and they are what a consistent cut leaves of every run that the world stands at the end of, and stay while that is quiet
+-- the routes that are printed of a settled snapshot can be believed. Every router recorded them; they are a stable path
+-- assignment for each prefix; they are what a consistent cut leaves of every run that the world stands at the end of,
+-- and stay while that run is quiet
 pub record CanBeBelieved (g : Setting) (w : World) (s : ℕ) : Type 0 where
   pub parts : ℕ → RouterPart
   pub printed : (u : ℕ) → is_router g u ≡ true → recorded (deciding g.net w.made s) u ≡ Some (parts u)
@@ -40,8 +41,8 @@ pub record CanBeBelieved (g : Setting) (w : World) (s : ℕ) : Type 0 where
   pub believed : (before later : RunOrder) (at last : RunState) → IsRunTo g before at → Run (logged_steps g) at later last → AgreesWith g w last
       → IsBelievable g before later at last s parts
 
--- the lines of the snapshots that are decided, by rising number, then the routes now; and what a line says of a snapshot is how it
--- comes out in every run that the world stands at the end of
+-- the report of a world: the lines of the decided snapshots, by rising number, then the routes now. The line of a
+-- snapshot says how it comes out in every run that the world stands at the end of
 pub record IsReport (g : Setting) (w : World) (out : Output) : Type 0 where
   pub decided : List ℕ
   pub are_decided : AreDecided (members_of g.net) w.made decided
@@ -49,21 +50,21 @@ pub record IsReport (g : Setting) (w : World) (out : Output) : Type 0 where
   pub settled : IsSetting g → (s : ℕ) → outcome g.net w.made s ≡ Settled → CanBeBelieved g w s
   pub printed : out ≡ output (snapshots_text g.net (members_of g.net) w.made decided ++ now_text g.net w) DONE
 
--- what is shown of the world of the code, in every setting of its network, where this says what is shown of a world
+-- the output that is shown of the code's world, in every setting of its network; `Gives` says what is shown of a world
 abbrev pub Shows : (Setting → World → Output → Type 0) → WorldView → Output → Type 0
 Shows Gives x out = (g : Setting) → g.net ≡ x.net → Gives g (plain_world x) out
 
--- ---- what orders lead to
+-- ---- the events that orders lead to
 
--- the events that they stand for, one after the other
+-- the events that orders stand for, one after the other
 abbrev pub all_events : Plan → List ScheduledOrder → List Event
 all_events net orders = flat_map (λ o. events_of net o.order) orders
 
--- all are done, from one world to the other
+-- all events of the orders are done, and lead from one world to the other
 abbrev pub LeadTo : Setting → World → List ScheduledOrder → World → Type 0
 LeadTo g w orders y = played g w 0 (all_events g.net orders) ≡ Ok y
 
--- the first order that is refused, an event that it stands for being so; all before it are done
+-- the first order that is refused, since one of its events is; all before it are done
 pub record IsFirstRefused (g : Setting) (w : World) (orders : List ScheduledOrder) (stop : Stop) : Type 0 where
   pub before : List ScheduledOrder
   pub order : ScheduledOrder
@@ -76,31 +77,32 @@ pub record IsFirstRefused (g : Setting) (w : World) (orders : List ScheduledOrde
   pub done : LeadTo g w before reached
   pub stops : StopsAt g reached (events_of g.net order.order) at stop.why left
 
--- what a call that obeys orders is to answer and to leave, in every setting of the network that chooses by rank
+-- what a call that obeys orders has to answer and to leave, in every setting of the network that chooses by rank
 abbrev pub Obeyed : Result (Unit {0}) Stop → WorldView → List ScheduledOrder → WorldView → Type 0
 Obeyed r x orders y =
     (g : Setting) → g.net ≡ x.net → ChoosesByRank g
     → MatchResult r (λ _. LeadTo g (plain_world x) orders (plain_world y)) (λ stop. IsFirstRefused g (plain_world x) orders stop)
 
--- ---- what is printed, where this says what is shown of the world that the orders lead to
+-- ---- the text printed; `Gives` says what is shown of the world that the orders lead to
 
 abbrev pub stopped : Stop → Output
 stopped stop = output (stop_line stop.line stop.why) REFUSED
 
--- for the orders of a schedule, in every setting of the network that chooses by rank: what is shown of the world that they lead to,
--- in which UPDATEs passed in order; or the first that is refused
+-- the text for the orders of a schedule, in every setting of the network that chooses by rank: what is shown of the
+-- world that they lead to, in which UPDATEs passed in order; or the first order that is refused
 abbrev pub OrdersGive : (Setting → World → Output → Type 0) → Plan → List ScheduledOrder → Output → Type 0
 OrdersGive Gives net orders out =
     (g : Setting) → g.net ≡ net → ChoosesByRank g
     → ((w : World) × LeadTo g (new_world g) orders w × (IsSetting g → KeepsItsPromises g w) × Gives g w out)
     ⊎ ((stop : Stop) × (stop.why ≢ Memory) × IsFirstRefused g (new_world g) orders stop × (out ≡ stopped stop))
 
--- for the lines of a schedule, so many lines standing before them
+-- the text for the lines of a schedule, so many lines standing before them
 abbrev pub ScheduleGives : (Setting → World → Output → Type 0) → Plan → ℕ → List Text → Output → Type 0
 ScheduleGives Gives net before lines out =
     ((at : ℕ) × (code : Code) × (code ≢ kinds.Memory) × RefusesSchedule net before lines at code × (out ≡ refused at (code_text code)))
     ⊎ ((orders : List ScheduledOrder) × SpellsSchedule net before lines orders × OrdersGive Gives net orders out)
 
--- what `play` prints for an input of a network and a schedule: that, with a report of the world, or that memory ran out
+-- the text that `play` prints for an input of a network and a schedule: this one, with a report of the world, or that
+-- memory ran out
 abbrev pub Plays : List ℕ → Output → Type 0
 Plays input out = Prints (ScheduleGives IsReport) (codes "schedule") input out

@@ -1,4 +1,4 @@
--- What is printed of a world: how its snapshots came out, and the routes that its routers keep.
+-- The text printed of a world: how its snapshots came out, and the routes that its routers keep.
 use Rattle.std.specs.Prelude.{◌≡◌, ℕ, ◌<◌, ◌↔◌, true, List, [], ◌++◌, Option, None, Some}
 use Rattle.std.specs.List.{flat_map, AllPairs, Contains}
 use Rattle.prefix_lanes.specs.Bits.{PrefixView}
@@ -19,7 +19,7 @@ use Rattle.schedule_text.specs.Reports.{snapshot_line, route_line, now_line}
 abbrev pub router_text : (PrefixView → List ℕ) → ℕ → List Origin → List ℕ
 router_text kept u origins = flat_map (λ o. route_line u o.prefix (kept o.prefix)) origins
 
--- those of all routers, by rising number, then by address, then by length
+-- the routes of all routers, by rising number, then by address, then by length
 abbrev pub routes_text : Plan → World → List ℕ
 routes_text net w = flat_map (λ r. router_text (w.routers r.asn).router.kept r.asn net.origins) net.routers
 
@@ -28,11 +28,11 @@ now_text net w = now_line ++ routes_text net w
 
 -- ---- snapshots
 
--- what a router recorded: its first part among these offers
+-- the part that a router recorded: its first among these offers
 abbrev pub recorded : List MadeOffer → ℕ → Option RouterPart
 recorded offers u = part_in offers u
 
--- the path that it recorded for the prefix of each origin
+-- the path that a router recorded for the prefix of each origin
 abbrev pub part_text : List Origin → ℕ → Option RouterPart → List ℕ
 part_text origins u None = []
 part_text origins u (Some part) = router_text part.kept u origins
@@ -54,7 +54,7 @@ settled_text net offers Waiting = []
 settled_text net offers (Moving u why) = []
 settled_text net offers (Abandoned u v e cause) = []
 
--- how a snapshot came out by the offers for it that decide it, and its routes where it is settled
+-- how a snapshot came out by the offers that decide it, and its routes if it is settled
 abbrev pub outcome_text : Plan → ℕ → List MadeOffer → Outcome → List ℕ
 outcome_text net s offers outcome = snapshot_line s outcome ++ settled_text net offers outcome
 

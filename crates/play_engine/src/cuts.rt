@@ -1,5 +1,5 @@
-//! What `bgpnet cut` prints of a world: how many of its events are inside the cut of a snapshot, the routes and the UPDATEs in
-//! flight that were recorded.
+//! The text that `bgpnet cut` prints of a world: how many of its events are inside the cut of a
+//! snapshot, and the routes and the UPDATEs in flight that were recorded.
 
 ghost use Rattle.std.specs.Prelude.{◌≡◌, ◌++◌, OnOk, IfOk, map, true};
 ghost use Rattle.snap_collector.specs.Collecting.{member_of, outcome_of};
@@ -31,7 +31,7 @@ fn put_flights(flights: &[InFlight], out: &mut Vec<u8>) -> Result<(), AllocError
     Ok(())
 }
 
-// What the snapshot of this number recorded: the routes, and the UPDATEs in flight.
+// The text of what the snapshot of this number recorded: the routes, and the UPDATEs in flight.
 fn recorded_of(
     alloc: Global,
     network: &Network,
@@ -49,7 +49,7 @@ fn recorded_of(
     Ok(text)
 }
 
-// What is printed where the snapshot has no cut, and the status.
+// The text printed if the snapshot has no cut, and the exit status.
 fn none_output(alloc: Global, number: u32) -> Result<(Vec<u8>, u8), AllocError>
     ensures { IfOk result (λ printed. output printed.0.items printed.1 ≡ output (cut_none_line number) DONE) }
 {
@@ -58,7 +58,7 @@ fn none_output(alloc: Global, number: u32) -> Result<(Vec<u8>, u8), AllocError>
     Ok((out, DONE))
 }
 
-// What is printed of the cut of a snapshot that is settled or moving, and the status.
+// The text printed of the cut of a snapshot that is settled or moving, and the exit status.
 fn whole_output(
     alloc: Global,
     network: &Network,
@@ -71,10 +71,10 @@ fn whole_output(
 {
     runs_pass_through_snapshots();
     let recorded = recorded_of(alloc, network, world.collector(), number)?;
-    // The events alone are kept while they are played again.
+    // Only the events are kept while they are played again.
     let run = world.into_run();
     let all = run.len();
-    // They are done again, and the snapshot comes out as it did: what is refused is memory.
+    // The events are done again, and the snapshot comes out as it did: only memory can be refused.
     let Ok(Some(inside)) = count_inside(alloc, network, run, number) else {
         return Err(AllocError);
     };
@@ -84,7 +84,8 @@ fn whole_output(
     Ok((out, DONE))
 }
 
-// Whether every router has a part of a snapshot that comes out so: it is settled or moving.
+// Whether a snapshot that comes out in this way has a part of every router: it is settled or
+// moving.
 fn is_whole(outcome: &Outcome) -> bool
     ensures { result ≡ is_whole (outcome_of outcome.now) }
 {
@@ -94,7 +95,7 @@ fn is_whole(outcome: &Outcome) -> bool
     }
 }
 
-/// What is printed of the cut of a snapshot, and the status.
+/// The text printed of the cut of a snapshot, and the exit status.
 pub(crate) fn cut_output(
     alloc: Global,
     network: &Network,

@@ -1,4 +1,4 @@
-//! What the definitions say together; the contract of each function is the law.
+//! Laws of the definitions. The contract of each function is the law.
 
 ghost use Rattle.play_engine.specs.Laws.{PlaysToOne, CutsToOne, WhysToOne};
 
@@ -13,7 +13,7 @@ use run_model::outcome_is_one;
 use why_engine::laws::each_router_has_one_text;
 use world_core::laws::played_runs_are_one;
 
-/// What `play` prints, want of memory aside, is a function of what it reads.
+/// The text that `play` prints, want of memory aside, is a function of what it reads.
 pub fn play_prints_one_text()
     ensures { PlaysToOne }
 {
@@ -24,7 +24,7 @@ pub fn play_prints_one_text()
     each_network_has_a_setting();
 }
 
-/// What `cut` prints, want of memory aside, is a function of its number and of what it reads: so the count of
+/// The text that `cut` prints, want of memory aside, is a function of its number and of what it reads. Its count of
 /// events up to the recordings is that of [`world_core::through_cut`].
 pub fn cut_prints_one_text()
     ensures { CutsToOne }
@@ -38,7 +38,7 @@ pub fn cut_prints_one_text()
     outcome_is_one::<Message, Prefix, Path>();
 }
 
-/// What `why` prints, want of memory aside, is a function of its number and of what it reads.
+/// The text that `why` prints, want of memory aside, is a function of its number and of what it reads.
 pub fn why_prints_one_text()
     ensures { WhysToOne }
 {

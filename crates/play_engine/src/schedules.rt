@@ -1,4 +1,4 @@
-//! What is printed for a network and the orders of a schedule.
+//! The text printed for a network and the orders of a schedule.
 
 ghost use Rattle.std.specs.Prelude.{◌≡◌, ◌≢◌, ◌++◌, IfOk, OnOk, OnErr, MatchResult, length, take};
 ghost use Rattle.router_core.specs.Views.{plain_of};
@@ -24,11 +24,11 @@ use world_core::{StepFault, World};
 pub struct Stop {
     /// The line that it stands on.
     pub line: usize,
-    /// Why.
+    /// Why it was refused.
     pub why: StepFault,
 }
 
-// Appends the path that a router keeps for the prefix of each origin. Where memory is refused, some of the lines stand
+// Appends the path that a router keeps for the prefix of each origin. If memory is refused, some of the lines stand
 // behind what the buffer had.
 fn put_each_path(
     number: Asn,
@@ -82,7 +82,7 @@ fn put_routes(network: &Network, world: &World<'_>, out: &mut Vec<u8>) -> Result
     Ok(())
 }
 
-// The report of a world, and the status.
+// The report of a world, and the exit status.
 fn report_output(
     alloc: Global,
     network: &Network,
@@ -100,7 +100,7 @@ fn report_output(
     Ok((out, DONE))
 }
 
-// What is shown of a world, and the status.
+// The text shown of a world, and the exit status.
 fn shown_output(
     alloc: Global,
     shown: Shown,
@@ -136,7 +136,8 @@ fn obey_all(world: &mut World<'_>, orders: &[ScheduledOrder]) -> Result<(), Stop
     Ok(())
 }
 
-// What is printed for an order that is refused, and the status; want of memory is no such refusal.
+// The text printed for an order that is refused, and the exit status. Want of memory is no such refusal: it is an error
+// here.
 fn stop_output(alloc: Global, stop: Stop) -> Result<(Vec<u8>, u8), AllocError>
     ensures kind { IfOk result (λ printed. stop.why ≢ StepFault.Memory) }
     ensures output { IfOk result (λ printed. output printed.0.items printed.1 ≡ stopped stop) }
@@ -149,7 +150,7 @@ fn stop_output(alloc: Global, stop: Stop) -> Result<(Vec<u8>, u8), AllocError>
     Ok((out, REFUSED))
 }
 
-// What is printed for orders in a world in which nothing was done.
+// The text printed for orders in a world in which nothing was done, and the exit status.
 fn world_output(
     alloc: Global,
     shown: Shown,
@@ -167,7 +168,7 @@ fn world_output(
     }
 }
 
-/// What is printed for the orders of a schedule, and the status.
+/// The text printed for the orders of a schedule, and the exit status.
 pub(crate) fn orders_output(
     alloc: Global,
     shown: Shown,

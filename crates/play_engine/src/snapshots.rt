@@ -16,7 +16,7 @@ use snap_collector::{Collector, Outcome};
 use snap_marker::{KeptPath, Part};
 use std::alloc::AllocError;
 
-// The path kept for a prefix: empty where none is.
+// The path kept for a prefix; empty if none is.
 fn path_in<'k>(kept: &'k [KeptPath], prefix: &Prefix) -> &'k [Asn]
     ensures { result.now ≡ kept_in kept.now prefix.now }
 {
@@ -28,12 +28,12 @@ fn path_in<'k>(kept: &'k [KeptPath], prefix: &Prefix) -> &'k [Asn]
     &[]
 }
 
-// The path kept for a prefix, looked for first behind those that were passed: a part keeps its paths in the order of the
-// origins, so it mostly stands there. None of those passed is for the prefix.
+// The path kept for a prefix. It is looked for first behind those that were passed, where it mostly stands, since a
+// part keeps its paths in the order of the origins. None of those passed is for the prefix.
 fn next_path<'k>(kept: &'k [KeptPath], passed: &mut usize, prefix: &Prefix) -> &'k [Asn]
     requires { kept_in (drop passed.old kept.now) prefix.now ≡ kept_in kept.now prefix.now }
     ensures path { result.now ≡ kept_in kept.now prefix.now }
-    // For another prefix nothing is passed.
+    // The paths of other prefixes are not passed.
     ensures others { (q : PrefixView) → is_prefix prefix.now q ≡ false → kept_in (drop passed.new kept.now) q ≡ kept_in (drop passed.old kept.now) q }
 {
     if *passed < kept.len() {
@@ -66,7 +66,7 @@ fn put_part(
     Ok(())
 }
 
-// Appends the routes of the part that a router has in a snapshot, where it has one.
+// Appends the routes of the part that a router has in a snapshot, if it has one.
 fn put_recorded(
     collector: &Collector,
     number: u32,
@@ -84,7 +84,7 @@ fn put_recorded(
     }
 }
 
-// Appends the routes that routers recorded in the snapshot of this number. Where memory is refused, some of the lines
+// Appends the routes that routers recorded in the snapshot of this number. If memory is refused, some of the lines
 // stand behind what the buffer had.
 fn put_each_part(
     network: &Network,
@@ -101,9 +101,9 @@ fn put_each_part(
     Ok(())
 }
 
-/// Appends the routes that routers recorded in the snapshot of this number: a line for each router that has a
-/// part of it, routers rising, and each prefix that the network originates, with the path that the part keeps
-/// for the prefix, or `none`. A router without a part has no line.
+/// Appends the routes that routers recorded in the snapshot of this number. There is a line for each router that has a
+/// part of it, routers rising, and each prefix that the network originates. It has the path that the part keeps for the
+/// prefix, or `none`. A router without a part has no line.
 ///
 /// It is refused only where memory was, and then leaves what the buffer had.
 pub fn put_parts(
@@ -123,7 +123,7 @@ pub fn put_parts(
     result
 }
 
-// Appends how a snapshot came out, and its routes where it is settled.
+// Appends how a snapshot came out, and its routes if it is settled.
 fn put_snapshot(
     network: &Network,
     collector: &Collector,
