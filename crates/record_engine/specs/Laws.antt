@@ -1,4 +1,4 @@
--- What a record is worth.
+-- Laws of records.
 use Rattle.std.specs.Prelude.{◌≡◌, ℕ, ◌≤◌, ◌⊎◌, List, ◌++◌, length, Ok}
 use Rattle.std.specs.List.{AllByRecursion, flat_map}
 use Rattle.ranked_policy.specs.Plans.{Plan}
@@ -17,12 +17,13 @@ use Rattle.run_engine.specs.declared.chores.RunOptions.{RunOptions}
 use Rattle.run_engine.specs.Running.{RunRecord}
 use Rattle.record_engine.specs.Recording.{PrintsRecord, Records, events_of, ending_text}
 
--- the lines of a report, but for the routes of settled snapshots: how the snapshots of these numbers came out, and the routes now
+-- the lines of a report, without the routes of settled snapshots: how the snapshots of these numbers came out, and the
+-- routes now
 abbrev pub ends_of : Setting → World → List ℕ → List ℕ
 ends_of g w numbers = (flat_map (λ s. snapshot_line s (outcome g.net w.made s)) numbers ++ now_line) ++ routes_text g.net w
 
--- the world that did the events of the record, none of which is refused or finds nothing to do; its routers are where the threads
--- left them, with the paths that they keep; this is what is reported of it, and says what the comments of the record say
+-- a world did the events of the record, none of which is refused or finds nothing to do. Its routers are where the
+-- threads left them, with the paths that they keep. This is its report, which says what the comments of the record say
 pub record EndsAsRecorded (options : RunOptions) (net : Plan) (r : RunRecord options net) (g : Setting) (out : Output) : Type 0 where
   pub world : World
   pub plays : played g (new_world g) 0 (events_of r.gathered) ≡ Ok world

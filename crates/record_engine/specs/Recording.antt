@@ -1,4 +1,4 @@
--- What is printed of what the threads of a network did.
+-- The text printed of what the threads of a network did.
 use Rattle.std.specs.Prelude.{◌≡◌, ℕ, ◌<◌, ◌≤◌, ◌⊎◌, List, ◌++◌, length, map}
 use Rattle.std.specs.List.{flat_map}
 use Rattle.ranked_policy.specs.declared.network.Origin.{Origin}
@@ -26,19 +26,19 @@ use Rattle.run_engine.specs.Running.{RunRecord, RunRefused, faulty, LinesPrint}
 
 -- ---- the text of a record
 
--- its events, in the order of their stamps
+-- the events of a record, in the order of their stamps
 abbrev pub events_of : List Entry → List Event
 events_of entries = map (λ e. e.event) entries
 
--- each of them as an order
+-- each of these events as an order
 abbrev pub events_text : List Event → List ℕ
 events_text events = flat_map event_line events
 
--- behind the network's lines, and the line that begins a schedule
+-- the events behind the network's lines, and behind the line that begins a schedule
 abbrev pub record_text : List Text → List Event → List ℕ
 record_text lines events = head_of_trace lines ++ events_text events
 
--- ---- what the threads ended in
+-- ---- the end of the threads
 
 -- how each of these snapshots came out
 abbrev pub verdicts_text : CollectorView → List ℕ → List ℕ
@@ -48,27 +48,28 @@ verdicts_text c numbers = flat_map (λ s. snapshot_line s (judged c s)) numbers
 abbrev pub kept_text : {G : Type 0} → List Origin → List (Worked G) → List ℕ
 kept_text origins workers = flat_map (λ w. router_text (plain_of w.router).router.kept w.router.number origins) workers
 
--- how the snapshots that are decided came out, and the paths that the routers keep: the lines of a report, but for the routes of
+-- how the decided snapshots came out, and the paths that the routers keep: the lines of a report, without the routes of
 -- settled snapshots
 abbrev pub ending_text : {G : Type 0} → Plan → CollectorView → List (Worked G) → List ℕ
 ending_text net c workers = (verdicts_text c c.decided ++ now_line) ++ kept_text net.origins workers
 
 -- ---- both
 
--- what they did, with comments behind it of what they ended in; and one more where that is longer than an input may be
+-- the events, and behind them, as comments, what the threads ended in; and one more comment if that is longer than an
+-- input may be
 abbrev pub record_output : List Text → List Event → List ℕ → Output
 record_output lines events ending = output (limited (record_text lines events ++ comments_text (lines_of ending))) DONE
 
--- ---- what is printed of a run
+-- ---- the text printed of a run
 
--- the text of what some threads did and ended in: a record of them, in which each router was told what `run` tells it, and which is
--- one of a run of the network that keeps the promises of runs
+-- the text of what some threads did and ended in. There is a record of them, in which each router was told what `run`
+-- tells it, and which is one of a run of the network that keeps the promises of runs
 pub record PrintsRecord (options : RunOptions) (lines : List Text) (net : Plan) (out : Output) : Type 0 where
   pub threads : RunRecord options net
   pub are_decided : AreDecided threads.collector threads.collector.decided
   pub printed : out ≡ record_output lines (events_of threads.gathered) (ending_text net threads.collector threads.workers)
 
--- for the network that these lines spell
+-- the text for the network that these lines spell
 abbrev pub RecordGives : RunOptions → List Text → Plan → Output → Type 0
 RecordGives options lines net out =
     ((HasRoom net options → ⊥) × (out ≡ faulty fault.BadLimits))
@@ -77,11 +78,11 @@ RecordGives options lines net out =
 abbrev pub LinesRecord : RunOptions → List Text → Output → Type 0
 LinesRecord options lines out = LinesPrint (RecordGives options lines) lines out
 
--- for an input, which may be too long
+-- the text for an input, which may be too long
 abbrev pub InputRecords : RunOptions → List ℕ → Output → Type 0
 InputRecords options input out =
     (INPUT_LIMIT < length input × (out ≡ refused 0 (code_text kinds.OutOfLimit))) ⊎ ((length input ≤ INPUT_LIMIT) × LinesRecord options (lines_of input) out)
 
--- what the program prints: that, or that memory ran out
+-- the text that the program prints: this one, or that memory ran out
 abbrev pub Records : RunOptions → List ℕ → Output → Type 0
 Records options input out = InputRecords options input out ⊎ (out ≡ memory_output)

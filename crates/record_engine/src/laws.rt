@@ -1,4 +1,4 @@
-//! What the definitions say together; the contract of the function is the law.
+//! Laws of the definitions. The contract of the function is the law.
 
 ghost use Rattle.record_engine.specs.Laws.{RecordsPlayBack};
 
@@ -10,9 +10,9 @@ use router_runs::each_network_has_a_setting;
 use schedule_text::laws::lines_are_read_as_they_say;
 use world_core::laws::{called_runs_are_played, members_are_the_routers};
 
-/// What is printed of a record, within the limit of an input, is played to where the threads ended: the world of `play`
-/// does just the events of the record, in their order, and its routers are those of the record, with the paths that
-/// they keep. What `play` prints says of the snapshots, and of the routes now, what the comments of the record say.
+/// The text printed of a record, within the limit of an input, is played to where the threads ended. The world of
+/// `play` does exactly the events of the record, in their order, and its routers are those of the record, with the
+/// paths that they keep. `play` prints of the snapshots, and of the routes now, what the comments of the record say.
 ///
 /// It says nothing of want of memory, nor that two runs are alike.
 pub fn records_play_back()

@@ -1,6 +1,6 @@
 //! The engine of `bgpnet record`: it runs a network in threads, as `bgpnet run` does, and writes what they did as a
-//! network and a schedule, for `bgpnet play`: the network's lines, then each event of the record as an order, in the
-//! order of their stamps, and behind them, as comments, what the threads ended in.
+//! network and a schedule, for `bgpnet play`. First come the network's lines, then each event of the record as an
+//! order, in the order of their stamps, and behind them, as comments, what the threads ended in.
 //!
 //! The contract of `bgpnet record` is that of [`record_stream`]: what is written is the text of a record of threads
 //! of what was read; [`record_output`] makes that text of a record. [`laws`] says that `play` leads where the threads

@@ -24,7 +24,7 @@ fn put_events(entries: &[Entry], out: &mut Vec<u8>) -> Result<(), AllocError>
     Ok(())
 }
 
-/// The text of the events of these entries, behind a network of these lines.
+/// The text of the events of these entries, behind the lines of a network.
 pub fn record_text(alloc: Global, lines: &[u8], entries: &[Entry]) -> Result<Vec<u8>, AllocError>
     ensures { IfOk result (λ text. text.items ≡ record_text (lines_of lines.now) (events_of entries.now)) }
 {
