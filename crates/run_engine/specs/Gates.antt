@@ -1,4 +1,4 @@
--- What the routers of a network are told to do where it runs in threads.
+-- The chores that the routers of a network are given if it runs in threads.
 use Rattle.std.specs.Prelude.{ℕ, zero, suc, ◌+◌, ◌-◌, ◌*◌, ◌/◌, ◌%◌, ◌<◌, ◌≤◌, ◌≡◌, ◌==◌, ◌||◌, nat_lt, cond, List, [], ◌∷◌, ◌++◌, length, map, filter, slice_index_or}
 use Rattle.std.specs.List.{All}
 use Rattle.ranked_policy.specs.Plans.{Plan}
@@ -14,27 +14,28 @@ use Rattle.run_engine.specs.declared.chores.RunOptions.{RunOptions}
 
 -- ---- the chores of one router
 
--- it starts its session with each peer, rising, and originates each prefix of which it is the origin, in order
+-- the opening of a router: it starts its session with each peer, rising, and originates each prefix of which it is the
+-- origin, in order
 abbrev pub originated : Plan → ℕ → List Origin
 originated net u = filter (λ o. o.router == u) net.origins
 
 abbrev pub opening : Plan → ℕ → List Chore
 opening net u = map (λ v. Command (Start v)) (peers net u) ++ map (λ o. Command (Originate o.prefix)) (originated net u)
 
--- an opening, and behind it the snapshots of these numbers, each so far behind the one before
+-- what a gate is told: an opening, and behind it the snapshots of these numbers, each so far behind the one before
 pub record Told : Type 0 where
   pub opening : List Chore
   pub spacing : ℕ
   pub snapshots : ℕ
 
--- the chores by their turns, counted from 0: the opening; each number from 1 to the last at its place; and Turns
+-- the chores by their turns, counted from 0: the opening; each number from 1 to the last at its place; else Turns
 pub record AreChores (told : Told) (chore : ℕ → Chore) : Type 0 where
   pub first : (i : ℕ) (d : Chore) → i < length told.opening → chore i ≡ slice_index_or told.opening i d
   pub numbered : (s : ℕ) → 0 < s → s ≤ told.snapshots → chore (length told.opening + s * told.spacing) ≡ Command (Snapshot s)
   pub turns : (i : ℕ) → length told.opening ≤ i → ((s : ℕ) → 0 < s → s ≤ told.snapshots → i ≡ length told.opening + s * told.spacing → ⊥)
       → chore i ≡ Turn
 
--- ---- the same, by computing
+-- ---- the chores as a function that computes
 
 abbrev pub numbered_or_turn : ℕ → ℕ → Chore
 numbered_or_turn snapshots s = cond ((s == 0) || nat_lt snapshots s) Turn (Command (Snapshot s))
@@ -59,7 +60,7 @@ told_of g = record { opening = g.opening.items; spacing = g.spacing; snapshots =
 abbrev pub given_by : RunGate → List Chore
 given_by g = first_chores (chore_at (told_of g)) g.count
 
--- what each router is told: the least takes the snapshots
+-- what each router's gate is told: the least router takes the snapshots
 abbrev pub told_each : Plan → (spacing snapshots : ℕ) → List Router → List Told
 told_each net spacing snapshots [] = []
 told_each net spacing snapshots (r ∷ rs) =
@@ -71,7 +72,7 @@ abbrev pub first_router : List Router → ℕ
 first_router [] = 0
 first_router (r ∷ rs) = r.asn
 
--- how far each snapshot stands behind the one before, where the least router has so many chores
+-- how far each snapshot stands behind the one before, if the least router has so many chores
 abbrev pub spacing_of : Plan → RunOptions → ℕ
 spacing_of net options = (options.turns - length (opening net (first_router net.routers))) / (options.snapshots + 1)
 

@@ -1,4 +1,4 @@
--- What is printed for a network that runs in threads.
+-- The text printed for a network that runs in threads.
 use Rattle.std.specs.Prelude.{◌≡◌, ◌≢◌, ℕ, ◌<◌, ◌≤◌, ◌⊎◌, Bool, true, false, ◌&&◌, List, ◌++◌, length, map, codes, Option, None, Some}
 use Rattle.std.specs.List.{flat_map, list_all}
 use Rattle.prefix_lanes.specs.Bits.{PrefixView}
@@ -39,7 +39,7 @@ use Rattle.text_engines.specs.Checking.{at_prefix}
 use Rattle.play_engine.specs.Reporting.{router_text, recorded, parts_text}
 use Rattle.run_engine.specs.Gates.{HasRoom, Told, given_by, told_of, told_each, spacing_of}
 
--- what is printed where no snapshot is wanted
+-- the text printed if no snapshot is wanted
 abbrev pub unsettled_output : Output
 unsettled_output = output (codes "unsettled\n") DONE
 
@@ -57,10 +57,10 @@ abbrev pub Meets : Demand → Plan → (ℕ → RouterPart) → Type 0
 Meets AsRecorded net parts = Unit {0}
 Meets EveryOrigin net parts = EveryOriginOriginates net parts
 
--- ---- what the threads did
+-- ---- the record of the threads
 
--- a record of threads that ran so many chores each, and of their pipes: what they did is one run of the network, which keeps the
--- promises of runs; and each router was told what stands for it here, routers rising
+-- a record of threads that ran so many chores each, and of their pipes: what they did is one run of the network, which
+-- keeps the promises of runs; each router, rising, was told what stands for it here
 pub record ThreadsRecord {G T : Type 0} (given : G → List Chore) (told : G → T) (net : Plan) (turns : ℕ) (tellings : List T) : Type 0 where
   pub workers : List (Worked G)
   pub ways : List Way
@@ -73,19 +73,20 @@ pub record ThreadsRecord {G T : Type 0} (given : G → List Chore) (told : G →
 
 -- ---- how its snapshots came out
 
--- in a run the snapshot is not settled, or the parts that all routers made of it are not as they are demanded
+-- in a run the snapshot is not settled, or the parts that all routers made of it are not as demanded
 abbrev pub IsPassedOver : Setting → RunState → Demand → ℕ → Type 0
 IsPassedOver g state demand s =
     (ComesOut g state s Settled → ⊥)
     ⊎ ((parts : ℕ → RouterPart) × HaveMade g state s parts × (Meets demand g.net parts → ⊥))
 
 module _ {G T : Type 0} {given : G → List Chore} {told : G → T} {net : Plan} {turns : ℕ} {tellings : List T} (r : ThreadsRecord given told net turns tellings) where
-  -- what the threads did, as a run of the network
+  -- the record of the threads, as a run of the network
   abbrev pub RunOfRecord : Setting → Type 0
   RunOfRecord g = IsRunOfThreads g (passed_in r.ways) r.workers r.gathered
 
-  -- the snapshot is settled in the run, and all routers made these parts of it: they are a stable path assignment for each prefix,
-  -- and what a consistent cut leaves of the run, and stay while the run is quiet; each number before it is passed over
+  -- the snapshot is settled in the run, and all routers made these parts of it. They are a stable path assignment for
+  -- each prefix, and what a consistent cut leaves of the run, and stay while the run is quiet. Each number before it is
+  -- passed over
   pub record SettlesOn (g : Setting) (demand : Demand) (s : ℕ) (parts : ℕ → RouterPart) : Type 0 where
     pub run : RunOfRecord g
     pub settled : ComesOut g run.state s Settled
@@ -115,42 +116,42 @@ module _ {G T : Type 0} {given : G → List Chore} {told : G → T} {net : Plan}
     pub unsettled : (g : Setting) → g.net ≡ net → IsSetting g → SettlesOnNone g demand last
     pub printed : out ≡ unsettled_output
 
-  -- where every origin originates the routes are stable, as `bgpnet check` says of them
+  -- if every origin originates, the routes are stable, as `bgpnet check` says of them
   pub record PrintsStableRoutes (last : ℕ) (out : Output) : Type 0 where
     pub routes : PrintsRoutes EveryOrigin last out
     pub stable : (q : PrefixView) → names net.origins q ≡ true → IsStable (at_prefix net q) (λ u. (routes.parts u).kept q)
 
--- ---- what is printed of a run
+-- ---- the text printed of a run
 
 abbrev pub SnapshotsGive : {G T : Type 0} → (G → List Chore) → (G → T) → Demand → Plan → (turns : ℕ) → List T → (last : ℕ) → Output → Type 0
 SnapshotsGive given told demand net turns tellings last out =
     (r : ThreadsRecord given told net turns tellings) × (PrintsRoutes r demand last out ⊎ PrintsUnsettled r demand last out)
 
--- for a fault of a run
+-- the text for a fault of a run
 abbrev pub faulty : RunFault → Output
 faulty (fault.WorkerRefused u) = refused 0 (codes "G2")
 faulty fault.BadLimits = refused 0 (codes "G3")
 faulty fault.BoardDiffers = refused 0 (codes "G4")
 faulty fault.Memory = memory_output
 
--- for routers that were told this: a worker was refused, that of the least router that has a fault; or none has one, and the board
--- and the journals differ
+-- the text for routers that were told this: a worker was refused, that of the least router that has a fault; or none
+-- has one, and the board and the journals differ
 abbrev pub IsRefusedInside : {G T : Type 0} → (G → List Chore) → (G → T) → Plan → (turns : ℕ) → List T → Output → Type 0
 IsRefusedInside given told net turns tellings out =
     ((u : ℕ) × FaultOf given told net turns tellings (fault.WorkerRefused u) × (out ≡ faulty (fault.WorkerRefused u)))
     ⊎ (FaultOf given told net turns tellings fault.BoardDiffers × (out ≡ faulty fault.BoardDiffers))
 
--- for so many chores of each worker, at the word of these gates
+-- the text for so many chores of each worker, at the word of these gates
 abbrev pub ThreadsGive : {G T : Type 0} → (G → List Chore) → (G → T) → Plan → (turns : ℕ) → List G → (last : ℕ) → Output → Type 0
 ThreadsGive given told net turns gates last out =
     ((AreLimits net turns (length gates) → ⊥) × (out ≡ faulty fault.BadLimits))
     ⊎ (AreLimits net turns (length gates) × (IsRefusedInside given told net turns (map told gates) out ⊎ SnapshotsGive given told AsRecorded net turns (map told gates) last out))
 
--- what a run at the word of any gates prints: that, or that memory ran out
+-- the text that a run at the word of any gates prints: this one, or that memory ran out
 abbrev pub Gated : {G T : Type 0} → (G → List Chore) → (G → T) → Plan → (turns : ℕ) → List G → (last : ℕ) → Output → Type 0
 Gated given told net turns gates last out = ThreadsGive given told net turns gates last out ⊎ (out ≡ memory_output)
 
--- ---- what is printed for a network
+-- ---- the text printed for a network
 
 -- there is a setting of the network that chooses by rank
 abbrev pub HasSetting : Plan → Type 0
@@ -165,11 +166,11 @@ run_tellings options net = told_each net (spacing_of net options) options.snapsh
 abbrev pub RunRecord : RunOptions → Plan → Type 0
 RunRecord options net = ThreadsRecord given_by told_of net options.turns (run_tellings options net)
 
--- some threads that were told so have no record
+-- some threads that were told this have no record
 abbrev pub RunRefused : RunOptions → Plan → Output → Type 0
 RunRefused options net out = IsRefusedInside given_by told_of net options.turns (run_tellings options net) out
 
--- why it does not run: the chores have no room, or another fault
+-- why a network does not run: the chores have no room, or another fault
 abbrev pub IsFaultOfRun : RunOptions → Plan → RunFault → Type 0
 IsFaultOfRun options net why = ((why ≡ fault.BadLimits) × (HasRoom net options → ⊥)) ⊎ ((why ≢ fault.BadLimits) × HasRoom net options)
 
@@ -179,7 +180,7 @@ RunGives options net out =
     ⊎ (HasRoom net options
     × (RunRefused options net out ⊎ ((r : RunRecord options net) × (PrintsStableRoutes r options.snapshots out ⊎ PrintsUnsettled r EveryOrigin options.snapshots out))))
 
--- for its lines, where this says what is printed for the network that they spell
+-- the text for lines; `Gives` says what is printed for the network that they spell
 abbrev pub LinesPrint : (Plan → Output → Type 0) → List Text → Output → Type 0
 LinesPrint Gives lines out =
     ((at : ℕ) × (code : Code) × (code ≢ kinds.Memory) × RefusesNetwork lines at code × (out ≡ refused at (code_text code)))
@@ -188,16 +189,16 @@ LinesPrint Gives lines out =
 abbrev pub LinesRun : RunOptions → List Text → Output → Type 0
 LinesRun options lines out = LinesPrint (RunGives options) lines out
 
--- for an input, which may be too long
+-- the text for an input, which may be too long
 abbrev pub InputRuns : RunOptions → List ℕ → Output → Type 0
 InputRuns options input out =
     (INPUT_LIMIT < length input × (out ≡ refused 0 (code_text kinds.OutOfLimit))) ⊎ ((length input ≤ INPUT_LIMIT) × LinesRun options (lines_of input) out)
 
--- what the program prints: that, or that memory ran out
+-- the text that the program prints: this one, or that memory ran out
 abbrev pub Runs : RunOptions → List ℕ → Output → Type 0
 Runs options input out = InputRuns options input out ⊎ (out ≡ memory_output)
 
--- ---- the same, by the collector
+-- ---- the text by the collector
 
 abbrev pub is_settled : Outcome → Bool
 is_settled Settled = true
@@ -229,7 +230,7 @@ pub record IsFirstWanted (demand : Demand) (net : Plan) (c : CollectorView) (las
   pub wanted : is_wanted demand net c s ≡ true
   pub first : (t : ℕ) → 0 < t → t < s → is_wanted demand net c t ≡ false
 
--- the routes of the first that is wanted, or that there is none
+-- the text of the routes of the first snapshot that is wanted, or that there is none
 abbrev pub CollectorGives : Demand → Plan → CollectorView → ℕ → Output → Type 0
 CollectorGives demand net c last out =
     ((s : ℕ) × IsFirstWanted demand net c last s × (out ≡ output (parts_text net (decided_by c s)) DONE))

@@ -1,4 +1,4 @@
-//! What the routers of `bgpnet run` are told to do.
+//! The chores of the routers of `bgpnet run`.
 
 ghost use Rattle.std.specs.Prelude.{◌≡◌, ◌<◌, ◌==◌, [], length, map, count_by, IfOk, MatchOption};
 ghost use Rattle.std.specs.List.{AllByRecursion};
@@ -15,14 +15,15 @@ use std::alloc::{AllocError, Global};
 /// How long the routers of a network run, and the snapshots that are taken.
 #[derive(Clone, Copy, PartialEq, Eq)]
 pub struct RunOptions {
-    /// The chores of each router, 1 to [`MOST_TURNS`]; for others the run is refused.
+    /// The chores of each router, 1 to [`MOST_TURNS`]. With another number the run is refused.
     pub turns: u32,
-    /// How many snapshots the least router takes, numbered from 1. The words of the program name 1 to 1000;
-    /// for none, all is `unsettled`.
+    /// How many snapshots the least router takes, numbered from 1. The words of the program name 1 to 1000. With 0,
+    /// `unsettled` is printed.
     pub snapshots: u32,
 }
 
-// Starts the session with each peer, and originates each prefix of which the router is the origin.
+// The chores of a router's opening: to start the session with each peer, and to originate each prefix of which it is
+// the origin.
 fn opening(alloc: Global, network: &Network, number: Asn) -> Result<Vec<Chore>, AllocError>
     ensures { IfOk result (λ chores. chores.items ≡ opening network.now number) }
 {
@@ -66,8 +67,8 @@ fn opening_len(network: &Network, number: Asn) -> usize
     count_peers(network, number) + count_prefixes(network, number)
 }
 
-/// How far each snapshot stands behind the one before, where the options leave room for it and for
-/// the opening of every router. It takes no memory.
+/// How far each snapshot stands behind the one before, if the options leave room for it and for the opening of every
+/// router. It takes no memory.
 pub fn spacing(network: &Network, options: &RunOptions) -> Option<u32>
     ensures { MatchOption result (HasRoom network.now options.now → ⊥) (λ spacing. HasRoom network.now options.now × (spacing ≡ spacing_of network.now options.now)) }
 {
@@ -95,7 +96,7 @@ pub fn spacing(network: &Network, options: &RunOptions) -> Option<u32>
 /// then Turns. The least router also takes the snapshots from 1 to the last, one each `spacing` chores behind
 /// its opening; the others take none.
 ///
-/// It answers an error where memory is refused.
+/// It answers an error if memory is refused.
 pub fn new_gates(
     alloc: Global,
     network: &Network,

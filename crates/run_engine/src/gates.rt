@@ -8,8 +8,8 @@ use ranked_policy::Asn;
 use router_model::Command;
 use std::sync::Wait;
 
-/// A gate that gives the chores of an opening and then Turns; but each `spacing` chores behind the opening the
-/// snapshot of the next number, from 1 to the last.
+/// A gate that gives the chores of an opening and then Turns. Each `spacing` chores behind the opening, it gives the
+/// snapshot of the next number instead, from 1 to the last.
 #[derive(Drop)]
 pub struct RunGate {
     opening: Vec<Chore>,
@@ -19,8 +19,8 @@ pub struct RunGate {
 }
 
 impl RunGate {
-    /// A gate that has given nothing yet, with the chores of its opening, so many chores from each snapshot to
-    /// the next, and the last snapshot: 0 for none. It takes no memory.
+    /// A gate that has given nothing yet: with the chores of its opening, the number of chores from each snapshot to
+    /// the next, and the number of the last snapshot, 0 for none. It takes no memory.
     pub fn new(opening: Vec<Chore>, spacing: u32, snapshots: u32) -> RunGate
         requires { 0 < spacing }
         ensures nothing { given_by result ≡ [] }
@@ -63,7 +63,7 @@ fn chore_at(opening: &[Chore], spacing: u32, snapshots: u32, turn: u32) -> Chore
     }
 }
 
-// How many chores from so far behind the opening on are Turns, at least: all up to the next snapshot, where one comes.
+// At least how many chores from so far behind the opening on are Turns: all up to the next snapshot, if one comes.
 fn turns_from(spacing: u32, snapshots: u32, behind: u32) -> u32 {
     if spacing == 0 {
         return u32::MAX;

@@ -1,5 +1,5 @@
-//! The engine of `bgpnet run`: it runs a network in threads, and writes the routes of the first snapshot
-//! that is settled and as it is demanded, or `unsettled`.
+//! The engine of `bgpnet run`: it runs a network in threads, and writes the routes of the first snapshot that is
+//! settled and as demanded, or `unsettled`.
 //!
 //! The contract of `bgpnet run` is that of [`run_stream`]: what is written is the text of a run in threads of
 //! what was read; [`settled_output`] makes that text of a record. [`run_gated`] runs a network at the word of any

@@ -19,8 +19,8 @@ use std::thread::Threads;
 /// Runs a network in threads: each router starts its session with each peer, originates each prefix of which it is
 /// the origin, and goes on in turns; the least router takes the snapshots of the options, evenly spaced.
 ///
-/// Refused [`RunFault::BadLimits`] where the chores leave no room for the openings and the snapshots, before
-/// anything is done; else as [`run_net`] refuses.
+/// Refused with [`RunFault::BadLimits`] if the chores leave no room for the openings and the snapshots, before anything
+/// is done; else as [`run_net`] refuses.
 pub fn run_network<'a, R>(
     rt: &R,
     alloc: Global,

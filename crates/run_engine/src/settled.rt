@@ -16,12 +16,12 @@ use snap_marker::Part;
 use std::alloc::{AllocError, Global};
 use text_engines::status::DONE;
 
-/// What is asked of the parts of a settled snapshot before its routes are printed.
+/// The demand on the parts of a settled snapshot, before its routes are printed.
 #[derive(Clone, Copy, PartialEq, Eq)]
 pub enum Demand {
     /// Nothing more.
     AsRecorded,
-    /// That every origin originates its prefix in them.
+    /// Every origin originates its prefix in them.
     EveryOrigin,
 }
 
@@ -59,7 +59,7 @@ fn is_settled(collector: &Collector, number: u32) -> bool
     }
 }
 
-// Whether a snapshot came out settled, and its parts are as they are demanded.
+// Whether a snapshot came out settled, and its parts are as demanded.
 fn is_wanted(network: &Network, collector: &Collector, number: u32, demand: Demand) -> bool
     ensures { result ≡ is_wanted demand network.now collector.now number }
 {
@@ -72,7 +72,7 @@ fn is_wanted(network: &Network, collector: &Collector, number: u32, demand: Dema
     }
 }
 
-// The first such number from 1 to the last.
+// The first snapshot from 1 to the last that came out settled and whose parts are as demanded.
 fn first_wanted(network: &Network, collector: &Collector, last: u32, demand: Demand) -> Option<u32>
     ensures { MatchOption result ((s : ℕ) → 0 < s → s ≤ last → is_wanted demand network.now collector.now s ≡ false) (IsFirstWanted demand network.now collector.now last) }
 {
@@ -85,10 +85,11 @@ fn first_wanted(network: &Network, collector: &Collector, last: u32, demand: Dem
     None
 }
 
-/// What is printed of the snapshots from 1 to the last, by the collector of a record, and the status: the routes of
-/// the first that came out settled and whose parts are as they are demanded, or `unsettled`.
+/// The text printed of the snapshots from 1 to the last, by the collector of a record, and the exit
+/// status: the routes of the first that came out settled and whose parts are as demanded, or
+/// `unsettled`.
 ///
-/// It answers an error where memory is refused.
+/// It answers an error if memory is refused.
 pub fn settled_output(
     alloc: Global,
     network: &Network,

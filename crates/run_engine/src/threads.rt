@@ -1,4 +1,4 @@
-//! What is printed of a network that runs in threads.
+//! The text printed of a network that runs in threads.
 
 ghost use Rattle.std.specs.Prelude.{◌≡◌, ◌≢◌, [], length, IfOk};
 ghost use Rattle.std.specs.List.{AllByRecursion};
@@ -18,7 +18,7 @@ use std::thread::Threads;
 use text_engines::refused_output;
 use world_core::laws::members_are_the_routers;
 
-/// What is printed for a fault of the run, and the status; want of memory is no such fault.
+/// The text printed for a fault of the run, and the exit status. Want of memory is no such fault: it is an error here.
 pub fn fault_output(alloc: Global, fault: RunFault) -> Result<(Vec<u8>, u8), AllocError>
     ensures kind { IfOk result (λ printed. fault ≢ Memory) }
     ensures output { IfOk result (λ printed. output printed.0.items printed.1 ≡ faulty fault) }
@@ -31,9 +31,8 @@ pub fn fault_output(alloc: Global, fault: RunFault) -> Result<(Vec<u8>, u8), All
     }
 }
 
-/// What is printed of a network that runs in threads at the word of these gates, and the status: the
-/// routes of the first of the snapshots from 1 to the last that came out settled, or `unsettled`; or that
-/// the run was refused.
+/// The text printed of a network that runs in threads at the word of these gates, and the exit status: the routes of
+/// the first of the snapshots from 1 to the last that came out settled, or `unsettled`; or that the run was refused.
 pub fn threads_output<R, G>(
     rt: &R,
     alloc: Global,
