@@ -26,7 +26,7 @@ command_line u (command.Withdraw q) = prefix_line (codes "withdraw ") u q
 command_line u (command.Snapshot s) = two_line (codes "snapshot ") u s
 command_line u command.Restart = one_line (codes "restart ") u
 
--- the order that is this one event
+-- the line of the order that is this one event
 abbrev pub event_line : Event → List ℕ
 event_line (event.Command u c) = command_line u c
 event_line (event.Tick u) = one_line (codes "tick ") u

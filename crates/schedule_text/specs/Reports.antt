@@ -20,7 +20,8 @@ cause_text NotUp = codes "notup"
 cause_text Closed = codes "closed"
 cause_text Superseded = codes "superseded"
 
--- how it came out: the router that is moving, and why; or the router and the peer by which it was abandoned, and why
+-- how a snapshot came out: the router that is moving, and why; or the router and the peer by which it was abandoned,
+-- and why
 abbrev pub outcome_text : Outcome → List ℕ
 outcome_text Waiting = []
 outcome_text (Abandoned u v e c) = codes "abandoned " ++ (decimal u ++ (codes " " ++ (decimal v ++ (codes " " ++ cause_text c))))
@@ -30,7 +31,7 @@ outcome_text Settled = codes "settled"
 unfoldable pub snapshot_text : ℕ → Outcome → List ℕ
 snapshot_text s o = line (codes "snapshot " ++ (decimal s ++ (codes " " ++ outcome_text o)))
 
--- one that is undecided has no line
+-- a snapshot that is undecided has no line
 abbrev pub snapshot_line : ℕ → Outcome → List ℕ
 snapshot_line s Waiting = []
 snapshot_line s (Abandoned u v e c) = snapshot_text s (Abandoned u v e c)
@@ -39,21 +40,21 @@ snapshot_line s Settled = snapshot_text s Settled
 
 -- ---- cuts
 
--- how many of the events were done up to the recordings of a snapshot, and of how many
+-- how many of all events were done up to the recordings of a snapshot
 unfoldable pub cut_line : ℕ → ℕ → ℕ → List ℕ
 cut_line s recorded events = line (codes "cut " ++ (decimal s ++ (codes " after " ++ (decimal recorded ++ (codes " of " ++ decimal events)))))
 
--- a snapshot that has no cut
+-- the line of a snapshot that has no cut
 unfoldable pub cut_none_line : ℕ → List ℕ
 cut_none_line s = line (codes "cut " ++ (decimal s ++ codes " none"))
 
 -- ---- routes
 
--- the path of a router for a prefix
+-- the line of the path of a router for a prefix
 unfoldable pub route_line : ℕ → PrefixView → List ℕ → List ℕ
 route_line u q path = line (codes "route " ++ (decimal u ++ (prefix_text q ++ (codes " " ++ numbers_text path))))
 
--- before the routes at the end
+-- the line before the routes at the end
 abbrev pub now_line : List ℕ
 now_line = line (codes "now")
 
@@ -75,6 +76,6 @@ fault_code fault.NoSuchLink = codes "V2"
 fault_code (fault.Refused e) = router_code e
 fault_code fault.Memory = codes "V4"
 
--- the order of a line was refused
+-- the line that says that the order of a line was refused
 abbrev pub stop_line : ℕ → StepFault → List ℕ
 stop_line at why = refused_line at (fault_code why)

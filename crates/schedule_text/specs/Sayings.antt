@@ -1,4 +1,4 @@
--- What the words of a line say, by the order that it stands for.
+-- The orders that the words of a line say.
 use Rattle.std.specs.Prelude.{ℕ, ◌≡◌, ◌-◌, ◌^◌, ◌↔◌, true, false, List, [], ◌∷◌, Some, Ok, codes}
 use Rattle.prefix_lanes.specs.Bits.{PrefixView}
 use Rattle.ranked_policy.specs.Plans.{Plan}
@@ -16,22 +16,22 @@ use Rattle.schedule_text.specs.Schedules.{is_within, line_order}
 abbrev pub NamesRouter : Plan → Text → ℕ → List Text → Type 0
 NamesRouter net name u words = (a : Text) × (words ≡ name ∷ a ∷ []) × (router_word net.settings.width net.routers a ≡ Ok u)
 
--- two routers
+-- a word, then two routers
 abbrev pub NamesPeers : Plan → Text → ℕ → ℕ → List Text → Type 0
 NamesPeers net name u v words =
     (a : Text) × (b : Text) × (words ≡ name ∷ a ∷ b ∷ []) × (router_word net.settings.width net.routers a ≡ Ok u) × (router_word net.settings.width net.routers b ≡ Ok v)
 
--- a router and a prefix that an origin line names
+-- a word, then a router and a prefix that an origin line names
 abbrev pub NamesPrefix : Plan → Text → ℕ → PrefixView → List Text → Type 0
 NamesPrefix net name u q words =
     (a : Text) × (b : Text) × (words ≡ name ∷ a ∷ b ∷ []) × (router_word net.settings.width net.routers a ≡ Ok u) × (origin_word net.origins b ≡ Ok q)
 
--- a router and the number of a snapshot
+-- a word, then a router and the number of a snapshot
 abbrev pub NamesNumber : Plan → Text → ℕ → ℕ → List Text → Type 0
 NamesNumber net name u s words =
     (a : Text) × (b : Text) × (words ≡ name ∷ a ∷ b ∷ []) × (router_word net.settings.width net.routers a ≡ Ok u) × (number_word (is_within (2 ^ 32 - 1)) b ≡ Ok s)
 
--- a count
+-- a word, then a count
 abbrev pub NamesCount : Text → ℕ → List Text → Type 0
 NamesCount name n words = (a : Text) × (words ≡ name ∷ a ∷ []) × (number_word (is_within MOST_COUNT) a ≡ Ok n)
 

@@ -75,7 +75,7 @@ count_operand words = Err kinds.BadForm
 abbrev pub commanded : ℕ → Command → Order
 commanded u c = order.One (event.Command u c)
 
--- what a line with this keyword orders
+-- the order of a line with this keyword
 abbrev pub ordered : Plan → Keyword → List Text → Result Order Code
 ordered net keyword.Start words = peer_operands net words >>= λ p. Ok (commanded p.0 (command.Start p.1))
 ordered net keyword.Stop words = peer_operands net words >>= λ p. Ok (commanded p.0 (command.Stop p.1))
@@ -102,7 +102,7 @@ abbrev pub words_order : Plan → List Text → Result (Option Order) Code
 words_order net [] = Ok None
 words_order net (name ∷ words) = keyword_order net (keyword_of name) words
 
--- what a line orders, which is nothing where it is skipped; or its fault
+-- the order of a line, which has none if it is skipped; or the line's fault
 abbrev pub line_order : Plan → Text → Result (Option Order) Code
 line_order net text =
     if is_skipped text then Ok None
@@ -119,7 +119,7 @@ order_at line (Ok (Some o)) = record { line = line; order = o } ∷ []
 order_at line (Ok None) = []
 order_at line (Err code) = []
 
--- what lines order, so many lines standing before them
+-- the orders of lines, so many lines standing before them
 abbrev pub orders_of : Plan → ℕ → List Text → List ScheduledOrder
 orders_of net before [] = []
 orders_of net before (text ∷ texts) = order_at (before + 1) (line_order net text) ++ orders_of net (before + 1) texts

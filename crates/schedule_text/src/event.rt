@@ -82,7 +82,7 @@ fn write_event(text: &mut [u8], at: usize, event: &Event) -> usize
     }
 }
 
-/// Appends the line that orders an event: `put 1 2`. It is refused only where memory was, and then changes nothing.
+/// Appends the line that orders an event: `put 1 2`. It is refused only for want of memory, and then changes nothing.
 pub fn event_line(event: &Event, out: &mut Vec<u8>) -> Result<(), AllocError>
     ensures ok { OnOk result (out.new.items ≡ out.old.items ++ event_line event.now) }
     ensures err { OnErr result (out.new.items ≡ out.old.items) }

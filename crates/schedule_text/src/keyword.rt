@@ -6,7 +6,7 @@ ghost use Rattle.schedule_text.specs.Keywords.{keyword_if, keyword_in_s, keyword
 
 use net_text::lexing::same;
 
-/// What a line of a schedule begins with.
+/// The first word of a line of a schedule.
 #[derive(Clone, Copy, PartialEq, Eq)]
 pub(crate) enum Keyword {
     /// `start U V`
@@ -101,7 +101,7 @@ fn keyword_in_o(name: &[u8]) -> Option<Keyword>
     }
 }
 
-// The keyword, where a word is this one.
+// The keyword, if a word is this one.
 fn keyword_if(name: &[u8], word: &[u8], keyword: Keyword) -> Option<Keyword>
     ensures { result ≡ keyword_if name.now word.now keyword }
 {
@@ -112,7 +112,7 @@ fn keyword_if(name: &[u8], word: &[u8], keyword: Keyword) -> Option<Keyword>
     }
 }
 
-/// The keyword that a word is: its first octet leaves three at most.
+/// The keyword that a word is. Its first octet leaves at most three.
 pub(crate) fn keyword_of(name: &[u8]) -> Option<Keyword>
     ensures { result ≡ keyword_of name.now }
 {

@@ -1,5 +1,5 @@
-//! What the definitions say together. Each function here has an empty body, but for the laws below
-//! that it rests on; its contract is the law.
+//! Laws of the definitions. Each function here has an empty body, but for the laws below that it
+//! rests on; its contract is the law.
 
 ghost use Rattle.schedule_text.specs.Sayings.{LinesAreReadAsTheySay};
 

@@ -4,10 +4,10 @@
 //! rounds or ticks of all of them. [`read_schedule`] answers the orders that it spells, each with
 //! its line, or the first faulty line with its [`net_text::Code`].
 //!
-//! [`event_line`] appends the order of an event; [`snapshot_line`] how a snapshot came out, [`now_line`] the heading of
-//! the routes at the end, [`route_line`] a router's path for a prefix, [`cut_line`] and [`cut_none_line`] where a
-//! snapshot cuts the events of a run, [`stop_line`] that a run refused the order of a line. A refused call leaves the
-//! buffer's octets as they were.
+//! [`event_line`] appends the order of an event, [`snapshot_line`] how a snapshot came out, [`now_line`] the heading of
+//! the routes at the end, and [`route_line`] a router's path for a prefix. [`cut_line`] and [`cut_none_line`] append
+//! where a snapshot cuts the events of a run, [`stop_line`] that a run refused the order of a line. A refused call
+//! leaves the buffer's octets as they were.
 //!
 //! The definitions stand in `specs/`: `Schedules` (keywords, their operands, whole texts), `Keywords` (keywords by their
 //! first octet), `Sayings` (which words say which order), `Events` (the line of an event), `Reports` (lines of a run).

@@ -111,12 +111,12 @@ fn put_cut_none(out: &mut Tail, number: u32) -> Result<(), AllocError>
     out.put_text(b" none\n")
 }
 
-/// Appends how a snapshot came out; nothing where it is undecided, which is never refused. It is
-/// refused only where memory was, and then changes nothing.
+/// Appends how a snapshot came out. For an undecided one it appends nothing, and is never refused. It is refused only
+/// for want of memory, and then changes nothing.
 pub fn snapshot_line(number: u32, outcome: &Outcome, out: &mut Vec<u8>) -> Result<(), AllocError>
     ensures ok { OnOk result (out.new.items ≡ out.old.items ++ snapshot_line number (outcome_of outcome.now)) }
     ensures err { OnErr result (out.new.items ≡ out.old.items) }
-    // An undecided one takes no memory.
+    // An undecided snapshot takes no memory.
     ensures undecided { outcome.now ≡ Outcome.Waiting → IsOk result }
 {
     if *outcome == Outcome::Waiting {
@@ -128,8 +128,8 @@ pub fn snapshot_line(number: u32, outcome: &Outcome, out: &mut Vec<u8>) -> Resul
     result
 }
 
-/// Appends the path of a router for a prefix, `none` where it is empty. It is refused only where
-/// memory was, and then changes nothing.
+/// Appends the path of a router for a prefix, `none` if it is empty. It is refused only for want of memory, and then
+/// changes nothing.
 #[tactic(auto, unfolding(crate::specs::Reports::route_line, net_text::specs::Printing::routed_line))]
 pub fn route_line(
     router: Asn,
@@ -143,8 +143,8 @@ pub fn route_line(
     path_line(b"route ", router, prefix, path, out)
 }
 
-/// Appends how many of all events were done up to the recordings of a snapshot. It is refused only where
-/// memory was, and then changes nothing.
+/// Appends how many of all events were done up to the recordings of a snapshot. It is refused only for want of memory,
+/// and then changes nothing.
 pub fn cut_line(
     number: u32,
     recorded: usize,
@@ -160,8 +160,8 @@ pub fn cut_line(
     result
 }
 
-/// Appends that a snapshot has no cut, since it is undecided or was abandoned. It is refused only where
-/// memory was, and then changes nothing.
+/// Appends that a snapshot has no cut, since it is undecided or was abandoned. It is refused only for want of memory,
+/// and then changes nothing.
 pub fn cut_none_line(number: u32, out: &mut Vec<u8>) -> Result<(), AllocError>
     ensures ok { OnOk result (out.new.items ≡ out.old.items ++ cut_none_line number) }
     ensures err { OnErr result (out.new.items ≡ out.old.items) }
@@ -199,7 +199,7 @@ fn router_code(error: RouterError) -> &'static [u8]
     }
 }
 
-// The code of a refusal of a run, which is the router's own where a router refused.
+// The code of a refusal of a run: the router's own if a router refused.
 fn fault_code(fault: StepFault) -> &'static [u8]
     ensures { result.now ≡ fault_code fault }
 {
@@ -211,8 +211,8 @@ fn fault_code(fault: StepFault) -> &'static [u8]
     }
 }
 
-/// Appends that a run refused the order of a line, with the code of why. It is refused only where
-/// memory was, and then changes nothing.
+/// Appends that a run refused the order of a line, with the code of why. It is refused only for want of memory, and
+/// then changes nothing.
 pub fn stop_line(line: usize, fault: StepFault, out: &mut Vec<u8>) -> Result<(), AllocError>
     ensures ok { OnOk result (out.new.items ≡ out.old.items ++ stop_line line fault) }
     ensures err { OnErr result (out.new.items ≡ out.old.items) }

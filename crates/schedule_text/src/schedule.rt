@@ -24,7 +24,7 @@ pub struct ScheduledOrder {
     pub order: Order,
 }
 
-// What a line with this keyword orders, by the words behind it.
+// The order of a line with this keyword, by the words behind it.
 fn ordered(network: &Network, keyword: Keyword, words: &[u8]) -> Result<Order, Code>
     ensures { result ≡ ordered network.now keyword (words_of words.now) }
 {
@@ -76,7 +76,7 @@ fn ordered(network: &Network, keyword: Keyword, words: &[u8]) -> Result<Order, C
     Ok(Order::One(event))
 }
 
-// What a line with this first word orders, by the words behind it.
+// The order of a line with this first word, by the words behind it.
 fn words_order(network: &Network, name: &[u8], words: &[u8]) -> Result<Option<Order>, Code>
     ensures { result ≡ words_order network.now (name.now ∷ words_of words.now) }
 {
@@ -86,7 +86,7 @@ fn words_order(network: &Network, name: &[u8], words: &[u8]) -> Result<Option<Or
     Ok(Some(ordered(network, keyword, words)?))
 }
 
-// What a line orders; nothing where it is blank or a comment.
+// The order of a line; none if the line is blank or a comment.
 fn line_order(network: &Network, text: &[u8]) -> Result<Option<Order>, Code>
     ensures { result ≡ line_order network.now text.now }
 {
@@ -102,7 +102,7 @@ fn line_order(network: &Network, text: &[u8]) -> Result<Option<Order>, Code>
     words_order(network, name, words)
 }
 
-// Adds what a line orders.
+// Adds the order of a line.
 fn read_line(
     network: &Network,
     line: usize,
@@ -123,10 +123,10 @@ fn read_line(
     }
 }
 
-/// The orders of a schedule text, in the order of its lines. So many lines stand before it.
+/// The orders of a schedule text, in the order of its lines. `before` lines stand before it.
 ///
-/// It is refused for its first faulty line. `Memory` is answered where a growth was refused, and
-/// only where no line so far has a fault.
+/// Refused for its first faulty line. Refused with `Memory` if a growth is refused; then no line so
+/// far has a fault.
 pub fn read_schedule(
     alloc: Global,
     text: &[u8],
