@@ -1,4 +1,4 @@
--- What is printed of all stable assignments of a network, prefix by prefix.
+-- The text printed of all stable assignments of a network, prefix by prefix.
 use Rattle.std.specs.Prelude.{◌≡◌, ◌≢◌, ℕ, ◌<◌, ◌≤◌, Bool, List, [], ◌∷◌, ◌++◌, length, map, codes, Result, Ok, Err, is_ok, if◌then◌else◌, ◌⊎◌}
 use Rattle.std.specs.List.{All, flat_map, list_all}
 use Rattle.prefix_lanes.specs.Bits.{PrefixView}
@@ -22,13 +22,13 @@ use Rattle.text_engines.specs.declared.transfer.TheConstants.{INPUT_LIMIT}
 use Rattle.stable_engine.specs.declared.status.TheConstants.{UNKNOWN}
 use Rattle.stable_engine.specs.Listing.{every_text, unknown_line}
 
--- ---- what is answered for a prefix
+-- ---- the answer for a prefix
 
 abbrev pub Found : Type 0
 Found = Result Every SearchError
 
--- all stable assignments, no part with more choices than the limit; or a refusal, which says what it means; want of
--- memory is no answer
+-- the answer for a prefix: all stable assignments, in which no part has more choices than the limit; or a refusal that
+-- means what it says. Want of memory is no answer
 abbrev pub IsFound : Limits → Plan → PrefixView → Found → Type 0
 IsFound limits net q (Ok every) = IsEveryStable (at_prefix net q) every × AreFew limits.most every.parts
 IsFound limits net q (Err why) = (why ≢ search.Memory) × IsRefusal (at_prefix net q) limits why
@@ -43,7 +43,7 @@ abbrev pub found_text : Plan → PrefixView → Found → List ℕ
 found_text net q (Ok every) = every_text q net.routers every.parts
 found_text net q (Err why) = refusal_text q why
 
--- ---- what is printed for a network
+-- ---- the text printed for a network
 
 pub record Answer : Type 0 where
   pub prefix : PrefixView
@@ -55,7 +55,7 @@ answers_text net answers = flat_map (λ a. found_text net a.prefix a.found) answ
 abbrev pub are_known : List Answer → Bool
 are_known answers = list_all (λ a. is_ok a.found) answers
 
--- for the prefix of each origin an answer, with its text; and whether each is known
+-- an answer for the prefix of each origin, with its text; and whether each is known
 pub record AreAnswered (limits : Limits) (net : Plan) (origins : List Origin) (text : List ℕ) (known : Bool) : Type 0 where
   pub answers : List Answer
   pub prefixes : map (λ a. a.prefix) answers ≡ map (λ o. o.prefix) origins
@@ -63,12 +63,12 @@ pub record AreAnswered (limits : Limits) (net : Plan) (origins : List Origin) (t
   pub printed : text ≡ answers_text net answers
   pub all_known : known ≡ are_known answers
 
--- at the end of a text stands what is found for a prefix
+-- the new text is the old one, with the answer for a prefix at its end
 abbrev pub PutsFound : Limits → Plan → PrefixView → List ℕ → List ℕ → Bool → Type 0
 PutsFound limits net q old new known =
     (found : Found) × IsFound limits net q found × (new ≡ old ++ found_text net q found) × (known ≡ is_ok found)
 
--- and what is found for the prefix of each of these origins
+-- the new text is the old one, with the answers for the prefixes of these origins at its end
 abbrev pub PutsAnswers : Limits → Plan → List Origin → List ℕ → List ℕ → Bool → Type 0
 PutsAnswers limits net origins old new known = (text : List ℕ) × AreAnswered limits net origins text known × (new ≡ old ++ text)
 
@@ -80,9 +80,9 @@ abbrev pub StablesGive : Limits → Plan → Output → Type 0
 StablesGive limits net out =
     (text : List ℕ) × (known : Bool) × AreAnswered limits net net.origins text known × (out ≡ output text (status_of known))
 
--- ---- what is printed for an input
+-- ---- the text printed for an input
 
--- its lines up to one that begins an assignment or a schedule
+-- the lines of an input up to one that begins an assignment or a schedule
 abbrev pub network_lines : List ℕ → List Text
 network_lines input = before_section (codes "schedule") (before_section (codes "assignment") (lines_of input))
 
@@ -91,11 +91,11 @@ LinesList limits lines out =
     ((at : ℕ) × (code : Code) × (code ≢ kinds.Memory) × RefusesNetwork lines at code × (out ≡ refused at (code_text code)))
     ⊎ ((net : Plan) × SpellsNetwork lines net × StablesGive limits net out)
 
--- for an input, which may be too long
+-- the text for an input, which may be too long
 abbrev pub InputLists : Limits → List ℕ → Output → Type 0
 InputLists limits input out =
     (INPUT_LIMIT < length input × (out ≡ refused 0 (code_text kinds.OutOfLimit))) ⊎ ((length input ≤ INPUT_LIMIT) × LinesList limits (network_lines input) out)
 
--- what the program prints: that, or that memory ran out
+-- the text that the program prints: this one, or that memory ran out
 abbrev pub Lists : Limits → List ℕ → Output → Type 0
 Lists limits input out = InputLists limits input out ⊎ (out ≡ memory_output)

@@ -1,4 +1,4 @@
--- What is printed of all stable assignments of a network for a prefix.
+-- The text printed of all stable assignments of a network for a prefix.
 use Rattle.std.specs.Prelude.{ℕ, ◌==◌, ◌+◌, ◌^◌, nat_lt, not, Bool, List, [], ◌∷◌, ◌++◌, filter, length, codes, decimal, if◌then◌else◌}
 use Rattle.std.specs.List.{flat_map}
 use Rattle.prefix_lanes.specs.Bits.{PrefixView}
@@ -31,19 +31,19 @@ dispute_line i q n us = line (codes "dispute " ++ (decimal i ++ (prefix_text q +
 unfoldable pub choice_line : List (List ℕ) → List ℕ
 choice_line paths = line (codes "choice" ++ paths_behind paths)
 
--- a prefix of which not all is known, and why: routers behind a word
+-- a prefix of which not all is known, and why: a word, and routers behind it
 unfoldable pub unknown_line : PrefixView → List ℕ → List ℕ → List ℕ
 unknown_line q why us = line (codes "prefix" ++ (prefix_text q ++ (codes " unknown " ++ (why ++ numbers_behind us))))
 
 -- ---- the routers that have the same path in all
 
--- the line of a router among these, which have these paths
+-- the line of a router, if it is among these routers, which have these paths
 abbrev pub route_text : PrefixView → ℕ → List ℕ → List (List ℕ) → List ℕ
 route_text q u [] paths = []
 route_text q u (v ∷ vs) [] = []
 route_text q u (v ∷ vs) (path ∷ paths) = if v == u then routed_line (codes "route ") u q path else route_text q u vs paths
 
--- where the part has one choice
+-- the line of a router of a part, if the part has one choice
 abbrev pub only_text : PrefixView → ℕ → List ℕ → List (List (List ℕ)) → List ℕ
 only_text q u vs [] = []
 only_text q u vs (choice ∷ []) = route_text q u vs choice
@@ -66,7 +66,7 @@ choices_text choices = flat_map choice_line choices
 abbrev pub dispute_text : ℕ → PrefixView → Part → List ℕ
 dispute_text i q part = dispute_line i q (length part.choices) part.routers ++ choices_text part.choices
 
--- each with its number, this being the first
+-- disputes, each with its number; the first has this one
 abbrev pub disputes_text : ℕ → PrefixView → List Part → List ℕ
 disputes_text i q [] = []
 disputes_text i q (part ∷ parts) = dispute_text i q part ++ disputes_text (i + 1) q parts

@@ -12,7 +12,7 @@ use ranked_policy::{Asn, Items, Path, Router};
 use stable_search::{Every, Part};
 use std::alloc::{AllocError, Global};
 
-// Appends the path of a router, where it is among these, which have these paths.
+// Appends the path of a router, if it is among these routers, which have these paths.
 fn put_route(
     prefix: &Prefix,
     router: Asn,
@@ -31,7 +31,7 @@ fn put_route(
     Ok(())
 }
 
-// Appends the path of a router, where it is in a part that has one choice.
+// Appends the path of a router, if it is in a part that has one choice.
 fn put_only(prefix: &Prefix, router: Asn, part: &Part, out: &mut Vec<u8>) -> Result<(), AllocError>
     requires { IsPart part.now }
     ensures { OnOk result (out.new.items ≡ out.old.items ++ only_text prefix.now router part.now.routers part.now.choices) }
@@ -48,7 +48,7 @@ fn put_only(prefix: &Prefix, router: Asn, part: &Part, out: &mut Vec<u8>) -> Res
     }
 }
 
-// Appends the path of a router that has the same in all.
+// Appends the path of a router, if it has the same path in all stable assignments.
 fn put_routes_of(
     prefix: &Prefix,
     router: Asn,
@@ -64,7 +64,7 @@ fn put_routes_of(
     Ok(())
 }
 
-// Appends the paths of the routers that have the same in all.
+// Appends the paths of the routers that have the same path in all stable assignments.
 fn put_routes(
     prefix: &Prefix,
     routers: &[Router],

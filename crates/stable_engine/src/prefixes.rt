@@ -38,7 +38,7 @@ fn put_refusal(prefix: &Prefix, why: &SearchError, out: &mut Vec<u8>) -> Result<
     }
 }
 
-// Appends what is found for a prefix, and answers whether all is known.
+// Appends the answer for a prefix, and answers whether all is known.
 fn put_prefix(
     alloc: Global,
     network: &Network,
@@ -62,7 +62,7 @@ fn put_prefix(
     }
 }
 
-// Appends what is found for the prefix of each origin, and answers whether all is known.
+// Appends the answer for the prefix of each origin, and answers whether all is known.
 fn put_prefixes(
     alloc: Global,
     network: &Network,
@@ -79,9 +79,9 @@ fn put_prefixes(
     Ok(known)
 }
 
-/// What is printed of all stable assignments of a network, and the status.
+/// The text printed of all stable assignments of a network, and the exit status.
 ///
-/// It answers an error where memory is refused.
+/// It answers an error if memory is refused.
 pub(crate) fn stables_output(
     alloc: Global,
     network: &Network,

@@ -1,4 +1,4 @@
 //! The status of an answer that is not whole.
 
-/// A limit was met: of a prefix it is not said which assignments are stable.
+/// A limit was met: for some prefix it is not said which assignments are stable.
 pub const UNKNOWN: u8 = 5;
