@@ -1,4 +1,4 @@
--- What is printed for a network and an assignment.
+-- The text printed for a network and an assignment.
 use Rattle.std.specs.Prelude.{◌≡◌, ◌≢◌, ℕ, ◌<◌, ◌==◌, ◌&&◌, ◌||◌, nat_lt, Bool, true, false, slice_index_or, List, [], ◌∷◌, ◌++◌, length, codes, Ok, if◌then◌else◌, ◌⊎◌}
 use Rattle.std.specs.List.{All}
 use Rattle.prefix_lanes.specs.Bits.{PrefixView, is_prefix}
@@ -19,7 +19,7 @@ use Rattle.text_engines.specs.Inputs.{InputGives, Prints}
 
 -- ---- what entries say of a prefix
 
--- the path of each router by the last entry for it and the prefix, or the path given where there is none
+-- the path of each router by the last entry for it and the prefix, or the given path if there is none
 abbrev pub paths_by : (ℕ → List ℕ) → PrefixView → List Entry → ℕ → List ℕ
 paths_by paths prefix [] = paths
 paths_by paths prefix (e ∷ es) = paths_by (λ u. if (e.router == u) && is_prefix e.prefix prefix then e.path else paths u) prefix es
@@ -44,7 +44,7 @@ pub record AssignNothing (count : ℕ) (all : List (List Assigned)) : Type 0 whe
   pub as_many : length all ≡ count
   pub nothing : (i : ℕ) (u : ℕ) → path_of (slice_index_or all i []) u ≡ []
 
--- for the prefix of each origin these are the paths that the entries give
+-- for the prefix of each origin, the paths that the entries give
 pub record Assign (origins : List Origin) (entries : List Entry) (all : List (List Assigned)) : Type 0 where
   pub as_many : length all ≡ length origins
   pub each : (i : ℕ) (o : Origin) → i < length origins → (u : ℕ) → path_of (slice_index_or all i []) u ≡ paths_of entries (slice_index_or origins i o).prefix u
@@ -78,31 +78,31 @@ pub record IsFirstMove (net : Plan) (entries : List Entry) (router : ℕ) (has b
   pub stable : All (IsStableAt net entries) before
   pub moves : IsMoving (at_prefix net moving.prefix) (paths_of entries moving.prefix) router has best
 
--- ---- what is printed
+-- ---- the text printed
 
 pub data Moves (net : Plan) (entries : List Entry) (out : Output) : Type 0 where
   it_moves : (router : ℕ) (has best : List ℕ) → IsFirstMove net entries router has best → out ≡ output (unstable_line router has best) DONE → Moves net entries out
 
--- for entries that are all permitted
+-- the text for entries that are all permitted
 abbrev pub VerdictGives : Plan → List Entry → Output → Type 0
 VerdictGives net entries out = (All (IsStableAt net entries) net.origins × (out ≡ output stable_line DONE)) ⊎ Moves net entries out
 
--- for the entries of an assignment
+-- the text for the entries of an assignment
 abbrev pub EntriesGive : Plan → List Entry → Output → Type 0
 EntriesGive net entries out =
     ((at : ℕ) × IsFirstStray net entries at × (out ≡ refused at (code_text kinds.NotPermitted)))
     ⊎ (All (MayStand net) entries × VerdictGives net entries out)
 
--- for the lines of an assignment, so many lines standing before them
+-- the text for the lines of an assignment, so many lines standing before them
 abbrev pub AssignmentGives : Plan → ℕ → List Text → Output → Type 0
 AssignmentGives net before lines out =
     ((at : ℕ) × (code : Code) × (code ≢ kinds.Memory) × RefusesAssignment net before lines at code × (out ≡ refused at (code_text code)))
     ⊎ ((entries : List Entry) × (assignment_reading net before lines ≡ Ok entries) × EntriesGive net entries out)
 
--- for an input of a network and an assignment
+-- the text for an input of a network and an assignment
 abbrev pub CheckGives : List ℕ → Output → Type 0
 CheckGives input out = InputGives AssignmentGives (codes "assignment") input out
 
--- what the program prints: that, or that memory ran out
+-- the text that the program prints: this one, or that memory ran out
 abbrev pub Checks : List ℕ → Output → Type 0
 Checks input out = Prints AssignmentGives (codes "assignment") input out

@@ -1,10 +1,10 @@
--- What an engine reads and writes.
+-- How an engine reads and writes.
 use Rattle.std.specs.Prelude.{◌≡◌, ℕ, ◌≤◌, List, length, take, Option, IfSome}
 use Rattle.std.specs.Io.KnownBytes.{Appends}
 use Rattle.bgp_codec.specs.declared.rule.Rule.{Rule}
 use Rattle.text_engines.specs.Decoding.{Output, output, Prints}
 
--- these are the known octets that were left, or a beginning of them that is above the limit
+-- what was read is all the known octets that were left, or a beginning of them that is above the limit
 abbrev pub ReadsUpTo : ℕ → Option (List ℕ) → List ℕ → Type 0
 ReadsUpTo limit known items = IfSome known (λ input. (items ≡ take (length items) input) × (length items ≤ limit → items ≡ input))
 
@@ -28,7 +28,7 @@ PrintedBy IsPrinted known old new status = IfSome known (λ input. (text : List 
 abbrev pub PrintedFrontBy : (List ℕ → Output → Type 0) → Option (List ℕ) → Option (List ℕ) → Option (List ℕ) → Type 0
 PrintedFrontBy IsPrinted known old new = IfSome known (λ input. (out : Output) × IsPrinted input out × AppendsFront old new out.text)
 
--- the same, for a stream in hex
+-- the whole output that is printed for a stream in hex was appended, with this status
 abbrev pub Printed : Rule → Option (List ℕ) → Option (List ℕ) → Option (List ℕ) → ℕ → Type 0
 Printed rule known old new status = PrintedBy (Prints rule) known old new status
 

@@ -1,4 +1,4 @@
--- What is printed for an input that is a network with a section behind it.
+-- The text printed for an input that is a network with a section behind it.
 use Rattle.std.specs.Prelude.{◌≡◌, ◌≢◌, ℕ, ◌<◌, ◌≤◌, ◌-◌, List, length, ◌⊎◌}
 use Rattle.ranked_policy.specs.Plans.{Plan}
 use Rattle.net_text.specs.declared.code.Code.{Code}
@@ -9,24 +9,24 @@ use Rattle.net_text.specs.Printing.{code_text}
 use Rattle.text_engines.specs.Decoding.{Output, refused, memory_output}
 use Rattle.text_engines.specs.declared.transfer.TheConstants.{INPUT_LIMIT}
 
--- ---- what is printed, where this says what is printed for a network and the lines of the section, so many standing before them
+-- ---- `Gives` says what is printed for a network and the lines of the section, so many lines standing before them
 
--- for the lines of a network, and those of the section
+-- the text for the lines of a network, and those of the section
 abbrev pub NetworkGives : (Plan → ℕ → List Text → Output → Type 0) → List Text → ℕ → List Text → Output → Type 0
 NetworkGives Gives front before behind out =
     ((at : ℕ) × (code : Code) × (code ≢ kinds.Memory) × RefusesNetwork front at code × (out ≡ refused at (code_text code)))
     ⊎ ((net : Plan) × SpellsNetwork front net × Gives net before behind out)
 
--- for the lines of both, the section beginning behind the line of this name
+-- the text for the lines of both; the section begins behind the line of this name
 abbrev pub LinesGive : (Plan → ℕ → List Text → Output → Type 0) → List ℕ → List Text → Output → Type 0
 LinesGive Gives name lines out =
     NetworkGives Gives (before_section name lines) (length lines - length (behind_section name lines)) (behind_section name lines) out
 
--- for an input, which may be too long
+-- the text for an input, which may be too long
 abbrev pub InputGives : (Plan → ℕ → List Text → Output → Type 0) → List ℕ → List ℕ → Output → Type 0
 InputGives Gives name input out =
     (INPUT_LIMIT < length input × (out ≡ refused 0 (code_text kinds.OutOfLimit))) ⊎ ((length input ≤ INPUT_LIMIT) × LinesGive Gives name (lines_of input) out)
 
--- what the program prints: that, or that memory ran out
+-- the text that the program prints: this one, or that memory ran out
 abbrev pub Prints : (Plan → ℕ → List Text → Output → Type 0) → List ℕ → List ℕ → Output → Type 0
 Prints Gives name input out = InputGives Gives name input out ⊎ (out ≡ memory_output)

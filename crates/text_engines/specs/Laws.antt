@@ -1,4 +1,4 @@
--- What the definitions of the engines say together.
+-- Laws of the definitions of the engines.
 use Rattle.std.specs.Prelude.{◌≡◌, ℕ, ◌<◌, ◌^◌, List, codes}
 use Rattle.bgp_codec.specs.declared.rule.Rule.{Rule}
 use Rattle.ranked_policy.specs.Plans.{Plan, IsNetwork}
@@ -17,7 +17,7 @@ GivesOne Gives =
     (net : Plan) → IsNetwork net → net.settings.hold < 2 ^ 16 → (before : ℕ) (lines : List Text) (one other : Output)
     → Gives net before lines one → Gives net before lines other → one ≡ other
 
--- so there is one for an input, want of memory aside
+-- for an input there is one text, want of memory aside
 abbrev pub InputsGiveOne : (Plan → ℕ → List Text → Output → Type 0) → List ℕ → Type 0
 InputsGiveOne Gives name = (input : List ℕ) (one other : Output) → InputGives Gives name input one → InputGives Gives name input other → one ≡ other
 

@@ -1,4 +1,4 @@
-//! What `bgpnet check` prints for a network and the entries of an assignment.
+//! The text that `bgpnet check` prints for a network and the entries of an assignment.
 
 ghost use Rattle.std.specs.Prelude.{◌≡◌, ◌==◌, if◌then◌else◌, ℕ, List, IfOk, OnOk, MatchOption};
 ghost use Rattle.std.specs.List.{All, AllPairs};
@@ -18,7 +18,7 @@ use ranked_policy::{Asn, Network, Origin, Path};
 use stable_paths::{Assignment, Check, Instance, StableError, check, may_have};
 use std::alloc::{AllocError, Global};
 
-// What is printed for a router that would move, and the status.
+// The text printed for a router that would move, and the exit status.
 fn unstable_output(
     alloc: Global,
     router: Asn,
@@ -32,7 +32,7 @@ fn unstable_output(
     Ok((out, DONE))
 }
 
-// What is printed where no router would move, and the status.
+// The text printed if no router would move, and the exit status.
 fn stable_output(alloc: Global) -> Result<(Vec<u8>, u8), AllocError>
     ensures { IfOk result (λ printed. output printed.0.items printed.1 ≡ output stable_line DONE) }
 {
@@ -53,7 +53,7 @@ fn first_stray(network: &Network, entries: &[Entry]) -> Option<usize>
     None
 }
 
-// Whether the one comes before the other: by address, then by length.
+// Whether one prefix comes before the other: by address, then by length.
 fn is_before(one: &Prefix, other: &Prefix) -> bool
     ensures { result ≡ is_before one.now other.now }
 {
@@ -84,7 +84,7 @@ fn give(alloc: Global, assignment: &mut Assignment, entry: &Entry) -> Result<(),
     }
 }
 
-// As many assignments of no path.
+// `count` assignments of no path.
 fn nothing_assigned(alloc: Global, count: usize) -> Result<Vec<Assignment>, AllocError>
     ensures { IfOk result (λ all. AssignNothing count all.items) }
 {
@@ -113,7 +113,7 @@ fn assigned(
     Ok(all)
 }
 
-// What a check says of an assignment for a prefix.
+// The verdict of a check on an assignment for a prefix.
 fn verdict_at(
     alloc: Global,
     network: &Network,
@@ -130,7 +130,7 @@ fn verdict_at(
     }
 }
 
-// What is printed for entries that are all permitted.
+// The text printed for entries that are all permitted, and the exit status.
 fn verdict_output(
     alloc: Global,
     network: &Network,
@@ -151,7 +151,7 @@ fn verdict_output(
     stable_output(alloc)
 }
 
-/// What is printed for the entries of an assignment, and the status.
+/// The text printed for the entries of an assignment, and the exit status.
 pub fn entries_output(
     alloc: Global,
     network: &Network,

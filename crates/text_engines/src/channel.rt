@@ -1,7 +1,8 @@
 //! Readers and writers that remember whether they failed.
 //!
-//! The engines are written over [`Source`] and [`Sink`], so that "it stopped only where a read or a
-//! write failed" is a clause. [`Watched`] makes either of any reader or writer of std.
+//! The engines are written over [`Source`] and [`Sink`]: a clause can then say that an engine
+//! stopped only if a read or a write failed. [`Watched`] makes either of any reader or writer of
+//! std.
 
 ghost use Rattle.std.specs.Prelude.{◌≡◌, ℕ, ◌<◌, List, Option, Bool, true, false, length, IfOk, OnOk, OnErr};
 ghost use Rattle.std.specs.Io.{ReadsAtMost, WritesAtMost};
@@ -13,16 +14,16 @@ use std::io::{Read, Write};
 #[derive(Debug, Drop)]
 pub struct IoStopped;
 
-/// What octets are read from.
+/// A source of octets, to read from.
 pub trait Source {
-    // The octets that reads will give from here on, where they are known.
+    // The octets that reads will give from here on, if they are known.
     ghost remaining: { Self → Option (List ℕ) };
 
     // Whether a read failed.
     ghost failed: { Self → Bool };
 
-    /// Reads some octets into the front of `buf`, and answers how many: none where there are no
-    /// more, or `buf` is empty.
+    /// Reads some octets into the front of `buf`, and answers how many: none if there are no more,
+    /// or if `buf` is empty.
     fn take(&mut self, buf: &mut [u8]) -> Result<usize, IoStopped>
         ensures bound { ReadsAtMost result buf.new }
         ensures bytes { ReadConsumes (remaining self.old) (remaining self.new) result buf.new }
@@ -30,12 +31,12 @@ pub trait Source {
         ensures err { OnErr result (failed self.new ≡ true) };
 }
 
-/// What octets are written to.
+/// A sink of octets, to write to.
 pub trait Sink {
-    // The octets that were written, where they are known.
+    // The octets that were written, if they are known.
     ghost contents: { Self → Option (List ℕ) };
 
-    // Whether a write failed, or took nothing of something.
+    // Whether a write failed, or took no octet of some.
     ghost failed: { Self → Bool };
 
     /// Writes a beginning of `buf`, and answers how many octets: at least one, unless `buf` is empty.
@@ -55,7 +56,7 @@ pub struct Watched<C> {
 }
 
 impl<C> Watched<C> {
-    /// One that has not failed yet.
+    /// A reader or writer that has not failed yet.
     pub fn new(inner: C) -> Watched<C>
         ensures inner { result.inner ≡ inner }
         ensures unfailed { result.has_failed ≡ false }
@@ -66,7 +67,7 @@ impl<C> Watched<C> {
         }
     }
 
-    /// Whether a read or a write of it failed.
+    /// Whether a read or a write failed.
     pub fn has_failed(&self) -> bool
         ensures { result ≡ self.now.has_failed }
     {

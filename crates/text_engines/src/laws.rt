@@ -1,5 +1,5 @@
-//! What the definitions of the engines say together. Each function here does nothing but call the
-//! laws that its proof rests on; its contract is the law.
+//! Laws of the definitions of the engines. Each function here does nothing but call the laws that its proof rests on;
+//! its contract is the law.
 
 ghost use Rattle.text_engines.specs.Laws.{DecodesToOne, ChecksToOne};
 
@@ -9,15 +9,15 @@ use net_text::laws::{
 };
 use stable_paths::laws::one_best;
 
-/// What `decode` prints, want of memory aside, is a function of what it reads and of the number that
-/// it checks against.
+/// The text that `decode` prints, want of memory aside, is a function of what it reads and of the number that it checks
+/// against.
 pub fn decode_prints_one_text()
     ensures { DecodesToOne }
 {
     splits_once();
 }
 
-/// What `check` prints, want of memory aside, is a function of what it reads.
+/// The text that `check` prints, want of memory aside, is a function of what it reads.
 pub fn check_prints_one_text()
     ensures { ChecksToOne }
 {

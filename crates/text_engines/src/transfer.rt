@@ -1,4 +1,4 @@
-//! What every engine does: it reads all of its input, and writes a text.
+//! The work of every engine: it reads all of its input, and writes a text.
 
 ghost use Rattle.std.specs.Prelude.{◌≡◌, ℕ, ◌+◌, ◌<◌, ◌≤◌, length, vec_len, IfOk, OnOk, OnErr, IsErrOf, true};
 ghost use Rattle.std.specs.Io.KnownBytes.{Appends};
@@ -32,7 +32,7 @@ pub(crate) fn new_chunk(alloc: Global) -> Result<Vec<u8>, AllocError>
     vec![in alloc; 0u8; CHUNK]
 }
 
-// Reads all that there is by a buffer, up to a little more than the limit.
+// Reads the whole input by a buffer, up to a little more than the limit.
 fn read_by<S: Source>(
     alloc: Global,
     source: &mut S,
@@ -59,7 +59,7 @@ fn read_by<S: Source>(
     Ok(input)
 }
 
-/// Reads all that there is, up to a little more than the limit.
+/// Reads the whole input, up to a little more than the limit.
 pub fn read_input<S: Source>(alloc: Global, source: &mut S) -> Result<Vec<u8>, InputError>
     ensures ok { IfOk result (λ input. ReadsUpTo INPUT_LIMIT (S.remaining source.old) input.items) }
     ensures stopped { IsErrOf result InputError.Stopped → S.failed source.new ≡ true }
@@ -83,7 +83,7 @@ pub fn want_of_memory<T: Sink>(sink: &mut T) -> Result<u8, IoStopped>
     Ok(MEMORY)
 }
 
-/// Writes a text, or a beginning of it where a write fails.
+/// Writes a text; a beginning of it if a write fails.
 pub fn write_out<T: Sink>(sink: &mut T, text: &[u8]) -> Result<(), IoStopped>
     ensures ok { OnOk result (Appends (T.contents sink.old) (T.contents sink.new) text.now) }
     ensures stopped { OnErr result (AppendsFront (T.contents sink.old) (T.contents sink.new) text.now) }
