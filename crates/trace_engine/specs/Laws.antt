@@ -1,4 +1,4 @@
--- What a trace is worth.
+-- Laws of traces.
 use Rattle.std.specs.Prelude.{◌≡◌, ℕ, ◌≤◌, List, length, map}
 use Rattle.ranked_policy.specs.Plans.{Plan, IsNetwork}
 use Rattle.router_model.specs.Settings.{Setting}
@@ -21,12 +21,12 @@ pub record SpellsEvents (net : Plan) (before : ℕ) (lines : List Text) (events 
   pub spelled : SpellsSchedule net before lines orders
   pub are : map (λ o. o.order) orders ≡ map (λ e. order.One e) events
 
--- what is printed of the orders of a schedule spells the events of the world that they lead to
+-- the text printed for the orders of a schedule spells the events of the world that they lead to
 abbrev pub TracesSpellTheirRuns : Type 0
 TracesSpellTheirRuns =
     (g : Setting) → IsNetwork g.net → (before : ℕ) (lines : List Text) (orders : List ScheduledOrder) → SpellsSchedule g.net before lines orders
     → (w : World) → LeadTo g (new_world g) orders w → (text : List ℕ) → OrdersText g (new_world g) orders text → (at : ℕ) → SpellsEvents g.net at (lines_of text) w.run
 
--- what `play` prints for a trace is what it prints for the input
+-- `play` prints for a trace what it prints for the input
 abbrev pub TracesPlayBack : Type 0
 TracesPlayBack = (input text : List ℕ) → Traces input (output text DONE) → length text ≤ INPUT_LIMIT → (out : Output) → Plays text out → Plays input out

@@ -1,4 +1,4 @@
--- What is printed for a network and a schedule.
+-- The text printed for a network and a schedule.
 use Rattle.std.specs.Prelude.{◌≡◌, ◌≢◌, ℕ, List, codes, ◌⊎◌}
 use Rattle.ranked_policy.specs.Plans.{Plan}
 use Rattle.net_text.specs.declared.code.Code.{Code}
@@ -11,13 +11,13 @@ use Rattle.text_engines.specs.Decoding.{Output, refused}
 use Rattle.text_engines.specs.Inputs.{NetworkGives, InputGives, Prints}
 use Rattle.trace_engine.specs.Tracing.{OrdersTrace, head_of_trace}
 
--- for the lines of a schedule behind a network of these lines, so many lines standing before them
+-- the text for the lines of a schedule behind a network of these lines, so many lines standing before them
 abbrev pub ScheduleTraces : List Text → Plan → ℕ → List Text → Output → Type 0
 ScheduleTraces front net before lines out =
     ((at : ℕ) × (code : Code) × (code ≢ kinds.Memory) × RefusesSchedule net before lines at code × (out ≡ refused at (code_text code)))
     ⊎ ((orders : List ScheduledOrder) × SpellsSchedule net before lines orders × OrdersTrace net (head_of_trace front) orders out)
 
--- for the lines of a network, and those behind it
+-- the text for the lines of a network, and those behind it
 abbrev pub LinesTrace : List Text → ℕ → List Text → Output → Type 0
 LinesTrace front before behind out = NetworkGives (ScheduleTraces front) front before behind out
 
@@ -25,10 +25,10 @@ LinesTrace front before behind out = NetworkGives (ScheduleTraces front) front b
 abbrev pub network_lines : List ℕ → List Text
 network_lines input = before_section (codes "schedule") (lines_of input)
 
--- for an input, which may be too long
+-- the text for an input, which may be too long
 abbrev pub InputTraces : List ℕ → Output → Type 0
 InputTraces input out = InputGives (ScheduleTraces (network_lines input)) (codes "schedule") input out
 
--- what `trace` prints for an input of a network and a schedule: that, or that memory ran out
+-- the text that `trace` prints for an input of a network and a schedule: this one, or that memory ran out
 abbrev pub Traces : List ℕ → Output → Type 0
 Traces input out = Prints (ScheduleTraces (network_lines input)) (codes "schedule") input out

@@ -54,7 +54,7 @@ fn write_idle(out: &mut Tail, line: usize) -> Result<(), AllocError>
     out.put_text(b"nothing to do\n")
 }
 
-// Writes how many events were done, and what is said of a number of rounds.
+// Writes how many events were done, and something of a number of rounds.
 #[tactic(auto, unfolding(crate::specs::Tracing::counted_line))]
 fn write_counted(
     out: &mut Tail,
@@ -127,7 +127,7 @@ fn write_round(out: &mut Tail, number: u32, count: usize) -> Result<(), AllocErr
     out.put_text(b" events\n")
 }
 
-/// Appends what an order orders, where it stands for many events.
+/// Appends what an order orders, if it stands for many events.
 pub(crate) fn put_head(scheduled: &ScheduledOrder, out: &mut Vec<u8>) -> Result<(), AllocError>
     ensures { OnOk result (out.new.items ≡ out.old.items ++ head_text scheduled.now.line scheduled.now.order) }
 {
@@ -137,8 +137,8 @@ pub(crate) fn put_head(scheduled: &ScheduledOrder, out: &mut Vec<u8>) -> Result<
     result
 }
 
-/// Appends how an order ended: so many events were done, and so many of its rounds did something before one did
-/// nothing, where one did nothing.
+/// Appends how an order ended: how many events were done, and, if a round did nothing, how many of its rounds did
+/// something before it.
 pub(crate) fn put_tail(
     scheduled: &ScheduledOrder,
     count: usize,
@@ -153,7 +153,7 @@ pub(crate) fn put_tail(
     result
 }
 
-/// Appends that the events above were so many, and those of the round of this number.
+/// Appends how many events stand above, and that they are those of the round of this number.
 pub(crate) fn put_round(number: u32, count: usize, out: &mut Vec<u8>) -> Result<(), AllocError>
     ensures { OnOk result (out.new.items ≡ out.old.items ++ round_line number count) }
 {
@@ -171,7 +171,7 @@ pub(crate) fn put_stop(line: usize, why: StepFault, out: &mut Vec<u8>) -> Result
     stop_line(line, why, out)
 }
 
-// Appends a line as a comment. Where memory is refused, a beginning of it stands behind what the buffer had.
+// Appends a line as a comment. If memory is refused, a beginning of it stands behind what the buffer had.
 fn put_comment(line: &[u8], out: &mut Vec<u8>) -> Result<(), AllocError>
     ensures kept { take (length out.old.items) out.new.items ≡ out.old.items }
     ensures ok { OnOk result (out.new.items ≡ out.old.items ++ comment_line line.now) }
@@ -181,8 +181,8 @@ fn put_comment(line: &[u8], out: &mut Vec<u8>) -> Result<(), AllocError>
     out.extend_from_slice(b"\n")
 }
 
-// Appends each line of a text as a comment. Where memory is refused, a beginning of them stands behind what the
-// buffer had.
+// Appends each line of a text as a comment. If memory is refused, a beginning of them stands behind what the buffer
+// had.
 fn put_each_comment(text: &[u8], out: &mut Vec<u8>) -> Result<(), AllocError>
     ensures kept { take (length out.old.items) out.new.items ≡ out.old.items }
     ensures ok { OnOk result (out.new.items ≡ out.old.items ++ comments_text (lines_of text.now)) }
@@ -196,7 +196,8 @@ fn put_each_comment(text: &[u8], out: &mut Vec<u8>) -> Result<(), AllocError>
     Ok(())
 }
 
-/// Appends each line of a text as a comment. It is refused only where memory was, and then leaves what the buffer had.
+/// Appends each line of a text as a comment. It is refused only for want of memory, and then leaves what the buffer
+/// had.
 pub fn put_comments(text: &[u8], out: &mut Vec<u8>) -> Result<(), AllocError>
     ensures ok { OnOk result (out.new.items ≡ out.old.items ++ comments_text (lines_of text.now)) }
     ensures err { OnErr result (out.new.items ≡ out.old.items) }
@@ -209,8 +210,8 @@ pub fn put_comments(text: &[u8], out: &mut Vec<u8>) -> Result<(), AllocError>
     result
 }
 
-/// Appends a comment that what is there is longer than an input may be, where it is. It is refused only where memory
-/// was, and then changes nothing.
+/// Appends a comment that the text is longer than an input may be, if it is. It is refused only for want of memory, and
+/// then changes nothing.
 pub fn put_limit(out: &mut Vec<u8>) -> Result<(), AllocError>
     ensures ok { OnOk result (out.new.items ≡ out.old.items ++ limit_text (length out.old.items)) }
     ensures err { OnErr result (out.new.items ≡ out.old.items) }

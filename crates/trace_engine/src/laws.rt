@@ -1,4 +1,4 @@
-//! What the definitions say together; the contract of each function is the law.
+//! Laws of the definitions. The contract of each function is the law.
 
 ghost use Rattle.trace_engine.specs.Laws.{TracesSpellTheirRuns, TracesPlayBack};
 
@@ -9,8 +9,8 @@ use router_runs::each_network_has_a_setting;
 use schedule_text::laws::lines_are_read_as_they_say;
 use world_core::laws::what_is_played_is_replayed;
 
-/// The lines that are printed of a schedule have no fault, and those of them that are no comments are the events of its run,
-/// each as an order, in the order of the run.
+/// The lines that are printed for a schedule have no fault. Those of them that are no comments are the events of its
+/// run, each as an order, in the order of the run.
 pub fn traces_spell_their_runs()
     ensures { TracesSpellTheirRuns }
 {
@@ -18,7 +18,7 @@ pub fn traces_spell_their_runs()
     lines_are_read_as_they_say();
 }
 
-/// A trace within the limit of an input is played to the same: what `play` prints for it is what `play` prints for the input.
+/// A trace within the limit of an input plays back: `play` prints for it what it prints for the input.
 pub fn traces_play_back()
     ensures { TracesPlayBack }
 {

@@ -3,7 +3,7 @@
 //! it did.
 //!
 //! The contract of `bgpnet trace` is that of [`trace_stream`]: what is written is the text of what was read, to the
-//! octet, but for what the comments behind an event say. The definitions stand in `specs/`: `Tracing` (the text of
+//! octet; only the comments behind an event are left open. The definitions stand in `specs/`: `Tracing` (the text of
 //! events and orders) and `Tracings` (that of an input). No thread is started here.
 #![tactic(auto)]
 

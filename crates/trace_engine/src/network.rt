@@ -26,7 +26,7 @@ fn put_line(line: &[u8], out: &mut Vec<u8>) -> Result<(), AllocError>
     out.extend_from_slice(b"\n")
 }
 
-// Appends the lines of a text. Where memory is refused, a beginning of them stands behind what the buffer had.
+// Appends the lines of a text. If memory is refused, a beginning of them stands behind what the buffer had.
 fn put_lines(text: &[u8], out: &mut Vec<u8>) -> Result<(), AllocError>
     ensures kept { take (length out.old.items) out.new.items ≡ out.old.items }
     ensures ok { OnOk result (out.new.items ≡ out.old.items ++ network_text (lines_of text.now)) }
@@ -40,7 +40,7 @@ fn put_lines(text: &[u8], out: &mut Vec<u8>) -> Result<(), AllocError>
     Ok(())
 }
 
-/// Appends the lines of a text, each as it is read. It is refused only where memory was, and then leaves what the
+/// Appends the lines of a text, each as it is read. It is refused only for want of memory, and then leaves what the
 /// buffer had.
 pub fn put_network(text: &[u8], out: &mut Vec<u8>) -> Result<(), AllocError>
     ensures ok { OnOk result (out.new.items ≡ out.old.items ++ network_text (lines_of text.now)) }

@@ -1,4 +1,4 @@
-//! What is noted of an event: what it will send, take, hear, tell or offer, and what changed by it.
+//! The notes on an event: what it will send, take, hear, tell or offer, and what changed by it.
 
 use crate::lines::{say_change, say_count, say_fault, say_hex, say_item, say_number, say_path};
 use bgp_codec::{Message, Rule};
@@ -23,12 +23,12 @@ struct Seen {
     state: State,
 }
 
-/// What is noted of an event.
+/// The notes on an event.
 #[derive(Drop)]
 pub(crate) struct Notes {
-    // Whether the octets of what is sent are said, too.
+    // Whether the octets that are sent are said too.
     shows_octets: bool,
-    // What is said of it, line by line.
+    // The text said of the event, line by line.
     text: Vec<u8>,
     // The sessions that it may move, as they were.
     sessions: Vec<Seen>,
@@ -51,7 +51,7 @@ fn state_name(state: State) -> &'static [u8] {
     }
 }
 
-// The whole message that stands in front of octets, as the peer reads it, and what stands behind it.
+// The whole message in front of octets, as the peer reads it, and the octets behind it.
 fn message_in_front<'a>(
     alloc: Global,
     octets: &'a [u8],
@@ -73,7 +73,7 @@ fn say_message(word: &[u8], message: &Message, text: &mut Vec<u8>) -> Result<(),
     message_line(message, text)
 }
 
-// Says octets in hex, where they are to be said.
+// Says octets in hex, if they are to be said.
 fn say_shown(shows_octets: bool, octets: &[u8], text: &mut Vec<u8>) -> Result<(), AllocError> {
     if shows_octets {
         say_hex(octets, text)
@@ -82,7 +82,8 @@ fn say_shown(shows_octets: bool, octets: &[u8], text: &mut Vec<u8>) -> Result<()
     }
 }
 
-// Says what a piece has: its messages, as far as they are whole, and how many octets stand behind them.
+// Says the contents of a piece: its messages, as far as they are whole, and how many octets stand
+// behind them.
 fn say_octets(
     alloc: Global,
     rule: &Rule,
@@ -121,7 +122,7 @@ fn say_sent(
     }
 }
 
-// Says the item that is put next towards a peer, where there is one.
+// Says the item that is put next towards a peer, if there is one.
 fn say_put(
     network: &Network,
     router: &Router<'_>,
@@ -142,7 +143,7 @@ fn say_put(
     }
 }
 
-// Says the message or fault that is handled next, where there is one.
+// Says the message or fault that is handled next, if there is one.
 fn say_heard(router: &Router<'_>, peer: Asn, text: &mut Vec<u8>) -> Result<(), AllocError> {
     let alloc = *text.allocator();
     let Some(read) = router.front(alloc, peer) else {
@@ -154,7 +155,7 @@ fn say_heard(router: &Router<'_>, peer: Asn, text: &mut Vec<u8>) -> Result<(), A
     }
 }
 
-// Says whom the router tells next, and of which path, where it tells one.
+// Says which peer the router tells next, and which path, if it tells one.
 fn say_told(router: &Router<'_>, text: &mut Vec<u8>) -> Result<(), AllocError> {
     match router.next_told() {
         Some((peer, prefix)) => say_path(peer, &prefix, router.kept(&prefix), text),
@@ -162,7 +163,7 @@ fn say_told(router: &Router<'_>, text: &mut Vec<u8>) -> Result<(), AllocError> {
     }
 }
 
-// Says the offer that waits in front, where there is one.
+// Says the offer that waits in front, if there is one.
 fn say_offer(router: &Router<'_>, text: &mut Vec<u8>) -> Result<(), AllocError> {
     match router.next_offer() {
         Some(Offer::Part(part)) => say_number(b"offers snapshot ", part.number, b"\n", text),
@@ -172,7 +173,7 @@ fn say_offer(router: &Router<'_>, text: &mut Vec<u8>) -> Result<(), AllocError> 
 }
 
 impl Notes {
-    /// No notes; whether the octets of what is sent are to be said, too.
+    /// Empty notes. `shows_octets` says whether the octets that are sent are to be said too.
     pub fn new(alloc: Global, shows_octets: bool) -> Notes {
         Notes {
             shows_octets,
@@ -184,7 +185,7 @@ impl Notes {
         }
     }
 
-    /// What is said, line by line.
+    /// The text said of the event, line by line.
     pub fn text(&self) -> &[u8] {
         self.text.as_slice()
     }
@@ -227,7 +228,7 @@ impl Notes {
         }
     }
 
-    // Keeps which prefix is decided next, and the path that is kept for it.
+    // Notes which prefix is decided next, and the path that is kept for it.
     fn watch_choice(&mut self, router: &Router<'_>) -> Result<(), AllocError> {
         let Some(prefix) = router.undecided() else {
             return Ok(());
@@ -236,7 +237,7 @@ impl Notes {
         self.kept.extend_from_slice(router.kept(&prefix))
     }
 
-    /// Notes what an event is to do, before it is done. It is refused only where memory was.
+    /// Notes what an event will do, before it is done. It is refused only for want of memory.
     pub fn before(&mut self, world: &World<'_>, event: &Event) -> Result<(), AllocError> {
         self.clear();
         let Some(router) = world.router(event.router()) else {
@@ -279,7 +280,7 @@ impl Notes {
         Ok(())
     }
 
-    /// Notes what changed by an event, behind it. It is refused only where memory was.
+    /// Notes what changed by an event, behind it. It is refused only for want of memory.
     pub fn behind(&mut self, world: &World<'_>, event: &Event) -> Result<(), AllocError> {
         let Some(router) = world.router(event.router()) else {
             return Ok(());

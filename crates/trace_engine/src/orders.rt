@@ -1,4 +1,4 @@
-//! Orders that are obeyed, each written as the events that it did.
+//! Obeying orders, each written as the events that it did.
 
 ghost use Rattle.std.specs.Prelude.{◌≡◌, ◌≢◌, ◌++◌, IfOk};
 ghost use Rattle.net_text.specs.Lexing.{lines_of};
@@ -20,8 +20,7 @@ use std::alloc::{AllocError, Global};
 use text_engines::status::{DONE, REFUSED};
 use world_core::{Order, StepFault, World};
 
-// Does the events of an order, and answers how many of its rounds did something before one did nothing, where one did
-// nothing.
+// Does the events of an order. If one of its rounds did nothing, it answers how many did something before.
 fn trace_work(
     alloc: Global,
     world: &mut World<'_>,
@@ -84,7 +83,7 @@ fn trace_all(
     Ok(())
 }
 
-// What is printed, with a comment where it is longer than an input may be, and the status.
+// The text printed, with a comment if it is longer than an input may be, and the exit status.
 fn end_output(mut out: Vec<u8>, status: u8) -> Result<(Vec<u8>, u8), AllocError>
     ensures { IfOk result (λ printed. output printed.0.items printed.1 ≡ output (limited out.items) status) }
 {
@@ -92,7 +91,8 @@ fn end_output(mut out: Vec<u8>, status: u8) -> Result<(Vec<u8>, u8), AllocError>
     Ok((out, status))
 }
 
-// What is printed where an order is refused, behind the trace up to it, and the status; want of memory is no such refusal.
+// The text printed if an order is refused, behind the trace up to it, and the exit status. Want of memory is no such
+// refusal: it is an error here.
 fn stop_output(stop: Stop, mut out: Vec<u8>) -> Result<(Vec<u8>, u8), AllocError>
     ensures kind { IfOk result (λ printed. stop.why ≢ StepFault.Memory) }
     ensures output { IfOk result (λ printed. output printed.0.items printed.1 ≡ output (limited (out.items ++ stop_comment stop.line stop.why)) REFUSED) }
@@ -104,7 +104,7 @@ fn stop_output(stop: Stop, mut out: Vec<u8>) -> Result<(Vec<u8>, u8), AllocError
     end_output(out, REFUSED)
 }
 
-// What is printed, behind what was, for orders in a world in which nothing was done.
+// The text printed for orders in a world in which nothing was done, behind the text so far, and the exit status.
 fn world_output(
     alloc: Global,
     network: &Network,
@@ -123,8 +123,8 @@ fn world_output(
     }
 }
 
-/// What is printed for a network of these lines and the orders of a schedule, and the status; with the octets of what is
-/// sent, or without.
+/// The text printed for a network of these lines and the orders of a schedule, and the exit status. The octets that are
+/// sent are shown, or not.
 pub(crate) fn orders_output(
     alloc: Global,
     lines: &[u8],

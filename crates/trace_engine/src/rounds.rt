@@ -1,9 +1,9 @@
-//! Rounds of a network: each router has its turn, but for those that rest, and tries what it may with each peer, but
-//! for those with whom nothing is to be done, and alone, but for where it is idle. What is passed over would find
-//! nothing to do, so it has no line.
+//! Rounds of a network. Each router that does not rest has its turn: it tries what it may with each peer with whom
+//! something is to be done, and then alone, unless it is idle. What is passed over would find nothing to do, and has no
+//! line.
 //!
 //! A world walks its own rounds alike (`World::obey`). This walk stands beside it, since a trace looks at the world
-//! before each event and behind it.
+//! before each event and after it.
 
 ghost use Rattle.std.specs.Prelude.{◌≡◌, [], ◌∷◌, slice_get, Some, OnOk};
 ghost use Rattle.ranked_policy.specs.Plans.{numbers};
@@ -22,7 +22,7 @@ use std::alloc::Global;
 use world_core::marks::{is_marked, mark, no_marks, wake};
 use world_core::{Event, StepFault, World};
 
-// A router puts what is next towards a peer, which rests no longer where something is.
+// Lets a router put the next item towards a peer, if there is one. The peer then rests no longer.
 fn trace_put(
     world: &mut World<'_>,
     number: Asn,
@@ -47,7 +47,7 @@ fn trace_put(
     Ok(())
 }
 
-// What a router that stands there tries with the peer at a place: nothing where nothing is to be done between them.
+// Does what the router at a place tries with the peer at a place. Nothing is done if nothing waits between them.
 fn trace_exchange(
     world: &mut World<'_>,
     at: usize,
@@ -76,7 +76,7 @@ fn trace_exchange(
     trace_events(world, &then, notes, out)
 }
 
-// What the router that stands there tries alone: nothing where it has nothing to do.
+// Does what the router at a place tries alone. Nothing is done if it has nothing to do.
 fn trace_alone(
     world: &mut World<'_>,
     at: usize,
@@ -99,7 +99,7 @@ fn trace_alone(
     trace_events(world, &alone, notes, out)
 }
 
-// What the router that stands there tries with each peer, rising, and then alone.
+// Does what the router at a place tries with each peer, rising, and then alone.
 fn trace_turn(
     world: &mut World<'_>,
     at: usize,
@@ -124,7 +124,8 @@ fn trace_turn(
     trace_alone(world, at, number, notes, out)
 }
 
-// The turn of the router at a place, unless it rests: its last turn did nothing, and nothing was put towards it since.
+// Gives the router at a place its turn, unless it rests: its last turn did nothing, and nothing was put towards it
+// since.
 fn trace_visit(
     world: &mut World<'_>,
     at: usize,
@@ -152,7 +153,7 @@ fn trace_visit(
     Ok(())
 }
 
-// Each router, rising, has its turn, but for those that rest.
+// Gives each router a turn, rising, but for those that rest.
 fn trace_round(
     world: &mut World<'_>,
     marks: &mut Vec<bool>,
@@ -170,8 +171,8 @@ fn trace_round(
     Ok(())
 }
 
-/// Does so many rounds, and appends behind the events of each how many these were. Answers how many of the rounds did
-/// something before one did nothing, where one did nothing. Behind that one all others do nothing.
+/// Does so many rounds, and appends behind the events of each how many they were. If a round did nothing, it answers
+/// how many did something before. Behind that round all others do nothing.
 pub(crate) fn trace_rounds(
     alloc: Global,
     world: &mut World<'_>,

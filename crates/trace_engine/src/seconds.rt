@@ -1,4 +1,4 @@
-//! Seconds of a network: one passes at each router.
+//! Seconds of a network: a second passes at each router.
 
 ghost use Rattle.std.specs.Prelude.{◌≡◌, IfOk};
 ghost use Rattle.world_core.specs.Orders.{second, repeated};
@@ -10,7 +10,7 @@ use ranked_policy::Network;
 use std::alloc::{AllocError, Global};
 use world_core::{Event, StepFault, World};
 
-/// The events of one second: it passes at each router, rising.
+/// The events of one second: a tick of each router, rising.
 pub(crate) fn second_of(alloc: Global, network: &Network) -> Result<Vec<Event>, AllocError>
     ensures { IfOk result (λ events. events.items ≡ second network.now) }
 {
@@ -21,7 +21,7 @@ pub(crate) fn second_of(alloc: Global, network: &Network) -> Result<Vec<Event>, 
     Ok(events)
 }
 
-/// Does so many seconds.
+/// Lets so many seconds pass.
 pub(crate) fn trace_seconds(
     world: &mut World<'_>,
     once: &[Event],

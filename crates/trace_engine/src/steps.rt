@@ -10,7 +10,7 @@ use schedule_text::event_line;
 use std::alloc::Global;
 use world_core::{Event, StepFault, World};
 
-/// Does an event, and appends its line where it was done, with comments of what it did.
+/// Does an event. If it was done, appends its line, with comments of what it did.
 pub(crate) fn trace_event(
     world: &mut World<'_>,
     event: &Event,
