@@ -1,5 +1,5 @@
--- What is printed of a router: its sessions, and for each prefix what it keeps, what its peers said of it and what it makes of that,
--- and whom it told.
+-- The text printed of a router: its sessions, and for each prefix what it keeps, what its peers said of it, how it
+-- judges that, and which peers it told.
 use Rattle.std.specs.Prelude.{◌≡◌, ℕ, ◌+◌, ◌==◌, ◌&&◌, ◌||◌, Bool, true, false, List, [], ◌∷◌, ◌++◌, filter, Option, None, Some, is_some, slice_get, codes, decimal, if◌then◌else◌, ◌⊎◌}
 use Rattle.std.specs.List.{flat_map, list_any}
 use Rattle.prefix_lanes.specs.Bits.{PrefixView}
@@ -35,7 +35,7 @@ state_text OpenSent = codes "OpenSent"
 state_text OpenConfirm = codes "OpenConfirm"
 state_text Established = codes "Established"
 
--- the octets of messages that wait to be put, where some do
+-- the octets of messages that wait to be put, if any do
 abbrev pub outbox_text : ℕ → List ℕ
 outbox_text n = if n == 0 then [] else codes " outbox " ++ decimal n
 
@@ -52,7 +52,7 @@ behind_word word n = word ++ decimal n
 unfoldable pub session_text : ℕ → State → ℕ → List ℕ
 session_text v state epoch = number_text v ++ (state_text state ++ behind_word (codes " incarnation ") epoch)
 
--- and what waits towards it, and whether something of it is on its way
+-- the line of a peer: its session, how many octets wait towards it, and whether something of it is on its way
 unfoldable pub peer_line : ℕ → State → ℕ → ℕ → Bool → List ℕ
 peer_line v state epoch waiting coming = line (session_text v state epoch ++ (outbox_text waiting ++ coming_text coming))
 
@@ -63,18 +63,18 @@ is_coming items s = is_some (slice_get items 0) || is_waiting s.held
 abbrev pub peer_text : ℕ → List Item → Side → List ℕ
 peer_text v items s = peer_line v s.session.state s.link.epoch (octets_waiting s.outbox) (is_coming items s)
 
--- of these peers, with what is in the pipe from each
+-- the lines of these peers, with what is in the pipe from each
 abbrev pub peers_text : (ℕ → Side) → (ℕ → List Item) → List ℕ → List ℕ
 peers_text sides pipes vs = flat_map (λ v. peer_text v (pipes v) (sides v)) vs
 
--- ---- what a router makes of a path that a peer said
+-- ---- how a router judges a path that a peer said
 
--- at which place of a list a path stands, its first place being this one; 0 where it does not
+-- the place of a path in a list, counted from this one; 0 if it does not stand there
 abbrev pub place_in : ℕ → List (List ℕ) → List ℕ → ℕ
 place_in n [] path = 0
 place_in n (p ∷ ps) path = if same_path p path then n else place_in (n + 1) ps path
 
--- the place of a path in a rule, the best being the first
+-- the place of a path in a rule, in which the best stands first
 abbrev pub place_text : Option Rule → List ℕ → List ℕ
 place_text None path = []
 place_text (Some rule) path = codes ", place " ++ decimal (place_in 1 rule.paths path)
@@ -103,7 +103,7 @@ verdict_text table q kept said =
 unfoldable pub word_line : Table → PrefixView → (kept : List ℕ) → ℕ → (said : List ℕ) → List ℕ
 word_line table q kept v said = line (codes "  from " ++ (decimal v ++ (codes " " ++ (numbers_text said ++ (codes ": " ++ verdict_text table q kept said)))))
 
--- the path that a peer said last for a prefix, where it said one
+-- the line of the path that a peer said last for a prefix, if it said one
 abbrev pub said_text : Table → PrefixView → (kept : List ℕ) → ℕ → (said : List ℕ) → List ℕ
 said_text table q kept v [] = []
 said_text table q kept v (w ∷ said) = word_line table q kept v (w ∷ said)
@@ -111,9 +111,9 @@ said_text table q kept v (w ∷ said) = word_line table q kept v (w ∷ said)
 abbrev pub words_text : Table → PrefixView → (kept : List ℕ) → (ℕ → Side) → List ℕ → List ℕ
 words_text table q kept sides vs = flat_map (λ v. said_text table q kept v (path_in (heard_now (sides v) q))) vs
 
--- ---- whom it told
+-- ---- the peers that a router told
 
--- the session is Established, and the last word sent is the kept path
+-- a peer was told: its session is Established, and the last word sent is the kept path
 abbrev pub is_told : List ℕ → Side → PrefixView → Bool
 is_told kept s q = is_up s && same_path kept (path_in (told_now s q))
 
@@ -149,7 +149,8 @@ prefixes_lines table x vs origins = flat_map (λ o. prefix_lines table x vs o.pr
 unfoldable pub router_line : ℕ → List ℕ
 router_line u = line (codes "router " ++ decimal u)
 
--- of a router with this policy, these peers and these origins of prefixes, with what is in the pipe from each peer
+-- the text of a router with this policy, these peers and these origins of prefixes, with what is in the pipe from each
+-- peer
 abbrev pub router_text : ℕ → Table → Router → (ℕ → List Item) → List ℕ → List Origin → List ℕ
 router_text u table x pipes vs origins = router_line u ++ (peers_text x.sides pipes vs ++ prefixes_lines table x vs origins)
 
@@ -162,11 +163,11 @@ Explains u g w out =
     ((is_router g u ≡ false) × (out ≡ refused 0 (code_text kinds.UnknownRouter)))
     ⊎ ((table : Table) × IsTable table × IsTableOf g.net u table × (out ≡ output (why_text g w u table) DONE))
 
--- in every setting of the network of the world of the code
+-- the text of the router of this number, in every setting of the network of the code's world
 abbrev pub ExplainsWorld : ℕ → WorldView → Output → Type 0
 ExplainsWorld u x out = (g : Setting) → g.net ≡ x.net → Explains u g (plain_world x) out
 
--- ---- what the code looks at
+-- ---- what the code reads
 
 -- these are the peers of a router
 abbrev pub ArePeers : RouterView → List ℕ → Type 0

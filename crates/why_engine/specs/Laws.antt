@@ -1,4 +1,4 @@
--- What the definitions of the engine say together.
+-- Laws of the definitions of the engine.
 use Rattle.std.specs.Prelude.{◌≡◌, ℕ}
 use Rattle.router_model.specs.Settings.{Setting, IsSetting}
 use Rattle.world_core.specs.World.{World}

@@ -1,8 +1,8 @@
-//! What the definitions say together; the contract of each function is the law.
+//! Laws of the definitions. The contract of each function is the law.
 
 ghost use Rattle.why_engine.specs.Laws.{EachRouterHasOneText};
 
-/// What is printed of the router of a number, or that there is none, is a function of that number, of the network and
+/// The text printed of the router of a number, or that there is none, is a function of that number, of the network and
 /// of the world.
 pub fn each_router_has_one_text()
     ensures { EachRouterHasOneText }

@@ -181,7 +181,7 @@ fn write_told(out: &mut Tail, peers: &[Asn]) -> Result<(), AllocError>
     out.put_text(b"\n")
 }
 
-/// Appends the peers that were told what is kept.
+/// Appends the peers that were told the kept path.
 pub(crate) fn put_told_line(peers: &[Asn], out: &mut Vec<u8>) -> Result<(), AllocError>
     ensures { OnOk result (out.new.items ≡ out.old.items ++ told_line peers.now) }
 {

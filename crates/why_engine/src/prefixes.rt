@@ -109,7 +109,7 @@ fn told_peers(
     Ok(told)
 }
 
-// Appends the peers that were told the path that is kept, where there are any.
+// Appends the peers that were told the kept path, if there are any.
 fn put_told(peers: &[Asn], out: &mut Vec<u8>) -> Result<(), AllocError>
     ensures { OnOk result (out.new.items ≡ out.old.items ++ told_text peers.now) }
 {
@@ -119,7 +119,7 @@ fn put_told(peers: &[Asn], out: &mut Vec<u8>) -> Result<(), AllocError>
     put_told_line(peers, out)
 }
 
-// Appends what is kept for a prefix, what was said of it, and who was told.
+// Appends a prefix: what is kept for it, what was said of it, and which peers were told.
 fn put_prefix(
     alloc: Global,
     router: &Router<'_>,
@@ -138,7 +138,7 @@ fn put_prefix(
     put_told(told.as_slice(), out)
 }
 
-/// Appends the prefixes of these origins, those of the router's network.
+/// Appends the prefixes of these origins, which are those of the router's network.
 pub(crate) fn put_prefixes(
     alloc: Global,
     router: &Router<'_>,

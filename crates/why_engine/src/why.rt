@@ -1,4 +1,4 @@
-//! What is printed of a router of a world.
+//! The text printed of a router of a world.
 
 ghost use Rattle.std.specs.Prelude.{◌≡◌, ◌++◌, IfOk, OnOk};
 ghost use Rattle.ranked_policy.specs.Plans.{IsRouter};
@@ -40,7 +40,7 @@ fn put_router(
     put_prefixes(alloc, router, table, peers, origins, out)
 }
 
-// What is printed of a router, and the status.
+// The text printed of a router, and the exit status.
 fn router_output(
     alloc: Global,
     network: &Network,
@@ -67,8 +67,9 @@ fn router_output(
     Ok((out, DONE))
 }
 
-/// What is printed of the router of this number, and the status: its sessions, and for each prefix the path that it
-/// keeps, what its peers said of it, and whom it told. A refusal of line 0 where the network has no such router.
+/// The text printed of the router of this number, and the exit status: its sessions, and for each prefix the path that
+/// it keeps, what its peers said of it, and which peers it told. If the network has no such router, it is a refusal of
+/// line 0.
 pub fn why_output(
     alloc: Global,
     network: &Network,

@@ -1,4 +1,4 @@
-//! What a router makes of the path that a peer said for a prefix.
+//! How a router judges the path that a peer said for a prefix.
 
 ghost use Rattle.std.specs.Prelude.{◌≡◌, ◌∷◌, ◌++◌, ◌==◌, OnOk};
 ghost use Rattle.std.specs.List.{list_any};
@@ -12,7 +12,7 @@ use ranked_policy::laws::policies_are_tests;
 use ranked_policy::{Asn, Path, PolicyTable};
 use std::alloc::AllocError;
 
-/// Whether two paths are one.
+/// Whether two paths are the same.
 pub(crate) fn is_same(one: &[Asn], other: &[Asn]) -> bool
     ensures { result ≡ same_path one.now other.now }
 {
@@ -29,7 +29,7 @@ fn is_along(path: &[Asn], router: Asn, said: &[Asn]) -> bool
     }
 }
 
-// At which place of these paths the router stands with what was said, counted from 1; 0 where it does not.
+// The place among these paths of the router followed by what was said, counted from 1; 0 if it is not among them.
 fn place_among(paths: &[Path], router: Asn, said: &[Asn]) -> usize
     ensures { result ≡ place_in 1 paths.now (router ∷ said.now) }
 {
@@ -156,7 +156,7 @@ fn write_word(
     out.put_text(b"\n")
 }
 
-/// Appends the path that a peer said for a prefix, and what the router makes of it; nothing where it said none.
+/// Appends the path that a peer said for a prefix, and how the router judges it; nothing if the peer said none.
 pub(crate) fn put_said(
     table: &PolicyTable<'_>,
     prefix: &Prefix,
