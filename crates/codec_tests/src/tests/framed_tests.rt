@@ -59,7 +59,7 @@ fn each_beginning_waits_for_more(rt: HostRuntime) -> Result<(), Fail> {
     Ok(())
 }
 
-// Of each octet what comes where it is ff.
+// For each octet of the UPDATE, what comes out if that octet is ff.
 static REPLACED: [Out; 44] = [
     // The Marker is all ones as it is.
     MESSAGE,

@@ -21,7 +21,7 @@ fn push_alive(outbox: &mut Outbox, epoch: u32) -> Result<(), AllocError> {
     Ok(())
 }
 
-// Appends so many of them.
+// Appends so many KEEPALIVEs.
 fn push_several(outbox: &mut Outbox, epoch: u32, count: u32) -> Result<(), AllocError> {
     for _ in 0..count {
         push_alive(outbox, epoch)?;
@@ -197,7 +197,7 @@ fn octets_join_a_message(rt: HostRuntime) {
     joins(&rt, &mut outbox, &mut octets);
 }
 
-// So do octets in two parts.
+// Octets that are appended in two parts join those of a message of the same incarnation.
 #[test]
 fn parts_join_a_message(rt: HostRuntime) {
     let mut outbox = Outbox::new(rt.alloc());
