@@ -49,7 +49,7 @@ SpeakersPutsCommute = PutsCommute SpeakerStep
 abbrev pub told : Order Word ℕ ℕ
 told = appends 0 1 7 ∷ appends 0 1 9 ∷ sends 0 1 7 ∷ hears 1 0 7 ∷ []
 
--- a run, and causal
+-- the order `told` is a run, and causal
 abbrev pub ToldIsARun : Type 0
 ToldIsARun =
     ((last : NetworkState Speaker ℕ ℕ) × Run SpeakerStep (opening silent) told last
@@ -60,7 +60,7 @@ ToldIsARun =
 abbrev pub foretold : Order Word ℕ ℕ
 foretold = hears 1 0 7 ∷ appends 0 1 7 ∷ appends 0 1 9 ∷ sends 0 1 7 ∷ []
 
--- neither causal nor a run
+-- the order `foretold` is neither causal nor a run
 abbrev pub ForetoldIsNoRun : Type 0
 ForetoldIsNoRun =
     ((u : ℕ) → events_of u foretold ≡ events_of u told)
@@ -86,7 +86,7 @@ RunsPassThroughAnyCut =
     → PutsCommute SpeakerStep → Run SpeakerStep (opening start) order last → IsCut SpeakerStep cut order start at last.routers
     → (middle : ℕ → Speaker) × PassesThrough SpeakerStep cut order start at middle last
 
--- it fails of the cut with what 1 heard inside, and nothing of 0
+-- that law fails for the cut with what 1 heard inside, and nothing of 0
 abbrev pub NotThroughAnyCut : Type 0
 NotThroughAnyCut = RunsPassThroughAnyCut → ⊥
 
@@ -97,14 +97,14 @@ CounterStep u old (puts to x) new = (x ≡ old) × (new ≡ old)
 CounterStep u old (takes from x) new = new ≡ old + x
 CounterStep u old (offers n) new = (n ≡ old) × (new ≡ old)
 
--- the same in a network: they send only to those that they are linked with
+-- counters in a network: they send only to those that they are linked with
 abbrev pub LinkedCounterStep : (ℕ → ℕ → Bool) → Steps ℕ ℕ ℕ ℕ
 LinkedCounterStep linked u old (alone n) new = CounterStep u old (alone n) new
 LinkedCounterStep linked u old (puts to x) new = (linked u to ≡ true) × CounterStep u old (puts to x) new
 LinkedCounterStep linked u old (takes from x) new = CounterStep u old (takes from x) new
 LinkedCounterStep linked u old (offers n) new = CounterStep u old (offers n) new
 
--- their puts do not commute
+-- the puts of counters do not commute
 abbrev pub CountersDoNotCommute : Type 0
 CountersDoNotCommute = PutsCommute CounterStep → ⊥
 
@@ -133,7 +133,7 @@ RoutersGiveCausalOrders =
     → All (λ m. FitsItem m.stamp m.event.event) ms → TakesBeginPuts journal
     → IsCausal (order_of ms)
 
--- it fails where a router takes from one with a greater number
+-- that law fails if a router takes from one with a greater number
 abbrev pub NotByRouters : Type 0
 NotByRouters = RoutersGiveCausalOrders → ⊥
 
@@ -145,7 +145,7 @@ RunsWhateverIsCollected =
     → ((u : ℕ) → events_of u order ≡ journal u) → IsCausal order
     → Run CounterStep (opening start) order (closing finish collected order)
 
--- it fails where the collector has an offer that no router made
+-- that law fails if the collector has an offer that no router made
 abbrev pub NotWhateverIsCollected : Type 0
 NotWhateverIsCollected = RunsWhateverIsCollected → ⊥
 
@@ -155,6 +155,6 @@ AllOffersStand =
     (cut : ℕ → ℕ) (order : Order ℕ ℕ ℕ) (kind : ℕ → Bool)
     → filter kind (offers_in (first_part cut order ++ second_part cut order)) ≡ filter kind (offers_in order)
 
--- it fails where router 0 offers outside and then router 1 inside
+-- that law fails if router 0 offers outside and then router 1 inside
 abbrev pub NotAllOffersStand : Type 0
 NotAllOffersStand = AllOffersStand → ⊥

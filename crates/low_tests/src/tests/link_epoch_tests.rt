@@ -19,7 +19,7 @@ enum Step {
     HangsUp(Option<u32>),
     /// It hears a sign.
     Hears(Sign, Heard),
-    /// It stands so.
+    /// It has this number, and is in this phase.
     Stands(u32, Phase),
 }
 
