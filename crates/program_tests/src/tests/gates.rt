@@ -164,7 +164,7 @@ fn meet<R: Threads + Wait + Sync>(
     }
 }
 
-// So two threads ran at once.
+// Two threads ran at once, since each gate saw the other be asked.
 #[test]
 fn gate_meeting(rt: HostRuntime) -> Result<(), Fail> {
     let prefix = Prefix::new(0x0a01_0000, 16).ok_or("a prefix")?;
@@ -188,7 +188,7 @@ fn in_lockstep<R: Threads + Wait + Sync>(
     Ok((writer.into_inner(), status))
 }
 
-// So workers take what their peers put, and a snapshot settles.
+// Workers in lockstep take what their peers put, and a snapshot settles.
 #[test]
 fn gate_lockstep(rt: HostRuntime) -> Result<(), Fail> {
     let prefix = Prefix::new(0x0a01_0000, 16).ok_or("a prefix")?;

@@ -83,7 +83,8 @@ fn goes_through<G>(
     }
 }
 
-// Whether the record of two routers in lockstep does.
+// Whether the record of two routers in lockstep goes through the cut, and ends there too as the
+// record.
 fn does_so<R: Threads + Wait + Sync>(
     rt: &R,
     alloc: Global,
