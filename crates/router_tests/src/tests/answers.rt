@@ -67,7 +67,7 @@ pub(super) fn is_drained(router: &Router<'_>, peer: Asn) -> bool {
     }
 }
 
-// Whether something is.
+// Whether something is left to put towards a peer.
 pub(super) fn waits(router: &Router<'_>, peer: Asn) -> bool {
     match router.next_item(peer) {
         Ok(Some(_)) => true,
@@ -85,7 +85,7 @@ pub(super) fn does(router: &mut Router<'_>, call: &Call) -> Answer {
     }
 }
 
-// The same, where the caller has no room for the event.
+// What a call answers if the caller has no room for the event.
 pub(super) fn does_without_room(router: &mut Router<'_>, call: &Call) -> Answer {
     router.perform(call, Err(AllocError))
 }
@@ -94,7 +94,7 @@ pub(super) fn takes_without_room(router: &mut Router<'_>, peer: Asn, item: &Item
     router.take(peer, item, Err(AllocError))
 }
 
-// So many seconds pass.
+// Lets so many seconds pass.
 pub(super) fn seconds(router: &mut Router<'_>, n: u32) -> bool {
     for _ in 0..n {
         if ticks(router) != DID {
@@ -147,7 +147,7 @@ pub(super) fn keeps_its_stamp(router: &mut Router<'_>, call: &Call, answer: Answ
     does(router, call) == answer && stamp(router) == last
 }
 
-// It is answered so without room, and the stamp stays.
+// Whether a call is answered so without room, and leaves the stamp.
 pub(super) fn keeps_its_stamp_without_room(
     router: &mut Router<'_>,
     call: &Call,

@@ -72,7 +72,7 @@ fn is_same(a: &What, b: &What) -> bool {
     numbers(a) == numbers(b) && octets(a) == octets(b)
 }
 
-// Whether it is that item.
+// Whether the item is that one.
 fn is_sent(alloc: Global, item: &Item, sent: &Sent<'_>) -> bool {
     match what(alloc, sent) {
         Some(wanted) => is_same(&item.what, &wanted),
@@ -137,7 +137,7 @@ pub(super) fn takes(
     }
 }
 
-// Whether it is where the caller has no room.
+// Whether the item of a peer is answered so if the caller has no room.
 pub(super) fn takes_so_without_room(
     alloc: Global,
     router: &mut Router<'_>,
@@ -152,7 +152,7 @@ pub(super) fn takes_so_without_room(
     }
 }
 
-// Whether it is taken, and the message that it brings is handled.
+// Whether the item of a peer is taken, and the message that it brings is handled.
 pub(super) fn hears(alloc: Global, router: &mut Router<'_>, peer: Asn, sent: &Sent<'_>) -> bool {
     takes(alloc, router, peer, 0, sent, DID) && handles(router, peer) == DID
 }
