@@ -18,9 +18,9 @@ type Answer = Result<Taken, CollectError>;
 enum Step {
     // An offer is answered so.
     Offers(Offered, Answer),
-    // It is refused so, if it is offered.
+    // Why an offer would be refused, if it would.
     Refuses(Offered, Option<CollectError>),
-    // It is kept, whether it is late or not.
+    // An offer is kept, whether it is late or not.
     Records(Offered),
     // The snapshot of a number comes out so.
     ComesOut(u32, Outcome),
