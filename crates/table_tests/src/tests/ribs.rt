@@ -50,11 +50,11 @@ enum Along {
 enum Of {
     /// The router originates it.
     Originates,
-    /// It does so no longer.
+    /// The router originates it no longer.
     Withdraws,
-    /// It keeps a path.
+    /// The router keeps a path for it.
     Keeps(&'static [Asn]),
-    /// It tells a peer what is kept.
+    /// The router tells a peer the kept path.
     Tells(Asn),
     /// The path heard last from a peer: the empty path where it gives none.
     Heard(Asn, &'static [Asn]),
@@ -83,11 +83,11 @@ enum Row {
     Hears(Asn, Along, &'static [At], &'static [At]),
     /// The session with a peer is Established.
     ComesUp(Asn),
-    /// It is left.
+    /// The session with a peer is left.
     Forgets(Asn),
     /// The router decides once: this prefix, or none.
     Decides(Option<At>),
-    /// It starts again.
+    /// The router starts again.
     Clears,
     /// The prefix that is to be decided.
     Dirty(Option<At>),
@@ -332,7 +332,8 @@ fn waiting(rib: &Rib, peer: Asn) -> Option<Option<Prefix>> {
     Some(rib.waiting(peer))
 }
 
-// The same, where the peer is looked for at a place first: its own, or that of another.
+// The prefix that a peer waits for, as `waiting` answers; the peer is looked for first at a place:
+// its own, or that of another.
 fn waiting_at(rib: &Rib, at: usize, peer: Asn) -> Option<Option<Prefix>> {
     if !rib.network().linked(rib.router(), peer) {
         return None;
@@ -593,7 +594,7 @@ fn a_set_gives_no_choice(rt: HostRuntime) -> Result<(), Fail> {
     tries(&rt, rt.alloc(), 4, &A_SET)
 }
 
-// So are several segments, and no AS_PATH.
+// Several segments, and no AS_PATH, give no choice.
 static SEVERAL_SEGMENTS_AND_NONE: [Row; 4] = [
     Row::Hears(2, Along::Two(&[2], &[1]), &[LONG], &[]),
     Row::Hears(3, Along::Nothing, &[LONG], &[]),
