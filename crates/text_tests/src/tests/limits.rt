@@ -146,7 +146,7 @@ fn has_code_of_rule(alloc: Global, paths: u32, wanted: Option<Code>) -> Result<b
     has_code_behind_routers(alloc, 20, rule.as_slice(), wanted)
 }
 
-// The same of a rule of 33 paths that names one again.
+// Whether this is the code that a rule of 33 paths is refused for that names one again.
 fn has_code_of_repeat(alloc: Global, wanted: Option<Code>) -> Result<bool, AllocError> {
     let mut rule = rule_of(alloc, 33)?;
     rule.extend_from_slice(b" 020-01")?;
