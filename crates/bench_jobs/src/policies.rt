@@ -121,7 +121,7 @@ pub fn gadgets(
     Ok(text)
 }
 
-// Appends a line of a word, a router, and a peer where there is one.
+// Appends a line of a word, a router, and a peer if there is one.
 fn push_words(
     text: &mut String,
     word: &str,
