@@ -133,7 +133,7 @@ pub record AttrsFit (width : Width) (a : Attrs) : Type 0 where
   pub other : AllByRecursion RawFits a.other
   pub rising : IsRising a.other
 
--- the first of ORIGIN, AS_PATH and NEXT_HOP that is not there
+-- the first of ORIGIN, AS_PATH and NEXT_HOP that the attributes lack
 abbrev pub missing : Attrs → Option ℕ
 missing a = if not (is_some a.origin) then Some ORIGIN else if not (is_some a.path) then Some AS_PATH else if not (is_some a.next_hop) then Some NEXT_HOP else None
 
