@@ -104,7 +104,7 @@ fn told_is_a_run()
     runs_are_causal_orders::<Speakers>();
 }
 
-/// The same journals in an order that is neither causal nor a run.
+/// The order `foretold` has the same journals, and is neither causal nor a run.
 fn foretold_is_no_run()
     ensures { ForetoldIsNoRun }
 {
