@@ -21,6 +21,6 @@ abbrev pub is_rule : List Text → Bool
 is_rule [] = false
 is_rule (name ∷ words) = same name (codes "rank")
 
--- room for the paths of a line, where it is one of a rule and long
+-- there is room for all words of a line, if it is the line of a rule and is long
 abbrev pub HasRoom : ℕ → Text → Type 0
 HasRoom room line = MOST_PAIRED < length line → is_rule (words_of line) ≡ true → length (words_of line) ≤ room
