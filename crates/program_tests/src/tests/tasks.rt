@@ -19,7 +19,7 @@ struct Row {
     status: u8,
 }
 
-// The same router in all: what one word writes is what no other does.
+// All rows but the first read the same router, and each word writes what no other does.
 static ROWS: [Row; 7] = [
     Row {
         words: &["decode", "--asn", "4"],
