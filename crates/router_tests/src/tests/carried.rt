@@ -62,7 +62,7 @@ fn record(one: &mut Router<'_>, two: &mut Router<'_>, n: u32) -> bool {
         && offers_quiet_part(two, 1)
 }
 
-// They have their routes after some turns, and, where they are to record, their parts after as many more.
+// Both have their routes after some turns, and, if they are to record, their parts after as many more.
 fn meet(one: &mut Router<'_>, two: &mut Router<'_>, prefix: Prefix, n: u32, records: bool) -> bool {
     settle(one, two, prefix, n) && (!records || record(one, two, n))
 }

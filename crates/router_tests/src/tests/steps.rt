@@ -40,9 +40,9 @@ pub(super) enum Asked {
 pub(super) enum Step<'a> {
     // The call is answered so.
     Does(Asked, Answer),
-    // The same, and the stamp stays.
+    // The call is answered so, and the stamp stays.
     Stays(Asked, Answer),
-    // The call is answered so where its caller has no room, and the stamp stays.
+    // The call is answered so if its caller has no room, and the stamp stays.
     WithoutRoom(Asked, Answer),
     // The call is answered without room as with it, but that a step is refused; then it is done.
     EitherWay(Asked),
@@ -52,11 +52,11 @@ pub(super) enum Step<'a> {
     Hears(Asn, Sent<'a>),
     // The next item towards a peer is this one.
     Puts(Asn, Sent<'a>),
-    // It has this stamp.
+    // The next item towards a peer has this stamp.
     PutsAt(Asn, u64),
-    // It is octets of this incarnation.
+    // The next item towards a peer is octets of this incarnation.
     PutsSome(Asn, u32),
-    // An item of a peer with this stamp is answered so where the caller has no room.
+    // An item of a peer with this stamp is answered so if the caller has no room.
     TakesWithoutRoom(Asn, u64, Sent<'a>, Answer),
     // A prefix comes and goes until router 2 is told nothing more.
     Fills(Named),
@@ -64,7 +64,7 @@ pub(super) enum Step<'a> {
     Drains(Asn),
     // Nothing waits towards a peer.
     IsDrained(Asn),
-    // Something does.
+    // Something waits towards a peer.
     Waits(Asn),
     // This is the offer in front.
     Offers(Offered),
