@@ -16,7 +16,7 @@ static BEHIND_DISAGREE: Plan = Plan {
     rules: &[&[&[2, 3, 1], &[2, 1]], &[&[3, 2, 1], &[3, 1]]],
 };
 
-/// The same, with every path of 4.
+/// The network of `BEHIND_DISAGREE`, with a rule of every path of 4.
 static PATHS_BEHIND_DISAGREE: Plan = Plan {
     routers: 4,
     links: &[],
@@ -27,14 +27,14 @@ static PATHS_BEHIND_DISAGREE: Plan = Plan {
     ],
 };
 
-/// 4 is linked with both.
+/// 4 is linked with both of two that disagree.
 static BEHIND_BOTH: Plan = Plan {
     routers: 4,
     links: &[(1, 2), (1, 3), (2, 3), (2, 4), (3, 4)],
     rules: &[&[&[2, 3, 1], &[2, 1]], &[&[3, 2, 1], &[3, 1]]],
 };
 
-/// The same, with every path of 4.
+/// The network of `BEHIND_BOTH`, with a rule of every path of 4.
 static PATHS_BEHIND_BOTH: Plan = Plan {
     routers: 4,
     links: &[],
@@ -52,7 +52,7 @@ static TWO_BEHIND: Plan = Plan {
     rules: &[&[&[2, 3, 1], &[2, 1]], &[&[3, 2, 1], &[3, 1]]],
 };
 
-/// The same, with every path of 4 and of 5.
+/// The network of `TWO_BEHIND`, with rules of every path of 4 and of 5.
 static PATHS_OF_TWO_BEHIND: Plan = Plan {
     routers: 5,
     links: &[],
@@ -90,7 +90,8 @@ static FIVE_BEHIND: Plan = Plan {
     rules: &[&[&[2, 3, 1], &[2, 1]], &[&[3, 2, 1], &[3, 1]]],
 };
 
-/// The same five, each linked with 9 too, which has one path: so each has that over 9, or one that is as short.
+/// The five of `FIVE_BEHIND`, each linked with 9 too, which has one path. Each of the five thus has the path over 9, or
+/// one that is as short.
 static FIVE_BESIDE: Plan = Plan {
     routers: 9,
     links: &[
@@ -150,7 +151,7 @@ static AT_THE_LIMIT: Plan = Plan {
     ],
 };
 
-/// The same, where 4 is linked with 9 too: it may have one path more.
+/// The network of `AT_THE_LIMIT`, but 4 is linked with 9 too and may have one path more.
 static PAST_THE_LIMIT: Plan = Plan {
     routers: 9,
     links: &[

@@ -167,7 +167,7 @@ pub(super) fn plays(rt: &impl Abort, alloc: Global, marks: &mut MarkState, scrip
     }
 }
 
-/// The same, from the start.
+/// Each step of a script goes as it says, from the start.
 pub(super) fn tries(rt: &impl Abort, alloc: Global, script: &[Step]) {
     let mut marks = MarkState::new(alloc);
     plays(rt, alloc, &mut marks, script);
