@@ -34,7 +34,7 @@ static CASES: [(u16, usize, usize, bool); 8] = [
     (90, 4096, 1025, false),
 ];
 
-// Whether a builder has these settings, where they are good, and else refuses them.
+// Whether a builder has these settings if they are good, and refuses them if not.
 fn are_judged(alloc: Global, settings: Settings, good: bool) -> bool {
     match NetBuilder::new(alloc, settings) {
         Ok(net) => good && net.settings() == settings,

@@ -44,7 +44,7 @@ static PERMITTED: [Permitted; 17] = [
     (1, STRAY, &[1], false),
 ];
 
-// The policy of a router for a prefix, where there is such a router.
+// The policy of a router for a prefix, if there is such a router.
 fn policy_of<'a>(net: &'a Network, router: Asn, (addr, len): At) -> Option<Chosen<'a>> {
     let prefix = Prefix::new(addr, len)?;
     let table = net.policies(router)?;

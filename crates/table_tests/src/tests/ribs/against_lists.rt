@@ -1,4 +1,4 @@
-//! The same random calls on the tables and on plain lists.
+//! Makes the same random calls on the tables and on plain lists.
 
 use super::lists::Lists;
 use super::*;
