@@ -154,7 +154,7 @@ fn steps(alloc: Global, two: &mut Router<'_>, walk: &mut Walk) -> bool {
     }
 }
 
-// The incarnation of the last marker of this number among the items put, if there is one.
+// The incarnation of the last item put, if that is a marker of this number.
 fn marked(two: &mut Router<'_>, number: u32) -> Option<u32> {
     let mut found = None;
     for _ in 0..10_000u32 {
