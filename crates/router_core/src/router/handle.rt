@@ -150,7 +150,7 @@ fn handle_front(
 }
 
 // Handles any message or fault: it is read, and its draft is made, given room, and carried out. A draft is large, and a
-// function reserves as it begins what it may hold: `handle_front` therefore holds none.
+// function pays as it begins for what it may hold: `handle_front` therefore holds none.
 #[inline(never)]
 fn handle_by_draft(
     alloc: Global,

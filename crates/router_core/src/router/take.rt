@@ -66,8 +66,8 @@ impl Router<'_> {
         }
     }
 
-    // Takes a Dial or a Shut at this stamp, or refuses it and changes nothing. Its draft is large, and a function
-    // reserves as it begins what it may hold: `take`, which mostly takes pieces, therefore holds none.
+    // Takes a Dial or a Shut at this stamp, or refuses it and changes nothing. Its draft is large, and a function pays
+    // as it begins for what it may hold: `take`, which mostly takes pieces, therefore holds none.
     #[inline(never)]
     fn take_sign(
         &mut self,
