@@ -64,8 +64,8 @@ fn narrow_where(way: &Way, sets: &mut [u64], marks: u64) -> bool
     narrow_over(way, sets)
 }
 
-/// Removes, way by way, the values that no value of a marked place fits, or of a place that lost a value here. Answers
-/// the marks of the places that lost one.
+/// Removes, way by way, the values that nothing fits over the way, if the way's other place is marked or lost a value
+/// here. Answers the marks of the places that lost one.
 pub(crate) fn narrow(ways: &[Way], sets: &mut [u64], marks: u64) -> u64
     requires { AreWithin (length sets.old) ways.now }
     ensures { Narrows ways.now sets.old sets.new }
