@@ -17,7 +17,7 @@ use Rattle.router_side.specs.declared.block.Block.{Block}
 use Rattle.router_side.specs.declared.block.Stored.{Stored}
 use Rattle.router_side.specs.declared.history.Told.{Told}
 use Rattle.router_side.specs.Histories.{Place, history, updates_read, dated, told_in, told_stored, told_by_blocks, entries_in, octets_in, places_of, spelt_by, spelt, spelt_in, stored_len, AreKept, IsStored, AreStored, AreAllStored, PutsBehind}
-use Rattle.router_side.specs.Sayings.{nobody, acted_where, IsSayable}
+use Rattle.router_side.specs.Sayings.{nobody, IsSayable}
 
 under : (b c : Bool) (t u : Update) (us : List Update) → cond b (t ∷ cond c (us ++ u ∷ []) us) (cond c (us ++ u ∷ []) us) ≡ cond c (cond b (t ∷ us) us ++ u ∷ []) (cond b (t ∷ us) us)
 under true true t u us = refl
@@ -231,7 +231,3 @@ grown_at ts us more e u n grown =
 
 pub grown_behind : (ts us more : List Told) (e : ℕ) (u : Update) → history more ≡ with_update (history us) e u → history (ts ++ more) ≡ with_update (history (ts ++ us)) e u
 grown_behind ts us more e u grown = fun_ext (λ n. grown_at ts us more e u n grown)
-
-pub grown_where : (ts us more : List Told) (e : ℕ) (x : Option Update) → history more ≡ acted_where true x e (history us) → history (ts ++ more) ≡ acted_where true x e (history (ts ++ us))
-grown_where ts us more e None same = fun_ext (λ n. history_behind ts more n ∙ ap (λ (h : ℕ → List Update). history ts n ++ h n) same ∙ sym (history_behind ts us n))
-grown_where ts us more e (Some u) grown = grown_behind ts us more e u grown

@@ -1,6 +1,6 @@
 //! UPDATEs one behind the other, in octets that tell which they are, in room that never grows. An announcement as a
 //! router tells it, where it is heard or told as a [`Route`], is stored without its first octets, which its length and
-//! the next octet tell (`told_front`). All others are stored whole, also an announcement that is told as a message.
+//! the next octet tell (`told_front`). All others are stored whole.
 
 ghost use Rattle.std.specs.Prelude.{ℕ, List, ◌≡◌, ◌+◌, ◌≤◌, ◌∷◌, ◌++◌, ◌↔◌, [], true, length, get_or, Ok, IfOk, OnOk, IsTrue, vec_len, vec_capacity};
 ghost use Rattle.bgp_codec.specs.declared.message.Message.TheVariants.{UpdateMsg};
@@ -11,13 +11,13 @@ ghost use Rattle.bgp_codec.specs.Faults.{reading};
 ghost use Rattle.bgp_codec.specs.Spelling.{written};
 ghost use Rattle.run_model.specs.Octets.{octets_of};
 ghost use Rattle.router_model.specs.Sides.{with_update};
-ghost use Rattle.router_side.specs.Sayings.{acted_where, nobody, update_in, IsSayable};
+ghost use Rattle.router_side.specs.Sayings.{nobody, IsSayable};
 ghost use Rattle.router_side.specs.Histories.{history, spelt, spelt_by, stored_len, told_stored, updates_read, AreStored, IsStored};
 
 use crate::history::{Told, nobody};
 use crate::route::{FRONT, Route, shortened, told_front};
 use bgp_codec::laws::{header_is_its_front, written_has_a_header, written_is_read};
-use bgp_codec::{Message, decode, put_message};
+use bgp_codec::{Message, decode};
 use bgp_values::Width;
 use outbox::Outbox;
 use std::alloc::{AllocError, Global};
@@ -192,40 +192,6 @@ impl Block {
         self.octets.extend_from_slice(stored).unwrap();
         let len = frame.len() as u16;
         self.places.push_reserved(Stored { epoch, len, short });
-    }
-
-    // Appends a message to what waits towards a peer, for which there is room; an UPDATE joins those that are here.
-    pub(crate) fn keep(&mut self, width: Width, epoch: u32, message: &Message, outbox: &mut Outbox)
-        requires kept { AreStored self.old.places.items self.old.octets.items }
-        requires sayable { IsSayable width message.now }
-        requires room { vec_len self.old.octets + length (written width message.now) ≤ vec_capacity self.old.octets }
-        requires place { vec_len self.old.places + 1 ≤ vec_capacity self.old.places }
-        requires waiting { length (written width message.now) ≤ outbox.old.room }
-        requires more { 1 ≤ outbox.old.places }
-        ensures kept { AreStored self.new.places.items self.new.octets.items }
-        ensures told { history (told_stored width self.new.places.items self.new.octets.items) ≡ acted_where true (update_in message.now) epoch (history (told_stored width self.old.places.items self.old.octets.items)) }
-        ensures passing { outbox.new.passing ≡ outbox.old.passing ++ octets_of epoch (written width message.now) }
-    {
-        written_has_a_header();
-        match message {
-            Message::UpdateMsg(_) => {
-                written_is_read();
-                header_is_its_front();
-                let before = self.octets.len();
-                put_message(&mut self.octets, message, &nobody(width));
-                let (_, put) = self.octets.split_at(before);
-                outbox.push_octets(epoch, put);
-                let len = (self.octets.len() - before) as u16;
-                self.places.push_reserved(Stored {
-                    epoch,
-                    len,
-                    short: false,
-                });
-            }
-            Message::OpenMsg(_) | Message::NoticeMsg(_) | Message::AliveMsg => {
-                outbox.push_message(epoch, message, &nobody(width));
-            }
-        }
     }
 
     // Appends the UPDATE of a path that is told to what waits towards a peer, for which there is room, and it joins

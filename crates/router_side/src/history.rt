@@ -1,6 +1,6 @@
 //! The UPDATEs of a side, by incarnation, in octets that tell which they are.
 
-ghost use Rattle.std.specs.Prelude.{◌≡◌, ◌≤◌, ◌++◌, [], true, length, Ok, IfOk, OnOk, OnErr};
+ghost use Rattle.std.specs.Prelude.{◌≡◌, ◌≤◌, ◌++◌, [], length, Ok, IfOk, OnOk, OnErr};
 ghost use Rattle.bgp_codec.specs.declared.message.Message.TheVariants.{UpdateMsg};
 ghost use Rattle.bgp_codec.specs.declared.update.Update as update;
 ghost use Rattle.bgp_codec.specs.Header.{IsFrame};
@@ -9,12 +9,12 @@ ghost use Rattle.bgp_codec.specs.Faults.{reading};
 ghost use Rattle.bgp_codec.specs.Spelling.{written};
 ghost use Rattle.run_model.specs.Octets.{octets_of};
 ghost use Rattle.router_model.specs.Sides.{with_update};
-ghost use Rattle.router_side.specs.Sayings.{acted_where, nobody, update_in, IsSayable};
+ghost use Rattle.router_side.specs.Sayings.{nobody, IsSayable};
 ghost use Rattle.router_side.specs.Histories.{history, told_with};
 
 use crate::block::Block;
 use crate::route::Route;
-use bgp_codec::{Message, Rule, Update};
+use bgp_codec::{Rule, Update};
 use bgp_values::Width;
 use outbox::Outbox;
 use std::alloc::{AllocError, Global};
@@ -148,19 +148,6 @@ impl History {
         ensures { (w : widths.Width) (u : update.Update) → reading (nobody w) frame.now ≡ Ok (UpdateMsg u) → history (told_with w self.new) ≡ with_update (history (told_with w self.old)) epoch u }
     {
         self.last.keep_frame(epoch, frame);
-    }
-
-    // Appends a message to what waits towards a peer, for which there is room; an UPDATE joins those that are here.
-    pub(crate) fn keep(&mut self, width: Width, epoch: u32, message: &Message, outbox: &mut Outbox)
-        requires sayable { IsSayable width message.now }
-        requires room { length (written width message.now) ≤ self.old.room }
-        requires place { 1 ≤ self.old.places }
-        requires waiting { length (written width message.now) ≤ outbox.old.room }
-        requires more { 1 ≤ outbox.old.places }
-        ensures told { history (told_with width self.new) ≡ acted_where true (update_in message.now) epoch (history (told_with width self.old)) }
-        ensures passing { outbox.new.passing ≡ outbox.old.passing ++ octets_of epoch (written width message.now) }
-    {
-        self.last.keep(width, epoch, message, outbox);
     }
 
     // Appends the UPDATE of a path that is told to what waits towards a peer, for which there is room, and it joins

@@ -1,4 +1,4 @@
-//! UPDATEs and markers that a router says of itself, beside the drafts of its events.
+//! Paths and markers that a router says of itself, beside the drafts of its events.
 
 ghost use Rattle.std.specs.Prelude.{◌≡◌, true, OnOk, OnErr};
 ghost use Rattle.bgp_codec.specs.declared.message.Message.TheVariants.{UpdateMsg};
@@ -8,39 +8,10 @@ ghost use Rattle.router_side.specs.SideOf.{side, told_by, HasRoomToTell, HasRoom
 
 use super::SideEnd;
 use crate::route::Route;
-use bgp_codec::{Message, written_len};
 use outbox::Control;
 use std::alloc::AllocError;
 
 impl SideEnd {
-    /// Makes room for an UPDATE to be told. It is refused only where memory was, and the side stays as
-    /// it was, with the room that it had, or more.
-    pub fn reserve_telling(&mut self, message: &Message) -> Result<(), AllocError>
-        requires { IsSayable self.old.width message.now }
-        ensures side { side self.new ≡ side self.old }
-        ensures room { OnOk result (HasRoomToTell message.now self.new) }
-        ensures kept { OnErr result (KeepsRoom self.old self.new) }
-    {
-        let len = written_len(message, self.width);
-        self.outbox.reserve(len, 1)?;
-        self.sent.reserve(len)?;
-        Ok(())
-    }
-
-    /// An UPDATE is told, for which there is room: it is appended, joins those that were sent, and sets the
-    /// KeepaliveTimer again (RFC 4271 section 8.2.2). It takes no memory.
-    #[tactic(auto, using(crate::proofs::Said::told_is))]
-    pub fn tell(&mut self, message: &Message)
-        requires up { is_up (side self.old) ≡ true }
-        requires sayable { IsSayable self.old.width message.now }
-        requires room { HasRoomToTell message.now self.old }
-        ensures { side self.new ≡ told_by (side self.old) message.now }
-    {
-        let epoch = self.link.epoch();
-        self.sent.keep(self.width, epoch, message, &mut self.outbox);
-        self.session.update_sent();
-    }
-
     /// Makes room for a path to be told. It is refused only where memory was, and the side stays as it was, with the
     /// room that it had, or more.
     pub fn reserve_route(&mut self, route: &Route) -> Result<(), AllocError>
@@ -54,8 +25,9 @@ impl SideEnd {
         Ok(())
     }
 
-    /// A path is told, for which there is room, as `tell` tells its UPDATE; its octets are put without a
-    /// message in between. It takes no memory.
+    /// A path is told, for which there is room: its UPDATE is appended, joins those that were sent, and sets the
+    /// KeepaliveTimer again (RFC 4271 section 8.2.2). Its octets are put without a message in between. It takes no
+    /// memory.
     #[tactic(auto, using(crate::proofs::Said::told_is))]
     pub fn tell_route(&mut self, route: &Route)
         requires up { is_up (side self.old) ≡ true }
