@@ -16,7 +16,9 @@ use Rattle.router_core.specs.Views.{plain_of}
 use Rattle.worker_loop.specs.declared.chore.Chore.{Chore}
 use Rattle.worker_loop.specs.declared.chore.Chore.TheVariants.{Stop}
 use Rattle.worker_loop.specs.declared.worker.Worker.{Worker}
+use Rattle.router_model.specs.Settings.{Setting}
 use Rattle.worker_loop.specs.Acts.{Seen}
+use Rattle.worker_loop.specs.Following.{Stage, Did}
 
 -- a worker as contracts see it, by what its lines and its desk show
 abbrev pub seen_of : {L D G : Type 0} → (L → ℕ → List Item) → (L → ℕ → List Item) → (L → ℕ → ℕ) → (D → List (Collected MadeOffer)) → Worker L D G → Seen
@@ -28,6 +30,11 @@ seen_of put taken room made w = record {
   made = made w.desk;
   events = w.journal.events.items;
 }
+
+-- from the old state to the new one a worker did this, in each setting of its network
+abbrev pub DidSo : {L D G : Type 0} → (L → ℕ → List Item) → (L → ℕ → List Item) → (L → ℕ → ℕ) → (D → List (Collected MadeOffer)) → Worker L D G → Worker L D G
+    → (Setting → Stage) → Type 0
+DidSo put taken room made old new P = Did P old.router.net (seen_of put taken room made old) (seen_of put taken room made new)
 
 -- so many chores, or the chores up to the first Stop
 abbrev pub IsWhole : ℕ → List Chore → Type 0

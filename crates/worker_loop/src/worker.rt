@@ -91,9 +91,9 @@ fn events_behind(events: &[Entry], before: usize) -> &[Entry] {
 
 impl<'a, L: Lines, D: Desk, G: Gate> Worker<'a, L, D, G> {
     ghost use Rattle.std.specs.Prelude.{◌≡◌, IfOk, IfErr};
-    ghost use Rattle.worker_loop.specs.Following.{Did, Follows};
+    ghost use Rattle.worker_loop.specs.Following.{Follows};
     ghost use Rattle.worker_loop.specs.Ending.{EndsFor};
-    ghost use Rattle.worker_loop.specs.Whole.{seen_of, IsLaterWorker, IsWhole};
+    ghost use Rattle.worker_loop.specs.Whole.{DidSo, IsLaterWorker, IsWhole};
     ghost use Rattle.std.specs.Prelude.{[]};
 
     // Whether an item waits to be put towards a peer.
@@ -141,7 +141,7 @@ impl<'a, L: Lines, D: Desk, G: Gate> Worker<'a, L, D, G> {
     pub fn work<R: Wait>(&mut self, rt: &R, board: &D::Board, turns: u32) -> Result<(), WorkerFault>
         requires fresh { G.given self.old.gate ≡ [] }
         requires blank { self.old.journal.chores.items ≡ [] }
-        ensures follows { let a = seen_of L.put_to L.taken_from L.room D.made self.old in let b = seen_of L.put_to L.taken_from L.room D.made self.new in IfOk result (λ _. Did (λ g. Follows g self.old.router.number self.old.peers.items (G.given self.new.gate)) self.old.router.net a b) }
+        ensures follows { IfOk result (λ _. DidSo L.put_to L.taken_from L.room D.made self.old self.new (λ g. Follows g self.old.router.number self.old.peers.items (G.given self.new.gate))) }
         ensures whole { IfOk result (λ _. IsWhole turns (G.given self.new.gate)) }
         ensures chores { IfOk result (λ _. self.new.journal.chores.items ≡ G.given self.new.gate) }
         ensures same { IsLaterWorker L.wiring self.old self.new }

@@ -21,9 +21,9 @@ fn write_down(chores: &mut Vec<Chore>, chore: &Chore)
 
 impl<'a, L: Lines, D: Desk, G: Gate> Worker<'a, L, D, G> {
     ghost use Rattle.std.specs.Prelude.{◌≡◌, IfOk, IfErr, OnErr};
-    ghost use Rattle.worker_loop.specs.Following.{Did, Calls, Each, Meets, Turns, Obeys};
+    ghost use Rattle.worker_loop.specs.Following.{Calls, Each, Meets, Turns, Obeys};
     ghost use Rattle.router_model.specs.Calls as calls;
-    ghost use Rattle.worker_loop.specs.Whole.{seen_of, IsSameWorker, IsSameBut};
+    ghost use Rattle.worker_loop.specs.Whole.{DidSo, IsSameWorker, IsSameBut};
     ghost use Rattle.worker_loop.specs.Ending.{EndsCall, EndsMeet, EndsMeeting, EndsTurn, EndsChore};
     ghost use Rattle.std.specs.Prelude.{◌≤◌, length, vec_capacity, [], ◌∷◌, ◌++◌};
 
@@ -47,7 +47,7 @@ impl<'a, L: Lines, D: Desk, G: Gate> Worker<'a, L, D, G> {
 
     // Tries one Put, one Take and one Handle with a peer.
     fn meet<R: Wait>(&mut self, rt: &R, peer: Asn) -> Result<(), WorkerFault>
-        ensures done { let a = seen_of L.put_to L.taken_from L.room D.made self.old in let b = seen_of L.put_to L.taken_from L.room D.made self.new in IfOk result (λ _. Did (λ g. Meets g self.old.router.number peer) self.old.router.net a b) }
+        ensures done { IfOk result (λ _. DidSo L.put_to L.taken_from L.room D.made self.old self.new (λ g. Meets g self.old.router.number peer)) }
         ensures same { IsSameWorker L.wiring self.old self.new }
         ensures ended { IfErr result (EndsMeet L.taken_from self.new peer) }
     {
@@ -60,7 +60,7 @@ impl<'a, L: Lines, D: Desk, G: Gate> Worker<'a, L, D, G> {
 
     // Tries one Put, one Take and one Handle with each peer, rising.
     fn meet_all<R: Wait>(&mut self, rt: &R) -> Result<(), WorkerFault>
-        ensures done { let a = seen_of L.put_to L.taken_from L.room D.made self.old in let b = seen_of L.put_to L.taken_from L.room D.made self.new in IfOk result (λ _. Did (λ g. Each (Meets g self.old.router.number) self.old.peers.items) self.old.router.net a b) }
+        ensures done { IfOk result (λ _. DidSo L.put_to L.taken_from L.room D.made self.old self.new (λ g. Each (Meets g self.old.router.number) self.old.peers.items)) }
         ensures same { IsSameWorker L.wiring self.old self.new }
         ensures ended { IfErr result (EndsMeeting L.taken_from self.new) }
     {
@@ -73,7 +73,7 @@ impl<'a, L: Lines, D: Desk, G: Gate> Worker<'a, L, D, G> {
 
     // Does a turn.
     fn turn<R: Wait>(&mut self, rt: &R, board: &D::Board) -> Result<(), WorkerFault>
-        ensures done { let a = seen_of L.put_to L.taken_from L.room D.made self.old in let b = seen_of L.put_to L.taken_from L.room D.made self.new in IfOk result (λ _. Did (λ g. Turns g self.old.router.number self.old.peers.items) self.old.router.net a b) }
+        ensures done { IfOk result (λ _. DidSo L.put_to L.taken_from L.room D.made self.old self.new (λ g. Turns g self.old.router.number self.old.peers.items)) }
         ensures same { IsSameWorker L.wiring self.old self.new }
         ensures ended { IfErr result (EndsTurn L.taken_from self.new) }
     {
@@ -87,7 +87,7 @@ impl<'a, L: Lines, D: Desk, G: Gate> Worker<'a, L, D, G> {
 
     // Obeys a command.
     fn command(&mut self, command: &Command) -> Result<(), WorkerFault>
-        ensures done { let a = seen_of L.put_to L.taken_from L.room D.made self.old in let b = seen_of L.put_to L.taken_from L.room D.made self.new in IfOk result (λ _. Did (λ g. Calls g self.old.router.number (calls.Obey command.now)) self.old.router.net a b) }
+        ensures done { IfOk result (λ _. DidSo L.put_to L.taken_from L.room D.made self.old self.new (λ g. Calls g self.old.router.number (calls.Obey command.now))) }
         ensures same { IsSameWorker L.wiring self.old self.new }
         ensures ended { IfErr result (EndsCall self.new (calls.Obey command.now)) }
     {
@@ -102,7 +102,7 @@ impl<'a, L: Lines, D: Desk, G: Gate> Worker<'a, L, D, G> {
         board: &D::Board,
         chore: &Chore,
     ) -> Result<(), WorkerFault>
-        ensures done { let a = seen_of L.put_to L.taken_from L.room D.made self.old in let b = seen_of L.put_to L.taken_from L.room D.made self.new in IfOk result (λ _. Did (λ g. Obeys g self.old.router.number self.old.peers.items chore.now) self.old.router.net a b) }
+        ensures done { IfOk result (λ _. DidSo L.put_to L.taken_from L.room D.made self.old self.new (λ g. Obeys g self.old.router.number self.old.peers.items chore.now)) }
         ensures same { IsSameWorker L.wiring self.old self.new }
         ensures ended { IfErr result (EndsChore L.taken_from self.new chore.now) }
     {

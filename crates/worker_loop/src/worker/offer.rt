@@ -7,13 +7,13 @@ use world_core::Event;
 
 impl<'a, L: Lines, D: Desk, G: Gate> Worker<'a, L, D, G> {
     ghost use Rattle.std.specs.Prelude.{◌≡◌, IfOk, IfErr};
-    ghost use Rattle.worker_loop.specs.Following.{Did, Offers};
-    ghost use Rattle.worker_loop.specs.Whole.{seen_of, IsSameWorker};
+    ghost use Rattle.worker_loop.specs.Following.{Offers};
+    ghost use Rattle.worker_loop.specs.Whole.{DidSo, IsSameWorker};
     ghost use Rattle.worker_loop.specs.Ending.{EndsOffer};
 
     // Makes the offer that waits in front, if one does.
     pub(super) fn try_offer<R: Wait>(&mut self, rt: &R, board: &D::Board) -> Result<(), WorkerFault>
-        ensures done { let a = seen_of L.put_to L.taken_from L.room D.made self.old in let b = seen_of L.put_to L.taken_from L.room D.made self.new in IfOk result (λ _. Did (λ g. Offers g self.old.router.number) self.old.router.net a b) }
+        ensures done { IfOk result (λ _. DidSo L.put_to L.taken_from L.room D.made self.old self.new (λ g. Offers g self.old.router.number)) }
         ensures same { IsSameWorker L.wiring self.old self.new }
         ensures ended { IfErr result (λ _. EndsOffer self.new) }
     {

@@ -9,8 +9,8 @@ use world_core::Event;
 
 impl<'a, L: Lines, D: Desk, G: Gate> Worker<'a, L, D, G> {
     ghost use Rattle.std.specs.Prelude.{◌≡◌, IfOk, IfErr};
-    ghost use Rattle.worker_loop.specs.Following.{Did, Calls};
-    ghost use Rattle.worker_loop.specs.Whole.{seen_of, IsSameWorker};
+    ghost use Rattle.worker_loop.specs.Following.{Calls};
+    ghost use Rattle.worker_loop.specs.Whole.{DidSo, IsSameWorker};
     ghost use Rattle.router_core.specs.Calling.{call_of};
     ghost use Rattle.worker_loop.specs.Whole.{IsNamedBy};
     ghost use Rattle.worker_loop.specs.Ending.{EndsCall};
@@ -18,7 +18,7 @@ impl<'a, L: Lines, D: Desk, G: Gate> Worker<'a, L, D, G> {
     // Tries a call of the router.
     pub(super) fn try_call(&mut self, call: &Call, event: Event) -> Result<(), WorkerFault>
         requires named { IsNamedBy event self.old.router.number (call_of call.now) }
-        ensures done { let a = seen_of L.put_to L.taken_from L.room D.made self.old in let b = seen_of L.put_to L.taken_from L.room D.made self.new in IfOk result (λ _. Did (λ g. Calls g self.old.router.number (call_of call.now)) self.old.router.net a b) }
+        ensures done { IfOk result (λ _. DidSo L.put_to L.taken_from L.room D.made self.old self.new (λ g. Calls g self.old.router.number (call_of call.now))) }
         ensures same { IsSameWorker L.wiring self.old self.new }
         ensures ended { IfErr result (EndsCall self.new (call_of call.now)) }
     {

@@ -45,13 +45,13 @@ fn full_or_ended<L: Lines>(lines: &mut L, peer: Asn) -> Result<(), WorkerFault>
 impl<'a, L: Lines, D: Desk, G: Gate> Worker<'a, L, D, G> {
     ghost use Rattle.std.specs.Prelude.{◌≡◌, IfOk, IfErr};
     ghost use Rattle.router_model.specs.Calls.{Put};
-    ghost use Rattle.worker_loop.specs.Following.{Did, Puts, Takes};
-    ghost use Rattle.worker_loop.specs.Whole.{seen_of, IsSameWorker};
+    ghost use Rattle.worker_loop.specs.Following.{Puts, Takes};
+    ghost use Rattle.worker_loop.specs.Whole.{DidSo, IsSameWorker};
     ghost use Rattle.worker_loop.specs.Ending.{EndsCall, EndsTake};
 
     // Tries to put the next item towards a peer.
     pub(super) fn try_put<R: Wait>(&mut self, rt: &R, peer: Asn) -> Result<(), WorkerFault>
-        ensures done { let a = seen_of L.put_to L.taken_from L.room D.made self.old in let b = seen_of L.put_to L.taken_from L.room D.made self.new in IfOk result (λ _. Did (λ g. Puts g self.old.router.number peer) self.old.router.net a b) }
+        ensures done { IfOk result (λ _. DidSo L.put_to L.taken_from L.room D.made self.old self.new (λ g. Puts g self.old.router.number peer)) }
         ensures same { IsSameWorker L.wiring self.old self.new }
         ensures ended { IfErr result (EndsCall self.new (Put peer)) }
     {
@@ -79,7 +79,7 @@ impl<'a, L: Lines, D: Desk, G: Gate> Worker<'a, L, D, G> {
     // Tries to take the next item of a peer. Nothing is taken if a message of the peer waits, since the router would
     // refuse the item.
     pub(super) fn try_take<R: Wait>(&mut self, rt: &R, peer: Asn) -> Result<(), WorkerFault>
-        ensures done { let a = seen_of L.put_to L.taken_from L.room D.made self.old in let b = seen_of L.put_to L.taken_from L.room D.made self.new in IfOk result (λ _. Did (λ g. Takes g self.old.router.number peer) self.old.router.net a b) }
+        ensures done { IfOk result (λ _. DidSo L.put_to L.taken_from L.room D.made self.old self.new (λ g. Takes g self.old.router.number peer)) }
         ensures same { IsSameWorker L.wiring self.old self.new }
         ensures ended { IfErr result (EndsTake L.taken_from self.new peer) }
     {
