@@ -79,7 +79,8 @@ fn add_value(
     value: &[u8],
 ) -> Result<(), CodecError>
     requires { is_known (slice_index attr.now 1) ≡ true }
-    ensures value { (rs : List Raw) → Gives (λ _. with_other attrs.new rs) result (with_value width (with_other attrs.old rs) attr.now value.now) }
+    ensures value { (rs : List Raw)
+        → Gives (λ _. with_other attrs.new rs) result (with_value width (with_other attrs.old rs) attr.now value.now) }
     ensures other { attrs.new.other ≡ attrs.old.other }
 {
     match octet_at(attr, 1) {

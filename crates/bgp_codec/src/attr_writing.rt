@@ -59,7 +59,9 @@ fn raws_len(raws: &[Raw], before: bool) -> usize
 
 // How many octets the path has as an attribute. The sum stops at `usize::MAX`.
 fn path_attr_len(width: Width, path: &Option<Items<Segment>>) -> usize
-    ensures { result ≡ min (2 ^ 64 - 1) (length (flat_map raw_octets (given TRANSITIVE AS_PATH (option_map (path_octets width) path.now)))) }
+    ensures { result
+        ≡ min (2 ^ 64 - 1)
+        (length (flat_map raw_octets (given TRANSITIVE AS_PATH (option_map (path_octets width) path.now)))) }
 {
     match path {
         None => 0,
@@ -90,7 +92,8 @@ fn put_head(out: &mut Vec<u8>, flags: u8, code: u8, size: usize)
     requires flags { flags ≤ OPTIONAL + TRANSITIVE + PARTIAL }
     requires size { size < 2 ^ 16 }
     requires room { vec_len out.old + (if nat_le 256 size then 4 else 3) ≤ vec_capacity out.old }
-    ensures items { (value : List ℕ) → length value ≡ size → out.new.items ++ value ≡ out.old.items ++ raw_octets (raw_of flags code value) }
+    ensures items { (value : List ℕ) → length value ≡ size
+        → out.new.items ++ value ≡ out.old.items ++ raw_octets (raw_of flags code value) }
     ensures len { vec_len out.new ≡ vec_len out.old + (if nat_le 256 size then 4 else 3) }
     ensures capacity { vec_capacity out.old ≤ vec_capacity out.new }
 {
@@ -123,7 +126,8 @@ fn put_attr(out: &mut Vec<u8>, flags: u8, code: u8, value: &[u8])
 fn put_raws(out: &mut Vec<u8>, raws: &[Raw], before: bool)
     requires fit { AllByRecursion RawFits raws.now }
     requires size { length (flat_map raw_octets (filter (stands before) raws.now)) < 2 ^ 16 }
-    requires room { vec_len out.old + length (flat_map raw_octets (filter (stands before) raws.now)) ≤ vec_capacity out.old }
+    requires room { vec_len out.old + length (flat_map raw_octets (filter (stands before) raws.now))
+        ≤ vec_capacity out.old }
     ensures items { out.new.items ≡ out.old.items ++ flat_map raw_octets (filter (stands before) raws.now) }
     ensures capacity { vec_capacity out.old ≤ vec_capacity out.new }
 {
@@ -136,8 +140,11 @@ fn put_raws(out: &mut Vec<u8>, raws: &[Raw], before: bool)
 
 // Appends ORIGIN, if any. The vector has room for it.
 fn put_origin(out: &mut Vec<u8>, origin: Option<u8>)
-    requires room { vec_len out.old + length (flat_map raw_octets (given TRANSITIVE ORIGIN (option_map (λ o. o ∷ []) origin))) ≤ vec_capacity out.old }
-    ensures items { out.new.items ≡ out.old.items ++ flat_map raw_octets (given TRANSITIVE ORIGIN (option_map (λ o. o ∷ []) origin)) }
+    requires room { vec_len out.old
+        + length (flat_map raw_octets (given TRANSITIVE ORIGIN (option_map (λ o. o ∷ []) origin)))
+        ≤ vec_capacity out.old }
+    ensures items { out.new.items
+        ≡ out.old.items ++ flat_map raw_octets (given TRANSITIVE ORIGIN (option_map (λ o. o ∷ []) origin)) }
     ensures capacity { vec_capacity out.old ≤ vec_capacity out.new }
 {
     if let Some(origin) = origin {
@@ -148,9 +155,13 @@ fn put_origin(out: &mut Vec<u8>, origin: Option<u8>)
 // Appends AS_PATH, if any. The vector has room for it.
 fn put_path_attr(out: &mut Vec<u8>, width: Width, path: &Option<Items<Segment>>)
     requires fit { IfSome path.now (AllByRecursion (SegmentFits width)) }
-    requires size { length (flat_map raw_octets (given TRANSITIVE AS_PATH (option_map (path_octets width) path.now))) < 2 ^ 16 }
-    requires room { vec_len out.old + length (flat_map raw_octets (given TRANSITIVE AS_PATH (option_map (path_octets width) path.now))) ≤ vec_capacity out.old }
-    ensures items { out.new.items ≡ out.old.items ++ flat_map raw_octets (given TRANSITIVE AS_PATH (option_map (path_octets width) path.now)) }
+    requires size { length (flat_map raw_octets (given TRANSITIVE AS_PATH (option_map (path_octets width) path.now)))
+        < 2 ^ 16 }
+    requires room { vec_len out.old
+        + length (flat_map raw_octets (given TRANSITIVE AS_PATH (option_map (path_octets width) path.now)))
+        ≤ vec_capacity out.old }
+    ensures items { out.new.items
+        ≡ out.old.items ++ flat_map raw_octets (given TRANSITIVE AS_PATH (option_map (path_octets width) path.now)) }
     ensures capacity { vec_capacity out.old ≤ vec_capacity out.new }
 {
     if let Some(path) = path {
@@ -166,8 +177,11 @@ fn put_path_attr(out: &mut Vec<u8>, width: Width, path: &Option<Items<Segment>>)
 
 // Appends an attribute of four octets, if any. The vector has room for it.
 fn put_number(out: &mut Vec<u8>, code: u8, number: Option<u32>)
-    requires room { vec_len out.old + length (flat_map raw_octets (given (flags_of code) code (option_map (to_be_bytes w32) number))) ≤ vec_capacity out.old }
-    ensures items { out.new.items ≡ out.old.items ++ flat_map raw_octets (given (flags_of code) code (option_map (to_be_bytes w32) number)) }
+    requires room { vec_len out.old
+        + length (flat_map raw_octets (given (flags_of code) code (option_map (to_be_bytes w32) number)))
+        ≤ vec_capacity out.old }
+    ensures items { out.new.items
+        ≡ out.old.items ++ flat_map raw_octets (given (flags_of code) code (option_map (to_be_bytes w32) number)) }
     ensures capacity { vec_capacity out.old ≤ vec_capacity out.new }
 {
     if let Some(number) = number {
@@ -177,8 +191,11 @@ fn put_number(out: &mut Vec<u8>, code: u8, number: Option<u32>)
 
 // Appends ATOMIC_AGGREGATE, if any. The vector has room for it.
 fn put_atomic(out: &mut Vec<u8>, atomic: bool)
-    requires room { vec_len out.old + length (flat_map raw_octets (given TRANSITIVE ATOMIC_AGGREGATE (if atomic then Some [] else None))) ≤ vec_capacity out.old }
-    ensures items { out.new.items ≡ out.old.items ++ flat_map raw_octets (given TRANSITIVE ATOMIC_AGGREGATE (if atomic then Some [] else None)) }
+    requires room { vec_len out.old
+        + length (flat_map raw_octets (given TRANSITIVE ATOMIC_AGGREGATE (if atomic then Some [] else None)))
+        ≤ vec_capacity out.old }
+    ensures items { out.new.items
+        ≡ out.old.items ++ flat_map raw_octets (given TRANSITIVE ATOMIC_AGGREGATE (if atomic then Some [] else None)) }
     ensures capacity { vec_capacity out.old ≤ vec_capacity out.new }
 {
     if atomic {
@@ -189,7 +206,8 @@ fn put_atomic(out: &mut Vec<u8>, atomic: bool)
 // Appends AGGREGATOR, if any. The vector has room for it.
 fn put_aggregator(out: &mut Vec<u8>, width: Width, aggregator: Option<Aggregator>)
     requires fit { IfSome aggregator (λ g. AsnFits width g.asn × (g.addr < 2 ^ 32)) }
-    requires room { vec_len out.old + length (flat_map raw_octets (aggregator_raw width aggregator)) ≤ vec_capacity out.old }
+    requires room { vec_len out.old + length (flat_map raw_octets (aggregator_raw width aggregator))
+        ≤ vec_capacity out.old }
     ensures items { out.new.items ≡ out.old.items ++ flat_map raw_octets (aggregator_raw width aggregator) }
     ensures capacity { vec_capacity out.old ≤ vec_capacity out.new }
 {

@@ -59,7 +59,8 @@ pub(crate) fn update_fault(alloc: Global, sub: u8) -> CodecError
 // The fault of an UPDATE with this subcode and an attribute as its data, or want of memory, which an
 // attribute of at most sixteen octets does not meet.
 pub(crate) fn attr_fault(alloc: Global, sub: u8, attr: &[u8]) -> CodecError
-    ensures { (result ≡ CodecError.Fault (attr_fault sub attr.now)) ⊎ ((result ≡ CodecError.Memory) × (16 < length attr.now)) }
+    ensures { (result ≡ CodecError.Fault (attr_fault sub attr.now))
+        ⊎ ((result ≡ CodecError.Memory) × (16 < length attr.now)) }
 {
     match Octets::from_slice(alloc, attr) {
         Ok(extra) => CodecError::Fault(Fault {

@@ -34,7 +34,8 @@ use std::alloc::Global;
 
 // Passes the capability in front, and answers the number that it says, and what follows it.
 fn judge_cap(alloc: Global, octets: &[u8]) -> Result<(Option<Asn>, &[u8]), CodecError>
-    ensures { Judges (λ passed read. (passed.0 ≡ number_said read.0) × (read.1 ≡ passed.1.now)) result (cap_at octets.now) }
+    ensures { Judges (λ passed read. (passed.0 ≡ number_said read.0) × (read.1 ≡ passed.1.now)) result
+        (cap_at octets.now) }
 {
     let (value, rest) = read_value(alloc, octets)?;
     Ok((number_said(octet_at(octets, 0), value), rest))
@@ -56,7 +57,8 @@ fn judge_caps(alloc: Global, octets: &[u8]) -> Result<Option<Asn>, CodecError>
 
 // Passes the parameter in front, and answers the first number that it says, and what follows it.
 fn judge_param(alloc: Global, octets: &[u8]) -> Result<(Option<Asn>, &[u8]), CodecError>
-    ensures { Judges (λ passed read. (passed.0 ≡ said_by read.0) × (read.1 ≡ passed.1.now)) result (param_at octets.now) }
+    ensures { Judges (λ passed read. (passed.0 ≡ said_by read.0) × (read.1 ≡ passed.1.now)) result
+        (param_at octets.now) }
 {
     let (value, rest) = read_value(alloc, octets)?;
     if octet_at(octets, 0) != CAPABILITIES {
@@ -131,7 +133,8 @@ struct Came {
 // The first number of the path of these octets, which are good. It stands behind the first two
 // octets, the head of the first segment.
 fn first_asn(width: Width, octets: &[u8]) -> Option<Asn>
-    ensures { (segments : List Segment) → path_reading width octets.now ≡ Ok segments → result ≡ first_number (path_numbers (Some segments)) }
+    ensures { (segments : List Segment) → path_reading width octets.now ≡ Ok segments
+        → result ≡ first_number (path_numbers (Some segments)) }
 {
     match octets {
         [_, _, numbers @ ..] => Some(asn_at(width, numbers)),
@@ -159,7 +162,8 @@ fn judge_value(alloc: Global, width: Width, attr: &[u8], value: &[u8]) -> Result
 // Passes an attribute of a new code. The checks in order: an unknown one is optional, then the
 // flags, the length and the value by the table.
 fn judge_new(alloc: Global, width: Width, attr: &[u8], value: &[u8]) -> Result<(), CodecError>
-    ensures { (a : Attrs) → has_code a (slice_index attr.now 1) ≡ false → Passes result (with_attr width a attr.now value.now) }
+    ensures { (a : Attrs) → has_code a (slice_index attr.now 1) ≡ false
+        → Passes result (with_attr width a attr.now value.now) }
 {
     let (flags, code) = (octet_at(attr, 0), octet_at(attr, 1));
     if !is_known(code) {
@@ -179,7 +183,8 @@ fn judge_new(alloc: Global, width: Width, attr: &[u8], value: &[u8]) -> Result<(
 
 // Remembers an attribute that was passed.
 fn remember(width: Width, came: &mut Came, attr: &[u8], value: &[u8])
-    ensures { (a b : Attrs) → Remembers came.old a → with_attr width a attr.now value.now ≡ Ok b → Remembers came.new b }
+    ensures { (a b : Attrs) → Remembers came.old a → with_attr width a attr.now value.now ≡ Ok b
+        → Remembers came.new b }
 {
     let code = octet_at(attr, 1);
     came.codes[code as usize] = true;
@@ -196,7 +201,8 @@ fn judge_attr(
     attr: &[u8],
     value: &[u8],
 ) -> Result<(), CodecError>
-    ensures { (a : Attrs) → Remembers came.old a → Judges (λ _ b. Remembers came.new b) result (with_attr width a attr.now value.now) }
+    ensures { (a : Attrs) → Remembers came.old a
+        → Judges (λ _ b. Remembers came.new b) result (with_attr width a attr.now value.now) }
 {
     if came.codes[octet_at(attr, 1) as usize] {
         return Err(update_fault(alloc, MALFORMED_ATTRIBUTE_LIST));

@@ -49,7 +49,10 @@ fn begins_with_marker(octets: &[u8; HEADER_LEN]) -> bool
 /// the length fits the type. It takes no memory.
 #[tactic(auto, unfolding(crate::specs::Header::header_fault))]
 pub fn header(alloc: Global, octets: &[u8; HEADER_LEN]) -> Result<Header, Fault>
-    ensures good { IfOk result (λ header. (header_fault octets.now ≡ None) × (header.len ≡ length_field octets.now) × (header.kind ≡ kind_field octets.now)) }
+    ensures good { IfOk result
+        (λ header. (header_fault octets.now ≡ None)
+        × (header.len ≡ length_field octets.now)
+        × (header.kind ≡ kind_field octets.now)) }
     ensures fault { IfErr result (λ fault. header_fault octets.now ≡ Some fault) }
 {
     let (high, low, kind) = (octets[16], octets[17], octets[18]);

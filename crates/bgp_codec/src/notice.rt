@@ -23,7 +23,8 @@ pub struct Notice {
 /// The NOTIFICATION that tells a peer of a fault. It is refused only for want of memory, and never
 /// for data of sixteen octets or fewer.
 pub fn notice_of(alloc: Global, fault: &Fault) -> Result<Notice, CodecError>
-    ensures ok { IfOk result (λ notice. (notice.code ≡ fault.now.code) × (notice.sub ≡ fault.now.sub) × (notice.extra ≡ fault.now.extra)) }
+    ensures ok { IfOk result
+        (λ notice. (notice.code ≡ fault.now.code) × (notice.sub ≡ fault.now.sub) × (notice.extra ≡ fault.now.extra)) }
     ensures err { IfErr result (λ error. error ≡ CodecError.Memory) }
     ensures short { length fault.now.extra ≤ 16 → IsOk result }
 {

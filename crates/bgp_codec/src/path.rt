@@ -127,7 +127,8 @@ pub(crate) fn segment_parts(
     width: Width,
     octets: &[u8],
 ) -> Result<(SegmentKind, &[u8], &[u8]), CodecError>
-    ensures gives { Gives (λ read. (segment_with width read.0 read.1.now, read.2.now)) result (segment_at width octets.now) }
+    ensures gives { Gives (λ read. (segment_with width read.0 read.1.now, read.2.now)) result
+        (segment_at width octets.now) }
     ensures memory { IfErr result IsNoWant }
 {
     match octets {

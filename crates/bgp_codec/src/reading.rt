@@ -86,7 +86,9 @@ pub fn decode(alloc: Global, frame: &[u8], rule: &Rule) -> Result<Message, Codec
     ensures spelt { IfOk result (λ message. Spells rule.now frame.now message) }
     // A frame with a fault is refused with the first one, also where a growth for what stands before it was refused.
     // Only data of more than sixteen octets can themselves meet want of memory.
-    ensures fault { IfSome (fault rule.now frame.now) (λ first. (result ≡ Err (CodecError.Fault first)) ⊎ ((result ≡ Err CodecError.Memory) × (16 < length first.extra))) }
+    ensures fault { IfSome (fault rule.now frame.now)
+        (λ first. (result ≡ Err (CodecError.Fault first))
+        ⊎ ((result ≡ Err CodecError.Memory) × (16 < length first.extra))) }
     // Which message or refusal it is.
     ensures exact { Gives (λ message. message) result (reading rule.now frame.now) }
     ensures refused { IfErr result (RefusesAs rule.now frame.now) }

@@ -115,8 +115,12 @@ fn read_parts(
 #[tactic(auto, unfolding(crate::specs::UpdateReading::update_reading))]
 pub(crate) fn parts_of(alloc: Global, body: &[u8]) -> Result<(&[u8], &[u8], &[u8]), CodecError>
     requires { 4 ≤ length body.now }
-    ensures ok { IfOk result (λ parts. (rule : Rule) → update_reading rule body.now ≡ parts_reading rule parts.0.now parts.1.now parts.2.now) }
-    ensures err { IfErr result (λ error. (error ≡ CodecError.Fault (update_fault MALFORMED_ATTRIBUTE_LIST)) × ((rule : Rule) → update_reading rule body.now ≡ Err (update_fault MALFORMED_ATTRIBUTE_LIST))) }
+    ensures ok { IfOk result
+        (λ parts. (rule : Rule)
+        → update_reading rule body.now ≡ parts_reading rule parts.0.now parts.1.now parts.2.now) }
+    ensures err { IfErr result
+        (λ error. (error ≡ CodecError.Fault (update_fault MALFORMED_ATTRIBUTE_LIST))
+        × ((rule : Rule) → update_reading rule body.now ≡ Err (update_fault MALFORMED_ATTRIBUTE_LIST))) }
 {
     let first = number_at(body, 0) as usize;
     let second = number_at(body, 2 + first) as usize;

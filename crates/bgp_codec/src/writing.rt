@@ -101,9 +101,13 @@ pub fn put_message(out: &mut Vec<u8>, message: &Message, rule: &Rule)
 pub fn encode(message: &Message, rule: &Rule, out: &mut Vec<u8>) -> Result<(), CodecError>
     requires { IsWritable rule.now message.now }
     ensures ok { OnOk result (out.new.items ≡ out.old.items ++ written rule.now.width message.now) }
-    ensures too_long { IsErrOf result CodecError.TooLong ↔ (MESSAGE_LIMIT < length (written rule.now.width message.now)) }
+    ensures too_long { IsErrOf result CodecError.TooLong
+        ↔ (MESSAGE_LIMIT < length (written rule.now.width message.now)) }
     // Want of memory is answered only where room was missing.
-    ensures only { IfErr result (λ error. (error ≡ CodecError.TooLong) ⊎ ((error ≡ CodecError.Memory) × (vec_capacity out.old < vec_len out.old + length (written rule.now.width message.now)))) }
+    ensures only { IfErr result
+        (λ error. (error ≡ CodecError.TooLong)
+        ⊎ ((error ≡ CodecError.Memory)
+        × (vec_capacity out.old < vec_len out.old + length (written rule.now.width message.now)))) }
     ensures err { OnErr result ((out.new.items ≡ out.old.items) × (vec_capacity out.new ≡ vec_capacity out.old)) }
 {
     let len = body_len(message, rule.width);

@@ -39,10 +39,12 @@ where
     R: Threads + Wait + Sync,
     S: Source,
     T: Sink,
-    ensures unfailed { OnOk result ((S.failed reader.new ≡ S.failed reader.old) × (T.failed writer.new ≡ T.failed writer.old)) }
+    ensures unfailed { OnOk result
+        ((S.failed reader.new ≡ S.failed reader.old) × (T.failed writer.new ≡ T.failed writer.old)) }
     ensures failed { OnErr result ((S.failed reader.new ≡ true) ⊎ (T.failed writer.new ≡ true)) }
     // If a read failed, nothing is written.
-    ensures silent { S.failed reader.old ≡ false → S.failed reader.new ≡ true → T.contents writer.new ≡ T.contents writer.old }
+    ensures silent { S.failed reader.old ≡ false → S.failed reader.new ≡ true
+        → T.contents writer.new ≡ T.contents writer.old }
 {
     match read_words(alloc, words) {
         Ok(Asked::Task(task)) => run_task(alloc, task, reader, writer),

@@ -56,14 +56,19 @@ pub fn run_task<S: Source, T: Sink>(
     writer: &mut T,
 ) -> Result<u8, IoStopped>
     // What is written is what the task prints for what was read, and nothing else.
-    ensures done { IfOk result (λ status. PrintedBy (TaskPrints task) (S.remaining reader.old) (T.contents writer.old) (T.contents writer.new) status) }
+    ensures done { IfOk result
+        (λ status. PrintedBy (TaskPrints task) (S.remaining reader.old) (T.contents writer.old) (T.contents writer.new)
+        status) }
     // It answers a status only where no read and no write failed, and stops only where one did.
-    ensures unfailed { OnOk result ((S.failed reader.new ≡ S.failed reader.old) × (T.failed writer.new ≡ T.failed writer.old)) }
+    ensures unfailed { OnOk result
+        ((S.failed reader.new ≡ S.failed reader.old) × (T.failed writer.new ≡ T.failed writer.old)) }
     ensures failed { OnErr result ((S.failed reader.new ≡ true) ⊎ (T.failed writer.new ≡ true)) }
     // Where a read failed nothing is written.
-    ensures silent { S.failed reader.old ≡ false → S.failed reader.new ≡ true → T.contents writer.new ≡ T.contents writer.old }
+    ensures silent { S.failed reader.old ≡ false → S.failed reader.new ≡ true
+        → T.contents writer.new ≡ T.contents writer.old }
     // A failed read or write leaves a beginning of the text.
-    ensures stopped { OnErr result (PrintedFrontBy (TaskPrints task) (S.remaining reader.old) (T.contents writer.old) (T.contents writer.new)) }
+    ensures stopped { OnErr result
+        (PrintedFrontBy (TaskPrints task) (S.remaining reader.old) (T.contents writer.old) (T.contents writer.new)) }
 {
     match task {
         Task::Decode(rule) => decode_stream(alloc, &rule, reader, writer),
@@ -93,14 +98,19 @@ where
     S: Source,
     T: Sink,
     // What is written is what the task prints for what was read, and nothing else.
-    ensures done { IfOk result (λ status. PrintedBy (ThreadsPrint task) (S.remaining reader.old) (T.contents writer.old) (T.contents writer.new) status) }
+    ensures done { IfOk result
+        (λ status. PrintedBy (ThreadsPrint task) (S.remaining reader.old) (T.contents writer.old)
+        (T.contents writer.new) status) }
     // It answers a status only where no read and no write failed, and stops only where one did.
-    ensures unfailed { OnOk result ((S.failed reader.new ≡ S.failed reader.old) × (T.failed writer.new ≡ T.failed writer.old)) }
+    ensures unfailed { OnOk result
+        ((S.failed reader.new ≡ S.failed reader.old) × (T.failed writer.new ≡ T.failed writer.old)) }
     ensures failed { OnErr result ((S.failed reader.new ≡ true) ⊎ (T.failed writer.new ≡ true)) }
     // Where a read failed nothing is written.
-    ensures silent { S.failed reader.old ≡ false → S.failed reader.new ≡ true → T.contents writer.new ≡ T.contents writer.old }
+    ensures silent { S.failed reader.old ≡ false → S.failed reader.new ≡ true
+        → T.contents writer.new ≡ T.contents writer.old }
     // A failed read or write leaves a beginning of the text.
-    ensures stopped { OnErr result (PrintedFrontBy (ThreadsPrint task) (S.remaining reader.old) (T.contents writer.old) (T.contents writer.new)) }
+    ensures stopped { OnErr result
+        (PrintedFrontBy (ThreadsPrint task) (S.remaining reader.old) (T.contents writer.old) (T.contents writer.new)) }
 {
     match task {
         ThreadTask::Run(options) => run_stream(rt, alloc, &options, reader, writer),

@@ -33,8 +33,10 @@ fn last_start(text: &[u8]) -> usize
 fn last_line(text: &[u8]) -> &[u8]
     ensures bound { length result.now ≤ length text.now }
     ensures back { result.now ≡ drop (length text.now - length result.now) text.now }
-    ensures one { (k : ℕ) → length text.now - length result.now ≤ k → k < length text.now → slice_index text.now k ≢ 10 }
-    ensures first { length result.now < length text.now → slice_index text.now (length text.now - length result.now - 1) ≡ 10 }
+    ensures one { (k : ℕ) → length text.now - length result.now ≤ k → k < length text.now
+        → slice_index text.now k ≢ 10 }
+    ensures first { length result.now < length text.now
+        → slice_index text.now (length text.now - length result.now - 1) ≡ 10 }
 {
     let (_, line) = text.split_at(last_start(text));
     line

@@ -71,7 +71,8 @@ impl<S: Source> Source for Kept<S> {
         ensures ok { OnOk result (S.failed self.new.inner ≡ S.failed self.old.inner) }
         ensures err { OnErr result (S.failed self.new.inner ≡ true) }
         // The octets that are given are kept, up to the bound; a refused growth makes the bound 0.
-        ensures kept { IfOk result (λ n. self.new.text.items ≡ take self.new.most (self.old.text.items ++ take n buf.new)) }
+        ensures kept { IfOk result
+            (λ n. self.new.text.items ≡ take self.new.most (self.old.text.items ++ take n buf.new)) }
         ensures most { IfOk result (λ n. (self.new.most ≡ self.old.most) ⊎ (self.new.most ≡ 0)) }
     {
         let n = self.inner.take(buf)?;

@@ -20,7 +20,8 @@ fn unmarked(line: &[u8]) -> &[u8]
 
 // Which line is refused, and why, by the words of a line without the mark of a comment.
 fn refusal_in(line: &[u8]) -> Option<(u64, &[u8])>
-    ensures { MatchOption result (refusal_in (words_of line.now) ≡ None) (λ p. refusal_in (words_of line.now) ≡ Some (record { at = p.0; code = p.1.now })) }
+    ensures { MatchOption result (refusal_in (words_of line.now) ≡ None)
+        (λ p. refusal_in (words_of line.now) ≡ Some (record { at = p.0; code = p.1.now })) }
 {
     let (word, rest) = next_word(line)?;
     let (place, code) = two_words(rest)?;
@@ -34,7 +35,8 @@ fn refusal_in(line: &[u8]) -> Option<(u64, &[u8])>
 /// The line that is refused, counted from 1, or 0 for the whole input; and the code of why. `None` if the line refuses
 /// nothing.
 pub fn refusal_of(line: &[u8]) -> Option<(u64, &[u8])>
-    ensures { MatchOption result (refusal_in (without_mark (words_of line.now)) ≡ None) (λ p. refusal_in (without_mark (words_of line.now)) ≡ Some (record { at = p.0; code = p.1.now })) }
+    ensures { MatchOption result (refusal_in (without_mark (words_of line.now)) ≡ None)
+        (λ p. refusal_in (without_mark (words_of line.now)) ≡ Some (record { at = p.0; code = p.1.now })) }
 {
     refusal_in(unmarked(line))
 }

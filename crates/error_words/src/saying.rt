@@ -135,7 +135,8 @@ fn write_hint(out: &mut Tail, hint: Option<Hint>) -> Result<(), AllocError>
 
 // Writes the words on a line that is refused.
 fn write_named(out: &mut Tail, input: &[u8], at: u64, code: &[u8]) -> Result<(), AllocError>
-    ensures text { OnOk result (out.new.text ≡ out.old.text ++ named_said input.now (Some (record { at = at; code = code.now }))) }
+    ensures text { OnOk result
+        (out.new.text ≡ out.old.text ++ named_said input.now (Some (record { at = at; code = code.now }))) }
     ensures front { out.new.front ≡ out.old.front }
 {
     let found = line_at(input, at);
@@ -145,7 +146,9 @@ fn write_named(out: &mut Tail, input: &[u8], at: u64, code: &[u8]) -> Result<(),
 
 // Writes the words on an input that is no hex.
 fn write_no_hex(out: &mut Tail, input: &[u8]) -> Result<(), AllocError>
-    ensures text { OnOk result (out.new.text ≡ out.old.text ++ (remark_text no_hex ++ hint_said (hint_of_hex input.now (first_line input.now)))) }
+    ensures text { OnOk result
+        (out.new.text
+        ≡ out.old.text ++ (remark_text no_hex ++ hint_said (hint_of_hex input.now (first_line input.now)))) }
     ensures front { out.new.front ≡ out.old.front }
 {
     write_remark(

@@ -122,7 +122,8 @@ pub fn read_assignment(
 ) -> Result<Items<Entry>, Refused>
     requires { before + length text.now < 2 ^ 64 }
     ensures ok { IfOk result (λ entries. assignment_reading network.now before (lines_of text.now) ≡ Ok entries) }
-    ensures err { IfErr result (λ refused. RefusesAssignment network.now before (lines_of text.now) refused.line refused.code) }
+    ensures err { IfErr result
+        (λ refused. RefusesAssignment network.now before (lines_of text.now) refused.line refused.code) }
     // The line that is named was reached.
     ensures reached { IfErr result (λ refused. before < refused.line) }
 {

@@ -71,7 +71,8 @@ pub fn next_line(text: &[u8]) -> (&[u8], &[u8])
     ensures shorter { length result.1.now < length text.now }
     ensures whole { text.now ≡ take (length text.now - length result.1.now) text.now ++ result.1.now }
     // If more lines follow, the first line would be the same before any others.
-    ensures others { (more : List ℕ) → 0 < length result.1.now → lines_of (take (length text.now - length result.1.now) text.now ++ more) ≡ result.0.now ∷ lines_of more }
+    ensures others { (more : List ℕ) → 0 < length result.1.now
+        → lines_of (take (length text.now - length result.1.now) text.now ++ more) ≡ result.0.now ∷ lines_of more }
 {
     let end = place_of(text, b'\n');
     if end == text.len() {

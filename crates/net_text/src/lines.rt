@@ -70,7 +70,8 @@ pub fn message_line(message: &Message, out: &mut Vec<u8>) -> Result<(), AllocErr
     ensures ok { OnOk result (out.new.items ≡ out.old.items ++ line (message_line message.now)) }
     ensures err { OnErr result (out.new.items ≡ out.old.items) }
     // Want of memory for a KEEPALIVE is answered only where room was missing.
-    ensures only { message.now ≡ Message.AliveMsg → OnErr result (vec_capacity out.old < vec_len out.old + length (codes "keepalive\n")) }
+    ensures only { message.now ≡ Message.AliveMsg
+        → OnErr result (vec_capacity out.old < vec_len out.old + length (codes "keepalive\n")) }
 {
     match message {
         Message::OpenMsg(message) => append(out, &Line::Open(message)),

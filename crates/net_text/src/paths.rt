@@ -133,7 +133,10 @@ fn judge_long_path(width: Width, net: &NetBuilder, word: &[u8]) -> Result<(), Co
 // Reads the numbers of a path once, and answers how many they are. `None` if a part is no number,
 // or if they are more than a path may have.
 fn read_numbers(word: &[u8], numbers: &mut [u64; LONGEST_PATH]) -> Option<usize>
-    ensures some { IfSome result (λ count. (count ≤ 16) × (list_all is_number (parts 45 word.now) ≡ true) × (take count numbers.new ≡ path_of word.now)) }
+    ensures some { IfSome result
+        (λ count. (count ≤ 16)
+        × (list_all is_number (parts 45 word.now) ≡ true)
+        × (take count numbers.new ≡ path_of word.now)) }
 {
     let mut count = 0usize;
     let (mut left, mut more) = (word, true);
@@ -324,7 +327,8 @@ fn digest_of(word: &[u8]) -> u64
 // Judges a path of a rule of this router, and tells of it. Its numbers are read once if they are
 // few.
 fn judge_rule_path(width: Width, net: &NetBuilder, asn: Asn, word: &[u8]) -> Result<PathBrief, Code>
-    ensures ok { IfOk result (λ brief. (Ok tt ≡ rule_path_word width net.now.routers asn word.now) × IsBrief brief word.now) }
+    ensures ok { IfOk result
+        (λ brief. (Ok tt ≡ rule_path_word width net.now.routers asn word.now) × IsBrief brief word.now) }
     ensures err { IfErr result (λ code. Err code ≡ rule_path_word width net.now.routers asn word.now) }
 {
     let mut numbers = [0; LONGEST_PATH];
@@ -354,7 +358,9 @@ pub(crate) fn judge_rule_paths(
     asn: Asn,
     words: &[u8],
 ) -> Result<PathsBrief, Code>
-    ensures ok { IfOk result (λ brief. (Ok tt ≡ rule_path_words width net.now.routers asn (words_of words.now)) × AreBrief brief (words_of words.now)) }
+    ensures ok { IfOk result
+        (λ brief. (Ok tt ≡ rule_path_words width net.now.routers asn (words_of words.now))
+        × AreBrief brief (words_of words.now)) }
     ensures err { IfErr result (λ code. Err code ≡ rule_path_words width net.now.routers asn (words_of words.now)) }
 {
     let (mut count, mut are_short, mut digests) = (0usize, true, [0u64; MOST_PATHS]);

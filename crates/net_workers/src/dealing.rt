@@ -73,7 +73,8 @@ fn join(
     requires new { AllByRecursion AreNew ends.old.items }
     ensures many { length ends.new.items ≡ length ends.old.items }
     ensures new { AllByRecursion AreNew ends.new.items }
-    ensures joined { IfOk result (λ _. IsJoined room link one other (lanes_in ends.old.items) (lanes_in ends.new.items)) }
+    ensures joined { IfOk result
+        (λ _. IsJoined room link one other (lanes_in ends.old.items) (lanes_in ends.new.items)) }
 {
     let (there, from_one) = pipe(alloc, room)?;
     let (back, from_other) = pipe(alloc, room)?;
@@ -161,7 +162,8 @@ pub(crate) fn close_all<R: Wait>(
     requires many { length ends.items ≡ length network.now.routers }
     requires dealt { AreDealt network.now network.now.links ends.items }
     ensures ways { IfOk result (λ ways. AreWays network.now ways.items) }
-    ensures passed { IfOk result (λ ways. HavePassed (lanes_by (numbers network.now.routers) (lanes_in ends.items)) ways.items) }
+    ensures passed { IfOk result
+        (λ ways. HavePassed (lanes_by (numbers network.now.routers) (lanes_in ends.items)) ways.items) }
 {
     let mut ends = ends;
     let mut ways = Vec::new(alloc);

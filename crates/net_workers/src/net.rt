@@ -168,7 +168,8 @@ where
     ensures ways { IfOk result (λ r. AreWays network.now r.ways.items) }
     ensures recorded { (turns : ℕ) → HaveEnded G.given network.now turns workers.entry.items
         → IfOk result (λ r. IsRecord G.given network.now turns (passed_in r.ways.items) r.workers.items r.collector r.gathered.items) }
-    ensures promises { IfOk result (λ r. RunKeepsPromises network.now (passed_in r.ways.items) r.workers.items r.collector r.gathered.items) }
+    ensures promises { IfOk result
+        (λ r. RunKeepsPromises network.now (passed_in r.ways.items) r.workers.items r.collector r.gathered.items) }
 {
     what_follows_is_done();
     records_are_runs::<G>();
@@ -208,8 +209,11 @@ where
     ensures fault { IfErr result (FaultOf G.given G.told network.now turns (map G.told gates.items)) }
     ensures told { IfOk result (λ r. map (λ w. G.told w.gate) r.workers.items ≡ map G.told gates.items) }
     ensures ways { IfOk result (λ r. AreWays network.now r.ways.items) }
-    ensures recorded { IfOk result (λ r. IsRecord G.given network.now turns (passed_in r.ways.items) r.workers.items r.collector r.gathered.items) }
-    ensures promises { IfOk result (λ r. RunKeepsPromises network.now (passed_in r.ways.items) r.workers.items r.collector r.gathered.items) }
+    ensures recorded { IfOk result
+        (λ r. IsRecord G.given network.now turns (passed_in r.ways.items) r.workers.items r.collector
+        r.gathered.items) }
+    ensures promises { IfOk result
+        (λ r. RunKeepsPromises network.now (passed_in r.ways.items) r.workers.items r.collector r.gathered.items) }
 {
     let board = Board::new(alloc, network)?;
     let workers = ended_workers(rt, alloc, network, gates, turns, &board)?;
@@ -240,16 +244,20 @@ where
     G: Gate + Send + Drop,
     requires fresh { AllByRecursion (λ gate. G.given gate ≡ []) gates.items }
     ensures limits { OnOk result (AreLimits network.now limits.turns (length gates.items)) }
-    ensures refused { IfErr result (λ why. why ≡ RunFault.BadLimits ↔ (AreLimits network.now limits.turns (length gates.items) → ⊥)) }
+    ensures refused { IfErr result
+        (λ why. why ≡ RunFault.BadLimits ↔ (AreLimits network.now limits.turns (length gates.items) → ⊥)) }
     // Of some workers that were told the same: the fault is that of the least router that has one; it ended for it, and
     // those before it did their chores.
     ensures fault { IfErr result (FaultOf G.given G.told network.now limits.turns (map G.told gates.items)) }
     // Router by router, the gate that comes back was told what the given one was told.
     ensures told { IfOk result (λ r. map (λ w. G.told w.gate) r.workers.items ≡ map G.told gates.items) }
     ensures ways { IfOk result (λ r. AreWays network.now r.ways.items) }
-    ensures recorded { IfOk result (λ r. IsRecord G.given network.now limits.turns (passed_in r.ways.items) r.workers.items r.collector r.gathered.items) }
+    ensures recorded { IfOk result
+        (λ r. IsRecord G.given network.now limits.turns (passed_in r.ways.items) r.workers.items r.collector
+        r.gathered.items) }
     // Every record is one of a run of the network, in which UPDATEs passed in order and whose snapshots can be believed.
-    ensures promises { IfOk result (λ r. RunKeepsPromises network.now (passed_in r.ways.items) r.workers.items r.collector r.gathered.items) }
+    ensures promises { IfOk result
+        (λ r. RunKeepsPromises network.now (passed_in r.ways.items) r.workers.items r.collector r.gathered.items) }
 {
     if !are_limits(network, limits.turns, gates.len()) {
         return Err(RunFault::BadLimits);

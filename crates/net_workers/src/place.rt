@@ -84,7 +84,9 @@ impl Place {
         room: Result<(), AllocError>,
     ) -> Result<u64, WorkerFault>
         ensures offers { OffersAt board.old board.new stamp offer.now result }
-        ensures made { IfOk result (λ at. collected_in self.new.made.items ≡ with_offer (collected_in self.old.made.items) at (made_by offer.now)) }
+        ensures made { IfOk result
+            (λ at. collected_in self.new.made.items
+            ≡ with_offer (collected_in self.old.made.items) at (made_by offer.now)) }
         ensures later { IfOk result (λ at. stamp < at) }
         ensures few { IfOk result (λ at. at ≤ GREATEST_STAMP) }
         ensures full { OnErr room (IsErr result) }

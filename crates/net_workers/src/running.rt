@@ -126,9 +126,12 @@ where
     ensures many { length workers.new ≡ length workers.old }
     ensures ran { (i : ℕ) (d : _) → i < length workers.old → IfNone (slice_index_or workers.new i d).fault
         (Ran G.given turns (slice_index_or workers.old i d).worker (slice_index_or workers.new i d).worker) }
-    ensures told { (i : ℕ) (d : _) → i < length workers.old → G.told (slice_index_or workers.new i d).worker.gate ≡ G.told (slice_index_or workers.old i d).worker.gate }
-    ensures same { (i : ℕ) (d : _) → i < length workers.old → IsLaterWorker wires_of (slice_index_or workers.old i d).worker (slice_index_or workers.new i d).worker }
-    ensures ended { (i : ℕ) (d : _) → i < length workers.old → IfSome (slice_index_or workers.new i d).fault (Ceased G.given turns (slice_index_or workers.new i d).worker) }
+    ensures told { (i : ℕ) (d : _) → i < length workers.old
+        → G.told (slice_index_or workers.new i d).worker.gate ≡ G.told (slice_index_or workers.old i d).worker.gate }
+    ensures same { (i : ℕ) (d : _) → i < length workers.old
+        → IsLaterWorker wires_of (slice_index_or workers.old i d).worker (slice_index_or workers.new i d).worker }
+    ensures ended { (i : ℕ) (d : _) → i < length workers.old
+        → IfSome (slice_index_or workers.new i d).fault (Ceased G.given turns (slice_index_or workers.new i d).worker) }
 {
     let threads = workers.len();
     if threads == 0 {
@@ -153,9 +156,15 @@ where
     ensures many { length workers.new.items ≡ length workers.old.items }
     ensures ran { (i : ℕ) (d : _) → i < length workers.old.items → IfNone (slice_index_or workers.new.items i d).fault
         (Ran G.given turns (slice_index_or workers.old.items i d).worker (slice_index_or workers.new.items i d).worker) }
-    ensures told { (i : ℕ) (d : _) → i < length workers.old.items → G.told (slice_index_or workers.new.items i d).worker.gate ≡ G.told (slice_index_or workers.old.items i d).worker.gate }
-    ensures same { (i : ℕ) (d : _) → i < length workers.old.items → IsLaterWorker wires_of (slice_index_or workers.old.items i d).worker (slice_index_or workers.new.items i d).worker }
-    ensures ended { (i : ℕ) (d : _) → i < length workers.old.items → IfSome (slice_index_or workers.new.items i d).fault (Ceased G.given turns (slice_index_or workers.new.items i d).worker) }
+    ensures told { (i : ℕ) (d : _) → i < length workers.old.items
+        → G.told (slice_index_or workers.new.items i d).worker.gate
+        ≡ G.told (slice_index_or workers.old.items i d).worker.gate }
+    ensures same { (i : ℕ) (d : _) → i < length workers.old.items
+        → IsLaterWorker wires_of (slice_index_or workers.old.items i d).worker
+        (slice_index_or workers.new.items i d).worker }
+    ensures ended { (i : ℕ) (d : _) → i < length workers.old.items
+        → IfSome (slice_index_or workers.new.items i d).fault
+        (Ceased G.given turns (slice_index_or workers.new.items i d).worker) }
 {
     run_each(rt, board, turns, workers.as_mut_slice());
 }

@@ -38,7 +38,10 @@ fn recorded_of(
     collector: &Collector,
     number: u32,
 ) -> Result<Vec<u8>, AllocError>
-    ensures { IfOk result (λ text. text.items ≡ recorded_text network.now (map member_of collector.now.members) (kept_of (map member_of collector.now.members) (made_for collector.now number))) }
+    ensures { IfOk result
+        (λ text. text.items
+        ≡ recorded_text network.now (map member_of collector.now.members)
+        (kept_of (map member_of collector.now.members) (made_for collector.now number))) }
 {
     let mut text = Vec::new(alloc);
     put_parts(network, collector, number, &mut text)?;

@@ -37,7 +37,8 @@ fn put_each_path(
     out: &mut Vec<u8>,
 ) -> Result<(), AllocError>
     ensures kept { take (length out.old.items) out.new.items ≡ out.old.items }
-    ensures ok { OnOk result (out.new.items ≡ out.old.items ++ router_text (plain_of router.now).router.kept number origins.now) }
+    ensures ok { OnOk result
+        (out.new.items ≡ out.old.items ++ router_text (plain_of router.now).router.kept number origins.now) }
 {
     for origin in origins {
         let prefix = &origin.prefix;
@@ -56,7 +57,8 @@ pub fn put_router(
     origins: &[Origin],
     out: &mut Vec<u8>,
 ) -> Result<(), AllocError>
-    ensures ok { OnOk result (out.new.items ≡ out.old.items ++ router_text (plain_of router.now).router.kept number origins.now) }
+    ensures ok { OnOk result
+        (out.new.items ≡ out.old.items ++ router_text (plain_of router.now).router.kept number origins.now) }
     ensures err { OnErr result (out.new.items ≡ out.old.items) }
 {
     let start = out.len();
@@ -160,7 +162,8 @@ fn world_output(
 ) -> Result<(Vec<u8>, u8), AllocError>
     requires opens { Opens network.now world }
     requires promises { KeepsPromises world }
-    ensures { IfOk result (λ printed. OrdersGive (IsShown shown) network.now orders.now (output printed.0.items printed.1)) }
+    ensures { IfOk result
+        (λ printed. OrdersGive (IsShown shown) network.now orders.now (output printed.0.items printed.1)) }
 {
     match obey_all(&mut world, orders) {
         Ok(()) => shown_output(alloc, shown, network, world),
@@ -175,7 +178,8 @@ pub(crate) fn orders_output(
     network: &Network,
     orders: &[ScheduledOrder],
 ) -> Result<(Vec<u8>, u8), AllocError>
-    ensures { IfOk result (λ printed. OrdersGive (IsShown shown) network.now orders.now (output printed.0.items printed.1)) }
+    ensures { IfOk result
+        (λ printed. OrdersGive (IsShown shown) network.now orders.now (output printed.0.items printed.1)) }
 {
     match World::new(alloc, network) {
         Ok(world) => world_output(alloc, shown, network, world, orders),

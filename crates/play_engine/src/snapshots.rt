@@ -34,7 +34,8 @@ fn next_path<'k>(kept: &'k [KeptPath], passed: &mut usize, prefix: &Prefix) -> &
     requires { kept_in (drop passed.old kept.now) prefix.now ≡ kept_in kept.now prefix.now }
     ensures path { result.now ≡ kept_in kept.now prefix.now }
     // The paths of other prefixes are not passed.
-    ensures others { (q : PrefixView) → is_prefix prefix.now q ≡ false → kept_in (drop passed.new kept.now) q ≡ kept_in (drop passed.old kept.now) q }
+    ensures others { (q : PrefixView) → is_prefix prefix.now q ≡ false
+        → kept_in (drop passed.new kept.now) q ≡ kept_in (drop passed.old kept.now) q }
 {
     if *passed < kept.len() {
         let next = &kept[*passed];
@@ -55,7 +56,8 @@ fn put_part(
 ) -> Result<(), AllocError>
     requires { AllPairs (λ origin later. IsBefore origin.prefix later.prefix) origins.now }
     ensures kept { take (length out.old.items) out.new.items ≡ out.old.items }
-    ensures ok { OnOk result (out.new.items ≡ out.old.items ++ router_text (kept_in part.now.kept.items) number origins.now) }
+    ensures ok { OnOk result
+        (out.new.items ≡ out.old.items ++ router_text (kept_in part.now.kept.items) number origins.now) }
 {
     let kept = part.kept.as_slice();
     let mut passed = 0;
@@ -76,7 +78,11 @@ fn put_recorded(
 ) -> Result<(), AllocError>
     requires { AllPairs (λ origin later. IsBefore origin.prefix later.prefix) origins.now }
     ensures kept { take (length out.old.items) out.new.items ≡ out.old.items }
-    ensures ok { OnOk result (out.new.items ≡ out.old.items ++ part_text origins.now router (recorded (kept_of (map member_of collector.now.members) (made_for collector.now number)) router)) }
+    ensures ok { OnOk result
+        (out.new.items
+        ≡ out.old.items
+        ++ part_text origins.now router
+        (recorded (kept_of (map member_of collector.now.members) (made_for collector.now number)) router)) }
 {
     match collector.part(number, router) {
         Some(part) => put_part(router, part, origins, out),
@@ -93,7 +99,11 @@ fn put_each_part(
     out: &mut Vec<u8>,
 ) -> Result<(), AllocError>
     ensures kept { take (length out.old.items) out.new.items ≡ out.old.items }
-    ensures ok { OnOk result (out.new.items ≡ out.old.items ++ parts_text network.now (kept_of (map member_of collector.now.members) (made_for collector.now number))) }
+    ensures ok { OnOk result
+        (out.new.items
+        ≡ out.old.items
+        ++ parts_text network.now
+        (kept_of (map member_of collector.now.members) (made_for collector.now number))) }
 {
     for member in network.routers() {
         put_recorded(collector, number, member.asn, network.origins(), out)?;
@@ -112,7 +122,11 @@ pub fn put_parts(
     number: u32,
     out: &mut Vec<u8>,
 ) -> Result<(), AllocError>
-    ensures ok { OnOk result (out.new.items ≡ out.old.items ++ parts_text network.now (kept_of (map member_of collector.now.members) (made_for collector.now number))) }
+    ensures ok { OnOk result
+        (out.new.items
+        ≡ out.old.items
+        ++ parts_text network.now
+        (kept_of (map member_of collector.now.members) (made_for collector.now number))) }
     ensures err { OnErr result (out.new.items ≡ out.old.items) }
 {
     let start = out.len();
@@ -130,7 +144,10 @@ fn put_snapshot(
     number: u32,
     out: &mut Vec<u8>,
 ) -> Result<(), AllocError>
-    ensures { OnOk result (out.new.items ≡ out.old.items ++ snapshot_text network.now (map member_of collector.now.members) (made_for collector.now) number) }
+    ensures { OnOk result
+        (out.new.items
+        ≡ out.old.items
+        ++ snapshot_text network.now (map member_of collector.now.members) (made_for collector.now) number) }
 {
     let outcome = collector.outcome(number);
     snapshot_line(number, &outcome, out)?;
@@ -148,7 +165,11 @@ pub fn put_snapshots(
     numbers: &[u32],
     out: &mut Vec<u8>,
 ) -> Result<(), AllocError>
-    ensures { OnOk result (out.new.items ≡ out.old.items ++ snapshots_text network.now (map member_of collector.now.members) (made_for collector.now) numbers.now) }
+    ensures { OnOk result
+        (out.new.items
+        ≡ out.old.items
+        ++ snapshots_text network.now (map member_of collector.now.members) (made_for collector.now)
+        numbers.now) }
 {
     for number in numbers {
         put_snapshot(network, collector, *number, out)?;

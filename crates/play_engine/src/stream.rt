@@ -39,7 +39,9 @@ fn schedule_output(
     text: &[u8],
 ) -> Result<(Vec<u8>, u8), AllocError>
     requires { before + length text.now < 2 ^ 64 }
-    ensures { IfOk result (λ printed. ScheduleGives (IsShown shown) network.now before (lines_of text.now) (output printed.0.items printed.1)) }
+    ensures { IfOk result
+        (λ printed. ScheduleGives (IsShown shown) network.now before (lines_of text.now)
+        (output printed.0.items printed.1)) }
 {
     match read_schedule(alloc, text, before, network) {
         Ok(orders) => orders_output(alloc, shown, network, orders.as_slice()),
@@ -50,7 +52,9 @@ fn schedule_output(
 // What is printed for a network and a schedule behind it.
 fn network_output(alloc: Global, shown: Shown, split: &Split) -> Result<(Vec<u8>, u8), AllocError>
     requires { split.now.before + length split.now.behind.now < 2 ^ 64 }
-    ensures { IfOk result (λ printed. NetworkGives (ScheduleGives (IsShown shown)) (lines_of split.now.front.now) split.now.before (lines_of split.now.behind.now) (output printed.0.items printed.1)) }
+    ensures { IfOk result
+        (λ printed. NetworkGives (ScheduleGives (IsShown shown)) (lines_of split.now.front.now) split.now.before
+        (lines_of split.now.behind.now) (output printed.0.items printed.1)) }
 {
     match read_network(alloc, split.front) {
         Ok(network) => schedule_output(alloc, shown, &network, split.before, split.behind),
@@ -60,7 +64,9 @@ fn network_output(alloc: Global, shown: Shown, split: &Split) -> Result<(Vec<u8>
 
 // What is printed for an input, and the status.
 fn input_output(alloc: Global, shown: Shown, input: Vec<u8>) -> Result<(Vec<u8>, u8), AllocError>
-    ensures { IfOk result (λ printed. InputGives (ScheduleGives (IsShown shown)) (codes "schedule") input.items (output printed.0.items printed.1)) }
+    ensures { IfOk result
+        (λ printed. InputGives (ScheduleGives (IsShown shown)) (codes "schedule") input.items
+        (output printed.0.items printed.1)) }
 {
     if input.len() > INPUT_LIMIT {
         return refused_output(alloc, 0, Code::OutOfLimit.text());
@@ -78,11 +84,16 @@ pub(crate) fn schedule_stream<S: Source, T: Sink>(
     source: &mut S,
     sink: &mut T,
 ) -> Result<u8, IoStopped>
-    ensures done { IfOk result (λ status. PrintedBy (PrintsShown shown) (S.remaining source.old) (T.contents sink.old) (T.contents sink.new) status) }
-    ensures unfailed { OnOk result ((S.failed source.new ≡ S.failed source.old) × (T.failed sink.new ≡ T.failed sink.old)) }
+    ensures done { IfOk result
+        (λ status. PrintedBy (PrintsShown shown) (S.remaining source.old) (T.contents sink.old) (T.contents sink.new)
+        status) }
+    ensures unfailed { OnOk result
+        ((S.failed source.new ≡ S.failed source.old) × (T.failed sink.new ≡ T.failed sink.old)) }
     ensures failed { OnErr result ((S.failed source.new ≡ true) ⊎ (T.failed sink.new ≡ true)) }
-    ensures silent { S.failed source.old ≡ false → S.failed source.new ≡ true → T.contents sink.new ≡ T.contents sink.old }
-    ensures stopped { OnErr result (PrintedFrontBy (PrintsShown shown) (S.remaining source.old) (T.contents sink.old) (T.contents sink.new)) }
+    ensures silent { S.failed source.old ≡ false → S.failed source.new ≡ true
+        → T.contents sink.new ≡ T.contents sink.old }
+    ensures stopped { OnErr result
+        (PrintedFrontBy (PrintsShown shown) (S.remaining source.old) (T.contents sink.old) (T.contents sink.new)) }
 {
     let input = match read_input(alloc, source) {
         Ok(input) => input,

@@ -47,7 +47,8 @@ fn leading(addr: u32, len: u8) -> u64
 pub fn mask_all(words: &mut [u32], lens: &[u8])
     requires same { length words.old ≡ length lens.now }
     requires short { All (λ len. len ≤ 32) lens.now }
-    ensures { (k : ℕ) → k < length lens.now → slice_index words.new k ≡ masked (slice_index words.old k) (slice_index lens.now k) }
+    ensures { (k : ℕ) → k < length lens.now
+        → slice_index words.new k ≡ masked (slice_index words.old k) (slice_index lens.now k) }
 {
     let mut at = 0;
     while lens.len() - at >= 8 {

@@ -165,7 +165,8 @@ impl NetBuilder {
         ensures ok { IfOk result (λ net. net ≡ self) }
         ensures network { IfOk result IsNetwork }
         ensures err { IfErr result (λ refused. refused.0 ≡ self) }
-        ensures refused { IfErr result (λ refused. (refused.1 ≢ NetError.Memory) × IsRefused (NetworkMeets self.routers self.links) refused.1) }
+        ensures refused { IfErr result
+            (λ refused. (refused.1 ≢ NetError.Memory) × IsRefused (NetworkMeets self.routers self.links) refused.1) }
     {
         if self.routers.as_slice().is_empty() {
             return Err((self, NetError::Limit));

@@ -30,7 +30,8 @@ fn next_place(routers: &[Router], links: &[Link], reached: &[bool]) -> Option<us
     requires room { length routers.now ≤ length reached.now }
     requires rising { AllPairs (λ u v. u < v) (numbers routers.now) }
     requires known { All (λ link. IsRouter routers.now link.one × IsRouter routers.now link.other) links.now }
-    ensures { MatchOption result (IsClosed routers.now links.now reached.now) (LeadsTo routers.now links.now reached.now) }
+    ensures { MatchOption result (IsClosed routers.now links.now reached.now)
+        (LeadsTo routers.now links.now reached.now) }
 {
     for link in links {
         let Ok(one) = place_of_router(routers, link.one) else {

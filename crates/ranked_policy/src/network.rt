@@ -157,7 +157,8 @@ impl Network {
     /// The place of the router with this number among [`Network::routers`].
     pub fn place(&self, asn: Asn) -> Option<usize>
         ensures some { IsSome result ↔ IsRouter self.now.routers asn }
-        ensures value { IfSome result (λ i. (i < length self.now.routers) × HoldsAt (λ r. r.asn ≡ asn) self.now.routers i) }
+        ensures value { IfSome result
+            (λ i. (i < length self.now.routers) × HoldsAt (λ r. r.asn ≡ asn) self.now.routers i) }
     {
         find_router(self.routers(), asn)
     }
@@ -165,7 +166,8 @@ impl Network {
     /// The place of the prefix among [`Network::origins`].
     pub fn prefix_place(&self, prefix: &Prefix) -> Option<usize>
         ensures some { IsSome result ↔ IsNamed self.now.origins prefix.now }
-        ensures value { IfSome result (λ i. (i < length self.now.origins) × HoldsAt (λ origin. origin.prefix ≡ prefix.now) self.now.origins i) }
+        ensures value { IfSome result
+            (λ i. (i < length self.now.origins) × HoldsAt (λ origin. origin.prefix ≡ prefix.now) self.now.origins i) }
     {
         find_prefix(self.origins(), prefix)
     }

@@ -23,7 +23,8 @@ pub(crate) fn place_of_router(routers: &[Router], asn: Asn) -> Result<usize, usi
 // The place of the prefix, or the place where it belongs.
 pub(crate) fn place_of_prefix(origins: &[Origin], prefix: &Prefix) -> Result<usize, usize>
     requires { AllPairs (λ origin later. IsBefore origin.prefix later.prefix) origins.now }
-    ensures found { IfOk result (λ i. (i < length origins.now) × HoldsAt (λ origin. origin.prefix ≡ prefix.now) origins.now i) }
+    ensures found { IfOk result
+        (λ i. (i < length origins.now) × HoldsAt (λ origin. origin.prefix ≡ prefix.now) origins.now i) }
     ensures bound { IfErr result (λ i. i ≤ length origins.now) }
     ensures before { IfErr result (λ i. All (λ origin. IsBefore origin.prefix prefix.now) (take i origins.now)) }
     ensures behind { IfErr result (λ i. All (λ origin. IsBefore prefix.now origin.prefix) (drop i origins.now)) }
@@ -71,7 +72,8 @@ pub(crate) fn find_router(routers: &[Router], asn: Asn) -> Option<usize>
 pub(crate) fn find_prefix(origins: &[Origin], prefix: &Prefix) -> Option<usize>
     requires { AllPairs (λ origin later. IsBefore origin.prefix later.prefix) origins.now }
     ensures some { IsSome result ↔ IsNamed origins.now prefix.now }
-    ensures value { IfSome result (λ i. (i < length origins.now) × HoldsAt (λ origin. origin.prefix ≡ prefix.now) origins.now i) }
+    ensures value { IfSome result
+        (λ i. (i < length origins.now) × HoldsAt (λ origin. origin.prefix ≡ prefix.now) origins.now i) }
 {
     match place_of_prefix(origins, prefix) {
         Ok(place) => Some(place),

@@ -82,7 +82,8 @@ impl<'a> PolicyTable<'a> {
 
     /// The rule whose prefix is the longest that covers this one. `None` if no rule of the router covers it.
     pub fn rule(&self, prefix: &Prefix) -> Option<&'a Rule>
-        ensures { MatchOption result (rule_for self.now.rules prefix.now ≡ None) (λ rule. rule_for self.now.rules prefix.now ≡ Some rule.now) }
+        ensures { MatchOption result (rule_for self.now.rules prefix.now ≡ None)
+            (λ rule. rule_for self.now.rules prefix.now ≡ Some rule.now) }
     {
         a_prefix_is_its_bits();
         self.rules.longest(prefix)

@@ -35,8 +35,10 @@ fn place_of(ways: &[Link], one: Asn, other: Asn) -> Result<usize, usize>
     requires { AllPairs IsEarlier ways.now }
     ensures found { IfOk result (λ i. HasWay ways.now one other) }
     ensures bound { IfErr result (λ i. i ≤ length ways.now) }
-    ensures before { IfErr result (λ i. All (λ way. IsEarlier way (record { one = one; other = other })) (take i ways.now)) }
-    ensures behind { IfErr result (λ i. All (λ way. IsEarlier (record { one = one; other = other }) way) (drop i ways.now)) }
+    ensures before { IfErr result
+        (λ i. All (λ way. IsEarlier way (record { one = one; other = other })) (take i ways.now)) }
+    ensures behind { IfErr result
+        (λ i. All (λ way. IsEarlier (record { one = one; other = other }) way) (drop i ways.now)) }
 {
     ways.binary_search_by_key(&(one, other), |way| (way.one, way.other))
 }
@@ -87,7 +89,8 @@ impl Ways {
 
     /// Adds a link in both directions. A refused growth changes nothing.
     pub(crate) fn join(&mut self, a: Asn, b: Asn) -> Result<(), AllocError>
-        ensures joins { OnOk result ((u v : ℕ) → (HasWay self.new u v ↔ (HasWay self.old u v ⊎ Joins (record { one = a; other = b }) u v))) }
+        ensures joins { OnOk result
+            ((u v : ℕ) → (HasWay self.new u v ↔ (HasWay self.old u v ⊎ Joins (record { one = a; other = b }) u v))) }
         ensures err { OnErr result (self.new ≡ self.old) }
     {
         self.ways.reserve(2)?;

@@ -33,7 +33,10 @@ pub fn record_output<G>(
     network: &Network,
     made: &Record<'_, G>,
 ) -> Result<(Vec<u8>, u8), AllocError>
-    ensures { IfOk result (λ printed. output printed.0.items printed.1 ≡ record_output (lines_of lines.now) (events_of made.now.gathered.items) (ending_text network.now made.now.collector made.now.workers.items)) }
+    ensures { IfOk result
+        (λ printed. output printed.0.items printed.1
+        ≡ record_output (lines_of lines.now) (events_of made.now.gathered.items)
+        (ending_text network.now made.now.collector made.now.workers.items)) }
 {
     let ending = ending_text(alloc, network, made)?;
     let mut text = record_text(alloc, lines, made.gathered.as_slice())?;
@@ -52,7 +55,8 @@ fn network_output<R>(
 ) -> Result<(Vec<u8>, u8), AllocError>
 where
     R: Threads + Wait + Sync,
-    ensures { IfOk result (λ printed. RecordGives options.now (lines_of lines.now) network.now (output printed.0.items printed.1)) }
+    ensures { IfOk result
+        (λ printed. RecordGives options.now (lines_of lines.now) network.now (output printed.0.items printed.1)) }
 {
     match run_network(rt, alloc, options, network) {
         Ok(record) => {
@@ -103,14 +107,19 @@ where
     S: Source,
     T: Sink,
     // What is written is what is printed of a run in threads of what was read, and nothing else.
-    ensures done { IfOk result (λ status. PrintedBy (Records options.now) (S.remaining source.old) (T.contents sink.old) (T.contents sink.new) status) }
+    ensures done { IfOk result
+        (λ status. PrintedBy (Records options.now) (S.remaining source.old) (T.contents sink.old) (T.contents sink.new)
+        status) }
     // It answers a status only where no read and no write failed, and stops only where one did.
-    ensures unfailed { OnOk result ((S.failed source.new ≡ S.failed source.old) × (T.failed sink.new ≡ T.failed sink.old)) }
+    ensures unfailed { OnOk result
+        ((S.failed source.new ≡ S.failed source.old) × (T.failed sink.new ≡ T.failed sink.old)) }
     ensures failed { OnErr result ((S.failed source.new ≡ true) ⊎ (T.failed sink.new ≡ true)) }
     // Where a read failed nothing is written.
-    ensures silent { S.failed source.old ≡ false → S.failed source.new ≡ true → T.contents sink.new ≡ T.contents sink.old }
+    ensures silent { S.failed source.old ≡ false → S.failed source.new ≡ true
+        → T.contents sink.new ≡ T.contents sink.old }
     // A failed read or write leaves a beginning of the text.
-    ensures stopped { OnErr result (PrintedFrontBy (Records options.now) (S.remaining source.old) (T.contents sink.old) (T.contents sink.new)) }
+    ensures stopped { OnErr result
+        (PrintedFrontBy (Records options.now) (S.remaining source.old) (T.contents sink.old) (T.contents sink.new)) }
 {
     let input = match read_input(alloc, source) {
         Ok(input) => input,

@@ -97,7 +97,8 @@ fn announced_words(alloc: Global, update: &Update) -> Result<Vec<Word>, RibError
 fn hear_at(rows: &mut [Row], place: usize, peer: usize, word: Word)
     requires within { place < length rows.old }
     requires words { (r : Row) → slice_get rows.old place ≡ Some r → peer < length r.heard }
-    ensures { (r : Row) → slice_get rows.old place ≡ Some r → rows.new ≡ slice_set rows.old place (hearing peer word r) }
+    ensures { (r : Row) → slice_get rows.old place ≡ Some r
+        → rows.new ≡ slice_set rows.old place (hearing peer word r) }
 {
     let row = &mut rows[place];
     row.heard.set(peer, word);
@@ -108,7 +109,8 @@ fn hear_at(rows: &mut [Row], place: usize, peer: usize, word: Word)
 fn mark_heard(router: Asn, row: &Row, peer: usize, word: &Word, place: usize, dirty: &mut PlaceSet)
     requires peer { peer < length row.now.heard }
     requires place { place < MOST_PREFIXES }
-    ensures here { has dirty.new place ≡ false → (has dirty.old place ≡ false) × BestStays router row.now peer word.now }
+    ensures here { has dirty.new place ≡ false
+        → (has dirty.old place ≡ false) × BestStays router row.now peer word.now }
     ensures others { (other : ℕ) → other ≢ place → has dirty.new other ≡ has dirty.old other }
 {
     if !dirty.has(place) && !stays_best(router, row, peer, word) {
@@ -279,7 +281,8 @@ pub(crate) fn hear_path(
     path: &[Asn],
 ) -> Result<(), RibError>
     requires { (peers : ℕ) × AreFit keys.now.keys peers rows.old.items × (peer < peers) }
-    ensures rows { OnOk result ((u : Update) → TellsPath u prefix.now path.now → rows.new.items ≡ map (hearing_update peer u) rows.old.items) }
+    ensures rows { OnOk result
+        ((u : Update) → TellsPath u prefix.now path.now → rows.new.items ≡ map (hearing_update peer u) rows.old.items) }
     ensures dirty { OnOk result (StaysDecided router rows.old.items rows.new.items dirty.old dirty.new) }
     ensures same_rows { OnErr result (rows.new.items ≡ rows.old.items) }
     ensures same_dirty { OnErr result (dirty.new ≡ dirty.old) }
@@ -292,7 +295,8 @@ pub(crate) fn hear_path(
 // Removes all words of a peer. It takes no memory.
 pub(crate) fn forget_words(alloc: Global, rows: &mut [Row], dirty: &mut PlaceSet, peer: usize)
     requires few { length rows.old ≤ MOST_PREFIXES }
-    requires words { (i : ℕ) (r : Row) → slice_get rows.old i ≡ Some r → (peer < length r.heard) × (peer < length r.sent) }
+    requires words { (i : ℕ) (r : Row) → slice_get rows.old i ≡ Some r
+        → (peer < length r.heard) × (peer < length r.sent) }
     ensures rows { rows.new ≡ map (forgetting peer) rows.old }
     ensures dirty { MarksSpeaking peer rows.old dirty.old dirty.new }
 {
@@ -323,7 +327,8 @@ pub(crate) fn mark_words(rows: &[Row], dirty: &mut PlaceSet, peer: usize)
 pub(crate) fn untold(rows: &[Row], peer: usize) -> PlaceSet
     requires few { length rows.now ≤ MOST_PREFIXES }
     requires words { (i : ℕ) (r : Row) → slice_get rows.now i ≡ Some r → peer < length r.sent }
-    ensures { (i : ℕ) (r : Row) → slice_get rows.now i ≡ Some r → (has result i ≡ true ↔ (slice_get r.sent peer ≢ Some (Sequence r.kept))) }
+    ensures { (i : ℕ) (r : Row) → slice_get rows.now i ≡ Some r
+        → (has result i ≡ true ↔ (slice_get r.sent peer ≢ Some (Sequence r.kept))) }
 {
     let mut waiting = PlaceSet::new();
     for (place, row) in rows.iter().enumerate() {
@@ -340,8 +345,10 @@ fn wait_anew(peers: &[Peer], row: &Row, place: usize, waits: &mut [PlaceSet])
     requires len { length waits.old ≡ length peers.now }
     requires sent { length row.now.sent ≡ length peers.now }
     ensures len { length waits.new ≡ length waits.old }
-    ensures here { (k : ℕ) (p : Peer) (w : PlaceSet) → slice_get peers.now k ≡ Some p → slice_get waits.new k ≡ Some w → (has w place ≡ true ↔ ((p.up ≡ true) × (slice_get row.now.sent k ≢ Some (Sequence row.now.kept)))) }
-    ensures others { (k : ℕ) (w : PlaceSet) → slice_get waits.new k ≡ Some w → (v : PlaceSet) × (slice_get waits.old k ≡ Some v) × ((i : ℕ) → i ≢ place → has w i ≡ has v i) }
+    ensures here { (k : ℕ) (p : Peer) (w : PlaceSet) → slice_get peers.now k ≡ Some p → slice_get waits.new k ≡ Some w
+        → (has w place ≡ true ↔ ((p.up ≡ true) × (slice_get row.now.sent k ≢ Some (Sequence row.now.kept)))) }
+    ensures others { (k : ℕ) (w : PlaceSet) → slice_get waits.new k ≡ Some w
+        → (v : PlaceSet) × (slice_get waits.old k ≡ Some v) × ((i : ℕ) → i ≢ place → has w i ≡ has v i) }
 {
     for (k, peer) in peers.iter().enumerate() {
         let waiting = &mut waits[k];
@@ -359,8 +366,11 @@ pub(crate) fn wait_all(peers: &[Peer], row: &Row, place: usize, waits: &mut Vec<
     requires len { length waits.old.items ≡ length peers.now }
     requires sent { length row.now.sent ≡ length peers.now }
     ensures len { length waits.new.items ≡ length waits.old.items }
-    ensures here { (k : ℕ) (p : Peer) (w : PlaceSet) → slice_get peers.now k ≡ Some p → slice_get waits.new.items k ≡ Some w → (has w place ≡ true ↔ ((p.up ≡ true) × (slice_get row.now.sent k ≢ Some (Sequence row.now.kept)))) }
-    ensures others { (k : ℕ) (w : PlaceSet) → slice_get waits.new.items k ≡ Some w → (v : PlaceSet) × (slice_get waits.old.items k ≡ Some v) × ((i : ℕ) → i ≢ place → has w i ≡ has v i) }
+    ensures here { (k : ℕ) (p : Peer) (w : PlaceSet) → slice_get peers.now k ≡ Some p
+        → slice_get waits.new.items k ≡ Some w
+        → (has w place ≡ true ↔ ((p.up ≡ true) × (slice_get row.now.sent k ≢ Some (Sequence row.now.kept)))) }
+    ensures others { (k : ℕ) (w : PlaceSet) → slice_get waits.new.items k ≡ Some w
+        → (v : PlaceSet) × (slice_get waits.old.items k ≡ Some v) × ((i : ℕ) → i ≢ place → has w i ≡ has v i) }
 {
     wait_anew(peers, row, place, waits.as_mut_slice());
 }
@@ -368,7 +378,8 @@ pub(crate) fn wait_all(peers: &[Peer], row: &Row, place: usize, waits: &mut Vec<
 // Does what `forget_words` does, for a `Vec`.
 pub(crate) fn forget_all(alloc: Global, rows: &mut Vec<Row>, dirty: &mut PlaceSet, peer: usize)
     requires few { length rows.old.items ≤ MOST_PREFIXES }
-    requires words { (i : ℕ) (r : Row) → slice_get rows.old.items i ≡ Some r → (peer < length r.heard) × (peer < length r.sent) }
+    requires words { (i : ℕ) (r : Row) → slice_get rows.old.items i ≡ Some r
+        → (peer < length r.heard) × (peer < length r.sent) }
     ensures rows { rows.new.items ≡ map (forgetting peer) rows.old.items }
     ensures dirty { MarksSpeaking peer rows.old.items dirty.old dirty.new }
 {
@@ -378,7 +389,8 @@ pub(crate) fn forget_all(alloc: Global, rows: &mut Vec<Row>, dirty: &mut PlaceSe
 // Sets whether the session with the peer at a place is Established.
 pub(crate) fn set_up(peers: &mut Vec<Peer>, place: usize, up: bool)
     requires { place < length peers.old.items }
-    ensures { (p : Peer) → slice_get peers.old.items place ≡ Some p → peers.new.items ≡ slice_set peers.old.items place (record { asn = p.asn; up = up }) }
+    ensures { (p : Peer) → slice_get peers.old.items place ≡ Some p
+        → peers.new.items ≡ slice_set peers.old.items place (record { asn = p.asn; up = up }) }
 {
     peers[place].up = up;
 }
@@ -386,7 +398,8 @@ pub(crate) fn set_up(peers: &mut Vec<Peer>, place: usize, up: bool)
 // Keeps a path for the prefix at a place.
 pub(crate) fn keep_at(rows: &mut Vec<Row>, place: usize, path: Path)
     requires { place < length rows.old.items }
-    ensures { (r : Row) → slice_get rows.old.items place ≡ Some r → rows.new.items ≡ slice_set rows.old.items place (keeping path r) }
+    ensures { (r : Row) → slice_get rows.old.items place ≡ Some r
+        → rows.new.items ≡ slice_set rows.old.items place (keeping path r) }
 {
     let row = &mut rows[place];
     row.kept = path;
@@ -396,7 +409,8 @@ pub(crate) fn keep_at(rows: &mut Vec<Row>, place: usize, path: Path)
 pub(crate) fn tell_at(rows: &mut Vec<Row>, place: usize, peer: usize, word: Word)
     requires within { place < length rows.old.items }
     requires words { (r : Row) → slice_get rows.old.items place ≡ Some r → peer < length r.sent }
-    ensures { (r : Row) → slice_get rows.old.items place ≡ Some r → rows.new.items ≡ slice_set rows.old.items place (telling peer word r) }
+    ensures { (r : Row) → slice_get rows.old.items place ≡ Some r
+        → rows.new.items ≡ slice_set rows.old.items place (telling peer word r) }
 {
     let row = &mut rows[place];
     row.sent.set(peer, word);
@@ -405,7 +419,8 @@ pub(crate) fn tell_at(rows: &mut Vec<Row>, place: usize, peer: usize, word: Word
 // Sets whether the router originates the prefix at a place.
 pub(crate) fn originate_at(rows: &mut Vec<Row>, place: usize, now: bool)
     requires { place < length rows.old.items }
-    ensures { (r : Row) → slice_get rows.old.items place ≡ Some r → rows.new.items ≡ slice_set rows.old.items place (originating now r) }
+    ensures { (r : Row) → slice_get rows.old.items place ≡ Some r
+        → rows.new.items ≡ slice_set rows.old.items place (originating now r) }
 {
     let row = &mut rows[place];
     row.originated = now;

@@ -48,7 +48,8 @@ impl Line {
     // The word at a place. `None` if it is the empty path.
     pub(crate) fn something(&self, place: usize) -> Option<&Word>
         requires { place < length self.now }
-        ensures { MatchOption result (slice_get self.now place ≡ Some nothing) (λ word. (slice_get self.now place ≡ Some word.now) × (word.now ≢ nothing)) }
+        ensures { MatchOption result (slice_get self.now place ≡ Some nothing)
+            (λ word. (slice_get self.now place ≡ Some word.now) × (word.now ≢ nothing)) }
     {
         let word = &self.words[place];
         if word.is_nothing() {

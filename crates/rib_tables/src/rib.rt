@@ -100,7 +100,8 @@ impl<'a> Rib<'a> {
 
     /// The word heard last from a peer for a prefix. `None` exactly where it is the empty path.
     pub fn word_heard(&self, peer: Asn, prefix: &Prefix) -> Option<&Word>
-        ensures { MatchOption result (word_of self.now.heard peer prefix.now ≡ nothing) (λ word. (word.now ≡ word_of self.now.heard peer prefix.now) × (word.now ≢ nothing)) }
+        ensures { MatchOption result (word_of self.now.heard peer prefix.now ≡ nothing)
+            (λ word. (word.now ≡ word_of self.now.heard peer prefix.now) × (word.now ≢ nothing)) }
     {
         let from = place_of_peer(self.peers.as_slice(), peer)?;
         let place = place_of(&self.keys, prefix)?;
@@ -109,7 +110,8 @@ impl<'a> Rib<'a> {
 
     /// The word sent last to a peer for a prefix. `None` exactly where it is the empty path.
     pub fn word_sent(&self, peer: Asn, prefix: &Prefix) -> Option<&Word>
-        ensures { MatchOption result (word_of self.now.sent peer prefix.now ≡ nothing) (λ word. (word.now ≡ word_of self.now.sent peer prefix.now) × (word.now ≢ nothing)) }
+        ensures { MatchOption result (word_of self.now.sent peer prefix.now ≡ nothing)
+            (λ word. (word.now ≡ word_of self.now.sent peer prefix.now) × (word.now ≢ nothing)) }
     {
         let to = place_of_peer(self.peers.as_slice(), peer)?;
         let place = place_of(&self.keys, prefix)?;
@@ -193,7 +195,8 @@ impl<'a> Rib<'a> {
     /// withdrawal. Refused with [`RibError::Memory`] if a growth is refused, and then all is as it was.
     pub fn hear_path(&mut self, peer: Asn, prefix: &Prefix, path: &[Asn]) -> Result<(), RibError>
         requires { Linked self.old.net.links self.old.router peer }
-        ensures ok { OnOk result ((u : updates.Update) → TellsPath u prefix.now path.now → HearsUpdate self.old self.new peer u) }
+        ensures ok { OnOk result
+            ((u : updates.Update) → TellsPath u prefix.now path.now → HearsUpdate self.old self.new peer u) }
         ensures err { OnErr result (self.new ≡ self.old) }
     {
         let alloc = *self.peers.allocator();
@@ -328,7 +331,8 @@ impl<'a> Rib<'a> {
     /// not the best (RFC 4271 section 9.1). `None` exactly where each kept path is the best. Nothing that a clause sees
     /// changes: a path found to be the best is not looked at again until something changes. It takes no memory.
     pub fn dirty(&mut self) -> Option<Prefix>
-        ensures least { MatchOption result (HoldsOfAll self.old.net.origins (IsSettled self.old)) (IsLeastWithout self.old.net.origins (IsSettled self.old)) }
+        ensures least { MatchOption result (HoldsOfAll self.old.net.origins (IsSettled self.old))
+            (IsLeastWithout self.old.net.origins (IsSettled self.old)) }
         ensures same { self.new ≡ self.old }
     {
         let (place, _) = first_undecided(
@@ -343,7 +347,8 @@ impl<'a> Rib<'a> {
     /// The prefix that [`Rib::decide`] decides next: the least of the network, by address and then by length, whose
     /// kept path is not the best. `None` exactly where each kept path is the best. It takes no memory.
     pub fn undecided(&self) -> Option<Prefix>
-        ensures { MatchOption result (HoldsOfAll self.now.net.origins (IsSettled self.now)) (IsLeastWithout self.now.net.origins (IsSettled self.now)) }
+        ensures { MatchOption result (HoldsOfAll self.now.net.origins (IsSettled self.now))
+            (IsLeastWithout self.now.net.origins (IsSettled self.now)) }
     {
         let mut dirty = self.dirty;
         let (place, _) = first_undecided(
@@ -360,9 +365,12 @@ impl<'a> Rib<'a> {
     /// best, and then nothing changes. Refused with [`RibError::Memory`] if a growth is refused: then some kept path is
     /// not the best, and all is as it was.
     pub fn decide(&mut self, alloc: Global) -> Result<Option<Prefix>, RibError>
-        ensures least { IfOk result (λ found. MatchOption found (HoldsOfAll self.old.net.origins (IsSettled self.old)) (IsLeastWithout self.old.net.origins (IsSettled self.old))) }
+        ensures least { IfOk result
+            (λ found. MatchOption found (HoldsOfAll self.old.net.origins (IsSettled self.old))
+            (IsLeastWithout self.old.net.origins (IsSettled self.old))) }
         ensures decides { IfOk result (λ found. MatchOption found (self.new ≡ self.old) (Decides self.old self.new)) }
-        ensures pending { IfErr result (λ _. (q : PrefixView) × IsLeastWithout self.old.net.origins (IsSettled self.old) q) }
+        ensures pending { IfErr result
+            (λ _. (q : PrefixView) × IsLeastWithout self.old.net.origins (IsSettled self.old) q) }
         ensures err { OnErr result (self.new ≡ self.old) }
     {
         if self.dirty.is_empty() {
@@ -390,7 +398,8 @@ impl<'a> Rib<'a> {
     /// Established. It takes no memory.
     pub fn waiting(&self, peer: Asn) -> Option<Prefix>
         requires { Linked self.now.net.links self.now.router peer }
-        ensures { MatchOption result (HoldsOfAll self.now.net.origins (IsServed self.now peer)) (IsLeastWithout self.now.net.origins (IsServed self.now peer)) }
+        ensures { MatchOption result (HoldsOfAll self.now.net.origins (IsServed self.now peer))
+            (IsLeastWithout self.now.net.origins (IsServed self.now peer)) }
     {
         let (_, prefix) = self.waiting_at(0, peer)?;
         Some(prefix)
@@ -400,7 +409,8 @@ impl<'a> Rib<'a> {
     /// is looked for first at the place `at` among the linked routers, by rising number.
     pub fn waiting_at(&self, at: usize, peer: Asn) -> Option<(usize, Prefix)>
         requires { Linked self.now.net.links self.now.router peer }
-        ensures { MatchOption result (HoldsOfAll self.now.net.origins (IsServed self.now peer)) (λ found. IsLeastWithout self.now.net.origins (IsServed self.now peer) found.1) }
+        ensures { MatchOption result (HoldsOfAll self.now.net.origins (IsServed self.now peer))
+            (λ found. IsLeastWithout self.now.net.origins (IsServed self.now peer) found.1) }
     {
         let to = place_of_peer_near(self.peers.as_slice(), at, peer).unwrap();
         let place = self.waits[to].first()?;

@@ -50,7 +50,9 @@ pub struct Row<'a> {
 // Whether the path along `rest` is permitted, and either none was yet or it is preferred to the
 // best so far.
 fn is_taken(policy: &Chosen, router: Asn, rest: &[Asn], best: &[Asn]) -> bool
-    ensures { IsTrue result ↔ (chosen_permits policy.now (router ∷ rest.now) × ((best.now ≡ []) ⊎ chosen_prefers policy.now (router ∷ rest.now) (router ∷ best.now))) }
+    ensures { IsTrue result
+        ↔ (chosen_permits policy.now (router ∷ rest.now)
+        × ((best.now ≡ []) ⊎ chosen_prefers policy.now (router ∷ rest.now) (router ∷ best.now))) }
 {
     (best.is_empty() || policy.prefers_onward(router, rest, best))
         && policy.permits_onward(router, rest)
@@ -65,7 +67,8 @@ pub(crate) fn best_onward<'a>(
     heard: &'a [Word],
 ) -> &'a [Asn]
     requires { length heard.now ≡ length peers.now }
-    ensures { (table : Table) (q : PrefixView) → IsTable table → table.router ≡ router → Speaks policy.now table q → IsFirstOrNone (RowHears peers.now heard.now (length peers.now)) table q (path_by router result.now) }
+    ensures { (table : Table) (q : PrefixView) → IsTable table → table.router ≡ router → Speaks policy.now table q
+        → IsFirstOrNone (RowHears peers.now heard.now (length peers.now)) table q (path_by router result.now) }
 {
     each_policy_is_an_order();
     let mut best: &[Asn] = &[];
@@ -84,7 +87,9 @@ pub(crate) fn best_onward<'a>(
 // the best is the empty path. It takes no memory.
 pub(crate) fn best_way<'r>(router: Asn, peers: &[Peer], row: &'r Row) -> Option<&'r [Asn]>
     requires { length row.now.heard ≡ length peers.now }
-    ensures { (net : Plan) → IsNetwork net → IsRouter net.routers router → IsRow net router peers.now row.now → MatchOption result (IsRowBest net router peers.now row.now []) (λ rest. IsRowBest net router peers.now row.now (router ∷ rest.now)) }
+    ensures { (net : Plan) → IsNetwork net → IsRouter net.routers router → IsRow net router peers.now row.now
+        → MatchOption result (IsRowBest net router peers.now row.now [])
+        (λ rest. IsRowBest net router peers.now row.now (router ∷ rest.now)) }
 {
     if row.own {
         return if row.originated { Some(&[]) } else { None };
@@ -120,9 +125,17 @@ pub(crate) fn first_undecided<'r>(
 ) -> Option<(usize, Option<&'r [Asn]>)>
     requires few { length rows.now ≤ MOST_PREFIXES }
     requires words { (i : ℕ) (r : Row) → slice_get rows.now i ≡ Some r → length r.heard ≡ length peers.now }
-    ensures decided { (net : Plan) → AreJudged net router peers.now rows.now → AreDecided net router peers.now rows.now dirty.old → AreDecided net router peers.now rows.now dirty.new }
-    ensures least { (net : Plan) → AreJudged net router peers.now rows.now → AreDecided net router peers.now rows.now dirty.old → MatchOption result (AllBest net router peers.now rows.now) (λ found. IsFirstUndecided net router peers.now rows.now found.0) }
-    ensures best { (net : Plan) → AreJudged net router peers.now rows.now → IfSome result (λ found. (r : Row) → slice_get rows.now found.0 ≡ Some r → MatchOption found.1 (IsRowBest net router peers.now r []) (λ rest. IsRowBest net router peers.now r (router ∷ rest.now))) }
+    ensures decided { (net : Plan) → AreJudged net router peers.now rows.now
+        → AreDecided net router peers.now rows.now dirty.old → AreDecided net router peers.now rows.now dirty.new }
+    ensures least { (net : Plan) → AreJudged net router peers.now rows.now
+        → AreDecided net router peers.now rows.now dirty.old
+        → MatchOption result (AllBest net router peers.now rows.now)
+        (λ found. IsFirstUndecided net router peers.now rows.now found.0) }
+    ensures best { (net : Plan) → AreJudged net router peers.now rows.now
+        → IfSome result
+        (λ found. (r : Row) → slice_get rows.now found.0 ≡ Some r
+        → MatchOption found.1 (IsRowBest net router peers.now r [])
+        (λ rest. IsRowBest net router peers.now r (router ∷ rest.now))) }
 {
     each_policy_is_an_order();
     for _ in 0..MOST_PREFIXES {

@@ -52,7 +52,8 @@ impl Word {
 
 // The numbers of a path that is one AS_SEQUENCE.
 fn sequence_of(segments: &[Segment]) -> Option<&[Asn]>
-    ensures { MatchOption result (segments_word segments.now ≡ Word.Other) (λ numbers. segments_word segments.now ≡ Word.Sequence numbers.now) }
+    ensures { MatchOption result (segments_word segments.now ≡ Word.Other)
+        (λ numbers. segments_word segments.now ≡ Word.Sequence numbers.now) }
 {
     match segments {
         [only] => match only.kind {

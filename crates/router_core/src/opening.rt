@@ -49,7 +49,8 @@ fn params(alloc: Global, width: Width, number: Asn) -> Items<Items<Cap>>
 fn open_message(alloc: Global, width: Width, number: Asn, hold: u16, id: u32) -> Message
     requires hold { IsHoldTime hold }
     requires id { IsUnicast id }
-    ensures open { result ≡ OpenMsg (record { asn = asn_field number; hold = hold; id = id; params = params_of width number }) }
+    ensures open { result
+        ≡ OpenMsg (record { asn = asn_field number; hold = hold; id = id; params = params_of width number }) }
     ensures sayable { (w : widths.Width) → IsSayable w result }
 {
     written_has_a_header();
@@ -88,7 +89,8 @@ pub(crate) fn new_peers(
 ) -> Result<Vec<Peer>, AllocError>
     requires { IsHoldTime config.hold }
     ensures numbers { IfOk result (λ made. map (λ p. p.number) made.items ≡ peers network.now number) }
-    ensures sides { IfOk result (λ made. AllByRecursion (λ p. side p.end ≡ side_opening config network.now.settings.width) made.items) }
+    ensures sides { IfOk result
+        (λ made. AllByRecursion (λ p. side p.end ≡ side_opening config network.now.settings.width) made.items) }
 {
     let mut made = Vec::new(alloc);
     for router in network.routers() {

@@ -62,7 +62,8 @@ impl<'a> Model for Router<'a> {
 // The stamp behind this one, if one is left.
 fn next_stamp(last: u64) -> Result<u64, RouterError>
     requires { last ≤ GREATEST_STAMP }
-    ensures { MatchResult result (λ next. (next ≡ last + 1) × (nat_lt GREATEST_STAMP (last + 1) ≡ false)) (λ why. (why ≡ StampEnd) × (nat_lt GREATEST_STAMP (last + 1) ≡ true)) }
+    ensures { MatchResult result (λ next. (next ≡ last + 1) × (nat_lt GREATEST_STAMP (last + 1) ≡ false))
+        (λ why. (why ≡ StampEnd) × (nat_lt GREATEST_STAMP (last + 1) ≡ true)) }
 {
     let next = last + 1;
     if next > GREATEST_STAMP {
@@ -144,7 +145,8 @@ impl<'a> Router<'a> {
     // The place of a peer.
     fn find(&self, peer: Asn) -> Option<usize>
         ensures place { MatchOption result (listed peer self.now.peers ≡ false) (IsFound self.now.peers peer) }
-        ensures none { MatchOption result (linked self.now.net self.now.number peer ≡ false) (λ at. linked self.now.net self.now.number peer ≡ true) }
+        ensures none { MatchOption result (linked self.now.net self.now.number peer ≡ false)
+            (λ at. linked self.now.net self.now.number peer ≡ true) }
     {
         place_of(self.peers.as_slice(), peer)
     }

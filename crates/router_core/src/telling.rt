@@ -27,7 +27,8 @@ pub(crate) fn telling(
     requires router { IsRouter network.now.routers number }
     requires named { IsNamed network.now.origins prefix.now }
     requires tellable { IsTellable network.now.settings.width path.now }
-    ensures update { IfOk result (λ route. route ≡ telling (identifier network.now.routers number) prefix.now path.now) }
+    ensures update { IfOk result
+        (λ route. route ≡ telling (identifier network.now.routers number) prefix.now path.now) }
     ensures sayable { IfOk result (λ route. IsSayable network.now.settings.width (UpdateMsg route)) }
 {
     tellings_are_sayable();

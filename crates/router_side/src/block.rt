@@ -91,7 +91,8 @@ fn read_stored(
 ) -> Result<Told, AllocError>
     requires { IsStored place.now octets.now }
     ensures epoch { IfOk result (λ told. told.epoch ≡ place.now.epoch) }
-    ensures update { IfOk result (λ told. updates_read (reading (nobody width) (spelt place.now octets.now)) ≡ told.update ∷ []) }
+    ensures update { IfOk result
+        (λ told. updates_read (reading (nobody width) (spelt place.now octets.now)) ≡ told.update ∷ []) }
 {
     if place.short {
         let whole = with_front(alloc, place.len, octets)?;
@@ -132,7 +133,9 @@ impl Block {
 
     // Whether there is room for one UPDATE more, of so many octets.
     pub(crate) fn has_room(&self, octets: usize) -> bool
-        ensures { IsTrue result ↔ ((vec_len self.now.octets + octets ≤ vec_capacity self.now.octets) × (vec_len self.now.places + 1 ≤ vec_capacity self.now.places)) }
+        ensures { IsTrue result
+            ↔ ((vec_len self.now.octets + octets ≤ vec_capacity self.now.octets)
+            × (vec_len self.now.places + 1 ≤ vec_capacity self.now.places)) }
     {
         let left = self.octets.capacity() - self.octets.len();
         octets <= left && self.places.len() < self.places.capacity()
@@ -167,7 +170,8 @@ impl Block {
         all: &mut Vec<Told>,
     ) -> Result<(), AllocError>
         requires { AreStored self.now.places.items self.now.octets.items }
-        ensures { OnOk result (all.new.items ≡ all.old.items ++ told_stored width self.now.places.items self.now.octets.items) }
+        ensures { OnOk result
+            (all.new.items ≡ all.old.items ++ told_stored width self.now.places.items self.now.octets.items) }
     {
         let mut rest = self.octets.as_slice();
         for place in self.places.as_slice() {
@@ -185,7 +189,9 @@ impl Block {
         requires room { vec_len self.old.octets + length frame.now ≤ vec_capacity self.old.octets }
         requires place { vec_len self.old.places + 1 ≤ vec_capacity self.old.places }
         ensures kept { AreStored self.new.places.items self.new.octets.items }
-        ensures told { (w : widths.Width) (u : update.Update) → reading (nobody w) frame.now ≡ Ok (UpdateMsg u) → history (told_stored w self.new.places.items self.new.octets.items) ≡ with_update (history (told_stored w self.old.places.items self.old.octets.items)) epoch u }
+        ensures told { (w : widths.Width) (u : update.Update) → reading (nobody w) frame.now ≡ Ok (UpdateMsg u)
+            → history (told_stored w self.new.places.items self.new.octets.items)
+            ≡ with_update (history (told_stored w self.old.places.items self.old.octets.items)) epoch u }
     {
         header_is_its_front();
         let (short, stored) = shortened(frame);
@@ -205,13 +211,16 @@ impl Block {
     )
         requires kept { AreStored self.old.places.items self.old.octets.items }
         requires sayable { IsSayable width (UpdateMsg route.now) }
-        requires room { vec_len self.old.octets + length (written width (UpdateMsg route.now)) ≤ vec_capacity self.old.octets }
+        requires room { vec_len self.old.octets + length (written width (UpdateMsg route.now))
+            ≤ vec_capacity self.old.octets }
         requires place { vec_len self.old.places + 1 ≤ vec_capacity self.old.places }
         requires waiting { length (written width (UpdateMsg route.now)) ≤ outbox.old.room }
         requires more { 1 ≤ outbox.old.places }
         ensures kept { AreStored self.new.places.items self.new.octets.items }
-        ensures told { history (told_stored width self.new.places.items self.new.octets.items) ≡ with_update (history (told_stored width self.old.places.items self.old.octets.items)) epoch route.now }
-        ensures passing { outbox.new.passing ≡ outbox.old.passing ++ octets_of epoch (written width (UpdateMsg route.now)) }
+        ensures told { history (told_stored width self.new.places.items self.new.octets.items)
+            ≡ with_update (history (told_stored width self.old.places.items self.old.octets.items)) epoch route.now }
+        ensures passing { outbox.new.passing
+            ≡ outbox.old.passing ++ octets_of epoch (written width (UpdateMsg route.now)) }
     {
         written_has_a_header();
         written_is_read();

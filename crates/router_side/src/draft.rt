@@ -51,7 +51,8 @@ impl Sketch {
     #[tactic(auto, using(crate::proofs::Said::said_on))]
     fn dial(&mut self, own_open: &Message, given: &Given)
         requires { length self.old.says < 40 }
-        ensures after { draft own_open.now (hand given.now) self.new ≡ dials (draft own_open.now (hand given.now) self.old) }
+        ensures after { draft own_open.now (hand given.now) self.new
+            ≡ dials (draft own_open.now (hand given.now) self.old) }
         ensures grows { length self.new.says ≤ length self.old.says + 1 }
     {
         match self.link.dial() {
@@ -63,7 +64,8 @@ impl Sketch {
     #[tactic(auto, using(crate::proofs::Said::said_on))]
     fn hang_up(&mut self, own_open: &Message, given: &Given)
         requires { length self.old.says < 40 }
-        ensures after { draft own_open.now (hand given.now) self.new ≡ hangs_up (draft own_open.now (hand given.now) self.old) }
+        ensures after { draft own_open.now (hand given.now) self.new
+            ≡ hangs_up (draft own_open.now (hand given.now) self.old) }
         ensures grows { length self.new.says ≤ length self.old.says + 1 }
     {
         if let Some(number) = self.link.hang_up() {
@@ -75,7 +77,8 @@ impl Sketch {
     #[tactic(auto, using(crate::proofs::Said::said_on))]
     fn does(&mut self, own_open: &Message, given: &Given, action: Action)
         requires { length self.old.says < 40 }
-        ensures after { draft own_open.now (hand given.now) self.new ≡ does own_open.now (hand given.now) (draft own_open.now (hand given.now) self.old) action }
+        ensures after { draft own_open.now (hand given.now) self.new
+            ≡ does own_open.now (hand given.now) (draft own_open.now (hand given.now) self.old) action }
         ensures grows { length self.new.says ≤ length self.old.says + 1 }
     {
         let epoch = self.link.epoch();
@@ -94,7 +97,8 @@ impl Sketch {
 
     fn does_all(&mut self, own_open: &Message, given: &Given, actions: &[Action])
         requires { length self.old.says + length actions.now ≤ 40 }
-        ensures after { draft own_open.now (hand given.now) self.new ≡ does_all own_open.now (hand given.now) (draft own_open.now (hand given.now) self.old) actions.now }
+        ensures after { draft own_open.now (hand given.now) self.new
+            ≡ does_all own_open.now (hand given.now) (draft own_open.now (hand given.now) self.old) actions.now }
         ensures grows { length self.new.says ≤ length self.old.says + length actions.now }
     {
         for action in actions {
@@ -106,7 +110,8 @@ impl Sketch {
     fn meets(&mut self, own_open: &Message, given: &Given, event: FsmEvent)
         requires good { IsGoodEvent event }
         requires room { length self.old.says ≤ 36 }
-        ensures after { draft own_open.now (hand given.now) self.new ≡ meets own_open.now (hand given.now) (draft own_open.now (hand given.now) self.old) event }
+        ensures after { draft own_open.now (hand given.now) self.new
+            ≡ meets own_open.now (hand given.now) (draft own_open.now (hand given.now) self.old) event }
         ensures grows { length self.new.says ≤ length self.old.says + 4 }
     {
         let actions = self.session.on(event);
@@ -132,7 +137,8 @@ impl Sketch {
     #[tactic(auto, unfolding(router_model::specs::Sides::obeys))]
     fn obeys(&mut self, own_open: &Message, given: &Given, action: Action)
         requires { length self.old.says ≤ 35 }
-        ensures after { draft own_open.now (hand given.now) self.new ≡ obeys own_open.now (hand given.now) (draft own_open.now (hand given.now) self.old) action }
+        ensures after { draft own_open.now (hand given.now) self.new
+            ≡ obeys own_open.now (hand given.now) (draft own_open.now (hand given.now) self.old) action }
         ensures grows { length self.new.says ≤ length self.old.says + 5 }
     {
         let joins = self.joins(action);
@@ -144,7 +150,8 @@ impl Sketch {
 
     fn obeys_all(&mut self, own_open: &Message, given: &Given, actions: &[Action])
         requires { length self.old.says + 5 * length actions.now ≤ 40 }
-        ensures after { draft own_open.now (hand given.now) self.new ≡ obeys_all own_open.now (hand given.now) (draft own_open.now (hand given.now) self.old) actions.now }
+        ensures after { draft own_open.now (hand given.now) self.new
+            ≡ obeys_all own_open.now (hand given.now) (draft own_open.now (hand given.now) self.old) actions.now }
         ensures grows { length self.new.says ≤ length self.old.says + 5 * length actions.now }
     {
         for action in actions {
@@ -157,7 +164,8 @@ impl Sketch {
     pub fn comes(&mut self, own_open: &Message, given: &Given, event: FsmEvent)
         requires good { IsGoodEvent event }
         requires room { length self.old.says ≤ 20 }
-        ensures after { draft own_open.now (hand given.now) self.new ≡ comes own_open.now (hand given.now) (draft own_open.now (hand given.now) self.old) event }
+        ensures after { draft own_open.now (hand given.now) self.new
+            ≡ comes own_open.now (hand given.now) (draft own_open.now (hand given.now) self.old) event }
         ensures grows { length self.new.says ≤ length self.old.says + 20 }
     {
         let actions = self.session.on(event);
@@ -168,7 +176,8 @@ impl Sketch {
     #[tactic(auto, unfolding(router_model::specs::Sides::answers))]
     pub fn answers(&mut self, own_open: &Message, heard: Heard)
         requires { self.old.says ≡ [] }
-        ensures after { draft own_open.now NoMessage self.new ≡ answers own_open.now (draft own_open.now NoMessage self.old) heard }
+        ensures after { draft own_open.now NoMessage self.new
+            ≡ answers own_open.now (draft own_open.now NoMessage self.old) heard }
         ensures few { length self.new.says ≤ 40 }
     {
         let nothing = Given::Nothing;

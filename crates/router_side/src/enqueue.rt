@@ -83,8 +83,10 @@ fn append(
     requires told { IsSayableWhere width told.now }
     requires octets { size_of (length (written width own_open.now)) (size_where width told.now) say ≤ outbox.old.room }
     requires place { 1 ≤ outbox.old.places }
-    ensures passing { outbox.new.passing ≡ outbox.old.passing ++ passing (written width) (entries_of own_open.now told.now say) }
-    ensures room { outbox.old.room ≤ outbox.new.room + size_of (length (written width own_open.now)) (size_where width told.now) say }
+    ensures passing { outbox.new.passing
+        ≡ outbox.old.passing ++ passing (written width) (entries_of own_open.now told.now say) }
+    ensures room { outbox.old.room
+        ≤ outbox.new.room + size_of (length (written width own_open.now)) (size_where width told.now) say }
     ensures places { outbox.old.places ≤ outbox.new.places + 1 }
 {
     written_has_a_header();
@@ -116,9 +118,11 @@ pub(crate) fn append_all(
 )
     requires own { IsSayable width own_open.now }
     requires told { IsSayableWhere width told.now }
-    requires octets { all_sizes (length (written width own_open.now)) (size_where width told.now) says.now ≤ outbox.old.room }
+    requires octets { all_sizes (length (written width own_open.now)) (size_where width told.now) says.now
+        ≤ outbox.old.room }
     requires places { length says.now ≤ outbox.old.places }
-    ensures { outbox.new.passing ≡ outbox.old.passing ++ passing (written width) (all_entries own_open.now told.now says.now) }
+    ensures { outbox.new.passing
+        ≡ outbox.old.passing ++ passing (written width) (all_entries own_open.now told.now says.now) }
 {
     passing_appends::<Message>();
     for say in says {

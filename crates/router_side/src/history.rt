@@ -145,7 +145,8 @@ impl History {
         requires frame { IsFrame frame.now }
         requires room { length frame.now ≤ self.old.room }
         requires place { 1 ≤ self.old.places }
-        ensures { (w : widths.Width) (u : update.Update) → reading (nobody w) frame.now ≡ Ok (UpdateMsg u) → history (told_with w self.new) ≡ with_update (history (told_with w self.old)) epoch u }
+        ensures { (w : widths.Width) (u : update.Update) → reading (nobody w) frame.now ≡ Ok (UpdateMsg u)
+            → history (told_with w self.new) ≡ with_update (history (told_with w self.old)) epoch u }
     {
         self.last.keep_frame(epoch, frame);
     }
@@ -164,8 +165,10 @@ impl History {
         requires place { 1 ≤ self.old.places }
         requires waiting { length (written width (UpdateMsg route.now)) ≤ outbox.old.room }
         requires more { 1 ≤ outbox.old.places }
-        ensures told { history (told_with width self.new) ≡ with_update (history (told_with width self.old)) epoch route.now }
-        ensures passing { outbox.new.passing ≡ outbox.old.passing ++ octets_of epoch (written width (UpdateMsg route.now)) }
+        ensures told { history (told_with width self.new)
+            ≡ with_update (history (told_with width self.old)) epoch route.now }
+        ensures passing { outbox.new.passing
+            ≡ outbox.old.passing ++ octets_of epoch (written width (UpdateMsg route.now)) }
     {
         self.last.keep_route(width, epoch, route, outbox);
     }

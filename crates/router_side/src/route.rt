@@ -152,8 +152,10 @@ fn put_announcement(
 ) -> [u8; FRONT]
     requires fit { AllByRecursion (AsnFits width) path.now }
     requires few { length path.now ≤ MOST_NUMBERS }
-    requires room { vec_len out.old + (40 + asn_size width * length path.now + octet_count prefix.now.len) ≤ vec_capacity out.old }
-    ensures { PutsBehind result (written width (UpdateMsg (announcement id prefix.now path.now))) out.old.items out.new.items }
+    requires room { vec_len out.old + (40 + asn_size width * length path.now + octet_count prefix.now.len)
+        ≤ vec_capacity out.old }
+    ensures { PutsBehind result (written width (UpdateMsg (announcement id prefix.now path.now))) out.old.items
+        out.new.items }
 {
     let (len, address) = (prefix.len(), prefix.addr().to_be_bytes());
     let count = octet_count(len);
@@ -239,7 +241,8 @@ struct Announcement<'a> {
 // The parts of the announcement that a frame is, if it is what `put_announcement` puts for them.
 #[inline(always)]
 fn announced(width: Width, frame: &[u8]) -> Option<Announcement<'_>>
-    ensures { IfSome result (λ told. IsCanonical told.prefix × IsAnnouncement width frame.now told.id told.prefix told.numbers.now) }
+    ensures { IfSome result
+        (λ told. IsCanonical told.prefix × IsAnnouncement width frame.now told.id told.prefix told.numbers.now) }
 {
     let (start, rest) = frame.split_at_checked(FRONT + 3)?;
     let (front, segment) = start.split_at(FRONT);
@@ -369,7 +372,8 @@ impl Route {
     pub(crate) fn put(&self, width: Width, out: &mut Vec<u8>) -> Option<[u8; FRONT]>
         requires sayable { IsSayable width (UpdateMsg self.now) }
         requires room { vec_len out.old + length (written width (UpdateMsg self.now)) ≤ vec_capacity out.old }
-        ensures { MatchOption result (out.new.items ≡ out.old.items ++ written width (UpdateMsg self.now)) (λ front. PutsBehind front (written width (UpdateMsg self.now)) out.old.items out.new.items) }
+        ensures { MatchOption result (out.new.items ≡ out.old.items ++ written width (UpdateMsg self.now))
+            (λ front. PutsBehind front (written width (UpdateMsg self.now)) out.old.items out.new.items) }
     {
         let path = self.path.as_slice();
         // a length that was read is known to be at most 32 bits

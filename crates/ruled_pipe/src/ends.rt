@@ -95,7 +95,8 @@ impl<T: Drop> TakeEnd<T> {
 /// Makes the queue and its two seats.
 fn seated<T: Drop>(alloc: Global, capacity: usize) -> Result<(PutEnd<T>, TakeEnd<T>), AllocError>
     requires { 0 < capacity }
-    ensures ends { IfOk result (λ ends. (ends.0 ≡ end_at ends.0.pipe capacity []) × (ends.1 ≡ end_at ends.0.pipe capacity [])) }
+    ensures ends { IfOk result
+        (λ ends. (ends.0 ≡ end_at ends.0.pipe capacity []) × (ends.1 ≡ end_at ends.0.pipe capacity [])) }
 {
     let (line, mut seat) = Line::ruled(alloc, capacity)?;
     let taker = line.another::<Roles>(&mut seat);

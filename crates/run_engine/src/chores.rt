@@ -70,7 +70,8 @@ fn opening_len(network: &Network, number: Asn) -> usize
 /// How far each snapshot stands behind the one before, if the options leave room for it and for the opening of every
 /// router. It takes no memory.
 pub fn spacing(network: &Network, options: &RunOptions) -> Option<u32>
-    ensures { MatchOption result (HasRoom network.now options.now → ⊥) (λ spacing. HasRoom network.now options.now × (spacing ≡ spacing_of network.now options.now)) }
+    ensures { MatchOption result (HasRoom network.now options.now → ⊥)
+        (λ spacing. HasRoom network.now options.now × (spacing ≡ spacing_of network.now options.now)) }
 {
     if options.turns == 0 || options.turns > MOST_TURNS {
         return None;
@@ -106,7 +107,8 @@ pub fn new_gates(
     requires { 0 < spacing }
     ensures many { IfOk result (λ gates. length gates.items ≡ length network.now.routers) }
     ensures nothing { IfOk result (λ gates. AllByRecursion (λ gate. given_by gate ≡ []) gates.items) }
-    ensures told { IfOk result (λ gates. map told_of gates.items ≡ told_each network.now spacing snapshots network.now.routers) }
+    ensures told { IfOk result
+        (λ gates. map told_of gates.items ≡ told_each network.now spacing snapshots network.now.routers) }
 {
     let mut gates = Vec::new(alloc);
     let mut left = snapshots;

@@ -32,13 +32,17 @@ where
     ensures room { OnOk result (HasRoom network.now options.now) }
     ensures refused { IfErr result (IsFaultOfRun options.now network.now) }
     // The fault of a worker is that of the least router that has one, of routers that were told this.
-    ensures fault { IfErr result (FaultOf given_by told_of network.now options.now.turns (run_tellings options.now network.now)) }
+    ensures fault { IfErr result
+        (FaultOf given_by told_of network.now options.now.turns (run_tellings options.now network.now)) }
     // Router by router, each was told its opening and its turns, and the least its snapshots.
     ensures told { IfOk result (λ r. map (λ w. told_of w.gate) r.workers.items ≡ run_tellings options.now network.now) }
     ensures ways { IfOk result (λ r. AreWays network.now r.ways.items) }
-    ensures recorded { IfOk result (λ r. IsRecord given_by network.now options.now.turns (passed_in r.ways.items) r.workers.items r.collector r.gathered.items) }
+    ensures recorded { IfOk result
+        (λ r. IsRecord given_by network.now options.now.turns (passed_in r.ways.items) r.workers.items r.collector
+        r.gathered.items) }
     // The record is one of a run of the network, in which UPDATEs passed in order and whose snapshots can be believed.
-    ensures promises { IfOk result (λ r. RunKeepsPromises network.now (passed_in r.ways.items) r.workers.items r.collector r.gathered.items) }
+    ensures promises { IfOk result
+        (λ r. RunKeepsPromises network.now (passed_in r.ways.items) r.workers.items r.collector r.gathered.items) }
 {
     let Some(spacing) = spacing(network, options) else {
         return Err(RunFault::BadLimits);

@@ -47,12 +47,16 @@ where
     T: Sink,
     requires fresh { AllByRecursion (λ gate. G.given gate ≡ []) gates.items }
     // What is written is what is printed of a run of the network in threads, and nothing else.
-    ensures done { IfOk result (λ status. WrittenBy (Gated G.given G.told network.now limits.turns gates.items last) (T.contents sink.old) (T.contents sink.new) status) }
+    ensures done { IfOk result
+        (λ status. WrittenBy (Gated G.given G.told network.now limits.turns gates.items last) (T.contents sink.old)
+        (T.contents sink.new) status) }
     // It answers a status only where no write failed, and stops only where one did.
     ensures unfailed { OnOk result (T.failed sink.new ≡ T.failed sink.old) }
     ensures failed { OnErr result (T.failed sink.new ≡ true) }
     // A failed write leaves a beginning of the text.
-    ensures stopped { OnErr result (WrittenFrontBy (Gated G.given G.told network.now limits.turns gates.items last) (T.contents sink.old) (T.contents sink.new)) }
+    ensures stopped { OnErr result
+        (WrittenFrontBy (Gated G.given G.told network.now limits.turns gates.items last) (T.contents sink.old)
+        (T.contents sink.new)) }
 {
     match threads_output(rt, alloc, network, gates, limits, last) {
         Ok((text, status)) => {
@@ -135,14 +139,19 @@ where
     S: Source,
     T: Sink,
     // What is written is what is printed of a run in threads of what was read, and nothing else.
-    ensures done { IfOk result (λ status. PrintedBy (Runs options.now) (S.remaining source.old) (T.contents sink.old) (T.contents sink.new) status) }
+    ensures done { IfOk result
+        (λ status. PrintedBy (Runs options.now) (S.remaining source.old) (T.contents sink.old) (T.contents sink.new)
+        status) }
     // It answers a status only where no read and no write failed, and stops only where one did.
-    ensures unfailed { OnOk result ((S.failed source.new ≡ S.failed source.old) × (T.failed sink.new ≡ T.failed sink.old)) }
+    ensures unfailed { OnOk result
+        ((S.failed source.new ≡ S.failed source.old) × (T.failed sink.new ≡ T.failed sink.old)) }
     ensures failed { OnErr result ((S.failed source.new ≡ true) ⊎ (T.failed sink.new ≡ true)) }
     // Where a read failed nothing is written.
-    ensures silent { S.failed source.old ≡ false → S.failed source.new ≡ true → T.contents sink.new ≡ T.contents sink.old }
+    ensures silent { S.failed source.old ≡ false → S.failed source.new ≡ true
+        → T.contents sink.new ≡ T.contents sink.old }
     // A failed read or write leaves a beginning of the text.
-    ensures stopped { OnErr result (PrintedFrontBy (Runs options.now) (S.remaining source.old) (T.contents sink.old) (T.contents sink.new)) }
+    ensures stopped { OnErr result
+        (PrintedFrontBy (Runs options.now) (S.remaining source.old) (T.contents sink.old) (T.contents sink.new)) }
 {
     let input = match read_input(alloc, source) {
         Ok(input) => input,

@@ -34,7 +34,9 @@ fn originates(part: &Part, prefix: &Prefix) -> bool
 
 // Whether every origin has a part of a snapshot, and originates its prefix in it.
 fn all_originate(network: &Network, collector: &Collector, number: u32) -> bool
-    ensures { result ≡ all_originate network.now.origins (kept_of (map member_of collector.now.members) (made_for collector.now number)) }
+    ensures { result
+        ≡ all_originate network.now.origins
+        (kept_of (map member_of collector.now.members) (made_for collector.now number)) }
 {
     for origin in network.origins() {
         match collector.part(number, origin.router) {
@@ -74,7 +76,8 @@ fn is_wanted(network: &Network, collector: &Collector, number: u32, demand: Dema
 
 // The first snapshot from 1 to the last that came out settled and whose parts are as demanded.
 fn first_wanted(network: &Network, collector: &Collector, last: u32, demand: Demand) -> Option<u32>
-    ensures { MatchOption result ((s : ℕ) → 0 < s → s ≤ last → is_wanted demand network.now collector.now s ≡ false) (IsFirstWanted demand network.now collector.now last) }
+    ensures { MatchOption result ((s : ℕ) → 0 < s → s ≤ last → is_wanted demand network.now collector.now s ≡ false)
+        (IsFirstWanted demand network.now collector.now last) }
 {
     for before in 0..last {
         let number = before + 1;
@@ -97,7 +100,8 @@ pub fn settled_output(
     last: u32,
     demand: Demand,
 ) -> Result<(Vec<u8>, u8), AllocError>
-    ensures { IfOk result (λ printed. CollectorGives demand network.now collector.now last (output printed.0.items printed.1)) }
+    ensures { IfOk result
+        (λ printed. CollectorGives demand network.now collector.now last (output printed.0.items printed.1)) }
 {
     let mut out = Vec::new(alloc);
     match first_wanted(network, collector, last, demand) {

@@ -45,7 +45,9 @@ where
     R: Threads + Wait + Sync,
     G: Gate + Send + Drop,
     requires fresh { AllByRecursion (λ gate. G.given gate ≡ []) gates.items }
-    ensures { IfOk result (λ printed. ThreadsGive G.given G.told network.now limits.turns gates.items last (output printed.0.items printed.1)) }
+    ensures { IfOk result
+        (λ printed. ThreadsGive G.given G.told network.now limits.turns gates.items last
+        (output printed.0.items printed.1)) }
 {
     let _ = network.built();
     members_are_the_routers();

@@ -135,7 +135,8 @@ pub fn read_schedule(
 ) -> Result<Vec<ScheduledOrder>, Refused>
     requires { before + length text.now < 2 ^ 64 }
     ensures ok { IfOk result (λ orders. SpellsSchedule network.now before (lines_of text.now) orders.items) }
-    ensures err { IfErr result (λ refused. RefusesSchedule network.now before (lines_of text.now) refused.line refused.code) }
+    ensures err { IfErr result
+        (λ refused. RefusesSchedule network.now before (lines_of text.now) refused.line refused.code) }
     // The line that is named was reached.
     ensures reached { IfErr result (λ refused. before < refused.line) }
 {

@@ -130,7 +130,8 @@ fn make_room(
 fn keep(members: &[Member], offers: &mut BTreeMap<u32, Book>, offer: Offer)
     requires books { AreBooks (map member_of members.now) offers.old.entries }
     requires room { HasRoom offers.old.entries (number_of offer) }
-    ensures made { made_at (map entry_of offers.new.entries) ≡ with_offers (made_at (map entry_of offers.old.entries)) (made_by offer ∷ []) }
+    ensures made { made_at (map entry_of offers.new.entries)
+        ≡ with_offers (made_at (map entry_of offers.old.entries)) (made_by offer ∷ []) }
     ensures books { AreBooks (map member_of members.now) offers.new.entries }
 {
     let number = offer.number();
@@ -141,11 +142,16 @@ fn keep(members: &[Member], offers: &mut BTreeMap<u32, Book>, offer: Offer)
 // Keeps an offer, for which there is room, and notes its number if the number is decided then.
 fn put(members: &[Member], offers: &mut BTreeMap<u32, Book>, decided: &mut Vec<u32>, offer: Offer)
     requires books { AreBooks (map member_of members.now) offers.old.entries }
-    requires decided { AreDecided (record { members = members.now; offers = map entry_of offers.old.entries; decided = decided.old.items }) decided.old.items }
+    requires decided { AreDecided
+        (record { members = members.now; offers = map entry_of offers.old.entries; decided = decided.old.items })
+        decided.old.items }
     requires room { HasRoom offers.old.entries (number_of offer) }
     requires noted { vec_len decided.old < vec_capacity decided.old }
-    ensures made { made_at (map entry_of offers.new.entries) ≡ with_offers (made_at (map entry_of offers.old.entries)) (made_by offer ∷ []) }
-    ensures decided { AreDecided (record { members = members.now; offers = map entry_of offers.new.entries; decided = decided.new.items }) decided.new.items }
+    ensures made { made_at (map entry_of offers.new.entries)
+        ≡ with_offers (made_at (map entry_of offers.old.entries)) (made_by offer ∷ []) }
+    ensures decided { AreDecided
+        (record { members = members.now; offers = map entry_of offers.new.entries; decided = decided.new.items })
+        decided.new.items }
     ensures books { AreBooks (map member_of members.now) offers.new.entries }
 {
     let number = offer.number();
@@ -193,7 +199,9 @@ impl Collector {
     /// a growth is refused, both stay as they were.
     pub fn record_from(&mut self, marks: &mut MarkState) -> Result<(), AllocError>
         requires waits { marks.old.queue ≢ [] }
-        ensures ok { OnOk result (IfSome (slice_get marks.old.queue 0) (λ offer. made_for self.new ≡ with_offers (made_for self.old) (made_by offer ∷ []))) }
+        ensures ok { OnOk result
+            (IfSome (slice_get marks.old.queue 0)
+            (λ offer. made_for self.new ≡ with_offers (made_for self.old) (made_by offer ∷ []))) }
         ensures made { OnOk result (snapshots_of marks.new ≡ without_first (snapshots_of marks.old)) }
         ensures err { OnErr result (self.new ≡ self.old) }
         ensures waiting { OnErr result (marks.new ≡ marks.old) }
@@ -280,7 +288,9 @@ impl Collector {
     /// How the snapshot of a number comes out, by the offers for it that are kept: those up to the
     /// first that decides.
     pub fn outcome(&self, number: u32) -> Outcome
-        ensures { outcome_of result ≡ verdict (map member_of self.now.members) (kept_of (map member_of self.now.members) (made_for self.now number)) }
+        ensures { outcome_of result
+            ≡ verdict (map member_of self.now.members)
+            (kept_of (map member_of self.now.members) (made_for self.now number)) }
     {
         verdict(self.members.as_slice(), self.kept(number))
     }
@@ -297,7 +307,10 @@ impl Collector {
     /// acted on: those of the channels of its parts. A snapshot that is neither settled nor moving has none. Refused
     /// with [`CollectError::Memory`] if a growth is refused.
     pub fn in_flight(&self, number: u32) -> Result<Vec<InFlight>, CollectError>
-        ensures ok { IfOk result (λ flights. map flight_of flights.items ≡ in_flight_of (map member_of self.now.members) (kept_of (map member_of self.now.members) (made_for self.now number))) }
+        ensures ok { IfOk result
+            (λ flights. map flight_of flights.items
+            ≡ in_flight_of (map member_of self.now.members)
+            (kept_of (map member_of self.now.members) (made_for self.now number))) }
         ensures err { IfErr result (λ why. why ≡ CollectError.Memory) }
     {
         let alloc = *self.members.allocator();

@@ -33,7 +33,9 @@ fn put_updates(
     peer: Asn,
     updates: &[Update],
 ) -> Result<(), AllocError>
-    ensures { OnOk result (map flight_of flights.new.items ≡ map flight_of flights.old.items ++ flights_from router peer (messages updates.now)) }
+    ensures { OnOk result
+        (map flight_of flights.new.items
+        ≡ map flight_of flights.old.items ++ flights_from router peer (messages updates.now)) }
 {
     for update in updates {
         flights.push(InFlight {
@@ -53,7 +55,9 @@ fn put_channel(
     peer: Asn,
     channels: &[Channel],
 ) -> Result<(), AllocError>
-    ensures { OnOk result (map flight_of flights.new.items ≡ map flight_of flights.old.items ++ flights_from router peer (channel_in channels.now peer)) }
+    ensures { OnOk result
+        (map flight_of flights.new.items
+        ≡ map flight_of flights.old.items ++ flights_from router peer (channel_in channels.now peer)) }
 {
     for channel in channels {
         if peer == channel.peer {
@@ -70,7 +74,9 @@ fn put_part(
     member: &Member,
     part: &Part,
 ) -> Result<(), AllocError>
-    ensures { OnOk result (map flight_of flights.new.items ≡ map flight_of flights.old.items ++ flights_of (member_of member.now) (part_of part.now)) }
+    ensures { OnOk result
+        (map flight_of flights.new.items
+        ≡ map flight_of flights.old.items ++ flights_of (member_of member.now) (part_of part.now)) }
 {
     for peer in member.peers.as_slice() {
         put_channel(alloc, flights, member.router, *peer, &part.channels)?;
@@ -85,7 +91,9 @@ fn put_router(
     member: &Member,
     offers: &[Offer],
 ) -> Result<(), AllocError>
-    ensures { OnOk result (map flight_of flights.new.items ≡ map flight_of flights.old.items ++ flights_at (made_in offers.now) (member_of member.now)) }
+    ensures { OnOk result
+        (map flight_of flights.new.items
+        ≡ map flight_of flights.old.items ++ flights_at (made_in offers.now) (member_of member.now)) }
 {
     match first_part(offers, member.router) {
         Some(part) => put_part(alloc, flights, member, part),
@@ -99,7 +107,9 @@ pub(crate) fn flights_to(
     members: &[Member],
     offers: &[Offer],
 ) -> Result<Vec<InFlight>, AllocError>
-    ensures { IfOk result (λ flights. map flight_of flights.items ≡ flat_map (flights_at (made_in offers.now)) (map member_of members.now)) }
+    ensures { IfOk result
+        (λ flights. map flight_of flights.items
+        ≡ flat_map (flights_at (made_in offers.now)) (map member_of members.now)) }
 {
     let mut flights = Vec::new(alloc);
     for member in members {

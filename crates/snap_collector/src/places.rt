@@ -101,7 +101,9 @@ impl Places {
         router: Asn,
     ) -> Option<&'o Part>
         requires { LeadTo self.now.routers self.now.places offers.now }
-        ensures { MatchOption result (Unit {0}) (λ part. (holds : RouterPart → Bool) → has_part (made_in offers.now) router holds ≡ holds (part_of part.now)) }
+        ensures { MatchOption result (Unit {0})
+            (λ part. (holds : RouterPart → Bool)
+            → has_part (made_in offers.now) router holds ≡ holds (part_of part.now)) }
     {
         if slot >= MOST_ROUTERS {
             return None;
@@ -121,7 +123,9 @@ impl Places {
     /// The part of a router, if the search finds it. It is then the router's only part.
     pub(crate) fn part<'o>(&self, offers: &'o [Offer], router: Asn) -> Option<&'o Part>
         requires { LeadTo self.now.routers self.now.places offers.now }
-        ensures { MatchOption result (Unit {0}) (λ part. (holds : RouterPart → Bool) → has_part (made_in offers.now) router holds ≡ holds (part_of part.now)) }
+        ensures { MatchOption result (Unit {0})
+            (λ part. (holds : RouterPart → Bool)
+            → has_part (made_in offers.now) router holds ≡ holds (part_of part.now)) }
     {
         self.part_at(offers, slot_of(&self.routers, router), router)
     }

@@ -87,7 +87,8 @@ fn found_part<'o>(
     router: Asn,
 ) -> Option<&'o Part>
     requires { IfSome places (λ p. LeadTo p.now.routers p.now.places offers.now) }
-    ensures { MatchOption result (Unit {0}) (λ part. (holds : RouterPart → Bool) → has_part (made_in offers.now) router holds ≡ holds (part_of part.now)) }
+    ensures { MatchOption result (Unit {0})
+        (λ part. (holds : RouterPart → Bool) → has_part (made_in offers.now) router holds ≡ holds (part_of part.now)) }
 {
     match places {
         Some(places) => places.part_at(offers, slot, router),
@@ -220,7 +221,8 @@ fn first_mismatch(offers: &[Offer], router: Asn, peers: &[Asn]) -> Option<Asn>
 
 /// The part of a router, if the router offered exactly one.
 fn sole_part(offers: &[Offer], router: Asn) -> Option<&Part>
-    ensures { MatchOption result (Unit {0}) (λ part. (holds : RouterPart → Bool) → has_part (made_in offers.now) router holds ≡ holds (part_of part.now)) }
+    ensures { MatchOption result (Unit {0})
+        (λ part. (holds : RouterPart → Bool) → has_part (made_in offers.now) router holds ≡ holds (part_of part.now)) }
 {
     let mut place = 0;
     while place < offers.len() {
@@ -247,7 +249,9 @@ fn flight_in(part: &Part, peers: &[Asn]) -> Option<Asn>
 /// Whether a part of the peer names another incarnation of its link to the router than this part of the router.
 fn differs(offers: &[Offer], places: Option<&Places>, router: Asn, part: &Part, peer: Asn) -> bool
     requires { IfSome places (λ p. LeadTo p.now.routers p.now.places offers.now) }
-    ensures { result ≡ has_part (made_in offers.now) peer (λ other. not ((part_of part.now).incarnation peer == other.incarnation router)) }
+    ensures { result
+        ≡ has_part (made_in offers.now) peer
+        (λ other. not ((part_of part.now).incarnation peer == other.incarnation router)) }
 {
     let epoch = part.epoch(peer);
     if let Some(places) = places {
@@ -267,7 +271,10 @@ fn mismatch_in(
     peers: &[Asn],
 ) -> Option<Asn>
     requires { IfSome places (λ p. LeadTo p.now.routers p.now.places offers.now) }
-    ensures { result ≡ find (λ v. has_part (made_in offers.now) v (λ other. not ((part_of part.now).incarnation v == other.incarnation router))) peers.now }
+    ensures { result
+        ≡ find
+        (λ v. has_part (made_in offers.now) v
+        (λ other. not ((part_of part.now).incarnation v == other.incarnation router))) peers.now }
 {
     peers
         .iter()
@@ -283,7 +290,8 @@ fn sole_fault(
     part: &Part,
 ) -> Option<Why>
     requires led { IfSome places (λ p. LeadTo p.now.routers p.now.places offers.now) }
-    requires sole { (holds : RouterPart → Bool) → has_part (made_in offers.now) member.now.router holds ≡ holds (part_of part.now) }
+    requires sole { (holds : RouterPart → Bool)
+        → has_part (made_in offers.now) member.now.router holds ≡ holds (part_of part.now) }
     ensures { option_map why_of result ≡ fault_at (made_in offers.now) (member_of member.now) }
 {
     if part.pending {

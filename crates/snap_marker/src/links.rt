@@ -19,7 +19,8 @@ fn position_of(channels: &[Channel], peer: Asn) -> Option<usize>
 
 /// The place of the first link to a peer.
 pub(crate) fn place_of(channels: &[Channel], peer: Asn) -> Option<usize>
-    ensures { MatchOption result (leads_to peer channels.now ≡ false) (λ place. (place < length channels.now) × IsAt channels.now peer place) }
+    ensures { MatchOption result (leads_to peer channels.now ≡ false)
+        (λ place. (place < length channels.now) × IsAt channels.now peer place) }
 {
     position_of(channels, peer)
 }
@@ -168,7 +169,8 @@ pub(crate) fn copy_update(
 pub(crate) fn push_update(channels: &mut Vec<Channel>, peer: Asn, update: Update)
     requires link { leads_to peer channels.old.items ≡ true }
     requires room { 1 ≤ room_in channels.old.items peer }
-    ensures channels { channel_in channels.new.items ≡ with_link peer (channel_in channels.old.items peer ++ UpdateMsg update ∷ []) (channel_in channels.old.items) }
+    ensures channels { channel_in channels.new.items
+        ≡ with_link peer (channel_in channels.old.items peer ++ UpdateMsg update ∷ []) (channel_in channels.old.items) }
     ensures waits { waits_in channels.new.items ≡ waits_in channels.old.items }
     ensures epochs { epoch_in channels.new.items ≡ epoch_in channels.old.items }
     ensures peers { peers_of channels.new.items ≡ peers_of channels.old.items }

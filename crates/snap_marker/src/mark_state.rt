@@ -114,7 +114,8 @@ impl MarkState {
     fn go_on(&mut self, part: Part)
         requires none { self.old.unfinished ≡ None }
         requires room { 1 ≤ self.old.room }
-        ensures goes_on { snapshots_of self.new ≡ goes_on (peers_of part.channels.items) (recording_of part) (snapshots_of self.old) }
+        ensures goes_on { snapshots_of self.new
+            ≡ goes_on (peers_of part.channels.items) (recording_of part) (snapshots_of self.old) }
         ensures over { IsOver (peers_of part.channels.items) self.new.unfinished }
         ensures router { (u : ℕ) → part.router ≡ u → AreOf u self.old → AreOf u self.new }
     {
@@ -128,7 +129,8 @@ impl MarkState {
     // Ends the unfinished recording, since a new number supersedes it.
     fn supersede(&mut self, part: &Part)
         requires { offers_owed self.old.unfinished + 1 ≤ self.old.room }
-        ensures superseded { snapshots_of self.new ≡ superseding (recording_of part.now) (peers_of part.now.channels.items) (snapshots_of self.old) }
+        ensures superseded { snapshots_of self.new
+            ≡ superseding (recording_of part.now) (peers_of part.now.channels.items) (snapshots_of self.old) }
         ensures none { self.new.unfinished ≡ None }
         ensures room { 1 ≤ self.new.room }
         ensures router { (u : ℕ) → AreOf u self.old → AreOf u self.new }
@@ -153,7 +155,9 @@ impl MarkState {
     /// recording is lost at once; else it goes on until no channel is open. Refused with [`MarkError::Memory`] if a
     /// growth is refused, and then all is as it was.
     pub fn begin(&mut self, part: Part, down: Option<Asn>) -> Result<(), MarkError>
-        ensures ok { OnOk result (snapshots_of self.new ≡ begun_at (peers_of part.channels.items) down (recording_of part) (snapshots_of self.old)) }
+        ensures ok { OnOk result
+            (snapshots_of self.new
+            ≡ begun_at (peers_of part.channels.items) down (recording_of part) (snapshots_of self.old)) }
         ensures over { OnOk result (IsOver (peers_of part.channels.items) self.new.unfinished) }
         ensures err { OnErr result (snapshots_of self.new ≡ snapshots_of self.old) }
         ensures same { OnErr result (self.new.unfinished ≡ self.old.unfinished) }
@@ -179,7 +183,9 @@ impl MarkState {
     /// does, it is ignored. A recording whose last channel it ends is offered. It takes no memory.
     pub fn on_mark(&mut self, peer: Asn, number: u32)
         requires link { IsLink self.old.unfinished peer }
-        ensures ends { (peers : List ℕ) → IsOver peers self.old.unfinished → snapshots_of self.new ≡ ends_channel peers peer number (snapshots_of self.old).unfinished (snapshots_of self.old) }
+        ensures ends { (peers : List ℕ) → IsOver peers self.old.unfinished
+            → snapshots_of self.new
+            ≡ ends_channel peers peer number (snapshots_of self.old).unfinished (snapshots_of self.old) }
         ensures over { (peers : List ℕ) → IsOver peers self.old.unfinished → IsOver peers self.new.unfinished }
         ensures router { (u : ℕ) → AreOf u self.old → AreOf u self.new }
     {
@@ -241,7 +247,8 @@ impl MarkState {
         requires copy { IfSome copy (λ _. is_heard self.old.unfinished peer ≡ true) }
         requires room { IfSome copy (λ _. HasRoom self.old.unfinished peer) }
         ensures none { copy ≡ None → self.new ≡ self.old }
-        ensures acted_on { (u : update.Update) → copy ≡ copy_for self.old.unfinished peer u → snapshots_of self.new ≡ acted_on peer (UpdateMsg u) (snapshots_of self.old) }
+        ensures acted_on { (u : update.Update) → copy ≡ copy_for self.old.unfinished peer u
+            → snapshots_of self.new ≡ acted_on peer (UpdateMsg u) (snapshots_of self.old) }
         ensures over { (peers : List ℕ) → IsOver peers self.old.unfinished → IsOver peers self.new.unfinished }
         ensures router { (u : ℕ) → AreOf u self.old → AreOf u self.new }
     {

@@ -34,7 +34,8 @@ fn put_route(
 // Appends the path of a router, if it is in a part that has one choice.
 fn put_only(prefix: &Prefix, router: Asn, part: &Part, out: &mut Vec<u8>) -> Result<(), AllocError>
     requires { IsPart part.now }
-    ensures { OnOk result (out.new.items ≡ out.old.items ++ only_text prefix.now router part.now.routers part.now.choices) }
+    ensures { OnOk result
+        (out.new.items ≡ out.old.items ++ only_text prefix.now router part.now.routers part.now.choices) }
 {
     match part.choices.as_slice() {
         [choice] => put_route(

@@ -69,7 +69,8 @@ fn put_prefixes(
     limits: &Limits,
     out: &mut Vec<u8>,
 ) -> Result<bool, AllocError>
-    ensures { IfOk result (λ known. PutsAnswers limits.now network.now network.now.origins out.old.items out.new.items known) }
+    ensures { IfOk result
+        (λ known. PutsAnswers limits.now network.now network.now.origins out.old.items out.new.items known) }
 {
     let mut known = true;
     for origin in network.origins() {

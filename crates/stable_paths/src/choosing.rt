@@ -30,7 +30,9 @@ fn is_better(policy: &Chosen, router: Asn, rest: &[Asn], best: &[Asn]) -> bool
 // Whether the router's path along `rest` is permitted, and better than the best so far. No path is made.
 fn is_taken(policy: &Chosen, router: Asn, rest: &[Asn], best: &[Asn]) -> bool
     requires { 1 ≤ length best.now → slice_index best.now 0 ≡ router }
-    ensures { IsTrue result ↔ (chosen_permits policy.now (router ∷ rest.now) × ((best.now ≡ []) ⊎ chosen_prefers policy.now (router ∷ rest.now) best.now)) }
+    ensures { IsTrue result
+        ↔ (chosen_permits policy.now (router ∷ rest.now)
+        × ((best.now ≡ []) ⊎ chosen_prefers policy.now (router ∷ rest.now) best.now)) }
 {
     policy.permits_onward(router, rest) && is_better(policy, router, rest, best)
 }
@@ -46,7 +48,12 @@ fn better(
     best: &Path,
 ) -> Result<Option<Path>, StableError>
     requires { 1 ≤ length best.now → slice_index best.now 0 ≡ table.now.router }
-    ensures best { (links : List Link) (link : Link) (prefix : PrefixView) → Joins link table.now.router peer → Speaks policy.now table.now prefix → IsFirstOrNone links prefix (path_of assignment.now) table.now best.now → IfOk result (λ found. MatchOption found (IsFirstOrNone (links ++ link ∷ []) prefix (path_of assignment.now) table.now best.now) (IsFirstOrNone (links ++ link ∷ []) prefix (path_of assignment.now) table.now)) }
+    ensures best { (links : List Link) (link : Link) (prefix : PrefixView) → Joins link table.now.router peer
+        → Speaks policy.now table.now prefix → IsFirstOrNone links prefix (path_of assignment.now) table.now best.now
+        → IfOk result
+        (λ found. MatchOption found
+        (IsFirstOrNone (links ++ link ∷ []) prefix (path_of assignment.now) table.now best.now)
+        (IsFirstOrNone (links ++ link ∷ []) prefix (path_of assignment.now) table.now)) }
     ensures memory { IfErr result (λ e. e ≡ StableError.Memory) }
 {
     each_policy_is_an_order();

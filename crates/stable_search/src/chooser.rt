@@ -42,7 +42,8 @@ pub(crate) fn choosers<'a>(
     alloc: Global,
     instance: &Instance<'a>,
 ) -> Result<Vec<Chooser<'a>>, AllocError>
-    ensures routers { IfOk result (λ choosers. map (λ it. it.router) choosers.items ≡ numbers instance.now.net.routers) }
+    ensures routers { IfOk result
+        (λ choosers. map (λ it. it.router) choosers.items ≡ numbers instance.now.net.routers) }
     ensures choosers { IfOk result (λ choosers. All (IsChooser instance.now) choosers.items) }
 {
     let network = instance.network();

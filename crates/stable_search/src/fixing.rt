@@ -22,7 +22,8 @@ use std::alloc::{AllocError, Global};
 
 // The fixed path at a place.
 fn path_at(fixed: &[Option<Path>], place: usize) -> Option<&[Asn]>
-    ensures { MatchOption result (slice_index_or fixed.now place None ≡ None) (λ path. slice_index_or fixed.now place None ≡ Some path.now) }
+    ensures { MatchOption result (slice_index_or fixed.now place None ≡ None)
+        (λ path. slice_index_or fixed.now place None ≡ Some path.now) }
 {
     match fixed.get(place) {
         Some(Some(path)) => Some(path.as_slice()),
@@ -153,7 +154,8 @@ fn holds_over(
     place: usize,
     least: usize,
 ) -> bool
-    ensures { IsTrue result → HoldsOver it.now.policy it.now.router peer path.now (slice_index_or fixed.now place None) least }
+    ensures { IsTrue result
+        → HoldsOver it.now.policy it.now.router peer path.now (slice_index_or fixed.now place None) least }
 {
     match path_at(fixed, place) {
         Some(theirs) => {
@@ -230,7 +232,8 @@ fn path_of_place(
     requires distances { AreDistances instance.now choosers.now distances.now }
     requires fixed { AreFixed instance.now choosers.now fixed.now }
     requires place { place < length choosers.now }
-    ensures { (it : Chooser) → StandsAt choosers.now place it → IfOk result (λ found. IfSome found (IsFixed instance.now it)) }
+    ensures { (it : Chooser) → StandsAt choosers.now place it
+        → IfOk result (λ found. IfSome found (IsFixed instance.now it)) }
 {
     path_of(
         alloc,
@@ -318,7 +321,8 @@ pub(crate) fn fixed_paths(
 
 // `count` routers, none of which is fixed.
 fn none_yet(alloc: Global, count: usize) -> Result<Vec<Option<Path>>, AllocError>
-    ensures { IfOk result (λ fixed. (length fixed.items ≡ count) × ((place : ℕ) → slice_index_or fixed.items place None ≡ None)) }
+    ensures { IfOk result
+        (λ fixed. (length fixed.items ≡ count) × ((place : ℕ) → slice_index_or fixed.items place None ≡ None)) }
 {
     let mut fixed = Vec::with_capacity(alloc, count)?;
     for _place in 0..count {

@@ -119,7 +119,8 @@ fn onward_at(
     count: usize,
 ) -> Result<Vec<Path>, AllocError>
     requires { place < length seats.now }
-    ensures { (it : Seat) → StandsAt seats.now place it → IfOk result (λ found. AreOnward network.now.links seats.now it count found.items) }
+    ensures { (it : Seat) → StandsAt seats.now place it
+        → IfOk result (λ found. AreOnward network.now.links seats.now it count found.items) }
 {
     let it = &seats[place];
     let bound = bound_of(network, seats, it);

@@ -113,7 +113,8 @@ fn values_by(
     policy: &Chosen,
     router: Asn,
 ) -> Result<Option<Vec<Path>>, SearchError>
-    ensures values { IfOk result (λ found. IfSome found (λ values. AreValuesBy network.now.links policy.now router values.items)) }
+    ensures values { IfOk result
+        (λ found. IfSome found (λ values. AreValuesBy network.now.links policy.now router values.items)) }
     ensures refused { IfErr result (λ why. ((why ≡ SearchError.TooManyPaths router)
         × MayHaveMany network.now.links policy.now router) ⊎ (why ≡ SearchError.Memory)) }
 {
@@ -215,7 +216,8 @@ pub(crate) fn seats<'a>(
 ) -> Result<Vec<Seat<'a>>, SearchError>
     requires choosers { All (IsChooser instance.now) choosers.now }
     requires fixed { AreFixed instance.now choosers.now fixed.now }
-    ensures routers { IfOk result (λ seats. map (λ seat. seat.router) seats.items ≡ map (λ it. it.router) choosers.now) }
+    ensures routers { IfOk result
+        (λ seats. map (λ seat. seat.router) seats.items ≡ map (λ it. it.router) choosers.now) }
     ensures seats { IfOk result (λ seats. All (IsListing instance.now 1) seats.items) }
     ensures refused { IfErr result (IsPathsRefusal instance.now) }
 {

@@ -25,7 +25,8 @@ fn unstable_output(
     has: &Path,
     best: &Path,
 ) -> Result<(Vec<u8>, u8), AllocError>
-    ensures { IfOk result (λ printed. output printed.0.items printed.1 ≡ output (unstable_line router has.now best.now) DONE) }
+    ensures { IfOk result
+        (λ printed. output printed.0.items printed.1 ≡ output (unstable_line router has.now best.now) DONE) }
 {
     let mut out = Vec::new(alloc);
     unstable_line(router, has.as_slice(), best.as_slice(), &mut out)?;
@@ -75,7 +76,9 @@ fn place_of(origins: &[Origin], prefix: &Prefix) -> Option<usize>
 
 // Gives a router the path of an entry.
 fn give(alloc: Global, assignment: &mut Assignment, entry: &Entry) -> Result<(), AllocError>
-    ensures { OnOk result ((u : ℕ) → path_of assignment.new u ≡ (if entry.now.router == u then entry.now.path else path_of assignment.old u)) }
+    ensures { OnOk result
+        ((u : ℕ)
+        → path_of assignment.new u ≡ (if entry.now.router == u then entry.now.path else path_of assignment.old u)) }
 {
     let path = Path::from_slice(alloc, entry.path.as_slice())?;
     match assignment.set(entry.router, path) {

@@ -23,7 +23,8 @@ fn assignment_output(
     text: &[u8],
 ) -> Result<(Vec<u8>, u8), AllocError>
     requires { before + length text.now < 2 ^ 64 }
-    ensures { IfOk result (λ printed. AssignmentGives network.now before (lines_of text.now) (output printed.0.items printed.1)) }
+    ensures { IfOk result
+        (λ printed. AssignmentGives network.now before (lines_of text.now) (output printed.0.items printed.1)) }
 {
     match read_assignment(alloc, text, before, network) {
         Ok(entries) => entries_output(alloc, network, entries.as_slice()),
@@ -34,7 +35,9 @@ fn assignment_output(
 // What is printed for a network and an assignment behind it.
 fn network_output(alloc: Global, split: &Split) -> Result<(Vec<u8>, u8), AllocError>
     requires { split.now.before + length split.now.behind.now < 2 ^ 64 }
-    ensures { IfOk result (λ printed. NetworkGives AssignmentGives (lines_of split.now.front.now) split.now.before (lines_of split.now.behind.now) (output printed.0.items printed.1)) }
+    ensures { IfOk result
+        (λ printed. NetworkGives AssignmentGives (lines_of split.now.front.now) split.now.before
+        (lines_of split.now.behind.now) (output printed.0.items printed.1)) }
 {
     match read_network(alloc, split.front) {
         Ok(network) => assignment_output(alloc, &network, split.before, split.behind),
@@ -64,14 +67,18 @@ pub fn check_stream<S: Source, T: Sink>(
     sink: &mut T,
 ) -> Result<u8, IoStopped>
     // What is written is what is printed for what was read, and nothing else.
-    ensures done { IfOk result (λ status. PrintedBy Checks (S.remaining source.old) (T.contents sink.old) (T.contents sink.new) status) }
+    ensures done { IfOk result
+        (λ status. PrintedBy Checks (S.remaining source.old) (T.contents sink.old) (T.contents sink.new) status) }
     // It answers a status only where no read and no write failed, and stops only where one did.
-    ensures unfailed { OnOk result ((S.failed source.new ≡ S.failed source.old) × (T.failed sink.new ≡ T.failed sink.old)) }
+    ensures unfailed { OnOk result
+        ((S.failed source.new ≡ S.failed source.old) × (T.failed sink.new ≡ T.failed sink.old)) }
     ensures failed { OnErr result ((S.failed source.new ≡ true) ⊎ (T.failed sink.new ≡ true)) }
     // Where a read failed nothing is written.
-    ensures silent { S.failed source.old ≡ false → S.failed source.new ≡ true → T.contents sink.new ≡ T.contents sink.old }
+    ensures silent { S.failed source.old ≡ false → S.failed source.new ≡ true
+        → T.contents sink.new ≡ T.contents sink.old }
     // A failed read or write leaves a beginning of the text.
-    ensures stopped { OnErr result (PrintedFrontBy Checks (S.remaining source.old) (T.contents sink.old) (T.contents sink.new)) }
+    ensures stopped { OnErr result
+        (PrintedFrontBy Checks (S.remaining source.old) (T.contents sink.old) (T.contents sink.new)) }
 {
     let input = match read_input(alloc, source) {
         Ok(input) => input,

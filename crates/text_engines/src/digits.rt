@@ -57,7 +57,8 @@ fn greatest_of(values: &[u8; 32]) -> u8
 // The octets of a block, each of two values.
 #[inline(always)]
 fn pairs_of(values: &[u8; 32]) -> [u8; 16]
-    ensures { (i : ℕ) → i < 16 → slice_index result i ≡ slice_index values.now (2 * i) % 16 * 16 + slice_index values.now (2 * i + 1) % 16 }
+    ensures { (i : ℕ) → i < 16
+        → slice_index result i ≡ slice_index values.now (2 * i) % 16 * 16 + slice_index values.now (2 * i + 1) % 16 }
 {
     pair_lanes(u8x32::from_array(*values)).to_array()
 }
@@ -83,7 +84,8 @@ fn are_values(values: u8x32) -> bool
 
 #[inline(always)]
 fn pair_lanes(values: u8x32) -> u8x16
-    ensures { (i : ℕ) → i < 16 → slice_index result i ≡ slice_index values (2 * i) % 16 * 16 + slice_index values (2 * i + 1) % 16 }
+    ensures { (i : ℕ) → i < 16
+        → slice_index result i ≡ slice_index values (2 * i) % 16 * 16 + slice_index values (2 * i + 1) % 16 }
 {
     let few = values & u8x32::splat(15);
     let (high, low) = few.extract::<0, 16>().deinterleave(few.extract::<16, 16>());
@@ -141,7 +143,8 @@ impl Digits {
     fn complete(&mut self, high: u8, low: u8) -> Result<(), AllocError>
         requires { self.old.half ≡ Some high }
         ensures whole { OnOk result (self.new.half ≡ None) }
-        ensures read { OnOk result ((before : List ℕ) → HasRead self.old before → HasRead self.new (before ++ low ∷ [])) }
+        ensures read { OnOk result
+            ((before : List ℕ) → HasRead self.old before → HasRead self.new (before ++ low ∷ [])) }
     {
         self.are_hex = append_octets(&mut self.octets, &[high, low])? & self.are_hex;
         self.half = None;
@@ -178,7 +181,8 @@ impl Digits {
 
     /// Reads a piece of the text, whose digits are moved to its front.
     pub fn feed(&mut self, text: &mut [u8]) -> Result<(), AllocError>
-        ensures { OnOk result ((before : List ℕ) → HasRead self.old before → HasRead self.new (before ++ without_blanks text.old)) }
+        ensures { OnOk result
+            ((before : List ℕ) → HasRead self.old before → HasRead self.new (before ++ without_blanks text.old)) }
     {
         let kept = pack(text);
         if !self.are_hex {
@@ -190,7 +194,8 @@ impl Digits {
 
     /// The octets that the text stands for, where it stands for any.
     pub fn finish(self) -> Option<Vec<u8>>
-        ensures { (digits : List ℕ) → HasRead self digits → MatchOption result (IsErr (decode_of digits)) (λ octets. decode_of digits ≡ Ok octets.items) }
+        ensures { (digits : List ℕ) → HasRead self digits
+            → MatchOption result (IsErr (decode_of digits)) (λ octets. decode_of digits ≡ Ok octets.items) }
     {
         match self.half {
             None if self.are_hex => Some(self.octets),

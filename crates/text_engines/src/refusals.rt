@@ -22,7 +22,8 @@ pub fn refused_output(alloc: Global, line: usize, code: &[u8]) -> Result<(Vec<u8
 /// refusal: it is an error here.
 pub fn text_output(alloc: Global, text: &Refused) -> Result<(Vec<u8>, u8), AllocError>
     ensures kind { IfOk result (λ printed. text.now.code ≢ Memory) }
-    ensures output { IfOk result (λ printed. output printed.0.items printed.1 ≡ refused text.now.line (code_text text.now.code)) }
+    ensures output { IfOk result
+        (λ printed. output printed.0.items printed.1 ≡ refused text.now.line (code_text text.now.code)) }
 {
     if text.code == Code::Memory {
         return Err(AllocError);

@@ -74,7 +74,8 @@ pub fn read_input<S: Source>(alloc: Global, source: &mut S) -> Result<Vec<u8>, I
 
 /// Writes `memory` alone and answers its status, for want of memory.
 pub fn want_of_memory<T: Sink>(sink: &mut T) -> Result<u8, IoStopped>
-    ensures ok { IfOk result (λ status. (status ≡ MEMORY) × Appends (T.contents sink.old) (T.contents sink.new) memory_output.text) }
+    ensures ok { IfOk result
+        (λ status. (status ≡ MEMORY) × Appends (T.contents sink.old) (T.contents sink.new) memory_output.text) }
     ensures stopped { OnErr result (AppendsFront (T.contents sink.old) (T.contents sink.new) memory_output.text) }
     ensures failed { OnErr result (T.failed sink.new ≡ true) }
     ensures unfailed { OnOk result (T.failed sink.new ≡ T.failed sink.old) }

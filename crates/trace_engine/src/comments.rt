@@ -89,7 +89,8 @@ fn write_tail(
     count: usize,
     rest: Option<u32>,
 ) -> Result<(), AllocError>
-    ensures text { OnOk result (out.new.text ≡ out.old.text ++ tail_text scheduled.now.line scheduled.now.order count rest) }
+    ensures text { OnOk result
+        (out.new.text ≡ out.old.text ++ tail_text scheduled.now.line scheduled.now.order count rest) }
     ensures front { out.new.front ≡ out.old.front }
 {
     match scheduled.order {
@@ -145,7 +146,8 @@ pub(crate) fn put_tail(
     rest: Option<u32>,
     out: &mut Vec<u8>,
 ) -> Result<(), AllocError>
-    ensures { OnOk result (out.new.items ≡ out.old.items ++ tail_text scheduled.now.line scheduled.now.order count rest) }
+    ensures { OnOk result
+        (out.new.items ≡ out.old.items ++ tail_text scheduled.now.line scheduled.now.order count rest) }
 {
     let mut tail = Tail::behind(out);
     let result = write_tail(&mut tail, scheduled, count, rest);

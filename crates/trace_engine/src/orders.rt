@@ -95,7 +95,9 @@ fn end_output(mut out: Vec<u8>, status: u8) -> Result<(Vec<u8>, u8), AllocError>
 // refusal: it is an error here.
 fn stop_output(stop: Stop, mut out: Vec<u8>) -> Result<(Vec<u8>, u8), AllocError>
     ensures kind { IfOk result (λ printed. stop.why ≢ StepFault.Memory) }
-    ensures output { IfOk result (λ printed. output printed.0.items printed.1 ≡ output (limited (out.items ++ stop_comment stop.line stop.why)) REFUSED) }
+    ensures output { IfOk result
+        (λ printed. output printed.0.items printed.1
+        ≡ output (limited (out.items ++ stop_comment stop.line stop.why)) REFUSED) }
 {
     if stop.why == StepFault::Memory {
         return Err(AllocError);
@@ -132,7 +134,9 @@ pub(crate) fn orders_output(
     orders: &[ScheduledOrder],
     shows_octets: bool,
 ) -> Result<(Vec<u8>, u8), AllocError>
-    ensures { IfOk result (λ printed. OrdersTrace network.now (head_of_trace (lines_of lines.now)) orders.now (output printed.0.items printed.1)) }
+    ensures { IfOk result
+        (λ printed. OrdersTrace network.now (head_of_trace (lines_of lines.now)) orders.now
+        (output printed.0.items printed.1)) }
 {
     let mut out = Vec::new(alloc);
     put_network(lines, &mut out)?;

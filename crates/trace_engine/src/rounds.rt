@@ -85,7 +85,8 @@ fn trace_alone(
     out: &mut Vec<u8>,
 ) -> Result<(), StepFault>
     requires { slice_get (numbers world.old.net.routers) at ≡ Some number }
-    ensures traces { TracesEvents result world.old (Decide number ∷ Advertise number ∷ Offer number ∷ []) out.old.items world.new out.new.items }
+    ensures traces { TracesEvents result world.old (Decide number ∷ Advertise number ∷ Offer number ∷ []) out.old.items
+        world.new out.new.items }
     ensures same { world.new.net ≡ world.old.net }
 {
     if world.is_idle_at(at, number) {

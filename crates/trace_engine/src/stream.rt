@@ -22,7 +22,9 @@ fn schedule_output(
     text: &[u8],
 ) -> Result<(Vec<u8>, u8), AllocError>
     requires { before + length text.now < 2 ^ 64 }
-    ensures { IfOk result (λ printed. ScheduleTraces (lines_of lines.now) network.now before (lines_of text.now) (output printed.0.items printed.1)) }
+    ensures { IfOk result
+        (λ printed. ScheduleTraces (lines_of lines.now) network.now before (lines_of text.now)
+        (output printed.0.items printed.1)) }
 {
     match read_schedule(alloc, text, before, network) {
         Ok(orders) => orders_output(alloc, lines, network, orders.as_slice(), shows_octets),
@@ -37,7 +39,9 @@ fn network_output(
     split: &Split,
 ) -> Result<(Vec<u8>, u8), AllocError>
     requires { split.now.before + length split.now.behind.now < 2 ^ 64 }
-    ensures { IfOk result (λ printed. LinesTrace (lines_of split.now.front.now) split.now.before (lines_of split.now.behind.now) (output printed.0.items printed.1)) }
+    ensures { IfOk result
+        (λ printed. LinesTrace (lines_of split.now.front.now) split.now.before (lines_of split.now.behind.now)
+        (output printed.0.items printed.1)) }
 {
     match read_network(alloc, split.front) {
         Ok(network) => schedule_output(

@@ -37,7 +37,11 @@ fn put_words(
 ) -> Result<(), AllocError>
     requires peers { ArePeers router.now peers.now }
     requires named { IsNamed router.now.net.origins prefix.now }
-    ensures { OnOk result (out.new.items ≡ out.old.items ++ words_text table.now prefix.now ((plain_of router.now).router.kept prefix.now) (sides_of router.now) peers.now) }
+    ensures { OnOk result
+        (out.new.items
+        ≡ out.old.items
+        ++ words_text table.now prefix.now ((plain_of router.now).router.kept prefix.now) (sides_of router.now)
+        peers.now) }
 {
     for peer in peers {
         let said = said_by(router, *peer, prefix);
@@ -98,7 +102,9 @@ fn told_peers(
 ) -> Result<Vec<Asn>, AllocError>
     requires peers { ArePeers router.now peers.now }
     requires named { IsNamed router.now.net.origins prefix.now }
-    ensures { IfOk result (λ told. told.items ≡ told_of ((plain_of router.now).router.kept prefix.now) (sides_of router.now) prefix.now peers.now) }
+    ensures { IfOk result
+        (λ told. told.items
+        ≡ told_of ((plain_of router.now).router.kept prefix.now) (sides_of router.now) prefix.now peers.now) }
 {
     let mut told = Vec::new(alloc);
     for peer in peers {
@@ -130,7 +136,8 @@ fn put_prefix(
 ) -> Result<(), AllocError>
     requires peers { ArePeers router.now peers.now }
     requires named { IsNamed router.now.net.origins prefix.now }
-    ensures { OnOk result (out.new.items ≡ out.old.items ++ prefix_lines table.now (plain_of router.now).router peers.now prefix.now) }
+    ensures { OnOk result
+        (out.new.items ≡ out.old.items ++ prefix_lines table.now (plain_of router.now).router peers.now prefix.now) }
 {
     put_kept_line(prefix, router.kept(prefix), router.originates(prefix), out)?;
     put_words(router, table, peers, prefix, out)?;
@@ -149,7 +156,8 @@ pub(crate) fn put_prefixes(
 ) -> Result<(), AllocError>
     requires peers { ArePeers router.now peers.now }
     requires origins { origins.now ≡ router.now.net.origins }
-    ensures { OnOk result (out.new.items ≡ out.old.items ++ prefixes_lines table.now (plain_of router.now).router peers.now origins.now) }
+    ensures { OnOk result
+        (out.new.items ≡ out.old.items ++ prefixes_lines table.now (plain_of router.now).router peers.now origins.now) }
 {
     for origin in origins {
         put_prefix(alloc, router, table, peers, &origin.prefix, out)?;

@@ -67,7 +67,11 @@ fn put_peer(
     out: &mut Vec<u8>,
 ) -> Result<(), AllocError>
     requires { IsPeer router.now peer }
-    ensures { OnOk result (out.new.items ≡ out.old.items ++ peer_line peer (sides_of router.now peer).session.state (sides_of router.now peer).link.epoch (octets_waiting (sides_of router.now peer).outbox) coming) }
+    ensures { OnOk result
+        (out.new.items
+        ≡ out.old.items
+        ++ peer_line peer (sides_of router.now peer).session.state (sides_of router.now peer).link.epoch
+        (octets_waiting (sides_of router.now peer).outbox) coming) }
 {
     let Some(state) = router.state(peer) else {
         return Ok(());
@@ -88,7 +92,9 @@ pub(crate) fn put_peers(
     requires same { world.now.net ≡ router.now.net }
     requires there { IsRouter router.now.net.routers router.now.number }
     requires peers { ArePeers router.now peers.now }
-    ensures { OnOk result (out.new.items ≡ out.old.items ++ peers_text (sides_of router.now) (pipes_to world.now router.now.number) peers.now) }
+    ensures { OnOk result
+        (out.new.items
+        ≡ out.old.items ++ peers_text (sides_of router.now) (pipes_to world.now router.now.number) peers.now) }
 {
     for peer in peers {
         let coming = is_coming(alloc, world, router, *peer);

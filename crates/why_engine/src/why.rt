@@ -33,7 +33,11 @@ fn put_router(
     requires there { IsRouter router.now.net.routers router.now.number }
     requires peers { ArePeers router.now peers.now }
     requires origins { origins.now ≡ router.now.net.origins }
-    ensures { OnOk result (out.new.items ≡ out.old.items ++ router_text router.now.number table.now (plain_of router.now).router (pipes_to world.now router.now.number) peers.now origins.now) }
+    ensures { OnOk result
+        (out.new.items
+        ≡ out.old.items
+        ++ router_text router.now.number table.now (plain_of router.now).router
+        (pipes_to world.now router.now.number) peers.now origins.now) }
 {
     put_router_line(router.number(), out)?;
     put_peers(alloc, world, router, peers, out)?;
@@ -51,7 +55,12 @@ fn router_output(
     requires net { router.now.net ≡ network.now }
     requires same { world.now.net ≡ router.now.net }
     requires there { IsRouter router.now.net.routers router.now.number }
-    ensures { IfOk result (λ printed. output printed.0.items printed.1 ≡ output (router_text router.now.number table.now (plain_of router.now).router (pipes_to world.now router.now.number) (peers router.now.net router.now.number) router.now.net.origins) DONE) }
+    ensures { IfOk result
+        (λ printed. output printed.0.items printed.1
+        ≡ output
+        (router_text router.now.number table.now (plain_of router.now).router
+        (pipes_to world.now router.now.number) (peers router.now.net router.now.number)
+        router.now.net.origins) DONE) }
 {
     let peers = peers_of(alloc, network, router.number())?;
     let mut out = Vec::new(alloc);

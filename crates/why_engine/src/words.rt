@@ -47,7 +47,9 @@ fn write_place(
     prefix: &Prefix,
     said: &[Asn],
 ) -> Result<(), AllocError>
-    ensures text { OnOk result (out.new.text ≡ out.old.text ++ place_text (rule_for table.now.rules prefix.now) (table.now.router ∷ said.now)) }
+    ensures text { OnOk result
+        (out.new.text
+        ≡ out.old.text ++ place_text (rule_for table.now.rules prefix.now) (table.now.router ∷ said.now)) }
     ensures front { out.new.front ≡ out.old.front }
 {
     match table.rule(prefix) {

@@ -77,7 +77,8 @@ pub trait Lines {
 
     /// Takes the next item of a peer, if it finds one.
     fn take<R: Wait>(&mut self, rt: &R, peer: Asn) -> Option<Item>
-        ensures taken { MatchOption result (taken_from self.new ≡ taken_from self.old) (λ item. taken_from self.new ≡ grown (taken_from self.old) peer item) }
+        ensures taken { MatchOption result (taken_from self.new ≡ taken_from self.old)
+            (λ item. taken_from self.new ≡ grown (taken_from self.old) peer item) }
         ensures put { put_to self.new ≡ put_to self.old }
         ensures room { room self.new ≡ room self.old }
         ensures wiring { wiring self.new ≡ wiring self.old };

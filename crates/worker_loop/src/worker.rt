@@ -141,7 +141,9 @@ impl<'a, L: Lines, D: Desk, G: Gate> Worker<'a, L, D, G> {
     pub fn work<R: Wait>(&mut self, rt: &R, board: &D::Board, turns: u32) -> Result<(), WorkerFault>
         requires fresh { G.given self.old.gate ≡ [] }
         requires blank { self.old.journal.chores.items ≡ [] }
-        ensures follows { IfOk result (λ _. DidSo L.put_to L.taken_from L.room D.made self.old self.new (λ g. Follows g self.old.router.number self.old.peers.items (G.given self.new.gate))) }
+        ensures follows { IfOk result
+            (λ _. DidSo L.put_to L.taken_from L.room D.made self.old self.new
+            (λ g. Follows g self.old.router.number self.old.peers.items (G.given self.new.gate))) }
         ensures whole { IfOk result (λ _. IsWhole turns (G.given self.new.gate)) }
         ensures chores { IfOk result (λ _. self.new.journal.chores.items ≡ G.given self.new.gate) }
         ensures same { IsLaterWorker L.wiring self.old self.new }

@@ -36,7 +36,8 @@ impl Counts {
     /// Counts one more from one router to the other.
     pub fn add(&mut self, from: Asn, to: Asn) -> Result<(), AllocError>
         requires { count_of self.old from to < usize.MAX }
-        ensures { OnOk result ((u v : ℕ) → count_of self.new u v ≡ count_of self.old u v + cond ((from == u) && (to == v)) 1 0) }
+        ensures { OnOk result
+            ((u v : ℕ) → count_of self.new u v ≡ count_of self.old u v + cond ((from == u) && (to == v)) 1 0) }
     {
         let count = self.at(from, to);
         self.counts.insert((from, to), count + 1)?;

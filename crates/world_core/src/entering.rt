@@ -59,7 +59,8 @@ pub(crate) fn enter_put(
     event: &Event,
     peer: Asn,
 ) -> Result<Stepped, StepFault>
-    ensures enters { EntersPut result router.old run.old.items pipe.old.items event.now peer router.new run.new.items pipe.new.items }
+    ensures enters { EntersPut result router.old run.old.items pipe.old.items event.now peer router.new run.new.items
+        pipe.new.items }
     ensures same { IsSame router.old router.new }
 {
     let item = match router.next_item(peer) {
@@ -83,7 +84,8 @@ pub(crate) fn enter_take(
     event: &Event,
     peer: Asn,
 ) -> Result<Stepped, StepFault>
-    ensures enters { EntersTake result router.old run.old.items pipe.old.items event.now peer router.new run.new.items pipe.new.items }
+    ensures enters { EntersTake result router.old run.old.items pipe.old.items event.now peer router.new run.new.items
+        pipe.new.items }
     ensures same { IsSame router.old router.new }
 {
     let Some(item) = pipe.front() else {
@@ -109,7 +111,8 @@ pub(crate) fn enter_offer(
     board: &mut u64,
     event: &Event,
 ) -> Result<Stepped, StepFault>
-    ensures enters { EntersOffer result router.old run.old.items collector.old board.old event.now router.new run.new.items collector.new board.new }
+    ensures enters { EntersOffer result router.old run.old.items collector.old board.old event.now router.new
+        run.new.items collector.new board.new }
     ensures members { collector.new.members ≡ collector.old.members }
     ensures same { IsSame router.old router.new }
 {

@@ -16,7 +16,8 @@ use std::alloc::Global;
 
 // Whether the router of an event has not recorded the snapshot yet.
 fn is_inside(world: &World<'_>, event: &Event, number: u32) -> bool
-    ensures { IsRouter world.now.net.routers (router_of event.now) → result ≡ nat_lt (routers_of world.now (router_of event.now)).router.snapshots.last number }
+    ensures { IsRouter world.now.net.routers (router_of event.now)
+        → result ≡ nat_lt (routers_of world.now (router_of event.now)).router.snapshots.last number }
 {
     match world.router(event.router()) {
         Some(router) => router.last_snapshot() < number,

@@ -64,8 +64,10 @@ fn new_pipes(alloc: Global, network: &Network, number: Asn) -> Result<Vec<Pipe>,
 // The empty pipes that lead to every router.
 fn new_inboxes(alloc: Global, network: &Network) -> Result<Vec<Inbox>, AllocError>
     ensures routers { IfOk result (λ made. map (λ i. i.router) made.items ≡ numbers network.now.routers) }
-    ensures peers { IfOk result (λ made. AllByRecursion (λ i. map (λ p. p.peer) i.pipes.items ≡ peers network.now i.router) made.items) }
-    ensures empty { IfOk result (λ made. AllByRecursion (λ i. AllByRecursion (λ p. p.items.items ≡ []) i.pipes.items) made.items) }
+    ensures peers { IfOk result
+        (λ made. AllByRecursion (λ i. map (λ p. p.peer) i.pipes.items ≡ peers network.now i.router) made.items) }
+    ensures empty { IfOk result
+        (λ made. AllByRecursion (λ i. AllByRecursion (λ p. p.items.items ≡ []) i.pipes.items) made.items) }
 {
     let mut made = Vec::new(alloc);
     for router in network.routers() {

@@ -263,7 +263,8 @@ impl<'a> State<'a> {
     /// The item that a router takes next from a peer, if one is on its way.
     pub fn next_to_take(&self, number: Asn, peer: Asn) -> Option<&Item>
         requires { IsWhole (view_of self.now) }
-        ensures { MatchOption result (NothingComes (view_of self.now) number peer) (λ item. comes_next (view_of self.now) number peer ≡ Some item.now) }
+        ensures { MatchOption result (NothingComes (view_of self.now) number peer)
+            (λ item. comes_next (view_of self.now) number peer ≡ Some item.now) }
     {
         let Ok((at, pipe)) = self.link(number, peer) else {
             return None;
@@ -293,7 +294,8 @@ impl<'a> State<'a> {
     /// The router with this number, if the network has one.
     pub fn router(&self, number: Asn) -> Option<&Router<'a>>
         requires { IsWhole (view_of self.now) }
-        ensures { MatchOption result (IsNoRouter (view_of self.now) number) (λ router. IsRouterOf (view_of self.now) number router.now) }
+        ensures { MatchOption result (IsNoRouter (view_of self.now) number)
+            (λ router. IsRouterOf (view_of self.now) number router.now) }
     {
         match self.place(number) {
             Ok(at) => Some(&self.routers[at]),

@@ -43,7 +43,8 @@ fn picked(
     number: u32,
 ) -> Result<Option<Through>, AllocError>
     requires { length inside.now ≡ length world.now.run }
-    ensures answer { IfOk result (λ answer. answer ≡ answer_of (judged world.now.collector number) (picked_by inside.now world.now.run)) }
+    ensures answer { IfOk result
+        (λ answer. answer ≡ answer_of (judged world.now.collector number) (picked_by inside.now world.now.run)) }
     ensures judges { JudgesItsRuns world.now }
 {
     match world.collector().outcome(number) {

@@ -84,7 +84,8 @@ impl<'a> World<'a> {
     /// The item that a router takes next from a peer: the oldest that the peer put and the router did not take. `None`
     /// if there is none, or if no link joins the two.
     pub fn next_to_take(&self, number: Asn, peer: Asn) -> Option<&Item>
-        ensures { MatchOption result (NothingComes self.now number peer) (λ item. comes_next self.now number peer ≡ Some item.now) }
+        ensures { MatchOption result (NothingComes self.now number peer)
+            (λ item. comes_next self.now number peer ≡ Some item.now) }
     {
         self.state.next_to_take(number, peer)
     }

@@ -105,7 +105,8 @@ fn two_gates<'a>(
     holds: Holds,
     prefix: Prefix,
 ) -> Result<Vec<HeldGate<'a>>, AllocError>
-    ensures { IfOk result (λ gates. AllByRecursion (λ gate. given_by gate.script ++ replicate gate.stops Stop ≡ []) gates.items) }
+    ensures { IfOk result
+        (λ gates. AllByRecursion (λ gate. given_by gate.script ++ replicate gate.stops Stop ≡ []) gates.items) }
 {
     let one = ScriptGate::new(vec![in alloc;
         (0, Chore::Command(Command::Start(2))),

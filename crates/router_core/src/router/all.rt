@@ -84,7 +84,8 @@ fn prepare(
 ) -> Result<Vec<Sketch>, AllocError>
     requires { (w : widths.Width) → IsSayable w own_open.now }
     ensures same { Become (λ s. s) peers.old.items peers.new.items }
-    ensures ready { IfOk result (λ made. AreReady own_open.now (draft_by whole own_open.now) peers.new.items made.items) }
+    ensures ready { IfOk result
+        (λ made. AreReady own_open.now (draft_by whole own_open.now) peers.new.items made.items) }
 {
     prepare_each(alloc, whole, peers.as_mut_slice(), own_open)
 }
@@ -121,8 +122,10 @@ impl Router<'_> {
     // Carries out the draft of the side at a place, for which there is room. The stamp stays.
     fn move_side(&mut self, whole: Whole, at: usize, made: &Sketch)
         requires below { at < length self.old.peers }
-        requires ready { (d : peer.Peer) → IsReady self.old.own_open (draft_by whole self.old.own_open) (get_or self.old.peers at d) made.now }
-        requires fits { (d : peer.Peer) → (draft_by whole self.old.own_open (side (get_or self.old.peers at d).end)).overflows ≡ false }
+        requires ready { (d : peer.Peer)
+            → IsReady self.old.own_open (draft_by whole self.old.own_open) (get_or self.old.peers at d) made.now }
+        requires fits { (d : peer.Peer)
+            → (draft_by whole self.old.own_open (side (get_or self.old.peers at d).end)).overflows ≡ false }
         ensures { MovesSide self.old at (draft_by whole self.old.own_open) self.new }
     {
         sessions_keep_fresh();

@@ -73,7 +73,8 @@ pub(super) fn carry_front(
     requires waits { is_waiting (side end.old).held ≡ true }
     requires front { IsInFront (side end.old).width (side end.old).held (hand given) }
     requires room { HasRoom own_open.now (told_of (hand given)) made.now end.old }
-    ensures side { side end.new ≡ carried (hand given) (without_front (side end.old)) (draft own_open.now (hand given) made.now) }
+    ensures side { side end.new
+        ≡ carried (hand given) (without_front (side end.old)) (draft own_open.now (hand given) made.now) }
     ensures tables { Followed tables.old tables.new peer (standing (side end.old)) (standing (side end.new)) }
 {
     let was = standing(end);
@@ -106,8 +107,10 @@ impl Router<'_> {
         room: Result<(), AllocError>,
     ) -> Result<Stepped, RouterError>
         requires place { IsFound self.old.peers peer at }
-        requires fresh { overflows ≡ false → KeepsFresh (sides_of self.old peer) NoMessage (draft self.old.own_open NoMessage made.now) }
-        ensures carries { Carries result self.old peer NoMessage (draft self.old.own_open NoMessage made.now) overflows stamp self.new }
+        requires fresh { overflows ≡ false
+            → KeepsFresh (sides_of self.old peer) NoMessage (draft self.old.own_open NoMessage made.now) }
+        ensures carries { Carries result self.old peer NoMessage (draft self.old.own_open NoMessage made.now) overflows
+            stamp self.new }
         ensures full { NeedsRoom result room }
         ensures same { IsSame self.old self.new }
     {

@@ -39,7 +39,8 @@ fn copy_for(
     acts: bool,
     given: &Given,
 ) -> Result<Option<Update>, AllocError>
-    ensures copy { IfOk result (λ copy. copy ≡ copy_where marks.new.unfinished peer (update_acted acts (hand given.now))) }
+    ensures copy { IfOk result
+        (λ copy. copy ≡ copy_where marks.new.unfinished peer (update_acted acts (hand given.now))) }
     ensures heard { IfOk result (λ copy. IfSome copy (λ _. is_heard marks.new.unfinished peer ≡ true)) }
     ensures room { IfOk result (λ copy. IfSome copy (λ _. HasRoom marks.new.unfinished peer)) }
     ensures state { snapshots_of marks.new ≡ snapshots_of marks.old }
@@ -81,7 +82,8 @@ fn record(marks: &mut MarkState, peer: Asn, left: Option<u32>, copy: Option<Upda
     requires link { IsLink marks.old.unfinished peer }
     requires copy { IfSome copy (λ _. is_heard marks.old.unfinished peer ≡ true) }
     requires room { IfSome copy (λ _. HasRoom marks.old.unfinished peer) }
-    ensures sees { (acted : Option update.Update) → copy ≡ copy_where marks.old.unfinished peer acted → snapshots_of marks.new ≡ seen_where peer acted (closed (close_at peer left) (snapshots_of marks.old)) }
+    ensures sees { (acted : Option update.Update) → copy ≡ copy_where marks.old.unfinished peer acted
+        → snapshots_of marks.new ≡ seen_where peer acted (closed (close_at peer left) (snapshots_of marks.old)) }
     ensures over { (peers : List ℕ) → IsOver peers marks.old.unfinished → IsOver peers marks.new.unfinished }
     ensures router { (u : ℕ) → AreOf u marks.old → AreOf u marks.new }
 {
@@ -103,7 +105,8 @@ fn act_on(
     requires up { is_up (side end.old) ≡ true }
     requires waits { is_waiting (side end.old).held ≡ true }
     requires front { IsRouteInFront (side end.old).width peer (side end.old).held route.now }
-    ensures side { OnOk result (side end.new ≡ carried (HasUpdate route.now) (without_front (side end.old)) (acting (side end.old))) }
+    ensures side { OnOk result
+        (side end.new ≡ carried (HasUpdate route.now) (without_front (side end.old)) (acting (side end.old))) }
     ensures hears { OnOk result (HearsUpdate tables.old tables.new peer route.now) }
     ensures end { OnErr result (side end.new ≡ side end.old) }
     ensures tables { OnErr result (tables.new ≡ tables.old) }
@@ -132,7 +135,9 @@ fn handle_front(
     requires rule { (own : ℕ) × (rule.now ≡ naming (side end.old).width own peer) }
     requires waits { is_waiting (side end.old).held ≡ true }
     requires link { IsLink marks.old.unfinished peer }
-    ensures ok { OnOk result (HandlesFront own_open.now rule.now peer (side end.old) (side end.new) tables.old tables.new (snapshots_of marks.old) (snapshots_of marks.new)) }
+    ensures ok { OnOk result
+        (HandlesFront own_open.now rule.now peer (side end.old) (side end.new) tables.old tables.new
+        (snapshots_of marks.old) (snapshots_of marks.new)) }
     ensures end { OnErr result (side end.new ≡ side end.old) }
     ensures tables { OnErr result (tables.new ≡ tables.old) }
     ensures marks { OnErr result (snapshots_of marks.new ≡ snapshots_of marks.old) }
@@ -166,7 +171,9 @@ fn handle_by_draft(
     requires rule { (own : ℕ) × (rule.now ≡ naming (side end.old).width own peer) }
     requires waits { is_waiting (side end.old).held ≡ true }
     requires link { IsLink marks.old.unfinished peer }
-    ensures ok { OnOk result (HandlesFront own_open.now rule.now peer (side end.old) (side end.new) tables.old tables.new (snapshots_of marks.old) (snapshots_of marks.new)) }
+    ensures ok { OnOk result
+        (HandlesFront own_open.now rule.now peer (side end.old) (side end.new) tables.old tables.new
+        (snapshots_of marks.old) (snapshots_of marks.new)) }
     ensures end { OnErr result (side end.new ≡ side end.old) }
     ensures tables { OnErr result (tables.new ≡ tables.old) }
     ensures marks { OnErr result (snapshots_of marks.new ≡ snapshots_of marks.old) }

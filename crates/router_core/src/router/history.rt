@@ -16,7 +16,8 @@ impl Router<'_> {
     /// The UPDATEs of a peer that were acted on, in their order, each once with its incarnation (RFC 4271 section 9).
     /// `None` if no link leads to the peer.
     pub fn acted(&self, alloc: Global, peer: Asn) -> Option<Result<Vec<Told>, AllocError>>
-        ensures { MatchOption result (linked self.now.net self.now.number peer ≡ false) (λ read. IfOk read (λ told. history told.items ≡ (sides_of self.now peer).acted)) }
+        ensures { MatchOption result (linked self.now.net self.now.number peer ≡ false)
+            (λ read. IfOk read (λ told. history told.items ≡ (sides_of self.now peer).acted)) }
     {
         let at = self.find(peer)?;
         Some(self.peers[at].end.acted(alloc))
@@ -25,7 +26,8 @@ impl Router<'_> {
     /// The UPDATEs that were sent to a peer, in their order, each once with its incarnation. `None` if no link leads to
     /// the peer.
     pub fn sent(&self, alloc: Global, peer: Asn) -> Option<Result<Vec<Told>, AllocError>>
-        ensures { MatchOption result (linked self.now.net self.now.number peer ≡ false) (λ read. IfOk read (λ told. history told.items ≡ (sides_of self.now peer).sent)) }
+        ensures { MatchOption result (linked self.now.net self.now.number peer ≡ false)
+            (λ read. IfOk read (λ told. history told.items ≡ (sides_of self.now peer).sent)) }
     {
         let at = self.find(peer)?;
         Some(self.peers[at].end.sent(alloc))
@@ -34,7 +36,8 @@ impl Router<'_> {
     /// Whether an item of a peer may be taken: a link leads to the peer, and no whole message or fault of it waits to
     /// be handled.
     pub fn may_take(&self, peer: Asn) -> bool
-        ensures { result ≡ (linked self.now.net self.now.number peer && not (is_waiting (sides_of self.now peer).held)) }
+        ensures { result
+            ≡ (linked self.now.net self.now.number peer && not (is_waiting (sides_of self.now peer).held)) }
     {
         match self.find(peer) {
             Some(at) => !self.peers[at].end.is_waiting(),
@@ -44,7 +47,10 @@ impl Router<'_> {
 
     /// Whether the router has nothing to put towards a peer: a link leads to the peer, and no item waits in the outbox.
     pub fn puts_nothing(&self, peer: Asn) -> bool
-        ensures { (cut : ℕ) → result ≡ (linked self.now.net self.now.number peer && not (is_some (next_item cut (sides_of self.now peer).outbox))) }
+        ensures { (cut : ℕ)
+            → result
+            ≡ (linked self.now.net self.now.number peer
+            && not (is_some (next_item cut (sides_of self.now peer).outbox))) }
     {
         match self.find(peer) {
             Some(at) => !self.peers[at].end.has_item(),
@@ -55,7 +61,11 @@ impl Router<'_> {
     /// Whether the router has nothing to put towards a peer and nothing of it to handle: a link leads to the peer, no
     /// item waits in the outbox, and no whole message or fault stands in front of its octets.
     pub fn is_quiet(&self, peer: Asn) -> bool
-        ensures { (cut : ℕ) → result ≡ (linked self.now.net self.now.number peer && (not (is_some (next_item cut (sides_of self.now peer).outbox)) && not (is_waiting (sides_of self.now peer).held))) }
+        ensures { (cut : ℕ)
+            → result
+            ≡ (linked self.now.net self.now.number peer
+            && (not (is_some (next_item cut (sides_of self.now peer).outbox))
+            && not (is_waiting (sides_of self.now peer).held))) }
     {
         match self.find(peer) {
             Some(at) => {

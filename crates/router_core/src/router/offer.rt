@@ -18,7 +18,8 @@ use std::alloc::AllocError;
 impl Router<'_> {
     /// The offer that waits in front, if one does.
     pub fn next_offer(&self) -> Option<&Offer>
-        ensures { MatchOption result (next_offer (plain_of self.now).router ≡ None) (λ offer. IsOffered self.now offer.now) }
+        ensures { MatchOption result (next_offer (plain_of self.now).router ≡ None)
+            (λ offer. IsOffered self.now offer.now) }
     {
         self.marks.next_offer()
     }
@@ -53,7 +54,10 @@ impl Router<'_> {
         requires later { self.old.stamp < stamp }
         requires few { stamp ≤ GREATEST_STAMP }
         ensures made { OnOk result (plain_of self.new ≡ offer_made (plain_of self.old) stamp) }
-        ensures kept { OnOk result (IfSome (next_offer (plain_of self.old).router) (λ offer. made_for collector.new ≡ with_offers (made_for collector.old) (made_of self.old.number offer ∷ []))) }
+        ensures kept { OnOk result
+            (IfSome (next_offer (plain_of self.old).router)
+            (λ offer. made_for collector.new
+            ≡ with_offers (made_for collector.old) (made_of self.old.number offer ∷ []))) }
         ensures err { OnErr result (self.new ≡ self.old) }
         ensures unkept { OnErr result (collector.new ≡ collector.old) }
         ensures members { collector.new.members ≡ collector.old.members }

@@ -63,7 +63,8 @@ impl Router<'_> {
         alloc: Global,
         peer: Asn,
     ) -> Option<Result<Result<Message, Fault>, AllocError>>
-        ensures { MatchOption result (awaits self.now peer ≡ false) (λ read. (awaits self.now peer ≡ true) × IfOk read (λ front. front ≡ front_of self.now peer)) }
+        ensures { MatchOption result (awaits self.now peer ≡ false)
+            (λ read. (awaits self.now peer ≡ true) × IfOk read (λ front. front ≡ front_of self.now peer)) }
     {
         let at = self.find(peer)?;
         let end = &self.peers[at].end;
@@ -81,8 +82,10 @@ impl Router<'_> {
     /// The word heard last from a peer for a prefix (Adj-RIB-In, RFC 4271 section 3.2). `None` exactly where it is the
     /// empty path, as in every state but Established.
     pub fn word_heard(&self, peer: Asn, prefix: &Prefix) -> Option<&Word>
-        ensures word { MatchOption result (word_of self.now.tables.heard peer prefix.now ≡ nothing) (λ word. (word.now ≡ word_of self.now.tables.heard peer prefix.now) × (word.now ≢ nothing)) }
-        ensures plain { linked self.now.net self.now.number peer ≡ true → IsNamed self.now.net.origins prefix.now → word_of self.now.tables.heard peer prefix.now ≡ heard_now (sides_of self.now peer) prefix.now }
+        ensures word { MatchOption result (word_of self.now.tables.heard peer prefix.now ≡ nothing)
+            (λ word. (word.now ≡ word_of self.now.tables.heard peer prefix.now) × (word.now ≢ nothing)) }
+        ensures plain { linked self.now.net self.now.number peer ≡ true → IsNamed self.now.net.origins prefix.now
+            → word_of self.now.tables.heard peer prefix.now ≡ heard_now (sides_of self.now peer) prefix.now }
     {
         self.tables.word_heard(peer, prefix)
     }
@@ -90,8 +93,10 @@ impl Router<'_> {
     /// The word sent last to a peer for a prefix (Adj-RIB-Out, RFC 4271 section 3.2). `None` exactly where it is the
     /// empty path, as in every state but Established.
     pub fn word_sent(&self, peer: Asn, prefix: &Prefix) -> Option<&Word>
-        ensures word { MatchOption result (word_of self.now.tables.sent peer prefix.now ≡ nothing) (λ word. (word.now ≡ word_of self.now.tables.sent peer prefix.now) × (word.now ≢ nothing)) }
-        ensures plain { linked self.now.net self.now.number peer ≡ true → IsNamed self.now.net.origins prefix.now → word_of self.now.tables.sent peer prefix.now ≡ told_now (sides_of self.now peer) prefix.now }
+        ensures word { MatchOption result (word_of self.now.tables.sent peer prefix.now ≡ nothing)
+            (λ word. (word.now ≡ word_of self.now.tables.sent peer prefix.now) × (word.now ≢ nothing)) }
+        ensures plain { linked self.now.net self.now.number peer ≡ true → IsNamed self.now.net.origins prefix.now
+            → word_of self.now.tables.sent peer prefix.now ≡ told_now (sides_of self.now peer) prefix.now }
     {
         self.tables.word_sent(peer, prefix)
     }
@@ -106,7 +111,8 @@ impl Router<'_> {
     /// The prefix whose kept path [`Router::decide`] sets next: the least, by address and then by length, whose kept
     /// path is not the best of the choices. `None` exactly where each kept path is the best.
     pub fn undecided(&self) -> Option<Prefix>
-        ensures { MatchOption result (HoldsOfAll self.now.tables.net.origins (IsSettled self.now.tables)) (IsLeastWithout self.now.tables.net.origins (IsSettled self.now.tables)) }
+        ensures { MatchOption result (HoldsOfAll self.now.tables.net.origins (IsSettled self.now.tables))
+            (IsLeastWithout self.now.tables.net.origins (IsSettled self.now.tables)) }
     {
         self.tables.undecided()
     }

@@ -30,7 +30,8 @@ impl SideEnd {
         requires room { HasRoomToAct self.old }
         requires waits { is_waiting (side self.old).held ≡ true }
         requires front { (u : updates.Update) × IsInFront self.old.width (side self.old).held (HasUpdate u) }
-        ensures { (u : updates.Update) → IsInFront self.old.width (side self.old).held (HasUpdate u) → side self.new ≡ carried (HasUpdate u) (without_front (side self.old)) (acting (side self.old)) }
+        ensures { (u : updates.Update) → IsInFront self.old.width (side self.old).held (HasUpdate u)
+            → side self.new ≡ carried (HasUpdate u) (without_front (side self.old)) (acting (side self.old)) }
     {
         keep_front(&mut self.acted, &self.framer, self.link.epoch());
         self.drop_front();

@@ -56,11 +56,15 @@ impl SideEnd {
     fn carry(&mut self, alloc: Global, own_open: &Message, told: &Option<Message>, made: &Sketch)
         requires own { IsSayable self.old.width own_open.now }
         requires told { IsSayableWhere self.old.width told.now }
-        requires octets { all_sizes (length (written self.old.width own_open.now)) (size_where self.old.width told.now) made.now.says ≤ self.old.outbox.room }
+        requires octets { all_sizes (length (written self.old.width own_open.now)) (size_where self.old.width told.now)
+            made.now.says
+            ≤ self.old.outbox.room }
         requires places { length made.now.says ≤ self.old.outbox.places }
         ensures session { self.new.session ≡ made.now.session }
         ensures link { self.new.link ≡ made.now.link }
-        ensures outbox { self.new.outbox.passing ≡ self.old.outbox.passing ++ passing (written self.old.width) (all_entries own_open.now told.now made.now.says) }
+        ensures outbox { self.new.outbox.passing
+            ≡ self.old.outbox.passing
+            ++ passing (written self.old.width) (all_entries own_open.now told.now made.now.says) }
         ensures held { self.new.framer.octets ≡ cond made.now.drops [] self.old.framer.octets }
         ensures acted { self.new.acted ≡ self.old.acted }
         ensures sent { self.new.sent ≡ self.old.sent }
@@ -106,7 +110,8 @@ impl SideEnd {
         requires waits { is_waiting (side self.old).held ≡ true }
         requires front { IsInFront self.old.width (side self.old).held (hand given) }
         requires room { HasRoom own_open.now (told_of (hand given)) made.now self.old }
-        ensures { side self.new ≡ carried (hand given) (without_front (side self.old)) (draft own_open.now (hand given) made.now) }
+        ensures { side self.new
+            ≡ carried (hand given) (without_front (side self.old)) (draft own_open.now (hand given) made.now) }
     {
         count_front(
             &mut self.acted,
@@ -123,7 +128,8 @@ impl SideEnd {
     // The message in front is taken away; a fault stays. It takes no memory.
     pub(super) fn drop_front(&mut self)
         requires { is_waiting self.old.framer.octets ≡ true }
-        ensures held { self.new.framer.octets ≡ rest_behind (header_fault self.old.framer.octets) self.old.framer.octets }
+        ensures held { self.new.framer.octets
+            ≡ rest_behind (header_fault self.old.framer.octets) self.old.framer.octets }
         ensures session { self.new.session ≡ self.old.session }
         ensures link { self.new.link ≡ self.old.link }
         ensures outbox { self.new.outbox ≡ self.old.outbox }
@@ -154,7 +160,8 @@ pub(super) fn keep_front(acted: &mut History, framer: &Framer, epoch: u32)
     requires front { (w : widths.Width) × (u : updates.Update) × IsInFront w framer.now.octets (HasUpdate u) }
     requires room { MESSAGE_LIMIT ≤ acted.old.room }
     requires place { 1 ≤ acted.old.places }
-    ensures { (w : widths.Width) (u : updates.Update) → IsInFront w framer.now.octets (HasUpdate u) → history (told_with w acted.new) ≡ with_update (history (told_with w acted.old)) epoch u }
+    ensures { (w : widths.Width) (u : updates.Update) → IsInFront w framer.now.octets (HasUpdate u)
+        → history (told_with w acted.new) ≡ with_update (history (told_with w acted.old)) epoch u }
 {
     header_is_its_front();
     match framer.next() {
@@ -173,7 +180,8 @@ fn count_front(acted: &mut History, framer: &Framer, acts: bool, given: &Given, 
     requires front { (w : widths.Width) × IsInFront w framer.now.octets (hand given.now) }
     requires room { MESSAGE_LIMIT ≤ acted.old.room }
     requires place { 1 ≤ acted.old.places }
-    ensures { (w : widths.Width) → IsInFront w framer.now.octets (hand given.now) → history (told_with w acted.new) ≡ acted_with acts (hand given.now) epoch (history (told_with w acted.old)) }
+    ensures { (w : widths.Width) → IsInFront w framer.now.octets (hand given.now)
+        → history (told_with w acted.new) ≡ acted_with acts (hand given.now) epoch (history (told_with w acted.old)) }
 {
     if !acts {
         return;

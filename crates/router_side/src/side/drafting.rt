@@ -71,7 +71,8 @@ impl SideEnd {
     /// What the message or fault in front will make of it, by the event that it brings.
     pub fn handle(&self, own_open: &Message, given: &Given, event: FsmEvent) -> Sketch
         requires { IsGoodEvent event }
-        ensures { draft own_open.now (hand given.now) result ≡ comes own_open.now (hand given.now) (draft_of (side self.now).session (side self.now).link) event }
+        ensures { draft own_open.now (hand given.now) result
+            ≡ comes own_open.now (hand given.now) (draft_of (side self.now).session (side self.now).link) event }
     {
         let mut made = Sketch::new(self.session, self.link);
         made.comes(own_open, given, event);

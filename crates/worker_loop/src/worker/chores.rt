@@ -31,7 +31,8 @@ impl<'a, L: Lines, D: Desk, G: Gate> Worker<'a, L, D, G> {
     pub(super) fn next_chore<R: Wait>(&mut self, rt: &R, turn: u32) -> Result<Chore, WorkerFault>
         requires turn { turn ≡ length (G.given self.old.gate) }
         ensures given { IfOk result (λ chore. G.given self.new.gate ≡ G.given self.old.gate ++ chore ∷ []) }
-        ensures chores { IfOk result (λ chore. self.new.journal.chores.items ≡ self.old.journal.chores.items ++ chore ∷ []) }
+        ensures chores { IfOk result
+            (λ chore. self.new.journal.chores.items ≡ self.old.journal.chores.items ++ chore ∷ []) }
         ensures rest { IsSameBut self.old self.new }
         ensures told { G.told self.new.gate ≡ G.told self.old.gate }
         ensures why { IfErr result (λ why. why ≡ WorkerFault.Memory) }
@@ -47,7 +48,9 @@ impl<'a, L: Lines, D: Desk, G: Gate> Worker<'a, L, D, G> {
 
     // Tries one Put, one Take and one Handle with a peer.
     fn meet<R: Wait>(&mut self, rt: &R, peer: Asn) -> Result<(), WorkerFault>
-        ensures done { IfOk result (λ _. DidSo L.put_to L.taken_from L.room D.made self.old self.new (λ g. Meets g self.old.router.number peer)) }
+        ensures done { IfOk result
+            (λ _. DidSo L.put_to L.taken_from L.room D.made self.old self.new
+            (λ g. Meets g self.old.router.number peer)) }
         ensures same { IsSameWorker L.wiring self.old self.new }
         ensures ended { IfErr result (EndsMeet L.taken_from self.new peer) }
     {
@@ -60,7 +63,9 @@ impl<'a, L: Lines, D: Desk, G: Gate> Worker<'a, L, D, G> {
 
     // Tries one Put, one Take and one Handle with each peer, rising.
     fn meet_all<R: Wait>(&mut self, rt: &R) -> Result<(), WorkerFault>
-        ensures done { IfOk result (λ _. DidSo L.put_to L.taken_from L.room D.made self.old self.new (λ g. Each (Meets g self.old.router.number) self.old.peers.items)) }
+        ensures done { IfOk result
+            (λ _. DidSo L.put_to L.taken_from L.room D.made self.old self.new
+            (λ g. Each (Meets g self.old.router.number) self.old.peers.items)) }
         ensures same { IsSameWorker L.wiring self.old self.new }
         ensures ended { IfErr result (EndsMeeting L.taken_from self.new) }
     {
@@ -73,7 +78,9 @@ impl<'a, L: Lines, D: Desk, G: Gate> Worker<'a, L, D, G> {
 
     // Does a turn.
     fn turn<R: Wait>(&mut self, rt: &R, board: &D::Board) -> Result<(), WorkerFault>
-        ensures done { IfOk result (λ _. DidSo L.put_to L.taken_from L.room D.made self.old self.new (λ g. Turns g self.old.router.number self.old.peers.items)) }
+        ensures done { IfOk result
+            (λ _. DidSo L.put_to L.taken_from L.room D.made self.old self.new
+            (λ g. Turns g self.old.router.number self.old.peers.items)) }
         ensures same { IsSameWorker L.wiring self.old self.new }
         ensures ended { IfErr result (EndsTurn L.taken_from self.new) }
     {
@@ -87,7 +94,9 @@ impl<'a, L: Lines, D: Desk, G: Gate> Worker<'a, L, D, G> {
 
     // Obeys a command.
     fn command(&mut self, command: &Command) -> Result<(), WorkerFault>
-        ensures done { IfOk result (λ _. DidSo L.put_to L.taken_from L.room D.made self.old self.new (λ g. Calls g self.old.router.number (calls.Obey command.now))) }
+        ensures done { IfOk result
+            (λ _. DidSo L.put_to L.taken_from L.room D.made self.old self.new
+            (λ g. Calls g self.old.router.number (calls.Obey command.now))) }
         ensures same { IsSameWorker L.wiring self.old self.new }
         ensures ended { IfErr result (EndsCall self.new (calls.Obey command.now)) }
     {
@@ -102,7 +111,9 @@ impl<'a, L: Lines, D: Desk, G: Gate> Worker<'a, L, D, G> {
         board: &D::Board,
         chore: &Chore,
     ) -> Result<(), WorkerFault>
-        ensures done { IfOk result (λ _. DidSo L.put_to L.taken_from L.room D.made self.old self.new (λ g. Obeys g self.old.router.number self.old.peers.items chore.now)) }
+        ensures done { IfOk result
+            (λ _. DidSo L.put_to L.taken_from L.room D.made self.old self.new
+            (λ g. Obeys g self.old.router.number self.old.peers.items chore.now)) }
         ensures same { IsSameWorker L.wiring self.old self.new }
         ensures ended { IfErr result (EndsChore L.taken_from self.new chore.now) }
     {

@@ -13,7 +13,8 @@ impl<'a, L: Lines, D: Desk, G: Gate> Worker<'a, L, D, G> {
 
     // Makes the offer that waits in front, if one does.
     pub(super) fn try_offer<R: Wait>(&mut self, rt: &R, board: &D::Board) -> Result<(), WorkerFault>
-        ensures done { IfOk result (λ _. DidSo L.put_to L.taken_from L.room D.made self.old self.new (λ g. Offers g self.old.router.number)) }
+        ensures done { IfOk result
+            (λ _. DidSo L.put_to L.taken_from L.room D.made self.old self.new (λ g. Offers g self.old.router.number)) }
         ensures same { IsSameWorker L.wiring self.old self.new }
         ensures ended { IfErr result (λ _. EndsOffer self.new) }
     {

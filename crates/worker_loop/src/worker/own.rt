@@ -18,7 +18,9 @@ impl<'a, L: Lines, D: Desk, G: Gate> Worker<'a, L, D, G> {
     // Tries a call of the router.
     pub(super) fn try_call(&mut self, call: &Call, event: Event) -> Result<(), WorkerFault>
         requires named { IsNamedBy event self.old.router.number (call_of call.now) }
-        ensures done { IfOk result (λ _. DidSo L.put_to L.taken_from L.room D.made self.old self.new (λ g. Calls g self.old.router.number (call_of call.now))) }
+        ensures done { IfOk result
+            (λ _. DidSo L.put_to L.taken_from L.room D.made self.old self.new
+            (λ g. Calls g self.old.router.number (call_of call.now))) }
         ensures same { IsSameWorker L.wiring self.old self.new }
         ensures ended { IfErr result (EndsCall self.new (call_of call.now)) }
     {

@@ -51,7 +51,9 @@ impl<'a, L: Lines, D: Desk, G: Gate> Worker<'a, L, D, G> {
 
     // Tries to put the next item towards a peer.
     pub(super) fn try_put<R: Wait>(&mut self, rt: &R, peer: Asn) -> Result<(), WorkerFault>
-        ensures done { IfOk result (λ _. DidSo L.put_to L.taken_from L.room D.made self.old self.new (λ g. Puts g self.old.router.number peer)) }
+        ensures done { IfOk result
+            (λ _. DidSo L.put_to L.taken_from L.room D.made self.old self.new
+            (λ g. Puts g self.old.router.number peer)) }
         ensures same { IsSameWorker L.wiring self.old self.new }
         ensures ended { IfErr result (EndsCall self.new (Put peer)) }
     {
@@ -79,7 +81,9 @@ impl<'a, L: Lines, D: Desk, G: Gate> Worker<'a, L, D, G> {
     // Tries to take the next item of a peer. Nothing is taken if a message of the peer waits, since the router would
     // refuse the item.
     pub(super) fn try_take<R: Wait>(&mut self, rt: &R, peer: Asn) -> Result<(), WorkerFault>
-        ensures done { IfOk result (λ _. DidSo L.put_to L.taken_from L.room D.made self.old self.new (λ g. Takes g self.old.router.number peer)) }
+        ensures done { IfOk result
+            (λ _. DidSo L.put_to L.taken_from L.room D.made self.old self.new
+            (λ g. Takes g self.old.router.number peer)) }
         ensures same { IsSameWorker L.wiring self.old self.new }
         ensures ended { IfErr result (EndsTake L.taken_from self.new peer) }
     {
