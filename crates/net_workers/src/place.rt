@@ -124,7 +124,7 @@ impl Desk for Place {
         self.offer_at(&mut board, stamp, offer, room)
     }
 
-    fn pause<R: Wait>(&self, rt: &R, board: &Board, between: &Between<'_>) {
-        board.sleepers.pause(rt, between);
+    fn pause<R: Wait>(&self, rt: &R, board: &Board, between: &Between<'_>) -> bool {
+        board.sleepers.pause(rt, between)
     }
 }

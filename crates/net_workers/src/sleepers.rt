@@ -283,15 +283,19 @@ impl Sleepers {
         self.let_go(bed);
     }
 
-    // Takes note of a Turn that did nothing, with Turns next.
-    fn rest<R: Wait>(&self, rt: &R, bed: &Bed, between: &Between<'_>) {
+    // Takes note of a Turn that did nothing, with Turns next. Answers whether the worker goes on to what is due.
+    fn rest<R: Wait>(&self, rt: &R, bed: &Bed, between: &Between<'_>) -> bool {
         match bed.state.load(Ordering::SeqCst) {
             AWAKE => {
                 bed.is_blocked.store(between.is_blocked, Ordering::SeqCst);
                 bed.state.store(DROWSY, Ordering::SeqCst);
+                false
             }
-            DROWSY => self.fall_asleep(rt, bed, due_of(between)),
-            _ => {}
+            DROWSY => {
+                self.fall_asleep(rt, bed, due_of(between));
+                bed.state.load(Ordering::SeqCst) == GOING
+            }
+            _ => true,
         }
     }
 
@@ -305,27 +309,28 @@ impl Sleepers {
     }
 
     /// Is called between two chores of a worker. It wakes those to whom the last chore may have given work. It waits if
-    /// that chore did nothing and Turns are next.
-    pub fn pause<R: Wait>(&self, rt: &R, between: &Between<'_>) {
+    /// that chore did nothing and Turns are next. Answers whether nothing comes before the worker's next chore that is no
+    /// Turn: the worker was let go to that chore, or nothing is to come at all.
+    pub fn pause<R: Wait>(&self, rt: &R, between: &Between<'_>) -> bool {
         match self.mode.load(Ordering::SeqCst) {
             RESTING => {}
             HURRIED => {
                 yield_where(between.done.is_empty());
-                return;
+                return false;
             }
-            _ => return,
+            _ => return true,
         }
         for entry in between.done {
             self.wake_for(&entry.event);
         }
         let Some(bed) = self.bed(between.router) else {
-            return;
+            return false;
         };
         if between.turns > 0 {
-            self.rest(rt, bed, between);
-        } else {
-            self.go_on(bed, between);
+            return self.rest(rt, bed, between);
         }
+        self.go_on(bed, between);
+        false
     }
 
     /// Takes note that a worker has ended: it wakes the others, and is awake no longer.

@@ -5,3 +5,4 @@ pub mod Chaining
 pub mod Scripts
 pub mod Doing
 pub mod Called
+pub mod Passing

@@ -18,7 +18,7 @@ use Rattle.worker_loop.specs.declared.chore.Chore.TheVariants.{Stop}
 use Rattle.worker_loop.specs.declared.worker.Worker.{Worker}
 use Rattle.router_model.specs.Settings.{Setting}
 use Rattle.worker_loop.specs.Acts.{Seen}
-use Rattle.worker_loop.specs.Following.{Stage, Did}
+use Rattle.worker_loop.specs.Following.{Stage, Did, Turns}
 
 -- a worker as contracts see it, by what its lines and its desk show
 abbrev pub seen_of : {L D G : Type 0} → (L → ℕ → List Item) → (L → ℕ → List Item) → (L → ℕ → ℕ) → (D → List (Collected MadeOffer)) → Worker L D G → Seen
@@ -35,6 +35,10 @@ seen_of put taken room made w = record {
 abbrev pub DidSo : {L D G : Type 0} → (L → ℕ → List Item) → (L → ℕ → List Item) → (L → ℕ → ℕ) → (D → List (Collected MadeOffer)) → Worker L D G → Worker L D G
     → (Setting → Stage) → Type 0
 DidSo put taken room made old new P = Did P old.router.net (seen_of put taken room made old) (seen_of put taken room made new)
+
+-- a Turn of a worker may do nothing
+abbrev pub MayPass : {L D G : Type 0} → (L → ℕ → List Item) → (L → ℕ → List Item) → (L → ℕ → ℕ) → (D → List (Collected MadeOffer)) → Worker L D G → Type 0
+MayPass put taken room made w = DidSo put taken room made w w (λ g. Turns g w.router.number w.peers.items)
 
 -- so many chores, or the chores up to the first Stop
 abbrev pub IsWhole : ℕ → List Chore → Type 0

@@ -127,6 +127,10 @@ pub trait Desk {
         ensures full { OnErr room (IsErr result) };
 
     /// Lets the workers of its peers know what a worker did for a chore. If it did nothing, and Turns are next, it may
-    /// wait for them. A desk without a body of its own lets nobody know, and never waits.
-    fn pause<R: Wait>(&self, _rt: &R, _board: &Self::Board, _between: &Between<'_>) {}
+    /// wait for them. Answers whether nothing comes from them before the worker's next chore that is no Turn, as far as
+    /// the desk can say: the worker then passes over Turns in which its router has nothing to do. A desk without a body
+    /// of its own lets nobody know, never waits, and answers `false`.
+    fn pause<R: Wait>(&self, _rt: &R, _board: &Self::Board, _between: &Between<'_>) -> bool {
+        false
+    }
 }

@@ -3,12 +3,13 @@
 mod chores;
 mod offer;
 mod own;
+mod passing;
 mod pipes;
 
 ghost use Rattle.std.specs.Prelude.{◌≡◌, ◌<◌, ◌++◌, ◌∷◌, [], vec_len, vec_capacity};
 ghost use Rattle.worker_loop.specs.Whole.{entry, passing};
 
-use crate::around::{Between, Desk, Gate, Lines};
+use crate::around::{Desk, Gate, Lines};
 use crate::chore::Chore;
 use crate::journal::{Entry, Journal};
 use ranked_policy::Asn;
@@ -81,14 +82,6 @@ fn note(events: &mut Vec<Entry>, stamp: u64, event: Event)
     events.extend_from_slice(&[Entry { stamp, event }]).unwrap();
 }
 
-// The events of a journal behind the first so many.
-fn events_behind(events: &[Entry], before: usize) -> &[Entry] {
-    match events.split_at_checked(before) {
-        Some((_, behind)) => behind,
-        None => &[],
-    }
-}
-
 impl<'a, L: Lines, D: Desk, G: Gate> Worker<'a, L, D, G> {
     ghost use Rattle.std.specs.Prelude.{◌≡◌, IfOk, IfErr};
     ghost use Rattle.worker_loop.specs.Following.{Follows};
@@ -96,42 +89,9 @@ impl<'a, L: Lines, D: Desk, G: Gate> Worker<'a, L, D, G> {
     ghost use Rattle.worker_loop.specs.Whole.{DidSo, IsLaterWorker, IsWhole};
     ghost use Rattle.std.specs.Prelude.{[]};
 
-    // Whether an item waits to be put towards a peer.
-    fn is_blocked(&self) -> bool {
-        let mut peers = self.peers.iter();
-        peers.any(|peer| !self.router.puts_nothing(*peer))
-    }
-
-    // Lets others know what was done for the last of so many chores. If that was a Turn and nothing was done, it may
-    // wait for them.
-    fn pause<R: Wait>(
-        &self,
-        rt: &R,
-        board: &D::Board,
-        chore: &Chore,
-        before: usize,
-        given: u32,
-        most: u32,
-    ) {
-        let done = events_behind(self.journal.events.as_slice(), before);
-        let is_idle = done.is_empty() && chore.is_turn();
-        let between = Between {
-            router: self.router.number(),
-            done,
-            is_blocked: is_idle && self.is_blocked(),
-            given,
-            turns: if is_idle {
-                self.gate.turns_from(given)
-            } else {
-                0
-            },
-            most,
-        };
-        self.desk.pause(rt, board, &between);
-    }
-
     /// Does the chores that the gate gives: so many, or up to the first Stop. After each chore it tells its desk what
-    /// it did, and may wait there if it did nothing.
+    /// it did, and may wait there if it did nothing. If the desk answers that nothing comes, a Turn in which the router
+    /// has nothing to do is done without a look at the lines.
     ///
     /// Refused with [`WorkerFault::Refused`] only if the router, as it is then, has no stamp or incarnation left for a
     /// call of the last chore. Refused with [`WorkerFault::Memory`] only if the next chore was to be written down and
@@ -150,14 +110,13 @@ impl<'a, L: Lines, D: Desk, G: Gate> Worker<'a, L, D, G> {
         ensures told { G.told self.new.gate ≡ G.told self.old.gate }
         ensures ended { IfErr result (EndsFor L.taken_from turns (G.given self.new.gate) self.new) }
     {
+        let mut passes = false;
         for turn in 0..turns {
             let chore = self.next_chore(rt, turn)?;
-            let before = self.journal.events.len();
-            self.obey(rt, board, &chore)?;
+            passes = self.one(rt, board, &chore, passes, turn + 1, turns)?;
             if let Chore::Stop = chore {
                 return Ok(());
             }
-            self.pause(rt, board, &chore, before, turn + 1, turns);
         }
         Ok(())
     }

@@ -25,19 +25,19 @@ use Rattle.world_core.proofs.Stepping.{stands, by_router}
 
 -- ---- what a router answers that waits for nothing
 
-put_idle : (g : Setting) (u v : ℕ) (t : Stamped) → linked g.net u v ≡ true → next_item g.net.settings.cut (t.router.sides v).outbox ≡ None → answer g u t (Put v) ≡ Idle
+pub put_idle : (g : Setting) (u v : ℕ) (t : Stamped) → linked g.net u v ≡ true → next_item g.net.settings.cut (t.router.sides v).outbox ≡ None → answer g u t (Put v) ≡ Idle
 put_idle g u v t l n = rw (l, n) refl
 
-handle_idle : (g : Setting) (u v : ℕ) (t : Stamped) → linked g.net u v ≡ true → is_waiting (t.router.sides v).held ≡ false → answer g u t (Handle v) ≡ Idle
+pub handle_idle : (g : Setting) (u v : ℕ) (t : Stamped) → linked g.net u v ≡ true → is_waiting (t.router.sides v).held ≡ false → answer g u t (Handle v) ≡ Idle
 handle_idle g u v t l n = rw (l, n) refl
 
-parts : (a b c : Bool) → (a && (not b && not c)) ≡ true → (a ≡ true) × (b ≡ false) × (c ≡ false)
+pub parts : (a b c : Bool) → (a && (not b && not c)) ≡ true → (a ≡ true) × (b ≡ false) × (c ≡ false)
 parts true false false h = (refl, refl, refl)
 parts true false true h = absurd cc
 parts true true c h = absurd cc
 parts false b c h = absurd cc
 
-none_is : (o : Option What) → is_some o ≡ false → o ≡ None
+pub none_is : (o : Option What) → is_some o ≡ false → o ≡ None
 none_is None h = refl
 none_is (Some w) h = absurd cc
 

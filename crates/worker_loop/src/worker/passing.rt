@@ -1,0 +1,108 @@
+//! What a worker does between two chores, and the Turns that it passes over.
+
+use super::{Worker, WorkerFault};
+use crate::around::{Between, Desk, Gate, Lines};
+use crate::chore::Chore;
+use crate::journal::Entry;
+use std::sync::Wait;
+
+// The events of a journal behind the first so many.
+fn events_behind(events: &[Entry], before: usize) -> &[Entry] {
+    match events.split_at_checked(before) {
+        Some((_, behind)) => behind,
+        None => &[],
+    }
+}
+
+impl<'a, L: Lines, D: Desk, G: Gate> Worker<'a, L, D, G> {
+    ghost use Rattle.std.specs.Prelude.{IsTrue, IfOk, IfErr};
+    ghost use Rattle.worker_loop.specs.Following.{Obeys};
+    ghost use Rattle.worker_loop.specs.Whole.{DidSo, MayPass, IsSameWorker};
+    ghost use Rattle.worker_loop.specs.Ending.{EndsChore};
+
+    // Whether an item waits to be put towards a peer.
+    fn is_blocked(&self) -> bool {
+        let mut peers = self.peers.iter();
+        peers.any(|peer| !self.router.puts_nothing(*peer))
+    }
+
+    // Whether the router has nothing to put, to handle, to decide, to tell and to offer. A Turn may then do nothing.
+    fn has_nothing_to_do(&self) -> bool
+        ensures { IsTrue result → MayPass L.put_to L.taken_from L.room D.made self.now }
+    {
+        for place in 0..self.peers.len() {
+            if !self.router.is_quiet(self.peers[place]) {
+                return false;
+            }
+        }
+        self.router.is_idle()
+    }
+
+    // Lets others know that a Turn was passed over. Answers whether the next ones may be.
+    fn passed<R: Wait>(&self, rt: &R, board: &D::Board, given: u32, most: u32) -> bool {
+        let between = Between {
+            router: self.router.number(),
+            done: &[],
+            is_blocked: false,
+            given,
+            turns: self.gate.turns_from(given),
+            most,
+        };
+        self.desk.pause(rt, board, &between)
+    }
+
+    // Lets others know what was done for the last of so many chores. If that was a Turn and nothing was done, it may
+    // wait for them. Answers whether nothing comes before the next chore that is no Turn.
+    fn pause<R: Wait>(
+        &self,
+        rt: &R,
+        board: &D::Board,
+        chore: &Chore,
+        before: usize,
+        given: u32,
+        most: u32,
+    ) -> bool {
+        let done = events_behind(self.journal.events.as_slice(), before);
+        let is_idle = done.is_empty() && chore.is_turn();
+        let between = Between {
+            router: self.router.number(),
+            done,
+            is_blocked: is_idle && self.is_blocked(),
+            given,
+            turns: if is_idle {
+                self.gate.turns_from(given)
+            } else {
+                0
+            },
+            most,
+        };
+        let is_alone = self.desk.pause(rt, board, &between);
+        is_idle && is_alone
+    }
+
+    // Does the last of so many chores, or passes over it if it is a Turn, and then pauses. `passes`: whether a Turn may
+    // be passed over. Answers whether the next one may.
+    pub(super) fn one<R: Wait>(
+        &mut self,
+        rt: &R,
+        board: &D::Board,
+        chore: &Chore,
+        passes: bool,
+        given: u32,
+        most: u32,
+    ) -> Result<bool, WorkerFault>
+        requires { IsTrue passes → MayPass L.put_to L.taken_from L.room D.made self.old }
+        ensures done { IfOk result (λ _. DidSo L.put_to L.taken_from L.room D.made self.old self.new
+            (λ g. Obeys g self.old.router.number self.old.peers.items chore.now)) }
+        ensures passes { IfOk result (λ passes. IsTrue passes → MayPass L.put_to L.taken_from L.room D.made self.new) }
+        ensures same { IsSameWorker L.wiring self.old self.new }
+        ensures ended { IfErr result (EndsChore L.taken_from self.new chore.now) }
+    {
+        if passes && chore.is_turn() {
+            return Ok(self.passed(rt, board, given, most));
+        }
+        let before = self.journal.events.len();
+        self.obey(rt, board, chore)?;
+        Ok(self.pause(rt, board, chore, before, given, most) && self.has_nothing_to_do())
+    }
+}
