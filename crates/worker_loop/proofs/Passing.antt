@@ -1,5 +1,5 @@
 -- A Turn in which nothing is done.
-use Rattle.std.proofs.Common.{◌≡◌, ℕ, suc, zero, ◌<◌, arith, Bool, true, false, ◌&&◌, not, List, [], ◌∷◌, ◌++◌, length, get_or, All, refl, ap, sym, ◌∙◌, subst, None, inl}
+use Rattle.std.proofs.Common.{◌≡◌, ℕ, suc, arith, true, ◌&&◌, not, List, [], ◌∷◌, ◌++◌, get_or, All, refl, ap, sym, ◌∙◌, subst, None, inl}
 use Rattle.std.specs.Prelude.{Ok, is_some}
 use Rattle.bgp_framing.specs.Held.{is_waiting}
 use Rattle.outbox.specs.declared.item.Item.{Item}
@@ -10,12 +10,12 @@ use Rattle.ranked_policy.specs.Plans.{Plan}
 use Rattle.router_model.specs.declared.refusal.Stepped.TheVariants as stepped
 use Rattle.router_model.specs.Settings.{Setting, IsSetting, linked}
 use Rattle.router_model.specs.Step.{next_offer}
-use Rattle.router_model.specs.Calls.{Call, Put, Handle, Decide, Advertise, Answer, Gives}
+use Rattle.router_model.specs.Calls.{Call, Put, Handle, Decide, Advertise, Answer, answer, Gives}
 use Rattle.router_core.specs.Views.{RouterView, plain_of, sides_of, Shows, Answers}
 use Rattle.world_core.proofs.Quiet.{put_idle, handle_idle, parts, none_is}
 use Rattle.worker_loop.specs.declared.worker.Worker.{Worker}
 use Rattle.worker_loop.specs.Acts.{Act, Seen}
-use Rattle.worker_loop.specs.Following.{Stage, Each, Meets, Turns, Calls, Offers}
+use Rattle.worker_loop.specs.Following.{Stage, Each, Meets, Turns}
 use Rattle.worker_loop.specs.Whole.{seen_of, MayPass, IsSameBut}
 use Rattle.worker_loop.proofs.Acting.{Rests, does_none}
 use Rattle.worker_loop.proofs.Trying.{put_none, call_nothing, offer_none}
@@ -59,7 +59,7 @@ pub turn_of_nothing : (g : Setting) (x : RouterView) (vs : List ℕ) (a : Seen) 
 turn_of_nothing g x vs a net set is quiet decides tells offers =
     let u = x.number in
     let given = λ (call : Call) (all : Answers (Ok stepped.Nothing) x call x). call_nothing g u call a a
-        (subst (λ r. Gives g u (Ok stepped.Nothing) (answer g u r call) r call r) (sym is) (all g net set.chooses)) (still a) refl in
+    (subst (λ r. Gives g u (Ok stepped.Nothing) (answer g u r call) r call r) (sym is) (all g net set.chooses)) (still a) refl in
     let e = each_nothing (Meets g u) vs a (λ k d below. meets_nothing g x (get_or vs k d) a net is (quiet k d below)) in
     let d = given Decide decides in
     let t = given Advertise tells in

@@ -1,8 +1,8 @@
 -- the chores given so far were done, and none of them was to stop
-use Rattle.std.proofs.Common.{◌≡◌, ◌≢◌, length, All}
+use Rattle.std.proofs.Common.{◌≡◌, ◌≢◌, length, All, IsTrue}
 use Rattle.worker_loop.specs.declared.chore.Chore.TheVariants.{Stop}
 use Rattle.worker_loop.specs.Following.{Did, Follows}
-use Rattle.worker_loop.specs.Whole.{seen_of, IsLaterWorker}
+use Rattle.worker_loop.specs.Whole.{seen_of, MayPass, IsLaterWorker}
 use Rattle.worker_loop.proofs.worker.Worker.work.Given as goal
 
 abbrev pub invariant-loop-turn : goal.invariant-loop-turn
@@ -14,5 +14,6 @@ invariant-loop-turn g l = record {
   goes_on : All (λ c. c ≢ Stop) (g.G.Gate.given l.self.gate);
   chores : l.self.journal.chores.items ≡ g.G.Gate.given l.self.gate;
   same : IsLaterWorker g.L.Lines.wiring l.fn.self l.self;
+  passes : IsTrue l.passes → MayPass g.L.Lines.put_to g.L.Lines.taken_from g.L.Lines.room g.D.Desk.made l.self;
   told : g.G.Gate.told l.self.gate ≡ g.G.Gate.told l.fn.self.gate;
 }
