@@ -11,8 +11,8 @@ from support import TOP, program_path
 
 from program import SAID, Program
 
-DOCUMENTS = [TOP / "README.md", TOP / "examples/README.md", TOP / "examples/SOLUTIONS.md",
-             *sorted((TOP / "docs").glob("*.md"))]
+DOCUMENTS = [TOP / "README.md", *(path for folder in ("docs", "examples", "tools")
+                                  for path in sorted((TOP / folder).glob("*.md")))]
 # What is not run here: the kit and the gate, another program, a file of the reader's.
 NOT_RUN = re.compile(r"\brt |^\.ci/run|\btshark\b|\boctets\.bin\b|\bupdates\.|^git ")
 PROGRAM = re.compile(r"(?<![\w/])(crates/bgpnet/out/)?bgpnet(?= )")
@@ -107,7 +107,7 @@ class Documents(unittest.TestCase):
             done = subprocess.run([path, "--help"], capture_output=True, text=True)
             self.assertEqual((done.returncode, done.stderr), (0, ""))
             self.assertIn(f"    tools/{tool}", done.stdout)
-            self.assertIn(f"tools/{tool}", (TOP / "docs/TOOLS.md").read_text())
+            self.assertIn(f"tools/{tool}", (TOP / "tools/README.md").read_text())
 
 
 class Sheets(unittest.TestCase):
