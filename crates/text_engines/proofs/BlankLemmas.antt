@@ -1,18 +1,21 @@
--- A turn more of the loops that look for blanks and take them out.
-use Rattle.std.proofs.Common.{◌≡◌, ℕ, zero, suc, Bool, ◌+◌, ◌-◌, ◌<◌, ◌≤◌, true, false, List, [], ◌∷◌, ◌++◌, length, get_or, set, take, drop, not, refl, sym, ap, subst, ◌∙◌, arith, ne_eqb}
-use Rattle.std.specs.Prelude.{nat_le, nat_lt, ◌&&◌, filter}
-use Rattle.std.proofs.lemmas.Bool.{leb-true, ltb-true}
-use Rattle.std.specs.List.{All, list_all, copy_within}
+-- Runs of octets that are no blanks, and a turn more of the loops that take blanks out.
+use Rattle.std.proofs.Common.{◌≡◌, ℕ, zero, suc, Bool, ◌+◌, ◌-◌, ◌<◌, ◌≤◌, true, false, List, [], ◌∷◌, ◌++◌, length, get_or, set, take, drop, map, not, refl, sym, ap, subst, ◌∙◌, arith, ne_eqb}
+use Rattle.std.specs.Prelude.{nat_le, filter}
+use Rattle.std.proofs.lemmas.Bool.{leb-false}
+use Rattle.std.specs.List.{All, copy_within, prefix_len}
 use Rattle.std.proofs.Math.Seq.{take-add, paste}
-use Rattle.std.proofs.lemmas.List.{length-drop, get_or_default}
+use Rattle.std.proofs.lemmas.List.{length-drop, length-take, take-take, get_or-take, get_or_default}
 use Rattle.std.proofs.lemmas.List.Edits.{take-paste, drop-paste, length-paste}
 use Rattle.std.proofs.lemmas.List.Elements.{All-head, All-tail, filter-append}
-use Rattle.std.proofs.lemmas.List.Sums.{AllPass-from_list_all}
+use Rattle.std.proofs.lemmas.List.Sums.{prefix_len_passes, prefix_len-le-length}
+use Rattle.std.proofs.lemmas.Simd.{leading_from_mask_l, trailing_mask_l}
+use lib.Count.{count_trailing_zeros}
+use lib.Lanes.{mask_l}
 use Rattle.std.proofs.lemmas.List.Filters.{FiltersInPlace, FiltersInPlace-more_no, FiltersInPlace-more_set}
 use Rattle.text_engines.specs.Decoding.{is_blank}
 
 -- what is above a space is no blank
-pub no_blank : (o : ℕ) → 32 < o → is_blank o ≡ false
+no_blank : (o : ℕ) → 32 < o → is_blank o ≡ false
 no_blank o lt =
     let a = ne_eqb o 32 (λ e. omega arith) in
     let b = ne_eqb o 9 (λ e. omega arith) in
@@ -20,17 +23,36 @@ no_blank o lt =
     let d = ne_eqb o 10 (λ e. omega arith) in
     rw (a, b, c, d) refl
 
-both : (a b : Bool) → (a && b) ≡ true → (a ≡ true) × (b ≡ true)
-both true b e = (refl, e)
-both false b e = absurd cc
+-- an octet that is at most a space
+abbrev is_low : ℕ → Bool
+is_low octet = nat_le octet 32
 
--- octets above a space are no blanks
-clean : (xs : List ℕ) → list_all (nat_lt 32) xs ≡ true → All (λ o. is_blank o ≡ false) xs
-clean xs e = λ k d h. no_blank (get_or xs k d) (ltb-true 32 (get_or xs k d) (AllPass-from_list_all (nat_lt 32) xs e k d h))
+high : (o : ℕ) → not (is_low o) ≡ true → is_blank o ≡ false
+high o e = no_blank o (leb-false o 32 (not_true (is_low o) e)) where
+  not_true : (b : Bool) → not b ≡ true → b ≡ false
+  not_true false e = refl
+  not_true true e = absurd cc
 
--- a clean piece in front
-pub piece_of : (xs : List ℕ) → (nat_le 64 (length xs) && list_all (nat_lt 32) (take 64 xs)) ≡ true → (64 ≤ length xs) × All (λ o. is_blank o ≡ false) (take 64 xs)
-piece_of xs e = let p = both (nat_le 64 (length xs)) (list_all (nat_lt 32) (take 64 xs)) e in (leb-true 64 (length xs) p.0, clean (take 64 xs) p.1)
+-- no blank stands before the first low octet
+before_low : (xs : List ℕ) (n : ℕ) → n ≡ prefix_len (λ octet. not (is_low octet)) xs → All (λ o. is_blank o ≡ false) (take n xs)
+before_low xs n is = λ k d lt.
+    let short : k < n = omega (arith, lt, length-take n xs) in
+    subst (λ (o : ℕ). is_blank o ≡ false) (sym (get_or-take n xs k d short)) (high (get_or xs k d) (prefix_len_passes (λ octet. not (is_low octet)) xs k d (omega (arith, short, is))))
+
+-- no octet of a piece is low
+pub whole_run : (piece : List ℕ) (low : ℕ) → length piece ≡ 64 → low ≡ mask_l (map is_low piece) → low ≡ 0 → All (λ o. is_blank o ≡ false) (take 64 piece)
+whole_run piece low size is none = before_low piece 64 (sym size ∙ sym (leading_from_mask_l is_low piece (sym is ∙ none)))
+
+-- one is
+pub short_run : (piece : List ℕ) (low : ℕ) → length piece ≡ 64 → low ≡ mask_l (map is_low piece) → 0 < low
+    → (count_trailing_zeros 64 low ≤ 64) × All (λ o. is_blank o ≡ false) (take (count_trailing_zeros 64 low) piece)
+short_run piece low size is some =
+    let counted : count_trailing_zeros 64 low ≡ prefix_len (λ octet. not (is_low octet)) piece = ap (count_trailing_zeros 64) is ∙ trailing_mask_l is_low 64 piece (omega (arith, size)) (omega (arith, is, some)) in
+    (omega (arith, counted, size, prefix_len-le-length (λ octet. not (is_low octet)) piece), before_low piece (count_trailing_zeros 64 low) counted)
+
+-- a run in front of a piece is one in front of what begins with the piece
+pub run_of_front : (octets piece : List ℕ) (n : ℕ) → piece ≡ take 64 octets → n ≤ 64 → All (λ o. is_blank o ≡ false) (take n piece) → All (λ o. is_blank o ≡ false) (take n octets)
+run_of_front octets piece n is few all = subst (λ (l : List ℕ). All (λ o. is_blank o ≡ false) l) (ap (take n) is ∙ take-take n 64 octets few) all
 
 -- octets without a blank are all kept
 all_kept : (xs : List ℕ) → All (λ o. is_blank o ≡ false) xs → filter (λ o. not (is_blank o)) xs ≡ xs
@@ -88,21 +110,21 @@ module _ {xs ys : List ℕ} {k i : ℕ} where
     long = h.long;
   }
 
--- what a test for a clean piece says of what is left
+-- what is left begins with a run of octets that are no blanks
 module _ {xs ys : List ℕ} {k i : ℕ} where
-  pub moved_on : (new left : List ℕ) → FiltersInPlace (λ o. not (is_blank o)) xs ys k i → left ≡ drop i ys → i ≤ length ys → (64 ≤ length left) × All (λ o. is_blank o ≡ false) (take 64 left)
-      → new ≡ copy_within ys i (i + 64) k → FiltersInPlace (λ o. not (is_blank o)) xs new (k + 64) (i + 64)
-  moved_on new left h is within piece made =
-      let all : All (λ o. is_blank o ≡ false) (take 64 (drop i ys)) = subst (λ (l : List ℕ). All (λ o. is_blank o ≡ false) (take 64 l)) is piece.1 in
-      subst (λ (l : List ℕ). FiltersInPlace (λ o. not (is_blank o)) xs l (k + 64) (i + 64)) (sym made)
-      (piece_moved 64 h (omega (arith, piece.0, ap length is, length-drop i ys)) all)
+  pub moved_on : (new left : List ℕ) (n : ℕ) → FiltersInPlace (λ o. not (is_blank o)) xs ys k i → left ≡ drop i ys → i ≤ length ys → n ≤ length left → All (λ o. is_blank o ≡ false) (take n left)
+      → new ≡ copy_within ys i (i + n) k → FiltersInPlace (λ o. not (is_blank o)) xs new (k + n) (i + n)
+  moved_on new left n h is within room run made =
+      let all : All (λ o. is_blank o ≡ false) (take n (drop i ys)) = subst (λ (l : List ℕ). All (λ o. is_blank o ≡ false) (take n l)) is run in
+      subst (λ (l : List ℕ). FiltersInPlace (λ o. not (is_blank o)) xs l (k + n) (i + n)) (sym made)
+      (piece_moved n h (omega (arith, room, ap length is, length-drop i ys)) all)
 
-  pub stayed : (new left : List ℕ) → FiltersInPlace (λ o. not (is_blank o)) xs ys k i → left ≡ drop i ys → i ≤ length ys → (64 ≤ length left) × All (λ o. is_blank o ≡ false) (take 64 left)
-      → new ≡ ys → i ≤ k → FiltersInPlace (λ o. not (is_blank o)) xs new (k + 64) (i + 64)
-  stayed new left h is within piece made low =
-      let all : All (λ o. is_blank o ≡ false) (take 64 (drop i ys)) = subst (λ (l : List ℕ). All (λ o. is_blank o ≡ false) (take 64 l)) is piece.1 in
-      subst (λ (l : List ℕ). FiltersInPlace (λ o. not (is_blank o)) xs l (k + 64) (i + 64)) (sym made)
-      (piece_here 64 h (omega (arith, piece.0, ap length is, length-drop i ys)) all (omega (arith, low, h.behind)))
+  pub stayed : (new left : List ℕ) (n : ℕ) → FiltersInPlace (λ o. not (is_blank o)) xs ys k i → left ≡ drop i ys → i ≤ length ys → n ≤ length left → All (λ o. is_blank o ≡ false) (take n left)
+      → new ≡ ys → i ≤ k → FiltersInPlace (λ o. not (is_blank o)) xs new (k + n) (i + n)
+  stayed new left n h is within room run made low =
+      let all : All (λ o. is_blank o ≡ false) (take n (drop i ys)) = subst (λ (l : List ℕ). All (λ o. is_blank o ≡ false) (take n l)) is run in
+      subst (λ (l : List ℕ). FiltersInPlace (λ o. not (is_blank o)) xs l (k + n) (i + n)) (sym made)
+      (piece_here n h (omega (arith, room, ap length is, length-drop i ys)) all (omega (arith, low, h.behind)))
 
   -- one octet more
   pub octet_kept : (new : List ℕ) (n : ℕ) → FiltersInPlace (λ o. not (is_blank o)) xs ys k i → i < length ys → not (is_blank (get_or ys i 0)) ≡ true → new ≡ set ys k (get_or ys i 0) → n ≡ k + 1

@@ -1,18 +1,18 @@
 -- Digits as values, and values in pairs as octets.
-use Rattle.std.proofs.Common.{◌≡◌, ℕ, suc, ◌+◌, ◌*◌, ◌%◌, ◌<◌, ◌≤◌, Bool, true, false, List, [], ◌∷◌, ◌++◌, length, take, drop, map, Option, Some, None, unwrap_or, Result, Ok, Err, refl, sym, ap, subst, ◌∙◌, ◌⊎◌, inl, inr, arith, ne_eqb, eq-eqb, true≢false, ◌==◌}
-use Rattle.std.specs.Prelude.{slice_index, slice_set, max, nat_lt, nat_le, ◌-◌, ◌&&◌, is_some, is_err, OnOk, if◌then◌else◌}
+use Rattle.std.proofs.Common.{◌≡◌, ℕ, suc, ◌+◌, ◌*◌, ◌/◌, ◌%◌, ◌<◌, ◌≤◌, Bool, true, false, List, [], ◌∷◌, ◌++◌, length, take, drop, map, Option, Some, None, unwrap_or, Result, Ok, Err, refl, sym, ap, subst, ◌∙◌, ◌⊎◌, inl, inr, arith, ne_eqb, eq-eqb, true≢false, ◌==◌}
+use Rattle.std.specs.Prelude.{slice_index, nat_lt, nat_le, ◌-◌, ◌&&◌, is_some, is_ok, is_err, OnOk, MatchResult, if◌then◌else◌}
 use Rattle.std.specs.List.{list_all}
-use Rattle.std.proofs.lemmas.Bool.{lt-ltb, le-ltb, ltb-true, leb-true, cases_lt}
-use Rattle.std.proofs.lemmas.List.{take_more_set, take_more, take_all, drop_all, append-nil, append_assoc, take-append-drop, map-append, length-map, get_or-set_other, get_or-set_same, length-set, length-append, length-drop}
+use Rattle.std.proofs.lemmas.Bool.{lt-ltb, ltb-true, leb-true, cases_lt}
+use Rattle.std.proofs.lemmas.List.{take_all, append-nil, append_assoc, take-append-drop, map-append, length-map, length-append, length-drop}
 use Rattle.std.proofs.lemmas.Slice.{take-put_mid, put_mid-paste}
 use borrow.Rule.Slice.PartMut.{put_mid}
 use Rattle.std.proofs.lemmas.List.Edits.{length-paste}
 use Rattle.text_engines.proofs.BlankLemmas.{behind_behind}
 use Rattle.std.proofs.lemmas.List.Folds.{list_all-append, list_all-map}
-use Rattle.hex.specs.Hex.{decode_of, decode_pairs, hex_digit_value, is_hex_digit, pair_value}
+use Rattle.hex.specs.Hex.{decode_of, decode_pairs, decode_sized, hex_digit_value, is_hex_digit, pair_value}
 use Rattle.hex.specs.declared.error.FromHexError.{FromHexError}
 use Rattle.text_engines.specs.Digits.{Adds, HoldsPairs}
-use Rattle.hex.proofs.Pairs.{drop-pair, cons_byte, decode_pairs-ok_pair}
+use Rattle.hex.proofs.Pairs.{cons_byte, decode_pairs-ok_pair, decode_sized-pairs}
 
 -- the value of a digit, or 255
 abbrev pub value_of : ℕ → ℕ
@@ -31,27 +31,6 @@ unfoldable pub join : List ℕ → List ℕ
 join [] = []
 join (h ∷ []) = []
 join (h ∷ l ∷ rest) = (h % 16 * 16 + l % 16) ∷ join rest
-
--- ---- the loops over one block
-
-pub one_value : (values digits : List ℕ) (i x : ℕ) → i < length values → i < length digits → x ≡ value_of (slice_index digits i) → take i values ≡ map value_of (take i digits)
-    → take (i + 1) (slice_set values i x) ≡ map value_of (take (i + 1) digits)
-one_value values digits i x h d e inv =
-    let a = take_more_set values i x h in
-    let b = take_more digits i 0 d in
-    a ∙ ap (λ (l : List ℕ). l ++ x ∷ []) inv ∙ ap (λ (y : ℕ). map value_of (take i digits) ++ y ∷ []) e ∙ sym (ap (map value_of) b ∙ map-append value_of (take i digits) (slice_index digits i ∷ []))
-
-pub all_values : (values digits : List ℕ) (i : ℕ) → length values ≤ i → length digits ≤ i → take i values ≡ map value_of (take i digits) → values ≡ map value_of digits
-all_values values digits i h d inv = sym (take_all i values h) ∙ inv ∙ ap (map value_of) (take_all i digits d)
-
-pub one_pair : (values octets : List ℕ) (i x : ℕ) → i < length octets → x ≡ pair_at values i → ((k : ℕ) → k < i → slice_index octets k ≡ pair_at values k)
-    → (k : ℕ) → k < i + 1 → slice_index (slice_set octets i x) k ≡ pair_at values k
-one_pair values octets i x h e inv k lt = same_or_before (cases_lt k i) where
-  same_or_before : (k < i) ⊎ (i ≤ k) → slice_index (slice_set octets i x) k ≡ pair_at values k
-  same_or_before (inl before) = get_or-set_other octets i k x 0 (λ same. omega arith) ∙ inv k before
-  same_or_before (inr after) =
-      let same : k ≡ i = omega arith in
-      ap (slice_index (slice_set octets i x)) same ∙ get_or-set_same octets i x 0 h ∙ e ∙ ap (pair_at values) (sym same)
 
 -- ---- octets of more digits
 
@@ -82,27 +61,13 @@ join_is (h ∷ l ∷ rest) (o ∷ octets) len at =
     let first : o ≡ h % 16 * 16 + l % 16 = at 0 (omega arith) in
     ap (λ (y : ℕ). y ∷ join rest) (sym first) ∙ ap (λ (t : List ℕ). o ∷ t) (join_is rest octets (omega arith) later)
 
+and_no : (a : Bool) → (a && false) ≡ false
+and_no true = refl
+and_no false = refl
+
 and_assoc : (x y z : Bool) → (x && (y && z)) ≡ ((x && y) && z)
 and_assoc true y z = refl
 and_assoc false y z = refl
-
-max_is_value : (a b : ℕ) → nat_lt (max a b) 16 ≡ (nat_lt a 16 && nat_lt b 16)
-max_is_value a b = by_cases (cases_lt a 16) (cases_lt b 16) where
-  by_cases : (a < 16) ⊎ (16 ≤ a) → (b < 16) ⊎ (16 ≤ b) → nat_lt (max a b) 16 ≡ (nat_lt a 16 && nat_lt b 16)
-  by_cases (inl x) (inl y) =
-      let m = lt-ltb (max a b) 16 (omega arith) in
-      let p = lt-ltb a 16 x in
-      let q = lt-ltb b 16 y in
-      rw (m, p, q) refl
-  by_cases (inl x) (inr y) =
-      let m = le-ltb (max a b) 16 (omega arith) in
-      let p = lt-ltb a 16 x in
-      let q = le-ltb b 16 y in
-      rw (m, p, q) refl
-  by_cases (inr x) y =
-      let m = le-ltb (max a b) 16 (omega arith) in
-      let p = le-ltb a 16 x in
-      rw (m, p) refl
 
 -- ---- octets written in place
 
@@ -110,54 +75,22 @@ max_is_value a b = by_cases (cases_lt a 16) (cases_lt b 16) where
 abbrev pub octets_of : List ℕ → List ℕ
 octets_of s = join (map value_of s)
 
--- so many octets of a text stand in front, and the greatest value says whether its digits were digits
-abbrev pub Written : List ℕ → List ℕ → ℕ → ℕ → Type 0
-Written s out greatest i =
-    (octets_of s ≡ take i out ++ octets_of (drop (2 * i) s)) × ((nat_lt greatest 16 && are_digits (drop (2 * i) s)) ≡ are_digits s) × (i ≤ length out) × (length s ≡ 2 * length out)
+-- so many octets of a text stand in front, and are_hex says whether the digits that were seen were digits
+abbrev pub Written : List ℕ → List ℕ → Bool → ℕ → Type 0
+Written s out are_hex i =
+    (octets_of s ≡ take i out ++ octets_of (drop (2 * i) s)) × ((are_hex && are_digits (drop (2 * i) s)) ≡ are_digits s) × (i ≤ length out) × (length s ≡ 2 * length out)
 
-pub written_none : (s out : List ℕ) → length s ≡ 2 * length out → Written s out 0 0
+pub written_none : (s out : List ℕ) → length s ≡ 2 * length out → Written s out true 0
 written_none s out len = (refl, refl, omega arith, len)
-
-pub written_all : (s out : List ℕ) (greatest i : ℕ) → length out ≤ i → Written s out greatest i → (octets_of s ≡ out) × (nat_lt greatest 16 ≡ are_digits s)
-unfolding join
-written_all s out greatest i past w =
-    let none : drop (2 * i) s ≡ [] = drop_all (2 * i) s (omega (arith, w.3)) in (
-      w.0 ∙ ap (λ (l : List ℕ). take i out ++ octets_of l) none ∙ append-nil (take i out) ∙ take_all i out past,
-      and_true (nat_lt greatest 16) ∙ sym (ap (λ (l : List ℕ). nat_lt greatest 16 && are_digits l) none) ∙ w.1,
-    ) where
-      and_true : (b : Bool) → b ≡ (b && true)
-      and_true true = refl
-      and_true false = refl
-
-pub written_pair : (s out : List ℕ) (i high low old new : ℕ) → i < length out
-    → high ≡ value_of (slice_index s (2 * i)) → low ≡ value_of (slice_index s (2 * i + 1)) → new ≡ max (max old high) low
-    → Written s out old i → Written s (slice_set out i (high % 16 * 16 + low % 16)) new (i + 1)
-unfolding join
-written_pair s out i high low old new room eh el en w =
-    let v : ℕ = high % 16 * 16 + low % 16 in
-    let rest : List ℕ = drop (2 * (i + 1)) s in
-    let pair = drop-pair s i (omega (arith, w.3)) in
-    let octet : octets_of (drop (2 * i) s) ≡ v ∷ octets_of rest = ap octets_of pair ∙ rw (eh, el) refl in
-    let len : length (slice_set out i v) ≡ length out = length-set out i v in
-    let good : are_digits (drop (2 * i) s) ≡ (nat_lt high 16 && (nat_lt low 16 && are_digits rest)) = ap are_digits pair ∙ rw (eh, el) refl in
-    let both : nat_lt new 16 ≡ ((nat_lt old 16 && nat_lt high 16) && nat_lt low 16)
-    = ap (λ (n : ℕ). nat_lt n 16) en ∙ max_is_value (max old high) low ∙ ap (λ (b : Bool). b && nat_lt low 16) (max_is_value old high)
-    in (
-      w.0 ∙ ap (λ (l : List ℕ). take i out ++ l) octet ∙ sym (append_assoc (take i out) (v ∷ []) (octets_of rest)) ∙ ap (λ (l : List ℕ). l ++ octets_of rest) (sym (take_more_set out i v room)),
-      ap (λ (b : Bool). b && are_digits rest) both ∙ sym (and_assoc (nat_lt old 16 && nat_lt high 16) (nat_lt low 16) (are_digits rest)) ∙ sym (and_assoc (nat_lt old 16) (nat_lt high 16) (nat_lt low 16 && are_digits rest))
-          ∙ ap (λ (b : Bool). nat_lt old 16 && b) (sym good) ∙ w.1,
-      omega (arith, len),
-      w.3 ∙ ap (λ (n : ℕ). 2 * n) (sym len),
-    )
 
 behind_block : (i : ℕ) (s : List ℕ) → drop 32 (drop (2 * i) s) ≡ drop (2 * (i + 16)) s
 behind_block i s = let e : 2 * i + 32 ≡ 2 * (i + 16) = omega arith in behind_behind (2 * i) 32 s ∙ ap (λ (n : ℕ). drop n s) e
 
-pub written_block : (s out block values octets : List ℕ) (i k greatest old new : ℕ) → 2 * i + 32 ≤ length s → length octets ≡ 16
-    → block ≡ take 32 (drop (2 * i) s) → values ≡ map value_of block → nat_lt greatest 16 ≡ list_all (λ value. nat_lt value 16) values
-    → ((k : ℕ) → k < 16 → slice_index octets k ≡ pair_at values k) → new ≡ max old greatest → k ≡ 16
-    → Written s out old i → Written s (put_mid i k out octets) new (i + 16)
-written_block s out block values octets i k greatest old new fits size eb ev eg at en ek w =
+pub written_block : (s out block values octets : List ℕ) (i k : ℕ) (are_small are_hex : Bool) → 2 * i + 32 ≤ length s → length octets ≡ 16
+    → block ≡ take 32 (drop (2 * i) s) → values ≡ map value_of block → are_small ≡ list_all (λ value. nat_lt value 16) values
+    → ((k : ℕ) → k < 16 → slice_index octets k ≡ pair_at values k) → k ≡ 16
+    → Written s out are_hex i → Written s (put_mid i k out octets) (are_hex && are_small) (i + 16)
+written_block s out block values octets i k are_small are_hex fits size eb ev es at ek w =
     let next : List ℕ = drop (2 * (i + 16)) s in
     let two : block ++ next ≡ drop (2 * i) s = rw (eb, ← behind_block i s) (take-append-drop 32 (drop (2 * i) s)) in
     let size_of_block : length block ≡ 32 = omega (arith, ap length two, length-append block next, length-drop (2 * i) s, length-drop (2 * (i + 16)) s) in
@@ -167,15 +100,14 @@ written_block s out block values octets i k greatest old new fits size eb ev eg 
     let more : octets_of (drop (2 * i) s) ≡ octets ++ octets_of next
     = ap octets_of (sym two) ∙ ap join (map-append value_of block next) ∙ join_append (map value_of block) (map value_of next) even ∙ ap (λ (l : List ℕ). l ++ octets_of next) joined
     in
-    let good : are_digits (drop (2 * i) s) ≡ (nat_lt greatest 16 && are_digits next)
+    let good : are_digits (drop (2 * i) s) ≡ (are_small && are_digits next)
     = ap are_digits (sym two) ∙ list_all-append (λ digit. nat_lt (value_of digit) 16) block next
-    ∙ ap (λ (b : Bool). b && are_digits next) (sym (eg ∙ ap (list_all (λ value. nat_lt value 16)) ev ∙ list_all-map (λ value. nat_lt value 16) value_of block))
+    ∙ ap (λ (b : Bool). b && are_digits next) (sym (es ∙ ap (list_all (λ value. nat_lt value 16)) ev ∙ list_all-map (λ value. nat_lt value 16) value_of block))
     in
     let front : take (i + 16) (put_mid i k out octets) ≡ take i out ++ octets = take-put_mid i k out octets (i + 16) (omega (arith, size)) w.2 in
-    let len : length (put_mid i k out octets) ≡ length out = ap length (put_mid-paste i k out octets octets 16 refl (sym ek) (sym size)) ∙ length-paste out i octets 16 (omega (arith, fits, w.3)) (omega (arith, size)) in
-    let both : nat_lt new 16 ≡ (nat_lt old 16 && nat_lt greatest 16) = ap (λ (n : ℕ). nat_lt n 16) en ∙ max_is_value old greatest in (
+    let len : length (put_mid i k out octets) ≡ length out = ap length (put_mid-paste i k out octets octets 16 refl (sym ek) (sym size)) ∙ length-paste out i octets 16 (omega (arith, fits, w.3)) (omega (arith, size)) in (
       w.0 ∙ ap (λ (l : List ℕ). take i out ++ l) more ∙ sym (append_assoc (take i out) octets (octets_of next)) ∙ ap (λ (l : List ℕ). l ++ octets_of next) (sym front),
-      ap (λ (b : Bool). b && are_digits next) both ∙ sym (and_assoc (nat_lt old 16) (nat_lt greatest 16) (are_digits next)) ∙ ap (λ (b : Bool). nat_lt old 16 && b) (sym good) ∙ w.1,
+      sym (and_assoc are_hex are_small (are_digits next)) ∙ ap (λ (b : Bool). are_hex && b) (sym good) ∙ w.1,
       omega (arith, len, w.3),
       w.3 ∙ ap (λ (n : ℕ). 2 * n) (sym len),
     )
@@ -263,6 +195,39 @@ read_are_digits s x even e = by_cases (are_digits s) refl where
   by_cases true good = (good, same_octets (octets_of s) (digits_are_read s 0 even good) (sym e))
   by_cases false bad = absurd (true≢false (sym (bad_pairs s 0 even (sym (same_digits s) ∙ bad)) ∙ ap is_err e))
 
+-- what does not read is no digits
+no_digits : (s : List ℕ) (e : FromHexError) → length s % 2 ≡ 0 → decode_pairs 0 s ≡ Err e → are_digits s ≡ false
+no_digits s e even is = by_cases (are_digits s) refl where
+  by_cases : (b : Bool) → are_digits s ≡ b → are_digits s ≡ false
+  by_cases false bad = bad
+  by_cases true good = absurd (let both = sym (digits_are_read s 0 even good) ∙ is in cc)
+
+-- what the crate hex answers for the last octets, and writes behind those that stand in front
+abbrev pub ReadsLast : Result (List ℕ) FromHexError → Result Unit FromHexError → List ℕ → Type 0
+ReadsLast d r room = MatchResult d (λ bytes. (r ≡ Ok tt) × (room ≡ bytes)) (λ e. r ≡ Err e)
+
+pub written_last : (s out last room : List ℕ) (i n : ℕ) (are_hex : Bool) (r : Result Unit FromHexError) → last ≡ drop (2 * i) s → n ≡ length out - i → ReadsLast (decode_sized last n) r room → Written s out are_hex i
+    → ((are_hex && is_ok r) ≡ list_all is_hex_digit s) × ((are_hex && is_ok r) ≡ true → decode_pairs 0 s ≡ Ok (take i out ++ room))
+written_last s out last room i n are_hex r is size says w =
+    let len : length last ≡ length s - 2 * i = ap length is ∙ length-drop (2 * i) s in
+    let even : length last % 2 ≡ 0 = omega (arith, len, w.2, w.3) in
+    let half : length last / 2 ≡ n = omega (arith, len, size, w.2, w.3) in
+    by_cases even (decode_pairs 0 last) refl (subst (λ (d : Result (List ℕ) FromHexError). ReadsLast d r room) (decode_sized-pairs last n even half) says) where
+      judged : (is_ok r ≡ are_digits last) → (are_hex && is_ok r) ≡ are_digits s
+      judged e = ap (λ (b : Bool). are_hex && b) e ∙ ap (λ (l : List ℕ). are_hex && are_digits l) is ∙ w.1
+
+      by_cases : length last % 2 ≡ 0 → (d : Result (List ℕ) FromHexError) → decode_pairs 0 last ≡ d → ReadsLast d r room
+          → ((are_hex && is_ok r) ≡ list_all is_hex_digit s) × ((are_hex && is_ok r) ≡ true → decode_pairs 0 s ≡ Ok (take i out ++ room))
+      by_cases even (Ok bytes) e h =
+          let read = read_are_digits last bytes even e in
+          let all : (are_hex && is_ok r) ≡ are_digits s = judged (ap is_ok h.0 ∙ sym read.0) in
+          let octets : octets_of s ≡ take i out ++ room = w.0 ∙ ap (λ (l : List ℕ). take i out ++ l) (ap octets_of (sym is) ∙ sym read.1 ∙ sym h.1) in
+          (all ∙ same_digits s, λ yes. digits_are_read s 0 (omega (arith, w.3)) (sym all ∙ yes) ∙ ap Ok octets)
+      by_cases even (Err bad) e h =
+          let no : is_ok r ≡ false = ap is_ok h in
+          let all : (are_hex && is_ok r) ≡ are_digits s = judged (no ∙ sym (no_digits last bad even e)) in
+          (all ∙ same_digits s, λ yes. absurd (true≢false (sym yes ∙ ap (λ (b : Bool). are_hex && b) no ∙ and_no are_hex)))
+
 pub more_pairs : (a b x y : List ℕ) → length a % 2 ≡ 0 → length b % 2 ≡ 0 → decode_pairs 0 a ≡ Ok x → decode_pairs 0 b ≡ Ok y → decode_pairs 0 (a ++ b) ≡ Ok (x ++ y)
 more_pairs a b x y ea eb da db =
     let p = read_are_digits a x ea da in
@@ -312,10 +277,6 @@ begun octets none = (λ _. (refl, ap Ok (sym none)), λ bad. absurd (true≢fals
 -- an octet that is no digit stays
 spoilt : (digits new : List ℕ) (half : Option ℕ) (are_hex : Bool) → are_hex ≡ false → list_all is_hex_digit digits ≡ false → Has are_hex new half digits
 spoilt digits new half are_hex is bad = (λ good. absurd (true≢false (sym good ∙ is)), λ _. bad)
-
-and_no : (a : Bool) → (a && false) ≡ false
-and_no true = refl
-and_no false = refl
 
 pub completed : (before old new : List ℕ) (hex added : Bool) (high low : ℕ) → Adds (high ∷ low ∷ []) old new added → Has hex old (Some high) before → Has (added && hex) new None (before ++ low ∷ [])
 completed before old new false added high low adds has = spoilt (before ++ low ∷ []) new None (added && false) (and_no added) (false_before before (low ∷ []) (has.1 refl))

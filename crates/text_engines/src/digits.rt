@@ -1,8 +1,9 @@
 //! Hex digits as octets, many at a time and piece by piece.
 //!
-//! The definition is that of the crate `hex`; a block of 32 digits is read by lanes.
+//! The definition is that of the crate `hex`, which reads what is left behind blocks of 32 digits; a block is read by
+//! lanes.
 
-ghost use Rattle.std.specs.Prelude.{◌≡◌, ℕ, List, ◌+◌, ◌++◌, ◌*◌, ◌%◌, ◌<◌, nat_lt, length, map, slice_index, unwrap_or, IfOk, OnOk, IsErr, ◌∷◌, [], MatchOption, Ok, Some, None};
+ghost use Rattle.std.specs.Prelude.{◌≡◌, ℕ, List, ◌+◌, ◌++◌, ◌*◌, ◌%◌, ◌<◌, nat_lt, length, map, slice_index, unwrap_or, IfOk, OnOk, IsErr, ◌∷◌, [], MatchOption, Ok, Some, None, true};
 ghost use Rattle.std.specs.List.{list_all};
 ghost use Rattle.hex.specs.Hex.{decode_of, decode_pairs, hex_digit_value, is_hex_digit};
 ghost use Rattle.text_engines.specs.Digits.{Adds, HasRead, without_blanks};
@@ -22,18 +23,6 @@ pub struct Digits {
     pub are_hex: bool,
 }
 
-// The value of a digit of either case, or 255.
-fn value(digit: u8) -> u8
-    ensures { result ≡ unwrap_or (hex_digit_value digit) 255 }
-{
-    match digit {
-        b'A'..=b'F' => digit - b'A' + 10,
-        b'a'..=b'f' => digit - b'a' + 10,
-        b'0'..=b'9' => digit - b'0',
-        _ => 255,
-    }
-}
-
 // The values of the digits of a block, or 255 for what is no digit.
 #[inline(always)]
 fn values_of(digits: &[u8; 32]) -> [u8; 32]
@@ -42,16 +31,12 @@ fn values_of(digits: &[u8; 32]) -> [u8; 32]
     lanes_of(u8x32::from_array(*digits)).to_array()
 }
 
-// A value that is below 16 exactly where all those of a block are.
+// Whether the values of a block are all below 16, as those of digits are.
 #[inline(always)]
-fn greatest_of(values: &[u8; 32]) -> u8
-    ensures { nat_lt result 16 ≡ list_all (λ value. nat_lt value 16) values.now }
+fn are_small(values: &[u8; 32]) -> bool
+    ensures { result ≡ list_all (λ value. nat_lt value 16) values.now }
 {
-    if are_values(u8x32::from_array(*values)) {
-        15
-    } else {
-        255
-    }
+    are_values(u8x32::from_array(*values))
 }
 
 // The octets of a block, each of two values.
@@ -92,28 +77,23 @@ fn pair_lanes(values: u8x32) -> u8x16
     high * u8x16::splat(16) + low
 }
 
-// Writes the octets of pairs of digits, and answers the greatest value that a digit had.
-fn write_octets(digits: &[u8], octets: &mut [u8]) -> u8
+// Writes the octets of pairs of digits, and answers whether all were digits.
+fn write_octets(digits: &[u8], octets: &mut [u8]) -> bool
     requires { length digits.now ≡ 2 * length octets.old }
-    ensures are_digits { nat_lt result 16 ≡ list_all is_hex_digit digits.now }
-    ensures octets { result < 16 → decode_pairs 0 digits.now ≡ Ok octets.new }
+    ensures are_digits { result ≡ list_all is_hex_digit digits.now }
+    ensures octets { result ≡ true → decode_pairs 0 digits.now ≡ Ok octets.new }
 {
-    let mut greatest = 0u8;
+    let mut are_hex = true;
     let mut i = 0usize;
     'pieces: while let Some(block) = digits.split_at(2 * i).1.first_chunk::<32>() {
         let values = values_of(block);
-        greatest = greatest.max(greatest_of(&values));
+        are_hex = are_hex & are_small(&values);
         octets[i..i + 16].copy_from_slice(&pairs_of(&values));
         i += 16;
     }
-    'octets: while i < octets.len() {
-        let high = value(digits[2 * i]);
-        let low = value(digits[2 * i + 1]);
-        octets[i] = high % 16 * 16 + low % 16;
-        greatest = greatest.max(high).max(low);
-        i += 1;
-    }
-    greatest
+    let (_, last) = digits.split_at(2 * i);
+    let (_, room) = octets.split_at_mut(i);
+    are_hex & hex::decode_to_slice(last, room).is_ok()
 }
 
 // Appends the octets of pairs of digits, and answers whether all were digits.
@@ -124,7 +104,7 @@ fn append_octets(octets: &mut Vec<u8>, digits: &[u8]) -> Result<bool, AllocError
     let start = octets.len();
     octets.resize(start + digits.len() / 2, 0)?;
     let (_, fresh) = octets.as_mut_slice().split_at_mut(start);
-    Ok(write_octets(digits, fresh) < 16)
+    Ok(write_octets(digits, fresh))
 }
 
 impl Digits {

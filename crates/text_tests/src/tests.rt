@@ -7,6 +7,7 @@
 use net_text::{Code, Refused, read_network};
 use std::alloc::{AllocError, Global};
 
+mod hex_inputs;
 mod limits;
 mod lines;
 mod networks;

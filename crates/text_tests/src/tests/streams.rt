@@ -17,22 +17,26 @@ const ROUTE: &[u8] = b"update announce 10.1.0.0/16 path 1 next 10.0.0.1\n";
 const MESSAGE: &[u8] =
     b"ffffffffffffffffffffffffffffffff002c020000001240010100400204020100014003040a000001100a01";
 
+// AS numbers of two octets, and nothing known of a peer.
+pub fn rule() -> Rule {
+    Rule {
+        width: Width::Two,
+        peer: None,
+        own: None,
+    }
+}
+
 // Whether `decode` writes this text for this input, with this status.
 fn is_decoded(alloc: Global, input: &[u8], text: &[u8], status: u8) -> bool {
     let mut reader = Watched::new(input);
     let mut writer = Watched::new(Vec::new(alloc));
-    let rule = Rule {
-        width: Width::Two,
-        peer: None,
-        own: None,
-    };
-    let got = decode_stream(alloc, &rule, &mut reader, &mut writer).ok();
+    let got = decode_stream(alloc, &rule(), &mut reader, &mut writer).ok();
     let out: Vec<u8> = writer.into_inner();
     out.as_slice() == text && got == Some(status)
 }
 
 // So many copies of a text, one behind the other.
-fn copies(alloc: Global, text: &[u8], count: usize) -> Result<Vec<u8>, AllocError> {
+pub fn copies(alloc: Global, text: &[u8], count: usize) -> Result<Vec<u8>, AllocError> {
     let mut all = Vec::new(alloc);
     for _ in 0..count {
         all.extend_from_slice(text)?;

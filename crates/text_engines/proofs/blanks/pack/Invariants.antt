@@ -10,8 +10,14 @@ invariant-octets l = FiltersInPlace (λ octet. not (is_blank octet)) l.fn.text l
 abbrev pub decreases-octets : goal.decreases-octets
 decreases-octets l = l.end - l.at
 
-abbrev pub invariant-pieces : goal.invariant-pieces
-invariant-pieces l = FiltersInPlace (λ octet. not (is_blank octet)) l.fn.text l.text l.kept l.at
+abbrev pub invariant-blanks : goal.invariant-blanks
+invariant-blanks l = FiltersInPlace (λ octet. not (is_blank octet)) l.fn.text l.text l.kept l.at × (l.initial.at ≤ l.at)
 
-abbrev pub decreases-pieces : goal.decreases-pieces
-decreases-pieces l = length l.initial.text - l.at
+abbrev pub decreases-blanks : goal.decreases-blanks
+decreases-blanks l = length l.initial.text - l.at
+
+abbrev pub invariant-runs : goal.invariant-runs
+invariant-runs l = FiltersInPlace (λ octet. not (is_blank octet)) l.fn.text l.text l.kept l.at
+
+abbrev pub decreases-runs : goal.decreases-runs
+decreases-runs l = length l.initial.text - l.at

@@ -1,7 +1,6 @@
-use Rattle.std.proofs.Common.{◌≡◌, arith, sym, ap, ◌∙◌, length, ◌+◌, ◌-◌, ◌*◌, ◌≤◌, Ok, ℕ, List, take, drop, slice_index}
+use Rattle.std.proofs.Common.{◌≡◌, arith, sym, ap, ◌∙◌, length, ◌+◌, ◌-◌, ◌*◌, ◌≤◌, ◌&&◌, ◌++◌, Bool, Ok, ℕ, List, take, drop, slice_index}
 use Rattle.std.proofs.lemmas.List.{length-take, length-drop}
-use Rattle.std.proofs.lemmas.Bool.{lt-ltb}
-use Rattle.text_engines.proofs.DigitLemmas.{written_none, written_pair, written_block, written_all, digits_are_read, same_digits}
+use Rattle.text_engines.proofs.DigitLemmas.{written_none, written_block, written_last}
 use Rattle.text_engines.proofs.digits.write_octets.Goals as goal
 
 pub pieces-init : goal.pieces-init
@@ -16,18 +15,18 @@ pieces-preserved c =
     let room : length c.copy_from_slice.new.self ≡ 16
     = c.copy_from_slice.ensures.len ∙ length-take (c.pieces.i + 16 - c.pieces.i) (drop c.pieces.i c.pieces.octets) ∙ omega (arith, fits, c.pieces.invariant.3, length-drop c.pieces.i c.pieces.octets)
     in
-    written_block c.args.digits.now c.pieces.octets c.in-Some.block.now c.values_of-values.result c.copy_from_slice.new.self c.pieces.i (c.pieces.i + 16 - c.pieces.i) c.greatest_of.result c.pieces.greatest c.max-greatest.result
-    fits room (chunk.same ∙ ap (take 32) c.split_at.ensures.back) c.values_of-values.ensures c.greatest_of.ensures (λ k lt. ap (λ (l : List ℕ). slice_index l k) c.copy_from_slice.ensures.after ∙ c.pairs_of.ensures k lt) c.max-greatest.ensures (omega arith) c.pieces.invariant
-
-pub octets-preserved : goal.octets-preserved
-octets-preserved c =
-    written_pair c.args.digits.now c.octets.octets c.octets.i c.value-high.result c.value-low.result c.octets.greatest c.max-greatest-in-octets.result (omega (arith, c.octets.auto.octets, c.octets-test.true))
-    c.value-high.ensures c.value-low.ensures (rw c.max.ensures at c.max-greatest-in-octets.ensures) c.octets.invariant
+    written_block c.args.digits.now c.pieces.octets c.in-Some.block.now c.values_of-values.result c.copy_from_slice.new.self c.pieces.i (c.pieces.i + 16 - c.pieces.i) c.are_small-are_hex.result c.pieces.are_hex
+    fits room (chunk.same ∙ ap (take 32) c.split_at.ensures.back) c.values_of-values.ensures c.are_small-are_hex.ensures (λ k lt. ap (λ (l : List ℕ). slice_index l k) c.copy_from_slice.ensures.after ∙ c.pairs_of.ensures k lt) (omega arith) c.pieces.invariant
 
 pub returns : goal.returns
 returns c =
-    let all = written_all c.args.digits.now c.octets.octets c.octets.greatest c.octets.i (omega (arith, c.octets-test.false)) c.octets.invariant in
+    let are_hex = c.pieces.are_hex in
+    let parts = c.split_at_mut-room in
+    let size : length parts.result.1.now ≡ length c.pieces.octets - c.pieces.i = omega (arith, parts.ensures.back_len) in
+    let read = written_last c.args.digits.now c.pieces.octets c.split_at-2.result.1.now c.decode_to_slice.new.out c.pieces.i (length parts.result.1.now) are_hex c.decode_to_slice.result
+    c.split_at-2.ensures.back size c.decode_to_slice.ensures.value c.pieces.invariant
+    in
     record {
-      are_digits = all.1 ∙ same_digits c.args.digits.now;
-      octets = λ lt. digits_are_read c.args.digits.now 0 (omega (arith, c.octets.invariant.3)) (sym all.1 ∙ lt-ltb c.octets.greatest 16 lt) ∙ ap Ok all.0;
+      are_digits = ap (λ (b : Bool). are_hex && b) c.is_ok.ensures.value ∙ read.0;
+      octets = λ yes. read.1 (ap (λ (b : Bool). are_hex && b) (sym c.is_ok.ensures.value) ∙ yes) ∙ ap (λ (l : List ℕ). Ok (l ++ c.decode_to_slice.new.out)) (sym parts.ensures.front);
     }

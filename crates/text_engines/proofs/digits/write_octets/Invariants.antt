@@ -4,13 +4,7 @@ use Rattle.text_engines.proofs.DigitLemmas.{Written}
 use Rattle.text_engines.proofs.digits.write_octets.Given as goal
 
 abbrev pub invariant-pieces : goal.invariant-pieces
-invariant-pieces l = Written l.digits l.octets l.greatest l.i
+invariant-pieces l = Written l.digits l.octets l.are_hex l.i
 
 abbrev pub decreases-pieces : goal.decreases-pieces
 decreases-pieces l = length l.initial.octets - l.i
-
-abbrev pub invariant-octets : goal.invariant-octets
-invariant-octets l = Written l.digits l.octets l.greatest l.i
-
-abbrev pub decreases-octets : goal.decreases-octets
-decreases-octets l = length l.initial.octets - l.i
