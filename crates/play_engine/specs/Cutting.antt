@@ -87,6 +87,3 @@ abbrev pub IsShown : Shown → Setting → World → Output → Type 0
 IsShown shown.Report = IsReport
 IsShown (shown.Cut s) = IsCutReport s
 IsShown (shown.Why u) = Explains u
-
-abbrev pub PrintsShown : Shown → List ℕ → Output → Type 0
-PrintsShown show input out = Prints (ScheduleGives (IsShown show)) (codes "schedule") input out

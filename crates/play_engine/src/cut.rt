@@ -4,9 +4,9 @@ ghost use Rattle.std.specs.Prelude.{◌≡◌, ◌⊎◌, IfOk, OnOk, OnErr, tru
 ghost use Rattle.text_engines.specs.Engine.{PrintedBy, PrintedFrontBy};
 ghost use Rattle.play_engine.specs.Cutting.{Cuts};
 
-use crate::stream::{Shown, schedule_stream};
+use crate::stream::Shown;
 use std::alloc::Global;
-use text_engines::{IoStopped, Sink, Source};
+use text_engines::{IoStopped, Sink, Source, answer_input};
 
 /// Reads a network and a schedule, and writes the cut of the snapshot of this number in the world that the
 /// schedule leads to, or the first line that is refused; answers the status.
@@ -38,5 +38,5 @@ pub fn cut_stream<S: Source, T: Sink>(
     ensures stopped { OnErr result
         (PrintedFrontBy (Cuts number) (S.remaining source.old) (T.contents sink.old) (T.contents sink.new)) }
 {
-    schedule_stream(alloc, Shown::Cut(number), source, sink)
+    answer_input(alloc, &Shown::Cut(number), source, sink)
 }

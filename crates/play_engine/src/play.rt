@@ -4,9 +4,9 @@ ghost use Rattle.std.specs.Prelude.{◌≡◌, ◌⊎◌, IfOk, OnOk, OnErr, tru
 ghost use Rattle.text_engines.specs.Engine.{PrintedBy, PrintedFrontBy};
 ghost use Rattle.play_engine.specs.Playing.{Plays};
 
-use crate::stream::{Shown, schedule_stream};
+use crate::stream::Shown;
 use std::alloc::Global;
-use text_engines::{IoStopped, Sink, Source};
+use text_engines::{IoStopped, Sink, Source, answer_input};
 
 /// Reads a network and a schedule, and writes how the snapshots came out and the routes of the world that
 /// the schedule leads to, or the first line that is refused; answers the status.
@@ -32,5 +32,5 @@ pub fn play_stream<S: Source, T: Sink>(
     ensures stopped { OnErr result
         (PrintedFrontBy Plays (S.remaining source.old) (T.contents sink.old) (T.contents sink.new)) }
 {
-    schedule_stream(alloc, Shown::Report, source, sink)
+    answer_input(alloc, &Shown::Report, source, sink)
 }

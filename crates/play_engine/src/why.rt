@@ -4,10 +4,10 @@ ghost use Rattle.std.specs.Prelude.{◌≡◌, ◌⊎◌, IfOk, OnOk, OnErr, tru
 ghost use Rattle.text_engines.specs.Engine.{PrintedBy, PrintedFrontBy};
 ghost use Rattle.play_engine.specs.Cutting.{Whys};
 
-use crate::stream::{Shown, schedule_stream};
+use crate::stream::Shown;
 use ranked_policy::Asn;
 use std::alloc::Global;
-use text_engines::{IoStopped, Sink, Source};
+use text_engines::{IoStopped, Sink, Source, answer_input};
 
 /// Reads a network and a schedule, and writes what the router of this number knows in the world that the schedule
 /// leads to, or the first line that is refused; answers the status.
@@ -38,5 +38,5 @@ pub fn why_stream<S: Source, T: Sink>(
     ensures stopped { OnErr result
         (PrintedFrontBy (Whys number) (S.remaining source.old) (T.contents sink.old) (T.contents sink.new)) }
 {
-    schedule_stream(alloc, Shown::Why(number), source, sink)
+    answer_input(alloc, &Shown::Why(number), source, sink)
 }

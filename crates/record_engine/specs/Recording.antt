@@ -1,13 +1,11 @@
 -- The text printed of what the threads of a network did.
-use Rattle.std.specs.Prelude.{◌≡◌, ℕ, ◌<◌, ◌≤◌, ◌⊎◌, List, ◌++◌, length, map}
+use Rattle.std.specs.Prelude.{◌≡◌, ℕ, ◌⊎◌, List, ◌++◌, map}
 use Rattle.std.specs.List.{flat_map}
 use Rattle.ranked_policy.specs.declared.network.Origin.{Origin}
 use Rattle.ranked_policy.specs.Plans.{Plan}
 use Rattle.snap_collector.specs.Collector.{CollectorView, AreDecided}
 use Rattle.router_core.specs.Views.{plain_of}
-use Rattle.net_text.specs.declared.code.Code.TheVariants as kinds
 use Rattle.net_text.specs.Lexing.{Text, lines_of}
-use Rattle.net_text.specs.Printing.{code_text}
 use Rattle.world_core.specs.declared.schedule.Event.{Event}
 use Rattle.world_core.specs.Verdicts.{judged}
 use Rattle.schedule_text.specs.Events.{event_line}
@@ -16,8 +14,7 @@ use Rattle.worker_loop.specs.declared.journal.Entry.{Entry}
 use Rattle.net_workers.specs.declared.record.RunFault.TheVariants as fault
 use Rattle.net_workers.specs.declared.record.Worked.{Worked}
 use Rattle.text_engines.specs.declared.status.TheConstants.{DONE}
-use Rattle.text_engines.specs.declared.transfer.TheConstants.{INPUT_LIMIT}
-use Rattle.text_engines.specs.Decoding.{Output, output, refused, memory_output}
+use Rattle.text_engines.specs.Decoding.{Output, output, WithinLimit, OrMemory}
 use Rattle.play_engine.specs.Reporting.{router_text}
 use Rattle.trace_engine.specs.Tracing.{head_of_trace, comments_text, limited}
 use Rattle.run_engine.specs.declared.chores.RunOptions.{RunOptions}
@@ -80,9 +77,8 @@ LinesRecord options lines out = LinesPrint (RecordGives options lines) lines out
 
 -- the text for an input, which may be too long
 abbrev pub InputRecords : RunOptions → List ℕ → Output → Type 0
-InputRecords options input out =
-    (INPUT_LIMIT < length input × (out ≡ refused 0 (code_text kinds.OutOfLimit))) ⊎ ((length input ≤ INPUT_LIMIT) × LinesRecord options (lines_of input) out)
+InputRecords options input out = WithinLimit (λ text. LinesRecord options (lines_of text)) input out
 
 -- the text that the program prints: this one, or that memory ran out
 abbrev pub Records : RunOptions → List ℕ → Output → Type 0
-Records options input out = InputRecords options input out ⊎ (out ≡ memory_output)
+Records options input out = OrMemory (InputRecords options) input out

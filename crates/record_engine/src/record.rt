@@ -17,7 +17,7 @@ use std::thread::Threads;
 use text_engines::status::DONE;
 use text_engines::{
     INPUT_LIMIT, InputError, IoStopped, Sink, Source, read_input, refused_output, text_output,
-    want_of_memory, write_out,
+    want_of_memory, write_output,
 };
 use trace_engine::{put_comments, put_limit};
 
@@ -121,16 +121,9 @@ where
     ensures stopped { OnErr result
         (PrintedFrontBy (Records options.now) (S.remaining source.old) (T.contents sink.old) (T.contents sink.new)) }
 {
-    let input = match read_input(alloc, source) {
-        Ok(input) => input,
-        Err(InputError::Memory) => return want_of_memory(sink),
-        Err(InputError::Stopped) => return Err(IoStopped),
-    };
-    match input_output(rt, alloc, options, input) {
-        Ok((text, status)) => {
-            write_out(sink, text.as_slice())?;
-            Ok(status)
-        }
-        Err(_) => want_of_memory(sink),
+    match read_input(alloc, source) {
+        Ok(input) => write_output(sink, input_output(rt, alloc, options, input)),
+        Err(InputError::Memory) => want_of_memory(sink),
+        Err(InputError::Stopped) => Err(IoStopped),
     }
 }

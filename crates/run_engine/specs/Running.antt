@@ -33,8 +33,7 @@ use Rattle.run_engine.specs.declared.chores.RunOptions.{RunOptions}
 use Rattle.run_engine.specs.declared.settled.Demand.{Demand}
 use Rattle.run_engine.specs.declared.settled.Demand.TheVariants.{AsRecorded, EveryOrigin}
 use Rattle.text_engines.specs.declared.status.TheConstants.{DONE}
-use Rattle.text_engines.specs.Decoding.{Output, output, refused, memory_output}
-use Rattle.text_engines.specs.declared.transfer.TheConstants.{INPUT_LIMIT}
+use Rattle.text_engines.specs.Decoding.{Output, output, refused, memory_output, WithinLimit, OrMemory}
 use Rattle.text_engines.specs.Checking.{at_prefix}
 use Rattle.play_engine.specs.Reporting.{router_text, recorded, parts_text}
 use Rattle.run_engine.specs.Gates.{HasRoom, Told, given_by, told_of, told_each, spacing_of}
@@ -191,12 +190,11 @@ LinesRun options lines out = LinesPrint (RunGives options) lines out
 
 -- the text for an input, which may be too long
 abbrev pub InputRuns : RunOptions → List ℕ → Output → Type 0
-InputRuns options input out =
-    (INPUT_LIMIT < length input × (out ≡ refused 0 (code_text kinds.OutOfLimit))) ⊎ ((length input ≤ INPUT_LIMIT) × LinesRun options (lines_of input) out)
+InputRuns options input out = WithinLimit (λ text. LinesRun options (lines_of text)) input out
 
 -- the text that the program prints: this one, or that memory ran out
 abbrev pub Runs : RunOptions → List ℕ → Output → Type 0
-Runs options input out = InputRuns options input out ⊎ (out ≡ memory_output)
+Runs options input out = OrMemory (InputRuns options) input out
 
 -- ---- the text by the collector
 

@@ -5,7 +5,7 @@ ghost use Rattle.std.specs.List.{AllByRecursion};
 ghost use Rattle.net_text.specs.Lexing.{lines_of};
 ghost use Rattle.text_engines.specs.Decoding.{output};
 ghost use Rattle.text_engines.specs.Engine.{PrintedBy, PrintedFrontBy, WrittenBy, WrittenFrontBy};
-ghost use Rattle.run_engine.specs.Running.{HasSetting, RunGives, LinesRun, InputRuns, Runs, Gated};
+ghost use Rattle.run_engine.specs.Running.{HasSetting, RunGives, InputRuns, Runs, Gated};
 
 use crate::chores::RunOptions;
 use crate::network::run_network;
@@ -23,7 +23,7 @@ use std::sync::Wait;
 use std::thread::Threads;
 use text_engines::{
     INPUT_LIMIT, InputError, IoStopped, Sink, Source, read_input, refused_output, text_output,
-    want_of_memory, write_out,
+    want_of_memory, write_output,
 };
 use world_core::laws::members_are_the_routers;
 
@@ -58,13 +58,10 @@ where
         (WrittenFrontBy (Gated G.given G.told network.now limits.turns gates.items last) (T.contents sink.old)
         (T.contents sink.new)) }
 {
-    match threads_output(rt, alloc, network, gates, limits, last) {
-        Ok((text, status)) => {
-            write_out(sink, text.as_slice())?;
-            Ok(status)
-        }
-        Err(_) => want_of_memory(sink),
-    }
+    write_output(
+        sink,
+        threads_output(rt, alloc, network, gates, limits, last),
+    )
 }
 
 // A network has a setting that chooses by rank, since its hold time is one of two octets.
@@ -153,16 +150,9 @@ where
     ensures stopped { OnErr result
         (PrintedFrontBy (Runs options.now) (S.remaining source.old) (T.contents sink.old) (T.contents sink.new)) }
 {
-    let input = match read_input(alloc, source) {
-        Ok(input) => input,
-        Err(InputError::Memory) => return want_of_memory(sink),
-        Err(InputError::Stopped) => return Err(IoStopped),
-    };
-    match run_output(rt, alloc, options, input) {
-        Ok((text, status)) => {
-            write_out(sink, text.as_slice())?;
-            Ok(status)
-        }
-        Err(_) => want_of_memory(sink),
+    match read_input(alloc, source) {
+        Ok(input) => write_output(sink, run_output(rt, alloc, options, input)),
+        Err(InputError::Memory) => want_of_memory(sink),
+        Err(InputError::Stopped) => Err(IoStopped),
     }
 }

@@ -1,5 +1,5 @@
 -- The text printed of all stable assignments of a network, prefix by prefix.
-use Rattle.std.specs.Prelude.{◌≡◌, ◌≢◌, ℕ, ◌<◌, ◌≤◌, Bool, List, [], ◌∷◌, ◌++◌, length, map, codes, Result, Ok, Err, is_ok, if◌then◌else◌, ◌⊎◌}
+use Rattle.std.specs.Prelude.{◌≡◌, ◌≢◌, ℕ, Bool, List, [], ◌∷◌, ◌++◌, length, map, codes, Result, Ok, Err, is_ok, if◌then◌else◌, ◌⊎◌}
 use Rattle.std.specs.List.{All, flat_map, list_all}
 use Rattle.prefix_lanes.specs.Bits.{PrefixView}
 use Rattle.ranked_policy.specs.Plans.{Plan}
@@ -16,9 +16,8 @@ use Rattle.stable_search.specs.declared.refusal.SearchError.TheVariants as searc
 use Rattle.stable_search.specs.Every.{IsEveryStable}
 use Rattle.stable_search.specs.Refusals.{AreFew, IsRefusal}
 use Rattle.text_engines.specs.Checking.{at_prefix}
-use Rattle.text_engines.specs.Decoding.{Output, output, refused, memory_output}
+use Rattle.text_engines.specs.Decoding.{Output, output, refused, WithinLimit, OrMemory}
 use Rattle.text_engines.specs.declared.status.TheConstants.{DONE}
-use Rattle.text_engines.specs.declared.transfer.TheConstants.{INPUT_LIMIT}
 use Rattle.stable_engine.specs.declared.status.TheConstants.{UNKNOWN}
 use Rattle.stable_engine.specs.Listing.{every_text, unknown_line}
 
@@ -93,9 +92,8 @@ LinesList limits lines out =
 
 -- the text for an input, which may be too long
 abbrev pub InputLists : Limits → List ℕ → Output → Type 0
-InputLists limits input out =
-    (INPUT_LIMIT < length input × (out ≡ refused 0 (code_text kinds.OutOfLimit))) ⊎ ((length input ≤ INPUT_LIMIT) × LinesList limits (network_lines input) out)
+InputLists limits input out = WithinLimit (λ text. LinesList limits (network_lines text)) input out
 
 -- the text that the program prints: this one, or that memory ran out
 abbrev pub Lists : Limits → List ℕ → Output → Type 0
-Lists limits input out = InputLists limits input out ⊎ (out ≡ memory_output)
+Lists limits input out = OrMemory (InputLists limits) input out

@@ -4,16 +4,13 @@ ghost use Rattle.std.specs.Prelude.{◌≡◌, ◌⊎◌, IfOk, OnOk, OnErr, tru
 ghost use Rattle.net_text.specs.Lexing.{lines_of};
 ghost use Rattle.text_engines.specs.Decoding.{output};
 ghost use Rattle.text_engines.specs.Engine.{PrintedBy, PrintedFrontBy};
-ghost use Rattle.stable_engine.specs.Answers.{network_lines, LinesList, InputLists, Lists};
+ghost use Rattle.stable_engine.specs.Answers.{network_lines, LinesList, Lists};
 
 use crate::prefixes::stables_output;
-use net_text::{Code, read_network, split_at_section};
+use net_text::{read_network, split_at_section};
 use stable_search::Limits;
 use std::alloc::{AllocError, Global};
-use text_engines::{
-    INPUT_LIMIT, InputError, IoStopped, Sink, Source, read_input, refused_output, text_output,
-    want_of_memory, write_out,
-};
+use text_engines::{Engine, IoStopped, Sink, Source, answer_input, text_output};
 
 // The lines of a network, without those of an assignment or a schedule behind it.
 fn network_part(input: &[u8]) -> &[u8]
@@ -33,14 +30,18 @@ fn lines_output(alloc: Global, limits: &Limits, text: &[u8]) -> Result<(Vec<u8>,
     }
 }
 
-// What is printed for an input, and the status.
-fn input_output(alloc: Global, limits: &Limits, input: Vec<u8>) -> Result<(Vec<u8>, u8), AllocError>
-    ensures { IfOk result (λ printed. InputLists limits.now input.items (output printed.0.items printed.1)) }
-{
-    if input.len() > INPUT_LIMIT {
-        return refused_output(alloc, 0, Code::OutOfLimit.text());
+// What `stable` answers: a network, whose assignments are searched for within these limits.
+#[derive(Drop)]
+struct StableEngine<'a> {
+    limits: &'a Limits,
+}
+
+impl Engine for StableEngine<'_> {
+    ghost gives = { λ engine text out. LinesList engine.limits.now (network_lines text) out };
+
+    fn answer(&self, alloc: Global, text: &[u8]) -> Result<(Vec<u8>, u8), AllocError> {
+        lines_output(alloc, self.limits, network_part(text))
     }
-    lines_output(alloc, limits, network_part(input.as_slice()))
 }
 
 /// Reads a network, and writes all of its stable assignments, prefix by prefix; or the first line that is refused.
@@ -70,16 +71,5 @@ pub fn stable_stream<S: Source, T: Sink>(
     ensures stopped { OnErr result
         (PrintedFrontBy (Lists limits.now) (S.remaining source.old) (T.contents sink.old) (T.contents sink.new)) }
 {
-    let input = match read_input(alloc, source) {
-        Ok(input) => input,
-        Err(InputError::Memory) => return want_of_memory(sink),
-        Err(InputError::Stopped) => return Err(IoStopped),
-    };
-    match input_output(alloc, limits, input) {
-        Ok((text, status)) => {
-            write_out(sink, text.as_slice())?;
-            Ok(status)
-        }
-        Err(_) => want_of_memory(sink),
-    }
+    answer_input(alloc, &StableEngine { limits }, source, sink)
 }

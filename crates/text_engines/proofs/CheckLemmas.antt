@@ -1,6 +1,6 @@
 -- Entries and origins, one more at a time.
-use Rattle.std.proofs.Common.{◌≡◌, ℕ, zero, suc, ◌+◌, ◌-◌, ◌<◌, ◌≤◌, Bool, true, false, cond, List, [], ◌∷◌, ◌++◌, length, take, drop, get_or, refl, sym, ap, subst, ◌∙◌, arith, inl, inr, Result, Ok, Err, IfOk, Option, Some, None}
-use Rattle.std.specs.Prelude.{◌==◌, ◌&&◌, IsTrue, OnErr, ◌⊎◌}
+use Rattle.std.proofs.Common.{◌≡◌, ℕ, zero, suc, ◌+◌, ◌-◌, ◌<◌, ◌≤◌, Bool, true, false, cond, List, [], ◌∷◌, ◌++◌, length, take, drop, get_or, refl, sym, ap, subst, ◌∙◌, arith, inl, inr, Result, Ok, Err, IfOk}
+use Rattle.std.specs.Prelude.{◌==◌, ◌&&◌, IsTrue}
 use Rattle.std.specs.List.{All}
 use Rattle.std.proofs.lemmas.Bool.{cases_order}
 use Rattle.std.proofs.lemmas.List.{take_more, drop_more, take_all, take-append-drop, length-take, get_or-take}
@@ -11,14 +11,9 @@ use Rattle.stable_paths.specs.Stable.{Problem}
 use Rattle.stable_paths.specs.Judging.{IsMoving, IsVerdict}
 use Rattle.stable_paths.specs.declared.verdict.Check.{Check}
 use Rattle.net_text.specs.declared.assignment.Entry.{Entry}
-use Rattle.std.specs.Io.KnownBytes.{Appends}
 use Rattle.net_text.specs.Lexing.{Text, lines_of, before_section, behind_section}
-use Rattle.net_text.specs.declared.code.Code.TheVariants as kinds
-use Rattle.net_text.specs.Printing.{code_text}
-use Rattle.text_engines.specs.Decoding.{Output, output, refused, memory_output}
-use Rattle.text_engines.specs.declared.transfer.TheConstants.{INPUT_LIMIT}
-use Rattle.text_engines.specs.Engine.{ReadsUpTo, AppendsFront, PrintedBy, PrintedFrontBy}
-use Rattle.text_engines.specs.Inputs.{NetworkGives, InputGives, LinesGive, Prints}
+use Rattle.text_engines.specs.Decoding.{Output}
+use Rattle.text_engines.specs.Inputs.{NetworkGives, LinesGive}
 use Rattle.text_engines.specs.Checking.{paths_by, paths_of, at_prefix, MayStand, IsFirstStray, IsStableAt, IsFirstMove}
 
 module _ {X : Type 0} where
@@ -115,33 +110,6 @@ verdict_of p net q paths check e v = subst (λ (x : Problem). IsVerdict x paths 
 
 -- ---- what is printed for what was read
 
--- an input may be too long
-abbrev pub WithinLimit : (List ℕ → Output → Type 0) → List ℕ → Output → Type 0
-WithinLimit Gives input out = (INPUT_LIMIT < length input × (out ≡ refused 0 (code_text kinds.OutOfLimit))) ⊎ ((length input ≤ INPUT_LIMIT) × Gives input out)
-
-abbrev pub OrMemory : (List ℕ → Output → Type 0) → List ℕ → Output → Type 0
-OrMemory Gives input out = WithinLimit Gives input out ⊎ (out ≡ memory_output)
-
-module _ (Gives : List ℕ → Output → Type 0) where
-  -- for known octets of which these were read, up to the limit
-  limited_input : (input items : List ℕ) (out : Output) → items ≡ take (length items) input → (length items ≤ INPUT_LIMIT → items ≡ input) → WithinLimit Gives items out → OrMemory Gives input out
-  limited_input input items out front same (inl long) =
-      let size : length items ≤ length input = omega (arith, ap length front, length-take (length items) input) in
-      inl (inl (omega (arith, size, long.0), long.1))
-  limited_input input items out front same (inr short) =
-      let e : items ≡ input = same short.0 in
-      inl (inr (subst (λ (xs : List ℕ). length xs ≤ INPUT_LIMIT) e short.0, subst (λ (xs : List ℕ). Gives xs out) e short.1))
-
-  pub limited_done : (known old new : Option (List ℕ)) (items text : List ℕ) (status : ℕ) → ReadsUpTo INPUT_LIMIT known items → WithinLimit Gives items (output text status) → Appends old new text
-      → PrintedBy (OrMemory Gives) known old new status
-  limited_done None old new items text status read gives put = tt
-  limited_done (Some input) old new items text status read gives put = (text, limited_input input items (output text status) read.0 read.1 gives, put)
-
-  pub limited_stopped : (known old new : Option (List ℕ)) (items text : List ℕ) (status : ℕ) → ReadsUpTo INPUT_LIMIT known items → WithinLimit Gives items (output text status) → AppendsFront old new text
-      → PrintedFrontBy (OrMemory Gives) known old new
-  limited_stopped None old new items text status read gives put = tt
-  limited_stopped (Some input) old new items text status read gives put = (output text status, limited_input input items (output text status) read.0 read.1 gives, put)
-
 module _ (Gives : Plan → ℕ → List Text → Output → Type 0) (name : List ℕ) where
   -- for the two parts of a text
   pub lines_give : (text : List ℕ) (front behind : List Text) (before : ℕ) (out : Output) → front ≡ before_section name (lines_of text) → behind ≡ behind_section name (lines_of text)
@@ -152,18 +120,3 @@ module _ (Gives : Plan → ℕ → List Text → Output → Type 0) (name : List
       subst (λ (f : List Text). NetworkGives Gives f (length (lines_of text) - length (behind_section name (lines_of text))) (behind_section name (lines_of text)) out) ef
       (subst (λ (b : List Text). NetworkGives Gives front (length (lines_of text) - length (behind_section name (lines_of text))) b out) eb
       (subst (λ (k : ℕ). NetworkGives Gives front k behind out) n h))
-
-  pub prints_done : (known old new : Option (List ℕ)) (items text : List ℕ) (status : ℕ) → ReadsUpTo INPUT_LIMIT known items → InputGives Gives name items (output text status) → Appends old new text
-      → PrintedBy (Prints Gives name) known old new status
-  prints_done known old new items text status read gives put =
-      limited_done (λ input out. LinesGive Gives name (lines_of input) out) known old new items text status read gives put
-
-  pub prints_stopped : (known old new : Option (List ℕ)) (items text : List ℕ) (status : ℕ) → ReadsUpTo INPUT_LIMIT known items → InputGives Gives name items (output text status) → AppendsFront old new text
-      → PrintedFrontBy (Prints Gives name) known old new
-  prints_stopped known old new items text status read gives put =
-      limited_stopped (λ input out. LinesGive Gives name (lines_of input) out) known old new items text status read gives put
-
--- what holds, holds where a call stopped
-pub on_err : {A E X : Type 0} (r : Result A E) → X → OnErr r X
-on_err (Ok a) x = tt
-on_err (Err e) x = x

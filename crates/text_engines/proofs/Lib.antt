@@ -2,7 +2,6 @@ pub mod BlankLemmas
 pub mod CheckLemmas
 pub mod DecodeLemmas
 pub mod DigitLemmas
-pub mod HexInputLemmas
 mod HexLanes
 pub mod PlaceLemmas
 pub mod PrintingLemmas

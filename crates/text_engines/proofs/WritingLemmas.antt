@@ -1,12 +1,17 @@
--- Writing a text a piece at a time.
-use Rattle.std.proofs.Common.{◌≡◌, ℕ, ◌+◌, List, take, drop, take-add, codes, Option, Some, None, Result, Ok, Err, subst, sym, refl, inr}
-use Rattle.std.specs.Prelude.{OnErr}
-use Rattle.bgp_codec.specs.declared.rule.Rule.{Rule}
-use Rattle.text_engines.specs.declared.channel.IoStopped.{IoStopped}
-use Rattle.text_engines.specs.Decoding.{Output, memory_output, Prints}
-use Rattle.text_engines.specs.Engine.{AppendsFront, PrintedFront, PrintedFrontBy, WrittenFrontBy}
+-- Writing a text a piece at a time, and what an engine leaves written.
+use Rattle.std.proofs.Common.{◌≡◌, ℕ, ◌+◌, ◌≤◌, List, length, take, drop, take-add, codes, Option, Some, None, Result, Ok, Err, IfOk, subst, sym, ap, arith, inl, inr}
+use Rattle.std.specs.Prelude.{OnErr, IfSome, Vec, ◌⊎◌}
+use Rattle.std.proofs.lemmas.List.{length-take}
 use Rattle.std.specs.Io.KnownBytes.{Appends}
 use Rattle.std.proofs.KnownBytes.{Appends-trans, Appends-nil}
+use Rattle.std.specs.declared.alloc.AllocError.{AllocError}
+use Rattle.bgp_codec.specs.declared.rule.Rule.{Rule}
+use Rattle.text_engines.specs.declared.channel.IoStopped.{IoStopped}
+use Rattle.text_engines.specs.declared.hex_input.HexInput.{HexInput}
+use Rattle.text_engines.specs.declared.transfer.TheConstants.{INPUT_LIMIT}
+use Rattle.text_engines.specs.Decoding.{Output, output, memory_output, WithinLimit, OrMemory, DecodeGives, Prints}
+use Rattle.text_engines.specs.Digits.{HearsHex}
+use Rattle.text_engines.specs.Engine.{ReadsUpTo, AppendsFront, IsMade, WrittenBy, WrittenFrontBy, PrintedBy, PrintedFrontBy}
 
 pub one_more : (a b c : Option (List ℕ)) (text : List ℕ) (at n : ℕ) → Appends a b (take at text) → Appends b c (take n (drop at text)) → Appends a c (take (at + n) text)
 one_more a b c text at n first second = subst (Appends a c) (sym (take-add at n text)) (Appends-trans a b c (take at text) (take n (drop at text)) first second)
@@ -14,27 +19,75 @@ one_more a b c text at n first second = subst (Appends a c) (sym (take-add at n 
 pub one_more_at : (a b c : Option (List ℕ)) (text rest : List ℕ) (at n : ℕ) → rest ≡ drop at text → Appends a b (take at text) → Appends b c (take n rest) → Appends a c (take (at + n) text)
 one_more_at a b c text rest at n e first second = one_more a b c text at n first (subst (λ (r : List ℕ). Appends b c (take n r)) e second)
 
--- ---- beginnings of the output for want of memory
+-- ---- what is written of an output
 
-module _ (IsPrinted : List ℕ → Output → Type 0) (short : (input : List ℕ) → IsPrinted input memory_output) where
-  memory_front : (known old new : Option (List ℕ)) → AppendsFront old new (codes "memory\n") → PrintedFrontBy IsPrinted known old new
-  memory_front None old new h = tt
-  memory_front (Some input) old new h = (memory_output, short input, h)
+-- what holds, holds where a call stopped
+pub on_err : {A E X : Type 0} (r : Result A E) → X → OnErr r X
+on_err (Ok a) x = tt
+on_err (Err e) x = x
 
-  pub nothing_front_by : (known old : Option (List ℕ)) → PrintedFrontBy IsPrinted known old old
-  nothing_front_by known old = memory_front known old old (0, Appends-nil old)
+-- want of memory leaves a beginning of its own output
+pub memory_front : (IsPrinted : Output → Type 0) (old new : Option (List ℕ)) (r : Result ℕ IoStopped) → IsPrinted memory_output → OnErr r (AppendsFront old new (codes "memory\n")) → OnErr r (WrittenFrontBy IsPrinted old new)
+memory_front IsPrinted old new (Ok status) short h = tt
+memory_front IsPrinted old new (Err stopped) short h = (memory_output, short, h)
 
-  pub memory_stopped_by : (known old new : Option (List ℕ)) (r : Result ℕ IoStopped) → OnErr r (AppendsFront old new (codes "memory\n")) → OnErr r (PrintedFrontBy IsPrinted known old new)
-  memory_stopped_by known old new (Ok status) h = tt
-  memory_stopped_by known old new (Err stopped) h = memory_front known old new h
+-- where what was made is printed, what is written of it is written of what is printed
+pub made_written : {Z : Type 0} (IsPrinted : Output → Type 0) (old new : Option (List ℕ)) (made : Result (Vec ℕ Z × ℕ) AllocError) (r : Result ℕ IoStopped)
+    → ((out : Output) → IsMade made out → IsPrinted out) → IfOk r (λ status. WrittenBy (IsMade made) old new status) → IfOk r (λ status. WrittenBy IsPrinted old new status)
+made_written IsPrinted old new made (Ok status) prints h = (h.0, prints (output h.0 status) h.1, h.2)
+made_written IsPrinted old new made (Err stopped) prints h = tt
 
-pub nothing_front : (rule : Rule) (known old : Option (List ℕ)) → PrintedFront rule known old old
-nothing_front rule known old = nothing_front_by (Prints rule) (λ input. inr refl) known old
+pub made_front : {Z : Type 0} (IsPrinted : Output → Type 0) (old new : Option (List ℕ)) (made : Result (Vec ℕ Z × ℕ) AllocError) (r : Result ℕ IoStopped)
+    → ((out : Output) → IsMade made out → IsPrinted out) → OnErr r (WrittenFrontBy (IsMade made) old new) → OnErr r (WrittenFrontBy IsPrinted old new)
+made_front IsPrinted old new made (Ok status) prints h = tt
+made_front IsPrinted old new made (Err stopped) prints h = (h.0, prints h.0 h.1, h.2)
 
-pub memory_stopped : (rule : Rule) (known old new : Option (List ℕ)) (r : Result ℕ IoStopped) → OnErr r (AppendsFront old new (codes "memory\n")) → OnErr r (PrintedFront rule known old new)
-memory_stopped rule known old new r h = memory_stopped_by (Prints rule) (λ input. inr refl) known old new r h
+-- the same, of what is printed for known octets
+module _ (IsPrinted : List ℕ → Output → Type 0) where
+  pub nothing_stopped : (known old : Option (List ℕ)) → ((input : List ℕ) → IsPrinted input memory_output) → PrintedFrontBy IsPrinted known old old
+  nothing_stopped None old short = tt
+  nothing_stopped (Some input) old short = (memory_output, short input, (0, Appends-nil old))
 
--- the same, of what no reader gave
-pub memory_written : (IsPrinted : Output → Type 0) → IsPrinted memory_output → (old new : Option (List ℕ)) (r : Result ℕ IoStopped) → OnErr r (AppendsFront old new (codes "memory\n")) → OnErr r (WrittenFrontBy IsPrinted old new)
-memory_written IsPrinted short old new (Ok status) h = tt
-memory_written IsPrinted short old new (Err stopped) h = (memory_output, short, h)
+  pub memory_stopped : (known old new : Option (List ℕ)) (r : Result ℕ IoStopped) → ((input : List ℕ) → IsPrinted input memory_output) → OnErr r (AppendsFront old new (codes "memory\n")) → OnErr r (PrintedFrontBy IsPrinted known old new)
+  memory_stopped known old new (Ok status) short h = tt
+  memory_stopped None old new (Err stopped) short h = tt
+  memory_stopped (Some input) old new (Err stopped) short h = (memory_output, short input, h)
+
+  pub made_done : {Z : Type 0} (known old new : Option (List ℕ)) (made : Result (Vec ℕ Z × ℕ) AllocError) (r : Result ℕ IoStopped)
+      → IfSome known (λ input. (out : Output) → IsMade made out → IsPrinted input out) → IfOk r (λ status. WrittenBy (IsMade made) old new status) → IfOk r (λ status. PrintedBy IsPrinted known old new status)
+  made_done None old new made (Ok status) prints h = tt
+  made_done None old new made (Err stopped) prints h = tt
+  made_done (Some input) old new made r prints h = made_written (IsPrinted input) old new made r prints h
+
+  pub made_stopped : {Z : Type 0} (known old new : Option (List ℕ)) (made : Result (Vec ℕ Z × ℕ) AllocError) (r : Result ℕ IoStopped)
+      → IfSome known (λ input. (out : Output) → IsMade made out → IsPrinted input out) → OnErr r (WrittenFrontBy (IsMade made) old new) → OnErr r (PrintedFrontBy IsPrinted known old new)
+  made_stopped None old new made (Ok status) prints h = tt
+  made_stopped None old new made (Err stopped) prints h = tt
+  made_stopped (Some input) old new made r prints h = made_front (IsPrinted input) old new made r prints h
+
+-- ---- what is made of what was read
+
+pub made_is : {Z : Type 0} (Gives : Output → Type 0) (made : Result (Vec ℕ Z × ℕ) AllocError) → IfOk made (λ printed. Gives (output printed.0.items printed.1)) → (out : Output) → IsMade made out → Gives out ⊎ (out ≡ memory_output)
+made_is Gives (Ok printed) gives out is = inl (subst Gives (sym is) gives)
+made_is Gives (Err short) gives out is = inr is
+
+module _ (Gives : List ℕ → Output → Type 0) where
+  -- for known octets of which these were read, up to the limit
+  within_limit : (input items : List ℕ) (out : Output) → items ≡ take (length items) input → (length items ≤ INPUT_LIMIT → items ≡ input) → WithinLimit Gives items out → WithinLimit Gives input out
+  within_limit input items out front same (inl long) =
+      let size : length items ≤ length input = omega (arith, ap length front, length-take (length items) input) in
+      inl (omega (arith, size, long.0), long.1)
+  within_limit input items out front same (inr short) = subst (λ (xs : List ℕ). WithinLimit Gives xs out) (same short.0) (inr short)
+
+  pub limited_made : {Z : Type 0} (known : Option (List ℕ)) (items : List ℕ) (made : Result (Vec ℕ Z × ℕ) AllocError) → ReadsUpTo INPUT_LIMIT known items
+      → IfOk made (λ printed. WithinLimit Gives items (output printed.0.items printed.1)) → IfSome known (λ input. (out : Output) → IsMade made out → OrMemory (WithinLimit Gives) input out)
+  limited_made None items made read gives = tt
+  limited_made (Some input) items (Ok printed) read gives = λ out is. inl (within_limit input items out read.0 read.1 (subst (WithinLimit Gives items) (sym is) gives))
+  limited_made (Some input) items (Err short) read gives = λ out is. inr is
+
+-- and of an input in hex
+pub heard_made : {Z : Type 0} (rule : Rule) (known : Option (List ℕ)) (heard : HexInput) (made : Result (Vec ℕ Z × ℕ) AllocError) → IfSome known (λ input. HearsHex input heard)
+    → IfOk made (λ printed. (input : List ℕ) → HearsHex input heard → DecodeGives rule input (output printed.0.items printed.1)) → IfSome known (λ input. (out : Output) → IsMade made out → Prints rule input out)
+heard_made rule None heard made read gives = tt
+heard_made rule (Some input) heard (Ok printed) read gives = λ out is. inl (subst (DecodeGives rule input) (sym is) (gives input read))
+heard_made rule (Some input) heard (Err short) read gives = λ out is. inr is

@@ -32,6 +32,14 @@ refused at code = output (refused_line at code) REFUSED
 abbrev pub memory_output : Output
 memory_output = output (codes "memory\n") MEMORY
 
+-- for an input within the limit this; one beyond it is refused
+abbrev pub WithinLimit : (List ℕ → Output → Type 0) → List ℕ → Output → Type 0
+WithinLimit Gives input out = (INPUT_LIMIT < length input × (out ≡ refused 0 (code_text kinds.OutOfLimit))) ⊎ ((length input ≤ INPUT_LIMIT) × Gives input out)
+
+-- what the program prints: that, or that memory ran out
+abbrev pub OrMemory : (List ℕ → Output → Type 0) → List ℕ → Output → Type 0
+OrMemory Gives input out = Gives input out ⊎ (out ≡ memory_output)
+
 -- for a rest of so many octets that may still become a message: nothing, or that it is cut short
 abbrev pub short_output : ℕ → Output
 short_output n = if n == 0 then output [] DONE else output (truncated_line n) REFUSED
@@ -68,11 +76,11 @@ HexGives rule input out =
 
 -- for an input, which may be too long
 abbrev pub DecodeGives : Rule → List ℕ → Output → Type 0
-DecodeGives rule input out = (INPUT_LIMIT < length input × (out ≡ refused 0 (code_text kinds.OutOfLimit))) ⊎ ((length input ≤ INPUT_LIMIT) × HexGives rule input out)
+DecodeGives rule input out = WithinLimit (HexGives rule) input out
 
 -- what the program prints: that, or that memory ran out
 abbrev pub Prints : Rule → List ℕ → Output → Type 0
-Prints rule input out = DecodeGives rule input out ⊎ (out ≡ memory_output)
+Prints rule input out = OrMemory (DecodeGives rule) input out
 
 -- new is old and what is printed for a frame: with no status more follows, else that is all
 abbrev pub PutsFrame : Rule → List ℕ → List ℕ → List ℕ → Option ℕ → Type 0

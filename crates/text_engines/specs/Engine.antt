@@ -1,8 +1,8 @@
 -- How an engine reads and writes.
-use Rattle.std.specs.Prelude.{◌≡◌, ℕ, ◌≤◌, List, length, take, Option, IfSome}
+use Rattle.std.specs.Prelude.{◌≡◌, ℕ, ◌≤◌, List, length, take, Option, IfSome, Result, MatchResult, Vec}
 use Rattle.std.specs.Io.KnownBytes.{Appends}
 use Rattle.bgp_codec.specs.declared.rule.Rule.{Rule}
-use Rattle.text_engines.specs.Decoding.{Output, output, Prints}
+use Rattle.text_engines.specs.Decoding.{Output, output, memory_output, Prints}
 
 -- what was read is all the known octets that were left, or a beginning of them that is above the limit
 abbrev pub ReadsUpTo : ℕ → Option (List ℕ) → List ℕ → Type 0
@@ -11,6 +11,10 @@ ReadsUpTo limit known items = IfSome known (λ input. (items ≡ take (length it
 -- a beginning of the text was appended
 abbrev pub AppendsFront : Option (List ℕ) → Option (List ℕ) → List ℕ → Type 0
 AppendsFront old new text = (n : ℕ) × Appends old new (take n text)
+
+-- what is printed where this text, with its status, was made; or memory ran out
+abbrev pub IsMade : {Z E : Type 0} → Result (Vec ℕ Z × ℕ) E → Output → Type 0
+IsMade made out = MatchResult made (λ printed. out ≡ output printed.0.items printed.1) (λ _. out ≡ memory_output)
 
 -- a whole output of these was appended, with this status
 abbrev pub WrittenBy : (Output → Type 0) → Option (List ℕ) → Option (List ℕ) → ℕ → Type 0

@@ -1,13 +1,12 @@
 -- The text printed for an input that is a network with a section behind it.
-use Rattle.std.specs.Prelude.{◌≡◌, ◌≢◌, ℕ, ◌<◌, ◌≤◌, ◌-◌, List, length, ◌⊎◌}
+use Rattle.std.specs.Prelude.{◌≡◌, ◌≢◌, ℕ, ◌-◌, List, length, ◌⊎◌}
 use Rattle.ranked_policy.specs.Plans.{Plan}
 use Rattle.net_text.specs.declared.code.Code.{Code}
 use Rattle.net_text.specs.declared.code.Code.TheVariants as kinds
 use Rattle.net_text.specs.Lexing.{Text, lines_of, before_section, behind_section}
 use Rattle.net_text.specs.Networks.{SpellsNetwork, RefusesNetwork}
 use Rattle.net_text.specs.Printing.{code_text}
-use Rattle.text_engines.specs.Decoding.{Output, refused, memory_output}
-use Rattle.text_engines.specs.declared.transfer.TheConstants.{INPUT_LIMIT}
+use Rattle.text_engines.specs.Decoding.{Output, refused, WithinLimit, OrMemory}
 
 -- ---- `Gives` says what is printed for a network and the lines of the section, so many lines standing before them
 
@@ -24,9 +23,8 @@ LinesGive Gives name lines out =
 
 -- the text for an input, which may be too long
 abbrev pub InputGives : (Plan → ℕ → List Text → Output → Type 0) → List ℕ → List ℕ → Output → Type 0
-InputGives Gives name input out =
-    (INPUT_LIMIT < length input × (out ≡ refused 0 (code_text kinds.OutOfLimit))) ⊎ ((length input ≤ INPUT_LIMIT) × LinesGive Gives name (lines_of input) out)
+InputGives Gives name input out = WithinLimit (λ text. LinesGive Gives name (lines_of text)) input out
 
 -- the text that the program prints: this one, or that memory ran out
 abbrev pub Prints : (Plan → ℕ → List Text → Output → Type 0) → List ℕ → List ℕ → Output → Type 0
-Prints Gives name input out = InputGives Gives name input out ⊎ (out ≡ memory_output)
+Prints Gives name input out = OrMemory (InputGives Gives name) input out

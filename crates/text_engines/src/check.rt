@@ -1,17 +1,17 @@
 //! `bgpnet check`: whether an assignment of paths is stable.
 
-ghost use Rattle.std.specs.Prelude.{◌≡◌, ◌≤◌, ◌^◌, ◌<◌, ◌+◌, ◌⊎◌, length, IfOk, OnOk, OnErr, true, false};
+ghost use Rattle.std.specs.Prelude.{◌≡◌, ◌^◌, ◌<◌, ◌+◌, ◌⊎◌, length, codes, IfOk, OnOk, OnErr, true, false};
 ghost use Rattle.net_text.specs.Lexing.{lines_of};
 ghost use Rattle.text_engines.specs.Decoding.{output};
 ghost use Rattle.text_engines.specs.Engine.{PrintedBy, PrintedFrontBy};
-ghost use Rattle.text_engines.specs.Inputs.{NetworkGives};
-ghost use Rattle.text_engines.specs.Checking.{AssignmentGives, CheckGives, Checks};
+ghost use Rattle.text_engines.specs.Inputs.{NetworkGives, LinesGive};
+ghost use Rattle.text_engines.specs.Checking.{AssignmentGives, Checks};
 
 use crate::assignments::entries_output;
 use crate::channel::{IoStopped, Sink, Source};
-use crate::refusals::{refused_output, text_output};
-use crate::transfer::{INPUT_LIMIT, InputError, read_input, want_of_memory, write_out};
-use net_text::{Code, Split, read_assignment, read_network, split_at_section};
+use crate::engine::{Engine, answer_input};
+use crate::refusals::text_output;
+use net_text::{Split, read_assignment, read_network, split_at_section};
 use ranked_policy::Network;
 use std::alloc::{AllocError, Global};
 
@@ -45,15 +45,17 @@ fn network_output(alloc: Global, split: &Split) -> Result<(Vec<u8>, u8), AllocEr
     }
 }
 
-// What is printed for an input, and the status.
-fn check_output(alloc: Global, input: Vec<u8>) -> Result<(Vec<u8>, u8), AllocError>
-    ensures { IfOk result (λ printed. CheckGives input.items (output printed.0.items printed.1)) }
-{
-    if input.len() > INPUT_LIMIT {
-        return refused_output(alloc, 0, Code::OutOfLimit.text());
+// What `check` answers: a network and an assignment behind it.
+#[derive(Drop)]
+struct CheckEngine;
+
+impl Engine for CheckEngine {
+    ghost gives = { λ engine text out. LinesGive AssignmentGives (codes "assignment") (lines_of text) out };
+
+    fn answer(&self, alloc: Global, text: &[u8]) -> Result<(Vec<u8>, u8), AllocError> {
+        let split = split_at_section(text, b"assignment");
+        network_output(alloc, &split)
     }
-    let split = split_at_section(input.as_slice(), b"assignment");
-    network_output(alloc, &split)
 }
 
 /// Reads a network and an assignment of paths, writes whether the assignment is stable, or the first
@@ -80,16 +82,5 @@ pub fn check_stream<S: Source, T: Sink>(
     ensures stopped { OnErr result
         (PrintedFrontBy Checks (S.remaining source.old) (T.contents sink.old) (T.contents sink.new)) }
 {
-    let input = match read_input(alloc, source) {
-        Ok(input) => input,
-        Err(InputError::Memory) => return want_of_memory(sink),
-        Err(InputError::Stopped) => return Err(IoStopped),
-    };
-    match check_output(alloc, input) {
-        Ok((text, status)) => {
-            write_out(sink, text.as_slice())?;
-            Ok(status)
-        }
-        Err(_) => want_of_memory(sink),
-    }
+    answer_input(alloc, &CheckEngine, source, sink)
 }

@@ -10,7 +10,7 @@ use crate::hex_input::{HexInput, read_hex};
 use crate::refusals::refused_output;
 use crate::status::REFUSED;
 use crate::stream::stream_output;
-use crate::transfer::{InputError, want_of_memory, write_out};
+use crate::transfer::{InputError, want_of_memory, write_output};
 use bgp_codec::Rule;
 use net_text::Code;
 use std::alloc::{AllocError, Global};
@@ -53,16 +53,9 @@ pub fn decode_stream<S: Source, T: Sink>(
     ensures stopped { OnErr result
         (PrintedFront rule.now (S.remaining source.old) (T.contents sink.old) (T.contents sink.new)) }
 {
-    let input = match read_hex(alloc, source) {
-        Ok(input) => input,
-        Err(InputError::Memory) => return want_of_memory(sink),
-        Err(InputError::Stopped) => return Err(IoStopped),
-    };
-    match decode_output(alloc, rule, input) {
-        Ok((text, status)) => {
-            write_out(sink, text.as_slice())?;
-            Ok(status)
-        }
-        Err(_) => want_of_memory(sink),
+    match read_hex(alloc, source) {
+        Ok(input) => write_output(sink, decode_output(alloc, rule, input)),
+        Err(InputError::Memory) => want_of_memory(sink),
+        Err(InputError::Stopped) => Err(IoStopped),
     }
 }

@@ -6,8 +6,10 @@
 //! `bgpnet decode` is that of [`decode_stream`], that of `bgpnet check` that of [`check_stream`]; the
 //! definitions stand in `specs/`: `Decoding` (the text of a stream), `Inputs` (a network and a section
 //! behind it), `Checking` (the text of a check), `Engine` (what an engine may leave written), `Digits`
-//! (octets in hex). The lines themselves are `net_text`'s. What every engine shares is here too:
-//! [`read_input`], [`write_out`], [`want_of_memory`], [`refused_output`] and [`text_output`].
+//! (octets in hex). The lines themselves are `net_text`'s. What every engine shares is here too: an [`Engine`] says what
+//! it answers to a text, and [`answer_input`] reads the text and writes that answer. One that reads something else, or
+//! starts threads, ends in [`write_output`] behind its own reading. [`refused_output`] and [`text_output`] make the answer
+//! to a refusal.
 #![tactic(auto)]
 
 mod assignments;
@@ -16,6 +18,7 @@ mod channel;
 mod check;
 mod decode;
 mod digits;
+mod engine;
 mod hex_input;
 pub mod laws;
 mod refusals;
@@ -26,5 +29,6 @@ mod transfer;
 pub use channel::{IoStopped, Sink, Source, Watched};
 pub use check::check_stream;
 pub use decode::decode_stream;
+pub use engine::{Engine, answer_input};
 pub use refusals::{refused_output, text_output};
-pub use transfer::{INPUT_LIMIT, InputError, read_input, want_of_memory, write_out};
+pub use transfer::{INPUT_LIMIT, InputError, read_input, want_of_memory, write_out, write_output};

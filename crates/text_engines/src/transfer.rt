@@ -1,8 +1,8 @@
-//! The work of every engine: it reads all of its input, and writes a text.
+//! How an input is read whole, and a text written.
 
 ghost use Rattle.std.specs.Prelude.{◌≡◌, ℕ, ◌+◌, ◌<◌, ◌≤◌, length, vec_len, IfOk, OnOk, OnErr, IsErrOf, true};
 ghost use Rattle.std.specs.Io.KnownBytes.{Appends};
-ghost use Rattle.text_engines.specs.Engine.{ReadsUpTo, AppendsFront};
+ghost use Rattle.text_engines.specs.Engine.{ReadsUpTo, AppendsFront, IsMade, WrittenBy, WrittenFrontBy};
 ghost use Rattle.text_engines.specs.Decoding.{memory_output};
 ghost use Rattle.text_engines.specs.declared.status.TheConstants.{MEMORY};
 
@@ -69,6 +69,25 @@ pub fn read_input<S: Source>(alloc: Global, source: &mut S) -> Result<Vec<u8>, I
     match new_chunk(alloc) {
         Ok(mut chunk) => read_by(alloc, source, chunk.as_mut_slice()),
         Err(_) => Err(InputError::Memory),
+    }
+}
+
+/// Writes the text that was made and answers its status, or writes `memory` alone where memory was refused.
+pub fn write_output<T: Sink>(
+    sink: &mut T,
+    made: Result<(Vec<u8>, u8), AllocError>,
+) -> Result<u8, IoStopped>
+    ensures done { IfOk result (λ status. WrittenBy (IsMade made) (T.contents sink.old) (T.contents sink.new) status) }
+    ensures stopped { OnErr result (WrittenFrontBy (IsMade made) (T.contents sink.old) (T.contents sink.new)) }
+    ensures failed { OnErr result (T.failed sink.new ≡ true) }
+    ensures unfailed { OnOk result (T.failed sink.new ≡ T.failed sink.old) }
+{
+    match made {
+        Ok((text, status)) => {
+            write_out(sink, text.as_slice())?;
+            Ok(status)
+        }
+        Err(_) => want_of_memory(sink),
     }
 }
 

@@ -1,9 +1,7 @@
 -- What calls give and leave, one behind the other.
 use Rattle.std.proofs.Common.{◌≡◌, ◌≢◌, ℕ, suc, ◌+◌, ◌-◌, ◌==◌, ◌<◌, List, [], ◌∷◌, ◌++◌, length, take, drop, get_or, refl, ap, sym, subst, ◌∙◌, inl, inr, Ok, Err, append_assoc}
-use Rattle.std.specs.Prelude.{Option, None, Some, false, codes}
+use Rattle.std.specs.Prelude.{Option, None, Some, false}
 use Rattle.std.proofs.lemmas.List.{append-nil, length-append, take_more}
-use Rattle.std.specs.Io.KnownBytes.{Appends}
-use Rattle.net_text.specs.Lexing.{lines_of}
 use Rattle.ranked_policy.specs.Plans.{Plan}
 use Rattle.router_model.specs.declared.refusal.Stepped.TheVariants as stepped
 use Rattle.router_model.specs.Settings.{Setting, ChoosesByRank}
@@ -18,16 +16,12 @@ use Rattle.world_core.specs.Views.{WorldView, plain_world, Answers, Opens}
 use Rattle.world_core.proofs.Orders.{on_to, repeated_one, repeated_among}
 use Rattle.text_engines.specs.declared.status.TheConstants.{DONE, REFUSED}
 use Rattle.text_engines.specs.Decoding.{output}
-use Rattle.text_engines.specs.declared.transfer.TheConstants.{INPUT_LIMIT}
-use Rattle.text_engines.specs.Engine.{ReadsUpTo, AppendsFront, PrintedBy, PrintedFrontBy}
-use Rattle.text_engines.specs.Inputs.{LinesGive}
-use Rattle.text_engines.proofs.CheckLemmas.{parted, limited_done, limited_stopped}
+use Rattle.text_engines.proofs.CheckLemmas.{parted}
 use Rattle.play_engine.specs.declared.schedules.Stop.{Stop}
 use Rattle.play_engine.specs.Playing.{LeadTo, IsFirstRefused}
 use Rattle.play_engine.proofs.PlayLemmas.{lead_on}
 use Rattle.schedule_text.specs.Events.{event_line}
 use Rattle.trace_engine.specs.Tracing.{AreComments, EventsText, rest_in, rest_of, head_text, tail_text, count_of, OrderText, OrdersText, StoppedText, stop_comment, limited, OrdersTrace, Adds, HaltsAt, HaltsIn, TracesOne, TracesEvents, TracesWork, TracesOrder, TracesAll}
-use Rattle.trace_engine.specs.Tracings.{ScheduleTraces, network_lines, InputTraces, Traces}
 use Rattle.trace_engine.proofs.TextLemmas.{text_behind, halted_text, reached_is, did, idled, failed, orders_behind, rested, moved}
 
 -- ---- one event
@@ -251,12 +245,3 @@ all_stopped net x y head orders stop mid kind opens h = λ g e ranks.
       k.1.1,
       ap (λ (t : List ℕ). output (limited t) REFUSED) (ap (λ (t : List ℕ). t ++ stop_comment stop.line stop.why) k.1.2 ∙ append_assoc head said (stop_comment stop.line stop.why)),
     )
-
--- ---- what is printed for what was read
-
-pub traces_done : (known old new : Option (List ℕ)) (items text : List ℕ) (status : ℕ) → ReadsUpTo INPUT_LIMIT known items → InputTraces items (output text status) → Appends old new text → PrintedBy Traces known old new status
-traces_done known old new items text status read gives put = limited_done (λ input out. LinesGive (ScheduleTraces (network_lines input)) (codes "schedule") (lines_of input) out) known old new items text status read gives put
-
-pub traces_stopped : (known old new : Option (List ℕ)) (items text : List ℕ) (status : ℕ) → ReadsUpTo INPUT_LIMIT known items → InputTraces items (output text status) → AppendsFront old new text → PrintedFrontBy Traces known old new
-traces_stopped known old new items text status read gives put =
-    limited_stopped (λ input out. LinesGive (ScheduleTraces (network_lines input)) (codes "schedule") (lines_of input) out) known old new items text status read gives put

@@ -1,16 +1,17 @@
 //! What is printed for an input of a network and a schedule.
 
-ghost use Rattle.std.specs.Prelude.{◌^◌, ◌<◌, ◌+◌, length, IfOk};
+ghost use Rattle.std.specs.Prelude.{◌^◌, ◌<◌, ◌+◌, length, codes, IfOk};
 ghost use Rattle.net_text.specs.Lexing.{lines_of};
 ghost use Rattle.text_engines.specs.Decoding.{output};
-ghost use Rattle.trace_engine.specs.Tracings.{ScheduleTraces, LinesTrace, InputTraces};
+ghost use Rattle.text_engines.specs.Inputs.{LinesGive};
+ghost use Rattle.trace_engine.specs.Tracings.{ScheduleTraces, LinesTrace, network_lines};
 
 use crate::orders::orders_output;
-use net_text::{Code, Split, read_network, split_at_section};
+use net_text::{Split, read_network, split_at_section};
 use ranked_policy::Network;
 use schedule_text::read_schedule;
 use std::alloc::{AllocError, Global};
-use text_engines::{INPUT_LIMIT, refused_output, text_output};
+use text_engines::{Engine, text_output};
 
 // What is printed for a schedule behind a network of these lines, so many lines standing before it.
 fn schedule_output(
@@ -56,17 +57,17 @@ fn network_output(
     }
 }
 
-/// What is printed for an input, with the octets of what is sent, or without, and the status.
-pub(crate) fn input_output(
-    alloc: Global,
-    shows_octets: bool,
-    input: Vec<u8>,
-) -> Result<(Vec<u8>, u8), AllocError>
-    ensures { IfOk result (λ printed. InputTraces input.items (output printed.0.items printed.1)) }
-{
-    if input.len() > INPUT_LIMIT {
-        return refused_output(alloc, 0, Code::OutOfLimit.text());
+/// What `trace` answers: a network and a schedule behind it, with the octets of what is sent, or without.
+#[derive(Drop)]
+pub(crate) struct TraceEngine {
+    pub(crate) shows_octets: bool,
+}
+
+impl Engine for TraceEngine {
+    ghost gives = { λ engine text out. LinesGive (ScheduleTraces (network_lines text)) (codes "schedule") (lines_of text) out };
+
+    fn answer(&self, alloc: Global, text: &[u8]) -> Result<(Vec<u8>, u8), AllocError> {
+        let split = split_at_section(text, b"schedule");
+        network_output(alloc, self.shows_octets, &split)
     }
-    let split = split_at_section(input.as_slice(), b"schedule");
-    network_output(alloc, shows_octets, &split)
 }

@@ -4,9 +4,9 @@ ghost use Rattle.std.specs.Prelude.{◌≡◌, ◌⊎◌, IfOk, OnOk, OnErr, tru
 ghost use Rattle.text_engines.specs.Engine.{PrintedBy, PrintedFrontBy};
 ghost use Rattle.trace_engine.specs.Tracings.{Traces};
 
-use crate::stream::input_output;
+use crate::stream::TraceEngine;
 use std::alloc::Global;
-use text_engines::{InputError, IoStopped, Sink, Source, read_input, want_of_memory, write_out};
+use text_engines::{IoStopped, Sink, Source, answer_input};
 
 /// Reads a network and a schedule, and writes the run that the schedule leads to as a schedule: the network's
 /// lines, the line `schedule`, and the order of each event that was done, with comments of what it did and of what
@@ -36,16 +36,5 @@ pub fn trace_stream<S: Source, T: Sink>(
     ensures stopped { OnErr result
         (PrintedFrontBy Traces (S.remaining source.old) (T.contents sink.old) (T.contents sink.new)) }
 {
-    let input = match read_input(alloc, source) {
-        Ok(input) => input,
-        Err(InputError::Memory) => return want_of_memory(sink),
-        Err(InputError::Stopped) => return Err(IoStopped),
-    };
-    match input_output(alloc, shows_octets, input) {
-        Ok((text, status)) => {
-            write_out(sink, text.as_slice())?;
-            Ok(status)
-        }
-        Err(_) => want_of_memory(sink),
-    }
+    answer_input(alloc, &TraceEngine { shows_octets }, source, sink)
 }

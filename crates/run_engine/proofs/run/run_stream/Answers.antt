@@ -1,26 +1,23 @@
-use Rattle.std.proofs.Common.{inr, refl}
+use Rattle.std.proofs.Common.{ℕ, List, inr, refl}
 use Rattle.net_text.specs.Lexing.{lines_of}
+use Rattle.text_engines.proofs.WritingLemmas.{nothing_stopped, memory_stopped, made_done, made_stopped, limited_made}
 use Rattle.run_engine.specs.Running.{LinesRun, Runs}
-use Rattle.text_engines.proofs.CheckLemmas.{limited_done, limited_stopped, on_err}
-use Rattle.text_engines.proofs.WritingLemmas.{memory_stopped_by, nothing_front_by}
 use Rattle.run_engine.proofs.run.run_stream.Goals as goal
 
 pub returns-in-Err-Stopped-clause-stopped : goal.returns-in-Err-Stopped-clause-stopped
-returns-in-Err-Stopped-clause-stopped g c = nothing_front_by (Runs c.args.options.now) (λ input. inr refl) _ _
+returns-in-Err-Stopped-clause-stopped g c = nothing_stopped (Runs c.args.options.now) _ _ (λ input. inr refl)
 
 pub returns-in-Err-Memory-clause-stopped : goal.returns-in-Err-Memory-clause-stopped
-returns-in-Err-Memory-clause-stopped g c = memory_stopped_by (Runs c.args.options.now) (λ input. inr refl) _ _ _ c.want_of_memory.result c.want_of_memory.ensures.stopped
+returns-in-Err-Memory-clause-stopped g c = memory_stopped (Runs c.args.options.now) _ _ _ c.want_of_memory.result (λ input. inr refl) c.want_of_memory.ensures.stopped
 
-pub returns-in-Err-clause-stopped : goal.returns-in-Err-clause-stopped
-returns-in-Err-clause-stopped g c = memory_stopped_by (Runs c.args.options.now) (λ input. inr refl) _ _ _ c.want_of_memory-in-Err.result c.want_of_memory-in-Err.ensures.stopped
+pub returns-in-Ok-clause-done : goal.returns-in-Ok-clause-done
+returns-in-Ok-clause-done g c =
+    let gives = λ (text : List ℕ). LinesRun c.args.options.now (lines_of text) in
+    let made = c.run_output.result in
+    made_done (Runs c.args.options.now) _ _ _ made c.write_output.result (limited_made gives _ c.in-Ok.input.items made c.in-Ok.ensures.ok c.run_output.ensures) c.write_output.ensures.done
 
-pub returns-in_err-write_out-in-Ok-run_output-clause-stopped : goal.returns-in_err-write_out-in-Ok-run_output-clause-stopped
-returns-in_err-write_out-in-Ok-run_output-clause-stopped g c =
-    on_err c.from_residual.result
-    (limited_stopped (λ input out. LinesRun c.args.options.now (lines_of input) out) _ _ _ c.in-Ok.input.items c.in-Ok-run_output.text.items c.in-Ok-run_output.status c.in-Ok.ensures.ok c.in-Ok-run_output.ensures
-    (rw c.as_slice.ensures.value at c.in_err-write_out-in-Ok-run_output.ensures.stopped))
-
-pub returns-in_ok-write_out-in-Ok-run_output-clause-done : goal.returns-in_ok-write_out-in-Ok-run_output-clause-done
-returns-in_ok-write_out-in-Ok-run_output-clause-done g c =
-    limited_done (λ input out. LinesRun c.args.options.now (lines_of input) out) _ _ _ c.in-Ok.input.items c.in-Ok-run_output.text.items c.in-Ok-run_output.status c.in-Ok.ensures.ok c.in-Ok-run_output.ensures
-    (rw c.as_slice.ensures.value at c.in_ok-write_out-in-Ok-run_output.ensures.ok)
+pub returns-in-Ok-clause-stopped : goal.returns-in-Ok-clause-stopped
+returns-in-Ok-clause-stopped g c =
+    let gives = λ (text : List ℕ). LinesRun c.args.options.now (lines_of text) in
+    let made = c.run_output.result in
+    made_stopped (Runs c.args.options.now) _ _ _ made c.write_output.result (limited_made gives _ c.in-Ok.input.items made c.in-Ok.ensures.ok c.run_output.ensures) c.write_output.ensures.stopped

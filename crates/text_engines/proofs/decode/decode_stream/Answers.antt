@@ -1,24 +1,20 @@
-use Rattle.text_engines.proofs.CheckLemmas.{on_err}
-use Rattle.text_engines.proofs.HexInputLemmas.{decode_done, decode_stopped}
-use Rattle.text_engines.proofs.WritingLemmas.{memory_stopped, nothing_front}
+use Rattle.std.proofs.Common.{inr, refl}
+use Rattle.text_engines.specs.Decoding.{Prints}
+use Rattle.text_engines.proofs.WritingLemmas.{nothing_stopped, memory_stopped, made_done, made_stopped, heard_made}
 use Rattle.text_engines.proofs.decode.decode_stream.Goals as goal
 
 pub returns-in-Err-Stopped-clause-stopped : goal.returns-in-Err-Stopped-clause-stopped
-returns-in-Err-Stopped-clause-stopped g c = nothing_front c.args.rule.now _ _
+returns-in-Err-Stopped-clause-stopped g c = nothing_stopped (Prints c.args.rule.now) _ _ (λ input. inr refl)
 
 pub returns-in-Err-Memory-clause-stopped : goal.returns-in-Err-Memory-clause-stopped
-returns-in-Err-Memory-clause-stopped g c = memory_stopped c.args.rule.now _ _ _ c.want_of_memory.result c.want_of_memory.ensures.stopped
+returns-in-Err-Memory-clause-stopped g c = memory_stopped (Prints c.args.rule.now) _ _ _ c.want_of_memory.result (λ input. inr refl) c.want_of_memory.ensures.stopped
 
-pub returns-in-Err-clause-stopped : goal.returns-in-Err-clause-stopped
-returns-in-Err-clause-stopped g c = memory_stopped c.args.rule.now _ _ _ c.want_of_memory-in-Err.result c.want_of_memory-in-Err.ensures.stopped
+pub returns-in-Ok-clause-done : goal.returns-in-Ok-clause-done
+returns-in-Ok-clause-done g c =
+    let made = c.decode_output.result in
+    made_done (Prints c.args.rule.now) _ _ _ made c.write_output.result (heard_made c.args.rule.now _ c.in-Ok.input made c.in-Ok.ensures.ok c.decode_output.ensures) c.write_output.ensures.done
 
-pub returns-in_err-write_out-in-Ok-decode_output-clause-stopped : goal.returns-in_err-write_out-in-Ok-decode_output-clause-stopped
-returns-in_err-write_out-in-Ok-decode_output-clause-stopped g c =
-    on_err c.from_residual.result
-    (decode_stopped c.args.rule.now _ _ _ c.in-Ok.input c.in-Ok-decode_output.text.items c.in-Ok-decode_output.status c.in-Ok.ensures.ok c.in-Ok-decode_output.ensures
-    (rw c.as_slice.ensures.value at c.in_err-write_out-in-Ok-decode_output.ensures.stopped))
-
-pub returns-in_ok-write_out-in-Ok-decode_output-clause-done : goal.returns-in_ok-write_out-in-Ok-decode_output-clause-done
-returns-in_ok-write_out-in-Ok-decode_output-clause-done g c =
-    decode_done c.args.rule.now _ _ _ c.in-Ok.input c.in-Ok-decode_output.text.items c.in-Ok-decode_output.status c.in-Ok.ensures.ok c.in-Ok-decode_output.ensures
-    (rw c.as_slice.ensures.value at c.in_ok-write_out-in-Ok-decode_output.ensures.ok)
+pub returns-in-Ok-clause-stopped : goal.returns-in-Ok-clause-stopped
+returns-in-Ok-clause-stopped g c =
+    let made = c.decode_output.result in
+    made_stopped (Prints c.args.rule.now) _ _ _ made c.write_output.result (heard_made c.args.rule.now _ c.in-Ok.input made c.in-Ok.ensures.ok c.decode_output.ensures) c.write_output.ensures.stopped
