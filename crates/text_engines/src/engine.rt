@@ -46,14 +46,20 @@ pub fn answer_input<E: Engine, S: Source, T: Sink>(
     sink: &mut T,
 ) -> Result<u8, IoStopped>
     // What is written is what is printed for what was read, and nothing else.
-    ensures done { IfOk result (λ status. PrintedBy (OrMemory (WithinLimit (E.gives engine.now))) (S.remaining source.old) (T.contents sink.old) (T.contents sink.new) status) }
+    ensures done { IfOk result
+        (λ status. PrintedBy (OrMemory (WithinLimit (E.gives engine.now))) (S.remaining source.old)
+        (T.contents sink.old) (T.contents sink.new) status) }
     // It answers a status only where no read and no write failed, and stops only where one did.
-    ensures unfailed { OnOk result ((S.failed source.new ≡ S.failed source.old) × (T.failed sink.new ≡ T.failed sink.old)) }
+    ensures unfailed { OnOk result
+        ((S.failed source.new ≡ S.failed source.old) × (T.failed sink.new ≡ T.failed sink.old)) }
     ensures failed { OnErr result ((S.failed source.new ≡ true) ⊎ (T.failed sink.new ≡ true)) }
     // Where a read failed nothing is written.
-    ensures silent { S.failed source.old ≡ false → S.failed source.new ≡ true → T.contents sink.new ≡ T.contents sink.old }
+    ensures silent { S.failed source.old ≡ false → S.failed source.new ≡ true
+        → T.contents sink.new ≡ T.contents sink.old }
     // A failed read or write leaves a beginning of the text.
-    ensures stopped { OnErr result (PrintedFrontBy (OrMemory (WithinLimit (E.gives engine.now))) (S.remaining source.old) (T.contents sink.old) (T.contents sink.new)) }
+    ensures stopped { OnErr result
+        (PrintedFrontBy (OrMemory (WithinLimit (E.gives engine.now))) (S.remaining source.old) (T.contents sink.old)
+        (T.contents sink.new)) }
 {
     match read_input(alloc, source) {
         Ok(input) => write_output(sink, limited_answer(alloc, engine, input)),
