@@ -43,8 +43,8 @@ fn run_of(piece: &[u8; PIECE]) -> usize
     }
 }
 
-// How many octets in front are none of them a blank and worth to be moved as one, at most a piece: 0 where less
-// than a piece is left.
+// How many octets in front are moved as one: at most a piece, and no blank among them. None where less than a piece is
+// left.
 #[inline(always)]
 fn run_in_front(octets: &[u8]) -> usize
     ensures bound { result ≤ length octets.now }

@@ -123,8 +123,10 @@ fn every_length_is_read(rt: HostRuntime) -> Result<(), Fail> {
 fn every_beginning_is_read(rt: HostRuntime) -> Result<(), Fail> {
     let alloc = rt.alloc();
     for len in 0..42usize {
-        let digits = digits_of(alloc, 0, false, len)?;
-        each_step_reads(&rt, alloc, digits.as_slice(), digits.as_slice())?;
+        for is_upper in [false, true] {
+            let digits = digits_of(alloc, 0, is_upper, len)?;
+            each_step_reads(&rt, alloc, digits.as_slice(), digits.as_slice())?;
+        }
     }
     Ok(())
 }
