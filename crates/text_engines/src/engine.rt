@@ -1,4 +1,4 @@
-//! What every engine does: it reads a text whole, and writes what it answers to it.
+//! Engines: each reads a text whole, and writes its answer.
 
 ghost use Rattle.std.specs.Prelude.{◌≡◌, ℕ, ◌⊎◌, List, IfOk, OnOk, OnErr, true, false};
 ghost use Rattle.text_engines.specs.Decoding.{Output, output, WithinLimit, OrMemory};
@@ -10,17 +10,17 @@ use crate::transfer::{INPUT_LIMIT, InputError, read_input, want_of_memory, write
 use net_text::Code;
 use std::alloc::{AllocError, Global};
 
-/// What an engine answers to a text.
+/// An engine: it answers a text.
 pub trait Engine {
-    // What is printed for a text that is no longer than the limit.
+    // The output that it may print for a text within the limit.
     ghost gives: { Self → List ℕ → Output → Type 0 };
 
-    /// What is printed for such a text, and the status. Refused only where memory was.
+    /// The text printed for a text within the limit, and the exit status. Refused only for want of memory.
     fn answer(&self, alloc: Global, text: &[u8]) -> Result<(Vec<u8>, u8), AllocError>
         ensures { IfOk result (λ printed. gives self.now text.now (output printed.0.items printed.1)) };
 }
 
-// What is printed for a text that may be longer than the limit, and the status.
+// The text printed for an input, which may be longer than the limit, and the exit status.
 fn limited_answer<E: Engine>(
     alloc: Global,
     engine: &E,
@@ -34,11 +34,11 @@ fn limited_answer<E: Engine>(
     engine.answer(alloc, input.as_slice())
 }
 
-/// Reads all that there is, writes what the engine answers to it, and answers the status. A text that is longer than
-/// the limit is refused.
+/// Reads the whole input, writes what the engine answers, and returns the exit status. An input of more than
+/// [`INPUT_LIMIT`] octets is refused.
 ///
-/// Where memory is refused it writes `memory` alone and answers 3. It stops only where a read or a
-/// write failed, and then what was written is a beginning of the text.
+/// If memory is refused it writes `memory` alone and returns 3. It stops only if a read or a write failed; what was
+/// written is then a beginning of the text.
 pub fn answer_input<E: Engine, S: Source, T: Sink>(
     alloc: Global,
     engine: &E,

@@ -72,7 +72,7 @@ pub fn read_input<S: Source>(alloc: Global, source: &mut S) -> Result<Vec<u8>, I
     }
 }
 
-/// Writes the text that was made and answers its status, or writes `memory` alone where memory was refused.
+/// Writes the text that was made and returns its status. If memory was refused it writes `memory` alone and returns 3.
 pub fn write_output<T: Sink>(
     sink: &mut T,
     made: Result<(Vec<u8>, u8), AllocError>,
