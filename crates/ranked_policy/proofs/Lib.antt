@@ -10,3 +10,4 @@ pub mod WaysOn
 mod TestLemmas
 pub mod PlaceLemmas
 mod WayLemmas
+mod PeerLemmas

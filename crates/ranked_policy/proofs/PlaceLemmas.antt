@@ -1,12 +1,14 @@
 -- What a binary search finds among routers by rising number, and among origins by rising prefix.
-use Rattle.std.proofs.Common.{◌≡◌, ℕ, ◌+◌, ◌-◌, [], ◌<◌, ◌≤◌, List, length, get_or, take, drop, Result, Ok, Err, refl, sym, ap, subst, ◌∙◌, arith, inl, inr}
+use Rattle.std.proofs.Common.{◌≡◌, ℕ, ◌+◌, ◌-◌, [], ◌<◌, ◌≤◌, List, length, get_or, take, drop, Result, Ok, Err, Some, map, refl, sym, ap, subst, ◌∙◌, arith, inl, inr}
 use Rattle.std.specs.Prelude.{IfOk, IfErr}
-use Rattle.std.specs.List.{All, AllPairs, Any, HoldsAt}
+use Rattle.std.specs.List.{All, AllPairs, Any, HoldsAt, slice_get}
+use Rattle.std.specs.Option.{option_map}
 use Rattle.std.specs.List.Sorted.{IsSearchInRange, IsBinarySearchResult, IsNonDecreasingBy}
 use Rattle.std.specs.declared.cmp.Ordering.{Ordering}
 use Rattle.std.specs.declared.cmp.Ordering.TheVariants.{Less, Equal, Greater}
 use Rattle.std.specs.Ordering.{MatchOrdering, nat_cmp, ordering_index, ordering_then}
 use Rattle.std.proofs.lemmas.Cmp.{ranked}
+use Rattle.std.proofs.lemmas.Option.{slice_get-get_or, slice_get-map}
 use Rattle.std.proofs.lemmas.Bool.{cases_order, cases_lt}
 use Rattle.std.proofs.lemmas.List.{get_or-take, get_or-drop, get_or_default, length-drop, length-take-le}
 use Rattle.prefix_lanes.specs.Bits.{PrefixView}
@@ -152,3 +154,7 @@ pub one_origin : (origins : List Origin) (q : PrefixView) (u v : ℕ) → AllPai
 one_origin origins q u v rising a b =
     let same : a.1 ≡ b.1 = one_of (λ o. o.prefix) origins a.0 b.0 a.1 b.1 (prefixes_differ origins rising) a.2 b.2 a.3 b.3 (a.4.0 ∙ sym b.4.0) in
     sym a.4.1 ∙ (ap (λ o. o.router) same ∙ b.4.1)
+
+-- what a list that is read by a function has at a place
+pub read_at : {X Y : Type 0} (f : X → Y) (xs : List X) (i : ℕ) (d : X) (y : Y) → i < length xs → f (get_or xs i d) ≡ y → slice_get (map f xs) i ≡ Some y
+read_at f xs i d y inside e = slice_get-map f xs i ∙ ap (option_map f) (slice_get-get_or xs i d inside) ∙ ap Some e

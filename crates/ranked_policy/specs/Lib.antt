@@ -1,6 +1,7 @@
 pub mod Paths
 pub mod Orders
 pub mod Plans
+pub mod Peers
 pub mod Ways
 pub mod Policies
 pub mod Adding

@@ -1,9 +1,10 @@
 //! A network that is built line by line.
 
-ghost use Rattle.std.specs.Prelude.{◌≡◌, ◌≢◌, ◌<◌, ◌↔◌, ℕ, [], IsTrue, IsSome, IfSome, IfOk, OnOk, IfErr, OnErr, MatchResult};
+ghost use Rattle.std.specs.Prelude.{◌≡◌, ◌≢◌, ◌<◌, ◌↔◌, ℕ, [], map, IsTrue, IsSome, IfSome, IfOk, OnOk, IfErr, OnErr, MatchResult};
 ghost use Rattle.std.specs.List.{All, AllPairs, Any, Contains};
 ghost use Rattle.ranked_policy.specs.Plans.{IsPlan, IsNetwork, IsRouter, IsOrigin, IsNamed, Linked};
 ghost use Rattle.ranked_policy.specs.Adding.{IsRefused, MeetsAll, SettingsMeet, RouterMeets, LinkMeets, OriginMeets, RuleMeets, NetworkMeets, AddsRouter, AddsOrigin, AddsRule, empty_plan, with_link};
+ghost use Rattle.ranked_policy.specs.Peers.{peers};
 ghost use Rattle.ranked_policy.specs.Ways.{HasWay};
 
 use crate::admission::{is_settings, judge_link, judge_origin, judge_router, judge_rule};
@@ -206,6 +207,7 @@ impl NetBuilder {
         ensures from { All (λ link. link.one ≡ asn) result.now }
         ensures rising { AllPairs (λ link later. link.other < later.other) result.now }
         ensures exact { (v : ℕ) → (HasWay result.now asn v ↔ Linked self.now.links asn v) }
+        ensures peers { map (λ link. link.other) result.now ≡ peers self.now asn }
     {
         self.ways.of(asn)
     }

@@ -83,10 +83,11 @@ impl Model for Network {
 }
 
 impl Network {
-    ghost use Rattle.std.specs.Prelude.{◌≡◌, ◌<◌, ◌↔◌, ℕ, IsTrue, IsSome, IfSome, IfOk, length};
+    ghost use Rattle.std.specs.Prelude.{◌≡◌, ◌<◌, ◌↔◌, ℕ, Some, IsTrue, IsSome, IfSome, IfOk, length, map, slice_get};
     ghost use Rattle.std.specs.List.{All, AllPairs, Contains, HoldsAt};
     ghost use Rattle.ranked_policy.specs.Plans.{IsNetwork, IsRouter, IsOrigin, IsNamed, Linked};
     ghost use Rattle.ranked_policy.specs.Policies.{IsTable, IsTableOf};
+    ghost use Rattle.ranked_policy.specs.Peers.{peers};
     ghost use Rattle.ranked_policy.specs.Ways.{HasWay};
 
     /// The network that was built.
@@ -135,6 +136,7 @@ impl Network {
         ensures from { All (λ link. link.one ≡ asn) result.now }
         ensures rising { AllPairs (λ link later. link.other < later.other) result.now }
         ensures exact { (v : ℕ) → (HasWay result.now asn v ↔ Linked self.now.links asn v) }
+        ensures peers { map (λ link. link.other) result.now ≡ peers self.now asn }
     {
         self.built.links_of(asn)
     }
@@ -168,6 +170,8 @@ impl Network {
         ensures some { IsSome result ↔ IsNamed self.now.origins prefix.now }
         ensures value { IfSome result
             (λ i. (i < length self.now.origins) × HoldsAt (λ origin. origin.prefix ≡ prefix.now) self.now.origins i) }
+        ensures stands { IfSome result
+            (λ i. slice_get (map (λ origin. origin.prefix) self.now.origins) i ≡ Some prefix.now) }
     {
         find_prefix(self.origins(), prefix)
     }
@@ -205,6 +209,7 @@ impl Network {
     pub fn peers(&self, alloc: Global, asn: Asn) -> Result<Items<Asn>, AllocError>
         ensures rising { IfOk result (λ peers. AllPairs (λ u v. u < v) peers) }
         ensures exact { IfOk result (λ peers. (v : ℕ) → (Contains peers v ↔ Linked self.now.links asn v)) }
+        ensures peers { IfOk result (λ numbers. numbers ≡ peers self.now asn) }
     {
         peers_of(alloc, self.links_of(asn))
     }

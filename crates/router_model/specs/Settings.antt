@@ -1,9 +1,9 @@
 -- The network as a router sees it, and how routers choose (Griffin, Shepherd and Wilfong 2002).
-use Rattle.std.specs.Prelude.{ℕ, ◌<◌, ◌^◌, ◌==◌, Bool, ◌&&◌, ◌||◌, cond, List, [], ◌∷◌, filter, map}
+use Rattle.std.specs.Prelude.{ℕ, ◌<◌, ◌^◌, ◌==◌, Bool, ◌&&◌, cond, List, [], ◌∷◌, map}
 use Rattle.std.specs.List.{list_any}
 use Rattle.prefix_lanes.specs.Bits.{PrefixView, is_prefix}
 use Rattle.ranked_policy.specs.Plans.{Plan, IsRouter, IsNamed, IsNetwork, numbers}
-use Rattle.ranked_policy.specs.declared.network.Link.{Link}
+pub use Rattle.ranked_policy.specs.Peers.{joins, linked, peers}
 use Rattle.ranked_policy.specs.declared.network.Origin.{Origin}
 use Rattle.ranked_policy.specs.declared.network.Router as network
 use Rattle.stable_paths.specs.Stable.{IsBest}
@@ -26,20 +26,9 @@ pub record IsSetting (g : Setting) : Type 0 where
   pub hold : g.net.settings.hold < 2 ^ 16
   pub chooses : ChoosesByRank g
 
--- a link joins two routers, named either way round
-abbrev pub joins : ℕ → ℕ → Link → Bool
-joins u v link = ((link.one == u) && (link.other == v)) || ((link.one == v) && (link.other == u))
-
-abbrev pub linked : Plan → ℕ → ℕ → Bool
-linked net u v = list_any (joins u v) net.links
-
 -- u is a router of the network
 abbrev pub is_router : Setting → ℕ → Bool
 is_router g u = list_any (λ n. u == n) (numbers g.net.routers)
-
--- the peers of a router, rising
-abbrev pub peers : Plan → ℕ → List ℕ
-peers net u = filter (linked net u) (numbers net.routers)
 
 -- the network names an origin of the prefix
 abbrev pub names : List Origin → PrefixView → Bool
