@@ -15,7 +15,7 @@ use Rattle.rib_tables.specs.declared.row.Peer.{Peer}
 use Rattle.rib_tables.specs.declared.row.Row.{Row}
 use Rattle.rib_tables.specs.Places.{has}
 use Rattle.rib_tables.specs.Tables.{word_of, Keeps}
-use Rattle.rib_tables.specs.Owners.{TellsKept, Originating, Withdrawing, KeepsPath, Clears}
+use Rattle.rib_tables.specs.Owners.{RibView, TellsKept, Originating, Withdrawing, KeepsPath, Clears}
 use Rattle.rib_tables.specs.Rows.{IsRow, AreRows, AreWaiting, IsRowBest, IsRib, Marks, on, telling, keeping, originating, clearing, said_in, established_in, originated_in, kept_in, view_of}
 use Rattle.rib_tables.proofs.WordLemmas.{is_prefix-true, is_prefix-from}
 use Rattle.rib_tables.proofs.RowChoices.{some_of}
@@ -44,6 +44,19 @@ module _ (net : Plan) (router : ℕ) (peers : List Peer) (keys : List PrefixView
 
   pub key_row : (q : PrefixView) (r : Option ℕ) (i : ℕ) → KeyFound keys q r → r ≡ Some i → (row : Row) × (slice_get rows i ≡ Some row) × (row.prefix ≡ q)
   key_row q r i found is = row_at keys rows whole.listed i q (key_is q r i found is)
+
+  -- a prefix whose place is known
+  pub key_at_place : (view : RibView) → view_of net router peers rows ≡ view → (q : PrefixView) (i : ℕ) → slice_get (map (λ o. o.prefix) view.net.origins) i ≡ Some q → slice_get keys i ≡ Some q
+  key_at_place view same q i at =
+      let mine = subst (λ (s : RibView). slice_get (map (λ o. o.prefix) s.net.origins) i ≡ Some q) (sym same) at in
+      ap (λ (ks : List PrefixView). slice_get ks i) whole.named ∙ mine
+
+  pub row_at_place : (view : RibView) → view_of net router peers rows ≡ view → (q : PrefixView) (i : ℕ) → slice_get (map (λ o. o.prefix) view.net.origins) i ≡ Some q
+      → (row : Row) × (slice_get rows i ≡ Some row) × (row.prefix ≡ q)
+  row_at_place view same q i at = row_at keys rows whole.listed i q (key_at_place view same q i at)
+
+  pub place_at_key : (q : PrefixView) (i : ℕ) → slice_get keys i ≡ Some q → slice_get (map (λ o. o.prefix) net.origins) i ≡ Some q
+  place_at_key q i at = ap (λ (ks : List PrefixView). slice_get ks i) (sym whole.named) ∙ at
 
   -- no row is of a prefix that was not found
   pub key_none : (q : PrefixView) → ((i : ℕ) (p : PrefixView) → slice_get keys i ≡ Some p → is_prefix q p ≡ false) → (i : ℕ) (r : Row) → slice_get rows i ≡ Some r → r.prefix ≡ q → ⊥

@@ -8,6 +8,7 @@ use Rattle.std.proofs.lemmas.Option.{slice_get_within, get_or_from_slice_get, sl
 use Rattle.prefix_lanes.specs.Bits.{PrefixView, is_prefix}
 use Rattle.ranked_policy.specs.declared.network.Origin.{Origin}
 use Rattle.ranked_policy.specs.Plans.{Plan, IsNetwork, IsRouter, IsOrigin, IsBefore, Linked}
+use Rattle.ranked_policy.specs.Peers.{peers as peers_of}
 use Rattle.ranked_policy.specs.Policies.{Table, IsTableOf, Originates}
 use Rattle.rib_tables.specs.declared.word.Word.{Word}
 use Rattle.rib_tables.specs.declared.place_set.PlaceSet.{PlaceSet}
@@ -79,8 +80,12 @@ maps_by_places {X} {Y} {Z} f g (x ∷ xs) (y ∷ ys) size each =
 abbrev down : ℕ → Peer
 down number = record { asn = number; up = false }
 
+numbers_down : (numbers : List ℕ) → map (λ p. p.asn) (map down numbers) ≡ numbers
+numbers_down [] = refl
+numbers_down (n ∷ ns) = ap (λ (ms : List ℕ). n ∷ ms) (numbers_down ns)
+
 module _ (net : Plan) (router : ℕ) (table : Table) (numbers : List ℕ) (rows : List Row) (is : IsNetwork net) (routers : IsRouter net.routers router) (of : IsTableOf net router table)
-    (rising : AllPairs (λ u v. u < v) numbers) (exact : (v : ℕ) → (Contains numbers v ↔ Linked net.links router v)) (fresh : AreFresh net.origins table (length numbers) net.origins rows) where
+    (are : numbers ≡ peers_of net router) (rising : AllPairs (λ u v. u < v) numbers) (exact : (v : ℕ) → (Contains numbers v ↔ Linked net.links router v)) (fresh : AreFresh net.origins table (length numbers) net.origins rows) where
   abbrev peers : List Peer
   peers = map down numbers
 
@@ -117,6 +122,7 @@ module _ (net : Plan) (router : ℕ) (table : Table) (numbers : List ℕ) (rows 
   first_rows = record {
     network = is;
     routers = routers;
+    numbers = numbers_down numbers ∙ are;
     apart = λ i j d lt below e.
         let under : j < length numbers = omega (arith, below, size) in
         let a = get_or-map down numbers i 0 d (omega (arith, lt, under)) in

@@ -10,6 +10,7 @@ use Rattle.prefix_lanes.specs.Bits.{PrefixView, is_prefix}
 use Rattle.bgp_codec.specs.declared.update.Update.{Update}
 use Rattle.ranked_policy.specs.declared.network.Origin.{Origin}
 use Rattle.ranked_policy.specs.Plans.{Plan, IsNamed, IsBefore}
+use Rattle.ranked_policy.specs.Peers.{peers as peers_of}
 use Rattle.rib_tables.specs.declared.word.Word.{Word}
 use Rattle.rib_tables.specs.declared.word.Word.TheVariants.{Sequence}
 use Rattle.rib_tables.specs.declared.place_set.PlaceSet.{PlaceSet}
@@ -18,7 +19,7 @@ use Rattle.rib_tables.specs.declared.row.Row.{Row}
 use Rattle.rib_tables.specs.Places.{has}
 use Rattle.rib_tables.specs.Words.{nothing, announced_word, Announces, Mentions, Says, lists, mentions}
 use Rattle.rib_tables.specs.Tables.{Words, word_of, Applies}
-use Rattle.rib_tables.specs.Owners.{HearsUpdate}
+use Rattle.rib_tables.specs.Owners.{RibView, HearsUpdate}
 use Rattle.rib_tables.specs.Rows.{says_in, said_in, established_in, kept_in, originated_in, view_of, IsRow, AreRows, AreDecided, AreJudged, IsRowBest, IsRib, AreFit, StaysDecided, hearing, hearing_all, hearing_update}
 use Rattle.rib_tables.proofs.WordLemmas.{is_prefix-true, is_prefix-from, decides_lists, decides_mentions, by_test}
 use Rattle.rib_tables.proofs.RowChoices.{some_of}
@@ -71,6 +72,7 @@ module _ (net : Plan) (router : ℕ) (peers : List Peer) (keys : List PrefixView
   rows_map keeps whole = record {
     network = whole.network;
     routers = whole.routers;
+    numbers = whole.numbers;
     apart = whole.apart;
     linked = whole.linked;
     known = whole.known;
@@ -310,3 +312,15 @@ pub place_is : (seen peers : List Peer) (v : ℕ) (r : Option ℕ) (k : ℕ) →
 place_is seen peers v r k same found is =
     let here : Found seen v (Some k) = subst (Found seen v) is found in
     (here.0, ap (λ (ps : List Peer). slice_get ps k) (sym same) ∙ here.1, here.2)
+
+-- ---- the place of a peer, as a caller knows it
+
+module _ (net : Plan) (router : ℕ) (peers : List Peer) (keys : List PrefixView) (rows : List Row) (whole : AreRows net router peers keys rows) (v : ℕ) where
+  pub peer_at_place : (view : RibView) → view_of net router peers rows ≡ view → (k : ℕ) → slice_get (peers_of view.net view.router) k ≡ Some v → (p : Peer) × (slice_get peers k ≡ Some p) × (p.asn ≡ v)
+  peer_at_place view same k at =
+      let mine = subst (λ (s : RibView). slice_get (peers_of s.net s.router) k ≡ Some v) (sym same) at in
+      let x = from_map (λ (p : Peer). p.asn) peers k v (ap (λ (ns : List ℕ). slice_get ns k) whole.numbers ∙ mine) in
+      (x.0, x.1, sym x.2)
+
+  pub place_at_peer : (k : ℕ) (p : Peer) → slice_get peers k ≡ Some p → p.asn ≡ v → slice_get (peers_of net router) k ≡ Some v
+  place_at_peer k p at e = ap (λ (ns : List ℕ). slice_get ns k) (sym whole.numbers) ∙ to_map (λ (p : Peer). p.asn) peers k p at ∙ ap Some e

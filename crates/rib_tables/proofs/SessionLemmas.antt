@@ -46,6 +46,12 @@ some_path (v ∷ rest) some = (v, rest, refl)
 speaks_there : (k : ℕ) (r : Row) (p : List ℕ) → p ≢ [] → slice_get r.heard k ≡ Some (Sequence p) → Speaking k r
 speaks_there k r p some at = let s = some_path p some in (s.0, s.1, at ∙ ap (λ (q : List ℕ). Some (Sequence q)) s.2)
 
+-- a session changes no number
+numbers_as : (peers : List Peer) (k : ℕ) (x : Peer) (up : Bool) → slice_get peers k ≡ Some x → map (λ p. p.asn) (set peers k (record { asn = x.asn; up = up })) ≡ map (λ p. p.asn) peers
+numbers_as [] k x up at = refl
+numbers_as (y ∷ ys) zero x up at = ap (λ (p : Peer). p.asn ∷ map (λ p. p.asn) ys) (sym (some_of y x at))
+numbers_as (y ∷ ys) (suc k) x up at = ap (λ (ns : List ℕ). y.asn ∷ ns) (numbers_as ys k x up at)
+
 module _ (net : Plan) (router : ℕ) (peers : List Peer) (keys : List PrefixView) (rows : List Row) (dirty : PlaceSet) (waits : List PlaceSet) (rib : IsRib net router peers keys rows dirty waits)
     (k : ℕ) (x : Peer) (at : slice_get peers k ≡ Some x) where
   abbrev turned : Bool → List Peer
@@ -77,6 +83,7 @@ module _ (net : Plan) (router : ℕ) (peers : List Peer) (keys : List PrefixView
   turned_rows up f prefix keeps = record {
     network = rib.whole.network;
     routers = rib.whole.routers;
+    numbers = numbers_as peers k x up at ∙ rib.whole.numbers;
     apart = λ i j d lt below e.
         let s = size up in
         rib.whole.apart i j d lt (omega (arith, below, s)) (sym (number_of up i d (omega (arith, lt, below, s))) ∙ e ∙ number_of up j d (omega (arith, below, s)));

@@ -5,6 +5,7 @@ use Rattle.prefix_lanes.specs.Bits.{PrefixView, is_prefix}
 use Rattle.ranked_policy.specs.declared.network.Origin.{Origin}
 use Rattle.ranked_policy.specs.declared.limits.TheConstants.{MOST_PREFIXES}
 use Rattle.ranked_policy.specs.Plans.{Plan, IsNetwork, IsRouter, IsOrigin, Linked}
+use Rattle.ranked_policy.specs.Peers.{peers as peers_of}
 use Rattle.ranked_policy.specs.Policies.{Table, IsTableOf, Originates}
 use Rattle.rib_tables.specs.declared.word.Word.{Word}
 use Rattle.rib_tables.specs.declared.word.Word.TheVariants.{Sequence}
@@ -87,6 +88,7 @@ pub record IsRow (net : Plan) (router : ℕ) (peers : List Peer) (r : Row) : Typ
 pub record AreRows (net : Plan) (router : ℕ) (peers : List Peer) (keys : List PrefixView) (rows : List Row) : Type 0 where
   pub network : IsNetwork net
   pub routers : IsRouter net.routers router
+  pub numbers : map (λ p. p.asn) peers ≡ peers_of net router
   pub apart : AllPairs (λ p later. p.asn ≢ later.asn) peers
   pub linked : (v : ℕ) → Linked net.links router v → (k : ℕ) × (p : Peer) × (slice_get peers k ≡ Some p) × (p.asn ≡ v)
   pub known : (k : ℕ) (p : Peer) → slice_get peers k ≡ Some p → Linked net.links router p.asn

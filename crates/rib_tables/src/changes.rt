@@ -45,40 +45,6 @@ pub(crate) fn place_of_peer(peers: &[Peer], asn: Asn) -> Option<usize>
     None
 }
 
-// The place of a prefix, found without a hint.
-#[inline(never)]
-fn place_elsewhere(keys: &IndexSet<Prefix>, prefix: &Prefix) -> Option<usize>
-    ensures { MatchOption result
-        ((i : ℕ) (q : PrefixView) → slice_get keys.now.keys i ≡ Some q → is_prefix prefix.now q ≡ false)
-        (λ i. slice_get keys.now.keys i ≡ Some prefix.now) }
-{
-    place_of(keys, prefix)
-}
-
-// The place of a prefix. The prefix is looked for at `near` first.
-pub(crate) fn place_near(keys: &IndexSet<Prefix>, near: usize, prefix: &Prefix) -> Option<usize>
-    ensures { MatchOption result
-        ((i : ℕ) (q : PrefixView) → slice_get keys.now.keys i ≡ Some q → is_prefix prefix.now q ≡ false)
-        (λ i. slice_get keys.now.keys i ≡ Some prefix.now) }
-{
-    match keys.get_index(near) {
-        Some(key) if key.equals(prefix) => Some(near),
-        _ => place_elsewhere(keys, prefix),
-    }
-}
-
-// The place of a peer. The peer is looked for at `near` first.
-pub(crate) fn place_of_peer_near(peers: &[Peer], near: usize, asn: Asn) -> Option<usize>
-    ensures { MatchOption result
-        ((k : ℕ) (p : Peer) → slice_get peers.now k ≡ Some p → p.asn ≡ asn → ⊥)
-        (λ k. (p : Peer) × (slice_get peers.now k ≡ Some p) × (p.asn ≡ asn)) }
-{
-    match peers.get(near) {
-        Some(peer) if peer.asn == asn => Some(near),
-        _ => place_of_peer(peers, asn),
-    }
-}
-
 // The words that an UPDATE announces, one for each prefix. All memory that an UPDATE needs is taken
 // here.
 fn announced_words(alloc: Global, update: &Update) -> Result<Vec<Word>, RibError>

@@ -14,7 +14,10 @@
 //! of a peer, and what each call does to it), `Choices` (the best of the choices), `Least` (the
 //! least prefix), `Promises` (what the laws say).
 //!
-//! Only [`Rib::new`], [`Rib::hear`], [`Rib::hear_path`], [`Rib::tell`], [`Rib::tell_at`],
+//! A peer has a place, its index among the router's peers by rising number, and a prefix its index in
+//! `Network::origins`. The calls `.._at` take a place that was found once; the others look for it.
+//!
+//! Only [`Rib::new`], [`Rib::hear`], [`Rib::hear_path`], [`Rib::tell`], their calls by place,
 //! [`Rib::best`] and [`Rib::decide`] take memory. Left out: sessions, attributes other than AS_PATH,
 //! and prefixes that the network does not name.
 #![tactic(auto)]

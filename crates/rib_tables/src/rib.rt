@@ -1,8 +1,9 @@
 //! The routing tables of one router, and the calls that change them.
 
-ghost use Rattle.std.specs.Prelude.{◌≡◌, ◌≢◌, ◌↔◌, ℕ, true, false, IsTrue, IfOk, IfErr, OnErr, OnOk, MatchOption};
+ghost use Rattle.std.specs.Prelude.{◌≡◌, ◌≢◌, ◌↔◌, ℕ, true, false, map, slice_get, Some, IsTrue, IfOk, IfErr, IfSome, OnErr, OnOk, MatchOption};
 ghost use Rattle.std.specs.List.{Contains};
 ghost use Rattle.ranked_policy.specs.Plans.{IsRouter, IsNamed, IsOrigin, Linked};
+ghost use Rattle.ranked_policy.specs.Peers.{peers};
 ghost use Rattle.prefix_lanes.specs.Bits.{PrefixView};
 ghost use Rattle.bgp_codec.specs.declared.update.Update as updates;
 ghost use Rattle.rib_tables.specs.Words.{nothing, TellsPath};
@@ -13,7 +14,7 @@ ghost use Rattle.rib_tables.specs.Owners.{sources_of, IsSettled, IsServed, IsAwa
 
 use crate::changes::{
     await_all, clear_all, forget_all, hear_path, hear_update, keep_at, mark_words, originate_at,
-    place_near, place_of, place_of_peer, place_of_peer_near, set_up, tell_at, untold, wait_all,
+    place_of, place_of_peer, set_up, tell_at, untold, wait_all,
 };
 use crate::opening::{keys_of, no_waits, peers_down, rows_of};
 use crate::place_set::PlaceSet;
@@ -98,6 +99,22 @@ impl<'a> Rib<'a> {
         self.router
     }
 
+    // The place of a peer among the router's peers, by rising number.
+    fn peer_place(&self, peer: Asn) -> usize
+        requires { Linked self.now.net.links self.now.router peer }
+        ensures { slice_get (peers self.now.net self.now.router) result ≡ Some peer }
+    {
+        place_of_peer(self.peers.as_slice(), peer).unwrap()
+    }
+
+    // The place of a prefix of the network among its prefixes.
+    fn prefix_place(&self, prefix: &Prefix) -> usize
+        requires { IsNamed self.now.net.origins prefix.now }
+        ensures { slice_get (map (λ origin. origin.prefix) self.now.net.origins) result ≡ Some prefix.now }
+    {
+        place_of(&self.keys, prefix).unwrap()
+    }
+
     /// The word heard last from a peer for a prefix. `None` exactly where it is the empty path.
     pub fn word_heard(&self, peer: Asn, prefix: &Prefix) -> Option<&Word>
         ensures { MatchOption result (word_of self.now.heard peer prefix.now ≡ nothing)
@@ -128,14 +145,12 @@ impl<'a> Rib<'a> {
         }
     }
 
-    /// Answers as [`Rib::path`] does. The prefix is looked for first at the place `at` of [`Network::origins`].
+    /// Answers as [`Rib::path`] does, of the prefix at the place `at` of [`Network::origins`].
     pub fn path_at(&self, at: usize, prefix: &Prefix) -> &[Asn]
+        requires stands { slice_get (map (λ origin. origin.prefix) self.now.net.origins) at ≡ Some prefix.now }
         ensures { result.now ≡ path_of self.now.kept prefix.now }
     {
-        match place_near(&self.keys, at, prefix) {
-            Some(place) => self.rows[place].kept.as_slice(),
-            None => &[],
-        }
+        self.rows[at].kept.as_slice()
     }
 
     /// Whether the router originates a prefix now.
@@ -148,15 +163,12 @@ impl<'a> Rib<'a> {
         }
     }
 
-    /// Answers as [`Rib::is_originated`] does. The prefix is looked for first at the place `at` of
-    /// [`Network::origins`].
+    /// Answers as [`Rib::is_originated`] does, of the prefix at the place `at` of [`Network::origins`].
     pub fn is_originated_at(&self, at: usize, prefix: &Prefix) -> bool
+        requires stands { slice_get (map (λ origin. origin.prefix) self.now.net.origins) at ≡ Some prefix.now }
         ensures { IsTrue result ↔ Contains self.now.originated prefix.now }
     {
-        match place_near(&self.keys, at, prefix) {
-            Some(place) => self.rows[place].originated,
-            None => false,
-        }
+        self.rows[at].originated
     }
 
     /// Whether the session with a peer is Established.
@@ -177,8 +189,18 @@ impl<'a> Rib<'a> {
         ensures ok { OnOk result (HearsUpdate self.old self.new peer update.now) }
         ensures err { OnErr result (self.new ≡ self.old) }
     {
+        let place = self.peer_place(peer);
+        self.hear_at(place, peer, update)
+    }
+
+    /// Does what [`Rib::hear`] does, and is refused as it is, for the peer at a place among the router's peers, by
+    /// rising number.
+    pub fn hear_at(&mut self, place: usize, peer: Asn, update: &Update) -> Result<(), RibError>
+        requires stands { slice_get (peers self.old.net self.old.router) place ≡ Some peer }
+        ensures ok { OnOk result (HearsUpdate self.old self.new peer update.now) }
+        ensures err { OnErr result (self.new ≡ self.old) }
+    {
         let alloc = *self.peers.allocator();
-        let place = place_of_peer(self.peers.as_slice(), peer).unwrap();
         hear_update(
             alloc,
             self.router,
@@ -199,8 +221,25 @@ impl<'a> Rib<'a> {
             ((u : updates.Update) → TellsPath u prefix.now path.now → HearsUpdate self.old self.new peer u) }
         ensures err { OnErr result (self.new ≡ self.old) }
     {
+        let place = self.peer_place(peer);
+        self.hear_path_at(place, peer, prefix, path)
+    }
+
+    /// Does what [`Rib::hear_path`] does, and is refused as it is, for the peer at a place among the router's peers, by
+    /// rising number.
+    pub fn hear_path_at(
+        &mut self,
+        place: usize,
+        peer: Asn,
+        prefix: &Prefix,
+        path: &[Asn],
+    ) -> Result<(), RibError>
+        requires stands { slice_get (peers self.old.net self.old.router) place ≡ Some peer }
+        ensures ok { OnOk result
+            ((u : updates.Update) → TellsPath u prefix.now path.now → HearsUpdate self.old self.new peer u) }
+        ensures err { OnErr result (self.new ≡ self.old) }
+    {
         let alloc = *self.peers.allocator();
-        let place = place_of_peer(self.peers.as_slice(), peer).unwrap();
         hear_path(
             alloc,
             self.router,
@@ -222,30 +261,30 @@ impl<'a> Rib<'a> {
         ensures ok { OnOk result (TellsKept self.old self.new peer prefix.now) }
         ensures err { OnErr result (self.new ≡ self.old) }
     {
-        self.tell_at(0, peer, 0, prefix)
+        let place = self.peer_place(peer);
+        let at = self.prefix_place(prefix);
+        self.tell_at(place, peer, at, prefix)
     }
 
-    /// Does what [`Rib::tell`] does, and is refused as it is. The peer is looked for first at the place `to` among the
-    /// linked routers, by rising number; the prefix at the place `at` of [`Network::origins`].
+    /// Does what [`Rib::tell`] does, and is refused as it is, for the peer at a place among the router's peers, by
+    /// rising number, and the prefix at the place `at` of [`Network::origins`].
     pub fn tell_at(
         &mut self,
-        to: usize,
+        place: usize,
         peer: Asn,
         at: usize,
         prefix: &Prefix,
     ) -> Result<(), RibError>
-        requires linked { Linked self.old.net.links self.old.router peer }
-        requires named { IsNamed self.old.net.origins prefix.now }
+        requires stands { slice_get (peers self.old.net self.old.router) place ≡ Some peer }
+        requires named { slice_get (map (λ origin. origin.prefix) self.old.net.origins) at ≡ Some prefix.now }
         ensures ok { OnOk result (TellsKept self.old self.new peer prefix.now) }
         ensures err { OnErr result (self.new ≡ self.old) }
     {
         let alloc = *self.peers.allocator();
-        let to = place_of_peer_near(self.peers.as_slice(), to, peer).unwrap();
-        let place = place_near(&self.keys, at, prefix).unwrap();
-        let path = Path::from_slice(alloc, self.rows[place].kept.as_slice())?;
-        tell_at(&mut self.rows, place, to, Word::Sequence(path));
-        let waiting = &mut self.waits[to];
-        waiting.take_out(place);
+        let path = Path::from_slice(alloc, self.rows[at].kept.as_slice())?;
+        tell_at(&mut self.rows, at, place, Word::Sequence(path));
+        let waiting = &mut self.waits[place];
+        waiting.take_out(at);
         Ok(())
     }
 
@@ -254,7 +293,16 @@ impl<'a> Rib<'a> {
         requires { Linked self.old.net.links self.old.router peer }
         ensures { ComesUp self.old self.new peer }
     {
-        let place = place_of_peer(self.peers.as_slice(), peer).unwrap();
+        let place = self.peer_place(peer);
+        self.come_up_at(place, peer);
+    }
+
+    /// Does what [`Rib::come_up`] does, for the peer at a place among the router's peers, by rising number. It takes no
+    /// memory.
+    pub fn come_up_at(&mut self, place: usize, peer: Asn)
+        requires stands { slice_get (peers self.old.net self.old.router) place ≡ Some peer }
+        ensures { ComesUp self.old self.new peer }
+    {
         mark_words(self.rows.as_slice(), &mut self.dirty, place);
         set_up(&mut self.peers, place, true);
         self.waits[place] = untold(self.rows.as_slice(), place);
@@ -266,8 +314,17 @@ impl<'a> Rib<'a> {
         requires { Linked self.old.net.links self.old.router peer }
         ensures { ForgetsPeer self.old self.new peer }
     {
+        let place = self.peer_place(peer);
+        self.forget_at(place, peer);
+    }
+
+    /// Does what [`Rib::forget`] does, for the peer at a place among the router's peers, by rising number. It takes no
+    /// memory.
+    pub fn forget_at(&mut self, place: usize, peer: Asn)
+        requires stands { slice_get (peers self.old.net self.old.router) place ≡ Some peer }
+        ensures { ForgetsPeer self.old self.new peer }
+    {
         let alloc = *self.peers.allocator();
-        let place = place_of_peer(self.peers.as_slice(), peer).unwrap();
         forget_all(alloc, &mut self.rows, &mut self.dirty, place);
         set_up(&mut self.peers, place, false);
         self.waits[place] = PlaceSet::new();
@@ -401,23 +458,24 @@ impl<'a> Rib<'a> {
         ensures { MatchOption result (HoldsOfAll self.now.net.origins (IsServed self.now peer))
             (IsLeastWithout self.now.net.origins (IsServed self.now peer)) }
     {
-        let (_, prefix) = self.waiting_at(0, peer)?;
+        let (_, prefix) = self.waiting_at(self.peer_place(peer), peer)?;
         Some(prefix)
     }
 
-    /// Answers as [`Rib::waiting`] does, with the prefix's place in front: a hint for the calls that take one. The peer
-    /// is looked for first at the place `at` among the linked routers, by rising number.
-    pub fn waiting_at(&self, at: usize, peer: Asn) -> Option<(usize, Prefix)>
-        requires { Linked self.now.net.links self.now.router peer }
-        ensures { MatchOption result (HoldsOfAll self.now.net.origins (IsServed self.now peer))
+    /// Answers as [`Rib::waiting`] does, of the peer at a place among the router's peers, by rising number. In front of
+    /// the prefix stands its place among [`Network::origins`].
+    pub fn waiting_at(&self, place: usize, peer: Asn) -> Option<(usize, Prefix)>
+        requires stands { slice_get (peers self.now.net self.now.router) place ≡ Some peer }
+        ensures least { MatchOption result (HoldsOfAll self.now.net.origins (IsServed self.now peer))
             (λ found. IsLeastWithout self.now.net.origins (IsServed self.now peer) found.1) }
+        ensures named { IfSome result
+            (λ found. slice_get (map (λ origin. origin.prefix) self.now.net.origins) found.0 ≡ Some found.1) }
     {
-        let to = place_of_peer_near(self.peers.as_slice(), at, peer).unwrap();
-        let place = self.waits[to].first()?;
-        if place >= self.rows.len() {
+        let at = self.waits[place].first()?;
+        if at >= self.rows.len() {
             return None;
         }
-        Some((place, self.rows[place].prefix))
+        Some((at, self.rows[at].prefix))
     }
 
     /// Whether some Established peer was not told some kept path. It takes no memory.

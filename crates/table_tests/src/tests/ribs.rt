@@ -1,5 +1,8 @@
 //! The tables of one router, call by call.
 
+ghost use Rattle.std.specs.Prelude.{◌≡◌, map, slice_get, Some, IfSome, IsTrue};
+ghost use Rattle.ranked_policy.specs.Peers.{peers};
+
 use super::{SETTINGS, adds_link, adds_origin_at, finished, push_routers, push_rule};
 use bgp_codec::{Attrs, Items, Numbers, Segment, SegmentKind, Update};
 use prefix_lanes::Prefix;
@@ -56,6 +59,10 @@ enum Of {
     Keeps(&'static [Asn]),
     /// The router tells a peer the kept path.
     Tells(Asn),
+    /// The same, by the places of the peer and of the prefix.
+    TellsAt(Asn),
+    /// A peer says a path, by the place of the peer.
+    SaysAt(Asn, &'static [Asn]),
     /// The path heard last from a peer: the empty path where it gives none.
     Heard(Asn, &'static [Asn]),
     /// Nothing is heard from a peer.
@@ -68,10 +75,14 @@ enum Of {
     Unsent(Asn),
     /// The path that is kept.
     Kept(&'static [Asn]),
+    /// The same, by the place of the prefix.
+    KeptAt(&'static [Asn]),
     /// The best of the choices.
     Best(&'static [Asn]),
     /// Whether it is originated.
     Originated(bool),
+    /// The same, by the place of the prefix.
+    OriginatedAt(bool),
 }
 
 /// A row of a test: what is done to the tables of a router, or asked of them.
@@ -81,10 +92,16 @@ enum Row {
     At(At, Of),
     /// A peer announces prefixes along a path, and withdraws others.
     Hears(Asn, Along, &'static [At], &'static [At]),
+    /// The same, by the place of the peer.
+    HearsAt(Asn, Along, &'static [At], &'static [At]),
     /// The session with a peer is Established.
     ComesUp(Asn),
+    /// The same, by the place of the peer.
+    ComesUpAt(Asn),
     /// The session with a peer is left.
     Forgets(Asn),
+    /// The same, by the place of the peer.
+    ForgetsAt(Asn),
     /// The router decides once: this prefix, or none.
     Decides(Option<At>),
     /// The router starts again.
@@ -93,6 +110,8 @@ enum Row {
     Dirty(Option<At>),
     /// The prefix that a peer waits for.
     Waits(Asn, Option<At>),
+    /// The same with its place, by the place of the peer.
+    WaitsAt(Asn, Option<(usize, At)>),
     /// Whether a session is Established.
     Up(Asn, bool),
     /// Whether some peer waits.
@@ -239,6 +258,35 @@ fn tables(alloc: Global, net: &Network, router: Asn) -> Option<Rib<'_>> {
     Rib::new(alloc, net, router).ok()
 }
 
+// Whether a peer stands at a place among the router's peers.
+fn is_peer_at(net: &Network, router: Asn, place: usize, peer: Asn) -> bool
+    ensures { IsTrue result → slice_get (peers net.now router) place ≡ Some peer }
+{
+    match net.links_of(router).get(place) {
+        Some(link) => link.other == peer,
+        None => false,
+    }
+}
+
+// The place of a peer among the router's peers.
+fn peer_place(rib: &Rib, peer: Asn) -> Option<usize>
+    ensures { IfSome result (λ place. slice_get (peers rib.now.net rib.now.router) place ≡ Some peer) }
+{
+    for place in 0..8usize {
+        if is_peer_at(rib.network(), rib.router(), place, peer) {
+            return Some(place);
+        }
+    }
+    None
+}
+
+// The place of a prefix among those of the network.
+fn prefix_place(rib: &Rib, prefix: &Prefix) -> Option<usize>
+    ensures { IfSome result (λ at. slice_get (map (λ origin. origin.prefix) rib.now.net.origins) at ≡ Some prefix.now) }
+{
+    rib.network().prefix_place(prefix)
+}
+
 // What is done to the tables. Each helper makes one call and answers whether it was made and not
 // refused. It ensures nothing, so that the call is not carried along from one step to the next, and
 // what asserts it has no way out on which the tables are dropped.
@@ -249,9 +297,30 @@ fn hear(rib: &mut Rib, peer: Asn, update: &Update) -> bool {
     rib.hear(peer, update).is_ok()
 }
 
+fn hear_at(rib: &mut Rib, peer: Asn, update: &Update) -> bool {
+    match peer_place(rib, peer) {
+        Some(place) => rib.hear_at(place, peer, update).is_ok(),
+        None => false,
+    }
+}
+
+fn hear_path_at(rib: &mut Rib, peer: Asn, prefix: &Prefix, path: &[Asn]) -> bool {
+    match peer_place(rib, peer) {
+        Some(place) => rib.hear_path_at(place, peer, prefix, path).is_ok(),
+        None => false,
+    }
+}
+
 fn says(rib: &mut Rib, peer: Asn, update: Result<Update, AllocError>) -> bool {
     match update {
         Ok(update) => hear(rib, peer, &update),
+        Err(_) => false,
+    }
+}
+
+fn says_at(rib: &mut Rib, peer: Asn, update: Result<Update, AllocError>) -> bool {
+    match update {
+        Ok(update) => hear_at(rib, peer, &update),
         Err(_) => false,
     }
 }
@@ -264,11 +333,27 @@ fn comes_up(rib: &mut Rib, peer: Asn) -> bool {
     true
 }
 
+fn comes_up_at(rib: &mut Rib, peer: Asn) -> bool {
+    match peer_place(rib, peer) {
+        Some(place) => rib.come_up_at(place, peer),
+        None => return false,
+    }
+    true
+}
+
 fn forgets(rib: &mut Rib, peer: Asn) -> bool {
     if !rib.network().linked(rib.router(), peer) {
         return false;
     }
     rib.forget(peer);
+    true
+}
+
+fn forgets_at(rib: &mut Rib, peer: Asn) -> bool {
+    match peer_place(rib, peer) {
+        Some(place) => rib.forget_at(place, peer),
+        None => return false,
+    }
     true
 }
 
@@ -310,6 +395,13 @@ fn tells(rib: &mut Rib, peer: Asn, prefix: &Prefix) -> bool {
     rib.tell(peer, prefix).is_ok()
 }
 
+fn tells_at(rib: &mut Rib, peer: Asn, prefix: &Prefix) -> bool {
+    match (peer_place(rib, peer), prefix_place(rib, prefix)) {
+        (Some(place), Some(at)) => rib.tell_at(place, peer, at, prefix).is_ok(),
+        _ => false,
+    }
+}
+
 fn clears(rib: &mut Rib) -> bool {
     rib.clear();
     true
@@ -332,16 +424,10 @@ fn waiting(rib: &Rib, peer: Asn) -> Option<Option<Prefix>> {
     Some(rib.waiting(peer))
 }
 
-// The prefix that a peer waits for, as `waiting` answers; the peer is looked for first at a place:
-// its own, or that of another.
-fn waiting_at(rib: &Rib, at: usize, peer: Asn) -> Option<Option<Prefix>> {
-    if !rib.network().linked(rib.router(), peer) {
-        return None;
-    }
-    match rib.waiting_at(at, peer) {
-        Some((_, prefix)) => Some(Some(prefix)),
-        None => Some(None),
-    }
+// The same with its place, by the place of the peer.
+fn waiting_at(rib: &Rib, peer: Asn) -> Option<Option<(usize, Prefix)>> {
+    let place = peer_place(rib, peer)?;
+    Some(rib.waiting_at(place, peer))
 }
 
 // The best of a prefix that is named.
@@ -413,16 +499,21 @@ fn keeps_path(rib: &Rib, prefix: &Prefix, path: &[Asn]) -> bool {
     kept(rib, prefix) == path
 }
 
-fn keeps_path_at(rib: &Rib, at: usize, prefix: &Prefix, path: &[Asn]) -> bool {
-    rib.path_at(at, prefix) == path
+fn keeps_path_at(rib: &Rib, prefix: &Prefix, path: &[Asn]) -> bool {
+    match prefix_place(rib, prefix) {
+        Some(at) => rib.path_at(at, prefix) == path,
+        None => false,
+    }
 }
 
 fn is_originated(rib: &Rib, prefix: &Prefix) -> bool {
     rib.is_originated(prefix)
 }
 
-fn is_originated_at(rib: &Rib, at: usize, prefix: &Prefix) -> bool {
-    rib.is_originated_at(at, prefix)
+// Whether it is originated, by its place; no answer where the network does not name it.
+fn is_originated_at(rib: &Rib, prefix: &Prefix) -> Option<bool> {
+    let at = prefix_place(rib, prefix)?;
+    Some(rib.is_originated_at(at, prefix))
 }
 
 fn is_established(rib: &Rib, peer: Asn) -> bool {
@@ -446,10 +537,20 @@ fn is_at(found: Option<Prefix>, wanted: Option<At>) -> bool {
     }
 }
 
-fn waits_at(rib: &Rib, peer: Asn, wanted: Option<At>) -> bool {
+fn waits_for(rib: &Rib, peer: Asn, wanted: Option<At>) -> bool {
     match waiting(rib, peer) {
         Some(found) => is_at(found, wanted),
         None => false,
+    }
+}
+
+fn waits_at(rib: &Rib, peer: Asn, wanted: Option<(usize, At)>) -> bool {
+    match (waiting_at(rib, peer), wanted) {
+        (Some(Some((at, found))), Some((place, (addr, len)))) => {
+            at == place && Prefix::new(addr, len) == Some(found)
+        }
+        (Some(None), None) => true,
+        _ => false,
     }
 }
 
@@ -467,14 +568,18 @@ fn is_of(alloc: Global, rib: &mut Rib, prefix: &Prefix, of: Of) -> bool {
         Of::Withdraws => withdraws(rib, prefix),
         Of::Keeps(path) => keeps(alloc, rib, prefix, path),
         Of::Tells(peer) => tells(rib, peer, prefix),
+        Of::TellsAt(peer) => tells_at(rib, peer, prefix),
+        Of::SaysAt(peer, path) => hear_path_at(rib, peer, prefix, path),
         Of::Heard(peer, path) => hears_path(rib, peer, prefix, path),
         Of::Unheard(peer) => !is_heard(rib, peer, prefix),
         Of::HeardOther(peer) => is_heard_as_other(rib, peer, prefix),
         Of::Sent(peer, path) => sends_path(rib, peer, prefix, path),
         Of::Unsent(peer) => !is_sent(rib, peer, prefix),
         Of::Kept(path) => keeps_path(rib, prefix, path),
+        Of::KeptAt(path) => keeps_path_at(rib, prefix, path),
         Of::Best(path) => best_is(alloc, rib, prefix, path),
         Of::Originated(wanted) => is_originated(rib, prefix) == wanted,
+        Of::OriginatedAt(wanted) => is_originated_at(rib, prefix) == Some(wanted),
     }
 }
 
@@ -492,12 +597,18 @@ fn is_so(alloc: Global, rib: &mut Rib, row: Row) -> bool {
         Row::Hears(peer, along, nlri, withdrawn) => {
             says(rib, peer, updates(alloc, along, nlri, withdrawn))
         }
+        Row::HearsAt(peer, along, nlri, withdrawn) => {
+            says_at(rib, peer, updates(alloc, along, nlri, withdrawn))
+        }
         Row::ComesUp(peer) => comes_up(rib, peer),
+        Row::ComesUpAt(peer) => comes_up_at(rib, peer),
         Row::Forgets(peer) => forgets(rib, peer),
+        Row::ForgetsAt(peer) => forgets_at(rib, peer),
         Row::Decides(wanted) => decides_at(alloc, rib, wanted),
         Row::Clears => clears(rib),
         Row::Dirty(wanted) => is_at(dirty(rib), wanted),
-        Row::Waits(peer, wanted) => waits_at(rib, peer, wanted),
+        Row::Waits(peer, wanted) => waits_for(rib, peer, wanted),
+        Row::WaitsAt(peer, wanted) => waits_at(rib, peer, wanted),
         Row::Up(peer, wanted) => is_established(rib, peer) == wanted,
         Row::Awaited(wanted) => is_awaited(rib) == wanted,
         Row::Pending(wanted) => is_pending(rib) == wanted,
@@ -528,6 +639,35 @@ fn tries_in(
 fn tries(rt: &impl Abort, alloc: Global, router: Asn, rows: &[Row]) -> Result<(), Fail> {
     let net = network(alloc)?;
     tries_in(rt, alloc, &net, router, rows)
+}
+
+// The calls by place: those of the peers 2 and 3 of router 4 are 0 and 1, those of the prefixes 0 to 2.
+static BY_PLACE: [Row; 20] = [
+    Row::ComesUpAt(3),
+    Row::ComesUpAt(2),
+    Row::HearsAt(2, Along::Path(&[2, 1]), &[SHORT], &[]),
+    Row::At(SHORT, Of::Heard(2, &[2, 1])),
+    Row::At(LONG, Of::SaysAt(3, &TEN_LONG)),
+    Row::At(LONG, Of::Heard(3, &TEN_LONG)),
+    Row::At(STRAY, Of::SaysAt(3, &[3, 1])),
+    Row::At(LONG, Of::Keeps(&TEN_LONG)),
+    Row::At(LONG, Of::KeptAt(&TEN_LONG)),
+    Row::WaitsAt(3, Some((1, LONG))),
+    Row::At(LONG, Of::TellsAt(3)),
+    Row::WaitsAt(3, None),
+    Row::WaitsAt(2, Some((1, LONG))),
+    Row::At(LONG, Of::Sent(3, &TEN_LONG)),
+    Row::At(FAR, Of::OriginatedAt(false)),
+    Row::At(FAR, Of::Originates),
+    Row::At(FAR, Of::OriginatedAt(true)),
+    Row::ForgetsAt(3),
+    Row::At(LONG, Of::Unsent(3)),
+    Row::Up(3, false),
+];
+
+#[test]
+fn by_place(rt: HostRuntime) -> Result<(), Fail> {
+    tries(&rt, rt.alloc(), 4, &BY_PLACE)
 }
 
 // The words of a peer follow its UPDATEs: the last of three mentions stays.

@@ -248,10 +248,7 @@ fn same_session(rib: &Rib, lists: &Lists, peer: Asn) -> bool {
 }
 
 fn same_waiting(rib: &Rib, lists: &Lists, peer: Asn) -> bool {
-    let theirs = Some(lists.waiting(peer));
-    let near = waiting_at(rib, 0, peer) == theirs && waiting_at(rib, 1, peer) == theirs;
-    let far = waiting_at(rib, 2, peer) == theirs && waiting_at(rib, 9, peer) == theirs;
-    waiting(rib, peer) == theirs && near && far
+    waiting(rib, peer) == Some(lists.waiting(peer))
 }
 
 // Both say the same of a peer and a prefix that is named.
@@ -291,15 +288,11 @@ fn same_of_peer(rt: &impl Abort, rib: &Rib, lists: &Lists, peer: Asn, prefixes: 
 
 // Both say the same of a prefix.
 fn same_kept(rib: &Rib, lists: &Lists, prefix: &Prefix) -> bool {
-    let path = lists.path(prefix);
-    let near = keeps_path_at(rib, 0, prefix, path) && keeps_path_at(rib, 1, prefix, path);
-    keeps_path(rib, prefix, path) && near && keeps_path_at(rib, 9, prefix, path)
+    keeps_path(rib, prefix, lists.path(prefix))
 }
 
 fn same_originated(rib: &Rib, lists: &Lists, prefix: &Prefix) -> bool {
-    let theirs = lists.is_originated(prefix);
-    let near = is_originated_at(rib, 0, prefix) == theirs;
-    is_originated(rib, prefix) == theirs && near && is_originated_at(rib, 9, prefix) == theirs
+    is_originated(rib, prefix) == lists.is_originated(prefix)
 }
 
 fn same_best(alloc: Global, rib: &Rib, lists: &Lists, prefix: &Prefix) -> bool {

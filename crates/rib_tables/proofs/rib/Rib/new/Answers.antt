@@ -20,7 +20,7 @@ invariant_of-result c =
     let fresh = subst (λ (n : ℕ). AreFresh net.origins table n net.origins rows) c.len-2.ensures c.in_ok-rows.ensures in
     subst (λ (ps : List Peer). IsRib net router ps c.in_ok-keys.keys.keys rows c.new.result waits) (sym peers)
     (subst (λ (ks : List PrefixView). IsRib net router (map (λ (n : ℕ). record { asn = n; up = false }) numbers) ks rows c.new.result waits) (sym keys)
-    (first_rib net router table numbers rows c.origins-origins.ensures.network c.requires (rw c.unwrap-table.ensures at c.policies.ensures.value) c.in_ok-numbers.ensures.rising c.in_ok-numbers.ensures.exact fresh c.new.result waits c.new.ensures (c.in_ok-waits.ensures.len ∙ c.len.ensures) c.in_ok-waits.ensures.none))
+    (first_rib net router table numbers rows c.origins-origins.ensures.network c.requires (rw c.unwrap-table.ensures at c.policies.ensures.value) c.in_ok-numbers.ensures.peers c.in_ok-numbers.ensures.rising c.in_ok-numbers.ensures.exact fresh c.new.result waits c.new.ensures (c.in_ok-waits.ensures.len ∙ c.len.ensures) c.in_ok-waits.ensures.none))
 
 pub returns : goal.returns
 returns c =
@@ -32,4 +32,4 @@ returns c =
     let peers = c.in_ok-peers.ensures ∙ ap (map (λ (n : ℕ). record { asn = n; up = false })) c.as_slice.ensures in
     let fresh = subst (λ (n : ℕ). AreFresh net.origins table n net.origins rows) c.len-2.ensures c.in_ok-rows.ensures in
     subst (λ (ps : List Peer). IsNew net router (view_of net router ps rows)) (sym peers)
-    (first_view net router table numbers rows c.origins-origins.ensures.network c.requires (rw c.unwrap-table.ensures at c.policies.ensures.value) c.in_ok-numbers.ensures.rising c.in_ok-numbers.ensures.exact fresh)
+    (first_view net router table numbers rows c.origins-origins.ensures.network c.requires (rw c.unwrap-table.ensures at c.policies.ensures.value) c.in_ok-numbers.ensures.peers c.in_ok-numbers.ensures.rising c.in_ok-numbers.ensures.exact fresh)

@@ -1,25 +1,25 @@
-use Rattle.std.proofs.Common.{◌≡◌, List, [], ℕ, subst, sym, ap, ◌∙◌}
-use Rattle.std.proofs.lemmas.Option.{get_or_from_slice_get}
+use Rattle.std.proofs.Common.{◌≡◌, length, subst, sym, ap, ◌∙◌, arith, rules}
+use Rattle.std.proofs.lemmas.Option.{slice_get_within, get_or_from_slice_get}
 use Rattle.rib_tables.specs.declared.row.Row.{Row}
 use Rattle.rib_tables.specs.Tables.{path_of}
 use Rattle.rib_tables.specs.Owners.{RibView}
-use Rattle.rib_tables.proofs.ChangeLemmas.{row_at}
-use Rattle.rib_tables.proofs.SeenLemmas.{once, kept_at, no_kept}
-use Rattle.rib_tables.proofs.OneRowLemmas.{key_none}
+use Rattle.rib_tables.proofs.SeenLemmas.{once, kept_at}
+use Rattle.rib_tables.proofs.OneRowLemmas.{row_at_place}
 use Rattle.rib_tables.proofs.rib.Rib.path_at.Goals as goal
 
-pub returns-in-Some : goal.returns-in-Some
-returns-in-Some c =
+pub index-requires : goal.index-requires
+index-requires c =
     let s = c.self.inside in
-    let q = c.args.prefix.now in
-    let x = row_at s.keys.keys s.rows.items c.self.invariant.whole.listed c.in-Some.place q c.in-Some.ensures in
-    let row : c.index.result.now ≡ x.0 = c.index.ensures ∙ get_or_from_slice_get s.rows.items c.in-Some.place x.0 c.index.result.now x.1 in
-    subst (λ (v : RibView). c.as_slice.result.now ≡ path_of v.kept q) c.self.view_is
-    (c.as_slice.ensures ∙ ap (λ (r : Row). r.kept) row ∙ sym (kept_at s.rows.items q c.in-Some.place x.0 (once s.network.now s.router s.peers.items s.keys.keys s.rows.items c.self.invariant.whole) x.1 x.2))
+    let x = row_at_place s.network.now s.router s.peers.items s.keys.keys s.rows.items c.self.invariant.whole c.args.self.now c.self.view_is c.args.prefix.now c.args.at c.requires.stands in
+    let lt = slice_get_within s.rows.items c.args.at x.0 x.1 in
+    let len : length s.rows.items ≡ s.rows.len = search rules in
+    omega (arith, lt, len)
 
-pub returns-in-None : goal.returns-in-None
-returns-in-None c =
+pub returns : goal.returns
+returns c =
     let s = c.self.inside in
     let q = c.args.prefix.now in
-    subst (λ (v : RibView). ◌≡◌ {A = List ℕ} [] (path_of v.kept q)) c.self.view_is
-    (sym (no_kept s.rows.items q (key_none s.network.now s.router s.peers.items s.keys.keys s.rows.items c.self.invariant.whole q c.in-None.ensures)))
+    let x = row_at_place s.network.now s.router s.peers.items s.keys.keys s.rows.items c.self.invariant.whole c.args.self.now c.self.view_is q c.args.at c.requires.stands in
+    let row : c.index.result.now ≡ x.0 = c.index.ensures ∙ get_or_from_slice_get s.rows.items c.args.at x.0 c.index.result.now x.1 in
+    subst (λ (v : RibView). c.as_slice.result.now ≡ path_of v.kept q) c.self.view_is
+    (c.as_slice.ensures ∙ ap (λ (r : Row). r.kept) row ∙ sym (kept_at s.rows.items q c.args.at x.0 (once s.network.now s.router s.peers.items s.keys.keys s.rows.items c.self.invariant.whole) x.1 x.2))

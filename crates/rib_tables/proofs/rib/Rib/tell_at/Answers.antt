@@ -1,57 +1,43 @@
 use Rattle.std.proofs.Common.{◌≡◌, ℕ, List, length, set, subst, sym, ap, ◌∙◌, arith, rules}
-use Rattle.std.specs.List.{slice_get}
 use Rattle.std.proofs.lemmas.Option.{slice_get_within, get_or_from_slice_get}
-use Rattle.ranked_policy.specs.Plans.{Linked, IsNamed}
 use Rattle.rib_tables.specs.declared.word.Word.TheVariants.{Sequence}
 use Rattle.rib_tables.specs.declared.row.Peer.{Peer}
 use Rattle.rib_tables.specs.declared.row.Row.{Row}
 use Rattle.rib_tables.specs.Owners.{RibView, TellsKept}
 use Rattle.rib_tables.specs.Rows.{telling, view_of}
 use Rattle.rib_tables.proofs.ChangeLemmas.{place_fits}
-use Rattle.rib_tables.proofs.RibLemmas.{fit_of, place_some, place_is}
+use Rattle.rib_tables.proofs.RibLemmas.{fit_of, peer_at_place}
 use Rattle.rib_tables.proofs.DecidingLemmas.{read_at}
-use Rattle.rib_tables.proofs.OneRowLemmas.{key_some, key_is, key_row, tell_keeps_rib, tells_view}
+use Rattle.rib_tables.proofs.OneRowLemmas.{key_at_place, row_at_place, tell_keeps_rib, tells_view}
 use Rattle.rib_tables.proofs.rib.Rib.tell_at.Goals as goal
-
-pub unwrap-to-requires : goal.unwrap-to-requires
-unwrap-to-requires c =
-    let there = c.self.invariant.whole.linked c.args.peer (subst (λ (v : RibView). Linked v.net.links v.router c.args.peer) (sym c.self.view_is) c.requires.linked) in
-    place_some c.as_slice.result.now c.args.peer c.place_of_peer_near.result c.place_of_peer_near.ensures there.0 there.1 (ap (λ (ps : List Peer). slice_get ps there.0) c.as_slice.ensures.value ∙ there.2) there.3
-
-pub unwrap-place-requires : goal.unwrap-place-requires
-unwrap-place-requires c =
-    let s = c.self.inside in
-    let q = c.args.prefix.now in
-    key_some s.network.now s.router s.peers.items s.keys.keys s.rows.items c.self.invariant.whole q c.place_near.result c.place_near.ensures
-    (subst (λ (v : RibView). IsNamed v.net.origins q) (sym c.self.view_is) c.requires.named)
 
 pub index-requires : goal.index-requires
 index-requires c =
     let s = c.self.inside in
-    let x = key_row s.network.now s.router s.peers.items s.keys.keys s.rows.items c.self.invariant.whole c.args.prefix.now c.place_near.result c.unwrap-place.result c.place_near.ensures c.unwrap-place.ensures in
-    let lt = slice_get_within s.rows.items c.unwrap-place.result x.0 x.1 in
+    let x = row_at_place s.network.now s.router s.peers.items s.keys.keys s.rows.items c.self.invariant.whole c.args.self.now c.self.view_is c.args.prefix.now c.args.at c.requires.named in
+    let lt = slice_get_within s.rows.items c.args.at x.0 x.1 in
     let len : length s.rows.items ≡ s.rows.len = search rules in
     omega (arith, lt, len)
 
 pub tell_at-requires-clause-within : goal.tell_at-requires-clause-within
 tell_at-requires-clause-within c =
     let s = c.self.inside in
-    let x = key_row s.network.now s.router s.peers.items s.keys.keys s.rows.items c.self.invariant.whole c.args.prefix.now c.place_near.result c.unwrap-place.result c.place_near.ensures c.unwrap-place.ensures in
-    slice_get_within s.rows.items c.unwrap-place.result x.0 x.1
+    let x = row_at_place s.network.now s.router s.peers.items s.keys.keys s.rows.items c.self.invariant.whole c.args.self.now c.self.view_is c.args.prefix.now c.args.at c.requires.named in
+    slice_get_within s.rows.items c.args.at x.0 x.1
 
 pub tell_at-requires-clause-words : goal.tell_at-requires-clause-words
 tell_at-requires-clause-words c = λ r at.
     let s = c.self.inside in
-    let here = place_is c.as_slice.result.now s.peers.items c.args.peer c.place_of_peer_near.result c.unwrap-to.result c.as_slice.ensures.value c.place_of_peer_near.ensures c.unwrap-to.ensures in
-    let lt = slice_get_within s.peers.items c.unwrap-to.result here.0 here.1 in
-    let size = (c.self.invariant.whole.each c.unwrap-place.result r at).sent in
+    let here = peer_at_place s.network.now s.router s.peers.items s.keys.keys s.rows.items c.self.invariant.whole c.args.peer c.args.self.now c.self.view_is c.args.place c.requires.stands in
+    let lt = slice_get_within s.peers.items c.args.place here.0 here.1 in
+    let size = (c.self.invariant.whole.each c.args.at r at).sent in
     omega (arith, lt, size)
 
 pub index_mut-waiting-requires : goal.index_mut-waiting-requires
 index_mut-waiting-requires c =
     let s = c.self.inside in
-    let here = place_is c.as_slice.result.now s.peers.items c.args.peer c.place_of_peer_near.result c.unwrap-to.result c.as_slice.ensures.value c.place_of_peer_near.ensures c.unwrap-to.ensures in
-    let lt = slice_get_within s.peers.items c.unwrap-to.result here.0 here.1 in
+    let here = peer_at_place s.network.now s.router s.peers.items s.keys.keys s.rows.items c.self.invariant.whole c.args.peer c.args.self.now c.self.view_is c.args.place c.requires.stands in
+    let lt = slice_get_within s.peers.items c.args.place here.0 here.1 in
     let long = c.self.invariant.told.long in
     let len : length s.waits.items ≡ s.waits.len = search rules in
     omega (arith, lt, long, len)
@@ -59,19 +45,19 @@ index_mut-waiting-requires c =
 pub take_out-requires : goal.take_out-requires
 take_out-requires c =
     let s = c.self.inside in
-    let key = key_is s.network.now s.router s.peers.items s.keys.keys s.rows.items c.self.invariant.whole c.args.prefix.now c.place_near.result c.unwrap-place.result c.place_near.ensures c.unwrap-place.ensures in
-    (place_fits s.keys.keys (length s.peers.items) s.rows.items (fit_of s.network.now s.router s.peers.items s.keys.keys s.rows.items c.self.invariant.whole) c.args.prefix.now c.unwrap-place.result key).1
+    let key = key_at_place s.network.now s.router s.peers.items s.keys.keys s.rows.items c.self.invariant.whole c.args.self.now c.self.view_is c.args.prefix.now c.args.at c.requires.named in
+    (place_fits s.keys.keys (length s.peers.items) s.rows.items (fit_of s.network.now s.router s.peers.items s.keys.keys s.rows.items c.self.invariant.whole) c.args.prefix.now c.args.at key).1
 
 pub invariant_of-self : goal.invariant_of-self
 invariant_of-self c =
     let s = c.self.inside in
     let q = c.args.prefix.now in
-    let place = c.unwrap-place.result in
-    let to = c.unwrap-to.result in
-    let here = place_is c.as_slice.result.now s.peers.items c.args.peer c.place_of_peer_near.result to c.as_slice.ensures.value c.place_of_peer_near.ensures c.unwrap-to.ensures in
-    let x = key_row s.network.now s.router s.peers.items s.keys.keys s.rows.items c.self.invariant.whole q c.place_near.result place c.place_near.ensures c.unwrap-place.ensures in
+    let place = c.args.at in
+    let to = c.args.place in
+    let here = peer_at_place s.network.now s.router s.peers.items s.keys.keys s.rows.items c.self.invariant.whole c.args.peer c.args.self.now c.self.view_is c.args.place c.requires.stands in
+    let x = row_at_place s.network.now s.router s.peers.items s.keys.keys s.rows.items c.self.invariant.whole c.args.self.now c.self.view_is q place c.requires.named in
     let row : c.index.result.now ≡ x.0 = c.index.ensures ∙ get_or_from_slice_get s.rows.items place x.0 c.index.result.now x.1 in
-    let path : c.in_ok-path.path ≡ x.0.kept = c.in_ok-path.ensures.ok ∙ c.as_slice-2.ensures ∙ ap (λ (r : Row). r.kept) row in
+    let path : c.in_ok-path.path ≡ x.0.kept = c.in_ok-path.ensures.ok ∙ c.as_slice.ensures ∙ ap (λ (r : Row). r.kept) row in
     let new : c.tell_at.new.rows.items ≡ set s.rows.items place (telling to (Sequence x.0.kept) x.0) =
     c.tell_at.ensures x.0 x.1 ∙ ap (λ (p : List ℕ). set s.rows.items place (telling to (Sequence p) x.0)) path in
     let lt = slice_get_within s.peers.items to here.0 here.1 in
@@ -84,12 +70,12 @@ pub returns-clause-ok : goal.returns-clause-ok
 returns-clause-ok c =
     let s = c.self.inside in
     let q = c.args.prefix.now in
-    let place = c.unwrap-place.result in
-    let to = c.unwrap-to.result in
-    let here = place_is c.as_slice.result.now s.peers.items c.args.peer c.place_of_peer_near.result to c.as_slice.ensures.value c.place_of_peer_near.ensures c.unwrap-to.ensures in
-    let x = key_row s.network.now s.router s.peers.items s.keys.keys s.rows.items c.self.invariant.whole q c.place_near.result place c.place_near.ensures c.unwrap-place.ensures in
+    let place = c.args.at in
+    let to = c.args.place in
+    let here = peer_at_place s.network.now s.router s.peers.items s.keys.keys s.rows.items c.self.invariant.whole c.args.peer c.args.self.now c.self.view_is c.args.place c.requires.stands in
+    let x = row_at_place s.network.now s.router s.peers.items s.keys.keys s.rows.items c.self.invariant.whole c.args.self.now c.self.view_is q place c.requires.named in
     let row : c.index.result.now ≡ x.0 = c.index.ensures ∙ get_or_from_slice_get s.rows.items place x.0 c.index.result.now x.1 in
-    let path : c.in_ok-path.path ≡ x.0.kept = c.in_ok-path.ensures.ok ∙ c.as_slice-2.ensures ∙ ap (λ (r : Row). r.kept) row in
+    let path : c.in_ok-path.path ≡ x.0.kept = c.in_ok-path.ensures.ok ∙ c.as_slice.ensures ∙ ap (λ (r : Row). r.kept) row in
     let new : c.tell_at.new.rows.items ≡ set s.rows.items place (telling to (Sequence x.0.kept) x.0) =
     c.tell_at.ensures x.0 x.1 ∙ ap (λ (p : List ℕ). set s.rows.items place (telling to (Sequence p) x.0)) path in
     let seen = tells_view s.network.now s.router s.peers.items s.keys.keys s.rows.items c.self.invariant.whole q place x.0 x.1 x.2 to here.0 here.1 c.tell_at.new.rows.items new in
