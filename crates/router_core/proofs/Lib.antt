@@ -1,6 +1,7 @@
 pub mod Beginnings
 pub mod NoStep
 pub mod PeerLemmas
+pub mod Places
 pub mod Following
 pub mod Naming
 pub mod Originations

@@ -5,9 +5,7 @@ use Rattle.std.specs.Option.{option_or}
 use Rattle.std.specs.List.{AllPairs, find}
 use Rattle.std.proofs.lemmas.Bool.{eq-eqb, ne_eqb}
 use Rattle.std.proofs.lemmas.List.{length-map}
-use Rattle.std.proofs.lemmas.List.Kept.{AllPairs-filter}
 use Rattle.prefix_lanes.specs.Bits.{PrefixView}
-use Rattle.ranked_policy.specs.Plans.{Plan, Linked, numbers}
 use Rattle.rib_tables.specs.Least.{HoldsOfAll, IsLeastWithout}
 use Rattle.rib_tables.specs.Owners.{AllServed, IsServed}
 use Rattle.outbox.specs.Items.{octets_waiting}
@@ -16,9 +14,9 @@ use Rattle.router_model.specs.declared.limits.TheConstants.{OUTBOX_LIMIT}
 use Rattle.router_side.specs.SideOf.{side, side_opening}
 use Rattle.router_core.specs.declared.peers.Peer.{Peer}
 use Rattle.router_core.specs.declared.router.choose.Next.TheVariants as next
-use Rattle.router_core.specs.Views.{RouterView, IsSound, IsAt, IsNext, MayTell, listed, config_of, sides_of, unchosen, waits_at, has_room_at}
+use Rattle.router_core.specs.Views.{RouterView, IsSound, IsAt, IsNamedAt, IsNext, MayTell, listed, config_of, sides_of, unchosen, waits_at, has_room_at}
 use Rattle.router_core.proofs.PeerLemmas.{side_here}
-use Rattle.router_core.proofs.Naming.{decides_linked}
+use Rattle.router_core.proofs.Places.{rising}
 use Rattle.router_core.proofs.Awaiting.{waiting_is, untold_is}
 
 -- ---- places of peers
@@ -79,9 +77,6 @@ pub looked_none : (x : RouterView) → Looked x 0 None
 looked_none x = record { rooms = refl; waits = refl }
 
 module _ (x : RouterView) (sound : IsSound x) where
-  rising : AllPairs (λ a b. a < b) (map (λ p. p.number) x.peers)
-  rising = subst (AllPairs (λ a b. a < b)) (sym sound.numbers) (AllPairs-filter (λ a b. a < b) (linked x.net x.number) (numbers x.net.routers) sound.network.plan.rising)
-
   all_numbers : (test : ℕ → Bool) → find test (numbers_from x.peers 0) ≡ find test (peers x.net x.number)
   all_numbers test = ap (find test) sound.numbers
 
@@ -98,15 +93,10 @@ module _ (x : RouterView) (sound : IsSound x) where
 
   module _ (i : ℕ) (p : Peer) (lt : i < length x.peers) (is : p ≡ get_or x.peers i p) where
     pub at : IsAt x.peers p.number i
-    at = subst (λ (w : Peer). IsAt x.peers w.number i) (sym is) (is_at x.peers rising i p lt)
+    at = subst (λ (w : Peer). IsAt x.peers w.number i) (sym is) (is_at x.peers (rising x sound) i p lt)
 
     link : linked x.net x.number p.number ≡ true
     link = sym (sound.links p.number) ∙ is_listed x.peers p.number i at
-
-    pub is_linked : Linked x.tables.net.links x.tables.router p.number
-    is_linked =
-        subst (λ (net : Plan). Linked net.links x.tables.router p.number) (sym sound.tabled.net)
-        (subst (λ (n : ℕ). Linked x.net.links n p.number) (sym sound.tabled.router) ((decides_linked x.net x.number p.number).0 link))
 
     here : side p.end ≡ sides_of x p.number
     here = ap (λ (w : Peer). side w.end) is ∙ sym (side_here (side_opening (config_of x.net) x.net.settings.width) x.peers p.number i p at)
@@ -146,11 +136,11 @@ module _ (x : RouterView) (sound : IsSound x) where
       may_tell : MayTell x i q
       may_tell = record { peer = p.number; place = at; waits = sym (untold_is (unchosen x.net) x sound refl p.number link (Some q) least) }
 
-      pub is_next : nat_lt (octets_waiting (side p.end).outbox) OUTBOX_LIMIT ≡ true → (blocked : Option ℕ) → Looked x i blocked → (place : ℕ) → IsNext x (next.Peer i place q)
+      pub is_next : nat_lt (octets_waiting (side p.end).outbox) OUTBOX_LIMIT ≡ true → (blocked : Option ℕ) → Looked x i blocked → (place : ℕ) → IsNamedAt x.net q place → IsNext x (next.Peer i place q)
       unfolding may_tell
-      is_next free blocked k place =
+      is_next free blocked k place named =
           let room : has_room_at x p.number ≡ true = rw (waits, octets, free) refl in
-          (may_tell, sym (all_numbers (has_room_at x)) ∙ sym k.rooms ∙ find_on (has_room_at x) x.peers i p lt is ∙ rw room refl)
+          (may_tell, sym (all_numbers (has_room_at x)) ∙ sym k.rooms ∙ find_on (has_room_at x) x.peers i p lt is ∙ rw room refl, named)
 
   -- where each peer was told all, none of those before a place waits
   idle_through : AllServed x.tables → (i : ℕ) → i ≤ length x.peers → Looked x i None

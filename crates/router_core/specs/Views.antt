@@ -14,7 +14,7 @@ use Rattle.router_model.specs.declared.refusal.Stepped.{Stepped}
 use Rattle.router_model.specs.declared.refusal.Stepped.TheVariants as stepped
 use Rattle.std.specs.Prelude.{◌↔◌}
 use Rattle.std.specs.List.{Contains, AllByRecursion, find}
-use Rattle.std.specs.Prelude.{is_some}
+use Rattle.std.specs.Prelude.{is_some, slice_get}
 use Rattle.router_side.specs.Freshness.{IsFresh}
 use Rattle.prefix_lanes.specs.Bits.{PrefixView}
 use Rattle.ranked_policy.specs.Plans.{IsNamed}
@@ -224,6 +224,10 @@ waits_at x v = is_waiting_peer (unchosen x.net) x.number (plain_of x).router v
 abbrev pub has_room_at : RouterView → ℕ → Bool
 has_room_at x v = has_room (unchosen x.net) x.number (plain_of x).router v
 
+-- the prefix stands at that place of the network
+abbrev pub IsNamedAt : Plan → PrefixView → ℕ → Type 0
+IsNamedAt net q place = slice_get (map (λ origin. origin.prefix) net.origins) place ≡ Some q
+
 -- the peer at this place was not told the kept path of this prefix, the least one
 pub record MayTell (x : RouterView) (at : ℕ) (q : PrefixView) : Type 0 where
   pub peer : ℕ
@@ -232,7 +236,7 @@ pub record MayTell (x : RouterView) (at : ℕ) (q : PrefixView) : Type 0 where
 
 -- the first peer that waits and has room; if none has room, the first that waits
 abbrev pub IsNext : RouterView → Next → Type 0
-IsNext x (next.Peer at place q) = (found : MayTell x at q) × (find (has_room_at x) (peers x.net x.number) ≡ Some found.peer)
+IsNext x (next.Peer at place q) = (found : MayTell x at q) × (find (has_room_at x) (peers x.net x.number) ≡ Some found.peer) × IsNamedAt x.net q place
 IsNext x (next.Blocked v) = (find (has_room_at x) (peers x.net x.number) ≡ None) × (find (waits_at x) (peers x.net x.number) ≡ Some v)
 IsNext x next.Nobody = (find (has_room_at x) (peers x.net x.number) ≡ None) × (find (waits_at x) (peers x.net x.number) ≡ None)
 

@@ -93,13 +93,10 @@ pub(crate) fn new_peers(
         (λ made. AllByRecursion (λ p. side p.end ≡ side_opening config network.now.settings.width) made.items) }
 {
     let mut made = Vec::new(alloc);
-    for router in network.routers() {
-        if !is_peer(network, number, router.asn) {
-            continue;
-        }
+    for link in network.links_of(number) {
         let end = SideEnd::new(alloc, config, network.settings().width)?;
         made.push(Peer {
-            number: router.asn,
+            number: link.other,
             end,
         })?;
     }

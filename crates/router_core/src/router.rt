@@ -1,9 +1,9 @@
 //! A router: its peers, its tables, what it records, and the stamp of its last event.
 
-ghost use Rattle.std.specs.Prelude.{◌≡◌, ◌+◌, ◌≤◌, true, false, nat_lt, MatchOption, MatchResult, IfOk, IfErr, OnOk, IsOk};
+ghost use Rattle.std.specs.Prelude.{◌≡◌, ◌+◌, ◌≤◌, true, false, nat_lt, slice_get, MatchOption, MatchResult, IfSome, IfOk, IfErr, OnOk, IsOk};
 ghost use Rattle.ranked_policy.specs.Plans.{IsRouter};
 ghost use Rattle.router_model.specs.declared.refusal.RouterError.TheVariants.{Memory, StampEnd};
-ghost use Rattle.router_model.specs.Settings.{linked};
+ghost use Rattle.router_model.specs.Settings.{linked, peers};
 ghost use Rattle.run_model.specs.declared.stamps.TheConstants.{GREATEST_STAMP};
 ghost use Rattle.router_core.specs.Views.{Opens, plain_of, listed, IsFound};
 ghost use Rattle.router_core.specs.Calling.{no_step};
@@ -17,6 +17,7 @@ mod handle;
 mod history;
 mod offer;
 mod put;
+mod quiet;
 mod record;
 mod shown;
 mod take;
@@ -145,9 +146,19 @@ impl<'a> Router<'a> {
     // The place of a peer.
     fn find(&self, peer: Asn) -> Option<usize>
         ensures place { MatchOption result (listed peer self.now.peers ≡ false) (IsFound self.now.peers peer) }
+        ensures stands { IfSome result (λ at. slice_get (peers self.now.net self.now.number) at ≡ Some peer) }
         ensures none { MatchOption result (linked self.now.net self.now.number peer ≡ false)
             (λ at. linked self.now.net self.now.number peer ≡ true) }
     {
         place_of(self.peers.as_slice(), peer)
+    }
+
+    // What holds of the peer at a place, for the proofs of the calls by place.
+    fn peer_stands_at(&self, _at: usize, _peer: Asn)
+        requires stands { slice_get (peers self.now.net self.now.number) _at ≡ Some _peer }
+        ensures found { IsFound self.now.peers _peer _at }
+        ensures linked { linked self.now.net self.now.number _peer ≡ true }
+    {
+        let _ = &self.peers;
     }
 }

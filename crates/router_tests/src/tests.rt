@@ -13,6 +13,7 @@ mod choosing;
 mod items;
 mod offering;
 mod offers;
+mod places;
 mod recording;
 mod room;
 mod sessions;

@@ -2,7 +2,7 @@
 
 ghost use Rattle.std.specs.Prelude.{ℕ};
 ghost use Rattle.router_model.specs.Calls.{Decide, Advertise};
-ghost use Rattle.router_core.specs.Views.{IsSame, Answers, IsAt, IsNext, MayTell, Tells};
+ghost use Rattle.router_core.specs.Views.{IsSame, Answers, IsAt, IsNamedAt, IsNext, MayTell, Tells};
 ghost use Rattle.router_core.specs.Calling.{NeedsRoom};
 
 use super::{Router, next_stamp_in};
@@ -118,7 +118,7 @@ impl Router<'_> {
         }
     }
 
-    // Tells the kept path of a prefix to the peer at a place. The prefix is looked for at its own place first.
+    // Tells the kept path of the prefix at a place of the network to the peer at a place.
     fn tell(
         &mut self,
         at: usize,
@@ -126,7 +126,8 @@ impl Router<'_> {
         prefix: &Prefix,
         room: Result<(), AllocError>,
     ) -> Result<Stepped, RouterError>
-        requires { MayTell self.old at prefix.now }
+        requires may { MayTell self.old at prefix.now }
+        requires named { IsNamedAt self.old.net prefix.now place }
         ensures tells { (v : ℕ) → IsAt self.old.peers v at → Tells result self.old v prefix.now self.new }
         ensures full { NeedsRoom result room }
         ensures same { IsSame self.old self.new }

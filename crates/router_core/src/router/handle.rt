@@ -1,13 +1,14 @@
 //! Messages and faults that a router handles.
 
 ghost use Rattle.bgp_values.specs.declared.width.Width as widths;
-ghost use Rattle.std.specs.Prelude.{◌≡◌, true, IfOk, IfSome, OnOk, OnErr, ℕ, List, Option};
+ghost use Rattle.std.specs.Prelude.{◌≡◌, true, slice_get, IfOk, IfSome, OnOk, OnErr, ℕ, List, Option, Some};
 ghost use Rattle.bgp_codec.specs.declared.update.Update as update;
 ghost use Rattle.bgp_framing.specs.Held.{is_waiting};
 ghost use Rattle.ranked_policy.specs.Plans.{Linked};
 ghost use Rattle.snap_marker.specs.Recordings.{closed};
 ghost use Rattle.snap_marker.specs.Parts.{snapshots_of, is_heard, HasRoom, IsLink, IsOver, AreOf};
 ghost use Rattle.rib_tables.specs.Owners.{HearsUpdate};
+ghost use Rattle.router_model.specs.Settings.{peers};
 ghost use Rattle.router_model.specs.Sides.{is_up, carried, without_front, HasUpdate};
 ghost use Rattle.router_model.specs.Step.{close_at};
 ghost use Rattle.router_model.specs.Calls.{Handle};
@@ -98,10 +99,11 @@ fn record(marks: &mut MarkState, peer: Asn, left: Option<u32>, copy: Option<Upda
 fn act_on(
     end: &mut SideEnd,
     tables: &mut Rib<'_>,
+    at: usize,
     peer: Asn,
     route: &Route,
 ) -> Result<(), AllocError>
-    requires linked { Linked tables.old.net.links tables.old.router peer }
+    requires stands { slice_get (peers tables.old.net tables.old.router) at ≡ Some peer }
     requires up { is_up (side end.old) ≡ true }
     requires waits { is_waiting (side end.old).held ≡ true }
     requires front { IsRouteInFront (side end.old).width peer (side end.old).held route.now }
@@ -113,7 +115,7 @@ fn act_on(
 {
     end.reserve_acting()?;
     let (prefix, path) = route.told();
-    let Ok(()) = tables.hear_path(peer, prefix, path) else {
+    let Ok(()) = tables.hear_path_at(at, peer, prefix, path) else {
         return Err(AllocError);
     };
     end.act();
@@ -128,8 +130,10 @@ fn handle_front(
     tables: &mut Rib<'_>,
     marks: &mut MarkState,
     own_open: &Message,
+    at: usize,
     peer: Asn,
 ) -> Result<(), AllocError>
+    requires stands { slice_get (peers tables.old.net tables.old.router) at ≡ Some peer }
     requires linked { Linked tables.old.net.links tables.old.router peer }
     requires own { (w : widths.Width) → IsSayable w own_open.now }
     requires rule { (own : ℕ) × (rule.now ≡ naming (side end.old).width own peer) }
@@ -148,7 +152,7 @@ fn handle_front(
     // most are UPDATEs as a router tells them, and are not recorded
     if end.is_up() && marks.unfinished().is_none() {
         if let Some(route) = end.route_in_front(alloc, peer)? {
-            return act_on(end, tables, peer, &route);
+            return act_on(end, tables, at, peer, &route);
         }
     }
     handle_by_draft(alloc, rule, end, tables, marks, own_open, peer)
@@ -216,11 +220,31 @@ impl Router<'_> {
         ensures full { NeedsRoom result room }
         ensures same { IsSame self.old self.new }
     {
-        what_comes_keeps_fresh();
-        the_word_follows();
         let Some(at) = self.find(peer) else {
             return Err(RouterError::NoSuchPeer);
         };
+        self.handle_at(at, peer, room)
+    }
+
+    /// Handles the message or fault of the peer at a place that waits in front, as [`Router::handle`] does.
+    ///
+    /// `room` says whether the caller has room for the event if the call steps. Without room, a step is refused with
+    /// [`RouterError::Memory`]; any other answer is as it would be. Refused besides with [`RouterError::StampEnd`], and
+    /// with [`RouterError::Memory`] if a growth is refused; then all is as it was.
+    pub fn handle_at(
+        &mut self,
+        at: usize,
+        peer: Asn,
+        room: Result<(), AllocError>,
+    ) -> Result<Stepped, RouterError>
+        requires stands { slice_get (peers self.old.net self.old.number) at ≡ Some peer }
+        ensures answers { Answers result self.old (Handle peer) self.new }
+        ensures full { NeedsRoom result room }
+        ensures same { IsSame self.old self.new }
+    {
+        what_comes_keeps_fresh();
+        the_word_follows();
+        self.peer_stands_at(at, peer);
         if !self.peers[at].end.is_waiting() {
             return Ok(Stepped::Nothing);
         }
@@ -239,6 +263,7 @@ impl Router<'_> {
             &mut self.tables,
             &mut self.marks,
             &self.own_open,
+            at,
             peer,
         ) {
             Ok(()) => {

@@ -1,7 +1,8 @@
 //! Items that a router puts.
 
-ghost use Rattle.std.specs.Prelude.{Ok};
+ghost use Rattle.std.specs.Prelude.{◌≡◌, slice_get, Ok};
 ghost use Rattle.router_model.specs.declared.refusal.Stepped.TheVariants.{Did};
+ghost use Rattle.router_model.specs.Settings.{peers};
 ghost use Rattle.router_model.specs.Calls.{Put};
 ghost use Rattle.router_core.specs.Views.{IsSame, Answers, ShowsNext, HasNext};
 
@@ -22,6 +23,18 @@ impl Router<'_> {
         let Some(at) = self.find(peer) else {
             return Err(RouterError::NoSuchPeer);
         };
+        self.next_item_at(at, peer)
+    }
+
+    /// A copy of the item that is put next towards the peer at a place, as [`Router::next_item`] answers it. It changes
+    /// nothing.
+    ///
+    /// Refused with [`RouterError::StampEnd`], and with [`RouterError::Memory`] if the copy is refused.
+    pub fn next_item_at(&self, at: usize, peer: Asn) -> Result<Option<Item>, RouterError>
+        requires stands { slice_get (peers self.now.net self.now.number) at ≡ Some peer }
+        ensures { ShowsNext result self.now peer }
+    {
+        self.peer_stands_at(at, peer);
         if !self.peers[at].end.has_item() {
             return Ok(None);
         }
@@ -40,7 +53,20 @@ impl Router<'_> {
         ensures answers { Answers (Ok Did) self.old (Put peer) self.new }
         ensures same { IsSame self.old self.new }
     {
+        let _ = &self.peers;
         let at = self.find(peer).unwrap();
+        self.item_put_at(at, peer);
+    }
+
+    /// Puts the item that `next_item_at` answers, towards the peer at a place. It takes no memory, and cannot be
+    /// refused.
+    pub fn item_put_at(&mut self, at: usize, peer: Asn)
+        requires stands { slice_get (peers self.old.net self.old.number) at ≡ Some peer }
+        requires next { HasNext self.old peer }
+        ensures answers { Answers (Ok Did) self.old (Put peer) self.new }
+        ensures same { IsSame self.old self.new }
+    {
+        self.peer_stands_at(at, peer);
         let cut = self.network.settings().cut;
         self.peers[at].end.item_put(cut);
         self.stamp += 1;

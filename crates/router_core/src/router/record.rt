@@ -10,7 +10,7 @@ ghost use Rattle.router_side.specs.SideOf.{side};
 ghost use Rattle.router_model.specs.Step.{awaits};
 ghost use Rattle.router_model.specs.Calls.{Obey};
 ghost use Rattle.run_model.specs.declared.stamps.TheConstants.{GREATEST_STAMP};
-ghost use Rattle.router_core.specs.Views.{plain_of, Answers, IsFound, IsSame, TakesMark};
+ghost use Rattle.router_core.specs.Views.{plain_of, Answers, IsFound, IsNamedAt, IsSame, TakesMark};
 ghost use Rattle.router_core.specs.Calling.{NeedsRoom};
 ghost use Rattle.router_core.specs.Recorded.{paths_of, own_of, channels_of, down_in, Become, HaveRoomToMark, marked_if_up, IsPart, IsPeer, IsStateOf, Records, RecordsAt};
 
@@ -32,6 +32,7 @@ fn kept_paths(
     origins: &[Origin],
     tables: &Rib<'_>,
 ) -> Result<Vec<KeptPath>, AllocError>
+    requires { origins.now ≡ tables.now.net.origins }
     ensures { IfOk result (λ kept. kept.items ≡ paths_of origins.now tables.now.kept) }
 {
     let mut kept = Vec::new(alloc);
@@ -46,8 +47,9 @@ fn kept_paths(
     Ok(kept)
 }
 
-// Whether a prefix is originated.
+// Whether the prefix at a place of the network is originated.
 fn is_own(tables: &Rib<'_>, at: usize, prefix: &Prefix) -> bool
+    requires { IsNamedAt tables.now.net prefix.now at }
     ensures { result ≡ lists tables.now.originated prefix.now }
 {
     tables.is_originated_at(at, prefix)
@@ -59,6 +61,7 @@ fn originated(
     origins: &[Origin],
     tables: &Rib<'_>,
 ) -> Result<Vec<Prefix>, AllocError>
+    requires { origins.now ≡ tables.now.net.origins }
     ensures { IfOk result (λ own. own.items ≡ own_of origins.now tables.now.originated) }
 {
     let mut own = Vec::new(alloc);
@@ -173,6 +176,7 @@ fn part_now(
     snapshot: u32,
     first: Option<Asn>,
 ) -> Result<Part, AllocError>
+    requires { origins.now ≡ tables.old.net.origins }
     ensures part { IfOk result (IsPart origins.now tables.old peers.now number snapshot first) }
     ensures same { tables.new ≡ tables.old }
 {

@@ -1,6 +1,7 @@
 //! Items that a router takes.
 
-ghost use Rattle.std.specs.Prelude.{◌≡◌};
+ghost use Rattle.std.specs.Prelude.{◌≡◌, slice_get};
+ghost use Rattle.router_model.specs.Settings.{peers};
 ghost use Rattle.router_model.specs.Calls.{Take};
 ghost use Rattle.router_core.specs.Views.{IsSame, Answers, IsFound, TakesSign};
 ghost use Rattle.router_core.specs.Calling.{NeedsRoom};
@@ -46,6 +47,26 @@ impl Router<'_> {
         let Some(at) = self.find(peer) else {
             return Err(RouterError::NoSuchPeer);
         };
+        self.take_at(at, peer, item, room)
+    }
+
+    /// Takes the next item of the peer at a place as [`Router::take`] does.
+    ///
+    /// Refused with [`RouterError::Held`], with [`RouterError::StampEnd`], with [`RouterError::EpochEnd`], and with
+    /// [`RouterError::Memory`] if a growth is refused or the caller has no room; then all is as it was.
+    pub fn take_at(
+        &mut self,
+        at: usize,
+        peer: Asn,
+        item: &Item,
+        room: Result<(), AllocError>,
+    ) -> Result<Stepped, RouterError>
+        requires stands { slice_get (peers self.old.net self.old.number) at ≡ Some peer }
+        ensures answers { Answers result self.old (Take peer item.now.stamp item.now.what) self.new }
+        ensures full { NeedsRoom result room }
+        ensures same { IsSame self.old self.new }
+    {
+        self.peer_stands_at(at, peer);
         if self.peers[at].end.is_waiting() {
             return Err(RouterError::Held { peer });
         }
@@ -67,7 +88,7 @@ impl Router<'_> {
     }
 
     // Takes a Dial or a Shut at this stamp, or refuses it and changes nothing. Its draft is large, and a function pays
-    // as it begins for what it may hold: `take`, which mostly takes pieces, therefore holds none.
+    // as it begins for what it may hold: `take_at`, which mostly takes pieces, therefore holds none.
     #[inline(never)]
     fn take_sign(
         &mut self,

@@ -40,7 +40,7 @@ fn turns(one: &mut Router<'_>, two: &mut Router<'_>, n: u32) -> bool {
 }
 
 // Both start, and router 1 originates its prefix.
-fn begin(one: &mut Router<'_>, two: &mut Router<'_>, prefix: Prefix) -> bool {
+pub(super) fn begin(one: &mut Router<'_>, two: &mut Router<'_>, prefix: Prefix) -> bool {
     is_told(one, Command::Start(2)) == DID
         && is_told(two, Command::Start(1)) == DID
         && is_told(one, Command::Originate(prefix)) == DID

@@ -1,13 +1,13 @@
--- the peers that were made, and those among the routers that are left, are all
-use Rattle.std.proofs.Common.{◌≡◌, ◌++◌, map, filter, drop}
+-- the peers that were made, and those of the links that are left, are all
+use Rattle.std.proofs.Common.{◌≡◌, ◌++◌, map, drop}
 use Rattle.std.specs.List.{AllByRecursion}
-use Rattle.router_model.specs.Settings.{linked, peers}
+use Rattle.router_model.specs.Settings.{peers}
 use Rattle.router_side.specs.SideOf.{side, side_opening}
 use Rattle.router_core.proofs.opening.new_peers.Given as goal
 
-abbrev pub invariant-loop-router : goal.invariant-loop-router
-invariant-loop-router l =
+abbrev pub invariant-loop-link : goal.invariant-loop-link
+invariant-loop-link l =
     record {
-      numbers : map (λ p. p.number) l.made.items ++ filter (linked l.fn.network l.fn.number) (map (λ r. r.asn) (drop l.router-index l.router-items)) ≡ peers l.fn.network l.fn.number;
+      numbers : map (λ p. p.number) l.made.items ++ map (λ k. k.other) (drop l.link-index l.link-items) ≡ peers l.fn.network l.fn.number;
       sides : AllByRecursion (λ p. side p.end ≡ side_opening l.fn.config l.fn.network.settings.width) l.made.items;
     }

@@ -1,4 +1,4 @@
-use Rattle.std.proofs.Common.{◌≡◌, ◌<◌, true, false, length, arith, rules, subst}
+use Rattle.std.proofs.Common.{◌≡◌, ◌<◌, true, false, length, arith, rules, sym, subst}
 use Rattle.std.specs.Prelude.{nat_lt}
 use Rattle.std.proofs.lemmas.Bool.Decides.{nat_tests}
 use Rattle.outbox.specs.Items.{octets_waiting}
@@ -6,20 +6,21 @@ use Rattle.router_model.specs.declared.limits.TheConstants.{OUTBOX_LIMIT}
 use Rattle.router_side.specs.SideOf.{side}
 use Rattle.router_core.specs.declared.router.choose.Next.TheVariants as next
 use Rattle.router_core.specs.Views.{RouterView, IsNext}
-use Rattle.router_core.proofs.Nexts.{is_linked, past_idle, past_full, is_next, nobody_waits}
+use Rattle.router_core.proofs.Nexts.{past_idle, past_full, is_next, nobody_waits}
+use Rattle.router_core.proofs.Places.{listed_here}
 use Rattle.router_core.proofs.router.Router.next_to_tell.Goals as goal
 
 pub waiting_at-requires : goal.waiting_at-requires
 waiting_at-requires c =
     let r : RouterView = record { net = c.self.inside.network.now; number = c.self.inside.number; own_open = c.self.inside.own_open; peers = c.self.inside.peers.items; tables = c.self.inside.tables; marks = c.self.inside.marks; stamp = c.self.inside.stamp } in
     let lt : c.loop-at.at < length r.peers = search rules in
-    is_linked r c.self.invariant c.loop-at.at c.index-peer.result.now lt c.index-peer.ensures
+    record { stands = listed_here r c.loop-at.at c.index-peer.result.now c.self.invariant lt c.index-peer.ensures }
 
 pub loop-at-preserved-in_default : goal.loop-at-preserved-in_default
 loop-at-preserved-in_default c =
     let r : RouterView = record { net = c.self.inside.network.now; number = c.self.inside.number; own_open = c.self.inside.own_open; peers = c.self.inside.peers.items; tables = c.self.inside.tables; marks = c.self.inside.marks; stamp = c.self.inside.stamp } in
     let lt : c.loop-at.at < length r.peers = search rules in
-    past_idle r c.self.invariant c.loop-at.at c.index-peer.result.now lt c.index-peer.ensures c.in_default.ensures c.loop-at.blocked c.loop-at.invariant
+    past_idle r c.self.invariant c.loop-at.at c.index-peer.result.now lt c.index-peer.ensures c.in_default.ensures.least c.loop-at.blocked c.loop-at.invariant
 
 pub loop-at-preserved : goal.loop-at-preserved
 loop-at-preserved c =
@@ -27,7 +28,7 @@ loop-at-preserved c =
     let lt : c.loop-at.at < length r.peers = search rules in
     let p = c.index-peer.result.now in
     let full : nat_lt (octets_waiting (side p.end).outbox) OUTBOX_LIMIT ≡ false = grind (arith, nat_tests, c.octets_waiting.ensures, c.if-octets_waiting-lt-OUTBOX_LIMIT.false) in
-    rw c.or-blocked.ensures (past_full r c.self.invariant c.loop-at.at p lt c.index-peer.ensures c.in-Some.found.1 c.in-Some.ensures full c.loop-at.blocked c.loop-at.invariant)
+    rw c.or-blocked.ensures (past_full r c.self.invariant c.loop-at.at p lt c.index-peer.ensures c.in-Some.found.1 c.in-Some.ensures.least full c.loop-at.blocked c.loop-at.invariant)
 
 pub returns-then-octets_waiting-lt-OUTBOX_LIMIT : goal.returns-then-octets_waiting-lt-OUTBOX_LIMIT
 returns-then-octets_waiting-lt-OUTBOX_LIMIT c =
@@ -37,7 +38,7 @@ returns-then-octets_waiting-lt-OUTBOX_LIMIT c =
     let free : nat_lt (octets_waiting (side p.end).outbox) OUTBOX_LIMIT ≡ true = grind (arith, nat_tests, c.octets_waiting.ensures, c.if-octets_waiting-lt-OUTBOX_LIMIT.true) in
     let q = c.in-Some.found.1 in
     subst (λ (x : RouterView). IsNext x (next.Peer c.loop-at.at c.in-Some.found.0 q)) c.self.view_is
-    (is_next r c.self.invariant c.loop-at.at p lt c.index-peer.ensures q c.in-Some.ensures free c.loop-at.blocked c.loop-at.invariant c.in-Some.found.0)
+    (is_next r c.self.invariant c.loop-at.at p lt c.index-peer.ensures q c.in-Some.ensures.least free c.loop-at.blocked c.loop-at.invariant c.in-Some.found.0 (rw (sym c.self.invariant.tabled.net) c.in-Some.ensures.named))
 
 pub returns-then-not-is_awaited : goal.returns-then-not-is_awaited
 returns-then-not-is_awaited c =

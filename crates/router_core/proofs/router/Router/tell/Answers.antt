@@ -14,9 +14,10 @@ use Rattle.run_model.specs.declared.stamps.TheConstants.{GREATEST_STAMP}
 use Rattle.router_side.specs.Sayings.{IsSayable}
 use Rattle.router_side.specs.SideOf.{side}
 use Rattle.router_core.specs.declared.peers.Peer.{Peer}
-use Rattle.router_core.specs.Views.{RouterView, IsAt, MayTell, Tells, sides_of, plain_of, told_to}
+use Rattle.router_core.specs.Views.{RouterView, IsAt, IsNamedAt, MayTell, Tells, sides_of, plain_of, told_to}
 use Rattle.router_core.specs.Calling.{no_step}
 use Rattle.router_core.proofs.NoStep.{ends_no_step}
+use Rattle.router_core.proofs.Places.{listed_here}
 use Rattle.router_core.proofs.Untold.{below, named, named_there, place, here, has_width, is_linked, up, number_is}
 use Rattle.router_core.proofs.Tellings.{with_peer_and_tables, sound_still, plain_still, sound_told, plain_told}
 use Rattle.router_core.proofs.router.Router.tell.Goals as goal
@@ -34,14 +35,14 @@ pub telling-requires-clause-named : goal.telling-requires-clause-named
 telling-requires-clause-named c =
     let r : RouterView = record { net = c.self.inside.network.now; number = c.self.inside.number; own_open = c.self.inside.own_open; peers = c.self.inside.peers.items; tables = c.self.inside.tables; marks = c.self.inside.marks; stamp = c.self.inside.stamp } in
     let q = c.args.prefix.now in
-    let may = subst (λ (x : RouterView). MayTell x c.args.at q) (sym c.self.view_is) c.requires in
+    let may = subst (λ (x : RouterView). MayTell x c.args.at q) (sym c.self.view_is) c.requires.may in
     named r c.self.invariant c.args.at q may
 
 pub index_mut-requires : goal.index_mut-requires
 index_mut-requires c =
     let r : RouterView = record { net = c.self.inside.network.now; number = c.self.inside.number; own_open = c.self.inside.own_open; peers = c.self.inside.peers.items; tables = c.self.inside.tables; marks = c.self.inside.marks; stamp = c.self.inside.stamp } in
     let q = c.args.prefix.now in
-    let may = subst (λ (x : RouterView). MayTell x c.args.at q) (sym c.self.view_is) c.requires in
+    let may = subst (λ (x : RouterView). MayTell x c.args.at q) (sym c.self.view_is) c.requires.may in
     let lt : c.args.at < length r.peers = below r c.self.invariant c.args.at q may in
     search rules
 
@@ -49,7 +50,7 @@ pub invariant_of-self : goal.invariant_of-self
 invariant_of-self c =
     let r : RouterView = record { net = c.self.inside.network.now; number = c.self.inside.number; own_open = c.self.inside.own_open; peers = c.self.inside.peers.items; tables = c.self.inside.tables; marks = c.self.inside.marks; stamp = c.self.inside.stamp } in
     let q = c.args.prefix.now in
-    let may = subst (λ (x : RouterView). MayTell x c.args.at q) (sym c.self.view_is) c.requires in
+    let may = subst (λ (x : RouterView). MayTell x c.args.at q) (sym c.self.view_is) c.requires.may in
     let p = c.index_mut.result.now in
     let is = c.index_mut.ensures.value in
     let kept : Peer = record { number = p.number; end = c.reserve_route.new.self } in
@@ -60,7 +61,7 @@ pub returns-in_default-reserve_route-clause-tells : goal.returns-in_default-rese
 returns-in_default-reserve_route-clause-tells c =
     let r : RouterView = record { net = c.self.inside.network.now; number = c.self.inside.number; own_open = c.self.inside.own_open; peers = c.self.inside.peers.items; tables = c.self.inside.tables; marks = c.self.inside.marks; stamp = c.self.inside.stamp } in
     let q = c.args.prefix.now in
-    let may = subst (λ (x : RouterView). MayTell x c.args.at q) (sym c.self.view_is) c.requires in
+    let may = subst (λ (x : RouterView). MayTell x c.args.at q) (sym c.self.view_is) c.requires.may in
     let p = c.index_mut.result.now in
     let is = c.index_mut.ensures.value in
     let kept : Peer = record { number = p.number; end = c.reserve_route.new.self } in
@@ -69,27 +70,27 @@ returns-in_default-reserve_route-clause-tells c =
     subst (λ (x : RouterView). (v : ℕ) → IsAt x.peers v c.args.at → Tells (Err error.Memory) x v q (with_peer_and_tables r c.args.at kept r.tables r.stamp)) c.self.view_is (λ v at.
     rw early (refl, plain_still r c.self.invariant p.number c.args.at (place r c.self.invariant c.args.at q may p is) kept refl still))
 
-pub tell_at-requires-clause-linked : goal.tell_at-requires-clause-linked
-tell_at-requires-clause-linked c =
+pub path_at-requires : goal.path_at-requires
+path_at-requires c =
+    let r : RouterView = record { net = c.self.inside.network.now; number = c.self.inside.number; own_open = c.self.inside.own_open; peers = c.self.inside.peers.items; tables = c.self.inside.tables; marks = c.self.inside.marks; stamp = c.self.inside.stamp } in
+    record { stands = rw c.self.invariant.tabled.net (subst (λ (x : RouterView). IsNamedAt x.net c.args.prefix.now c.args.place) (sym c.self.view_is) c.requires.named) }
+
+pub tell_at-requires-clause-stands : goal.tell_at-requires-clause-stands
+tell_at-requires-clause-stands c =
     let r : RouterView = record { net = c.self.inside.network.now; number = c.self.inside.number; own_open = c.self.inside.own_open; peers = c.self.inside.peers.items; tables = c.self.inside.tables; marks = c.self.inside.marks; stamp = c.self.inside.stamp } in
     let q = c.args.prefix.now in
-    let may = subst (λ (x : RouterView). MayTell x c.args.at q) (sym c.self.view_is) c.requires in
-    let p = c.index_mut.result.now in
-    let is = c.index_mut.ensures.value in
-    is_linked r c.self.invariant c.args.at q may p is
+    let may = subst (λ (x : RouterView). MayTell x c.args.at q) (sym c.self.view_is) c.requires.may in
+    listed_here r c.args.at c.index_mut.result.now c.self.invariant (below r c.self.invariant c.args.at q may) c.index_mut.ensures.value
 
 pub tell_at-requires-clause-named : goal.tell_at-requires-clause-named
 tell_at-requires-clause-named c =
-    let r : RouterView = record { net = c.self.inside.network.now; number = c.self.inside.number; own_open = c.self.inside.own_open; peers = c.self.inside.peers.items; tables = c.self.inside.tables; marks = c.self.inside.marks; stamp = c.self.inside.stamp } in
-    let q = c.args.prefix.now in
-    let may = subst (λ (x : RouterView). MayTell x c.args.at q) (sym c.self.view_is) c.requires in
-    named_there r c.self.invariant c.args.at q may
+    rw c.self.invariant.tabled.net (subst (λ (x : RouterView). IsNamedAt x.net c.args.prefix.now c.args.place) (sym c.self.view_is) c.requires.named)
 
 pub invariant_of-self-in_default-tell_at : goal.invariant_of-self-in_default-tell_at
 invariant_of-self-in_default-tell_at c =
     let r : RouterView = record { net = c.self.inside.network.now; number = c.self.inside.number; own_open = c.self.inside.own_open; peers = c.self.inside.peers.items; tables = c.self.inside.tables; marks = c.self.inside.marks; stamp = c.self.inside.stamp } in
     let q = c.args.prefix.now in
-    let may = subst (λ (x : RouterView). MayTell x c.args.at q) (sym c.self.view_is) c.requires in
+    let may = subst (λ (x : RouterView). MayTell x c.args.at q) (sym c.self.view_is) c.requires.may in
     let p = c.index_mut.result.now in
     let is = c.index_mut.ensures.value in
     let kept : Peer = record { number = p.number; end = c.reserve_route.new.self } in
@@ -100,7 +101,7 @@ pub returns-in_default-tell_at-clause-tells : goal.returns-in_default-tell_at-cl
 returns-in_default-tell_at-clause-tells c =
     let r : RouterView = record { net = c.self.inside.network.now; number = c.self.inside.number; own_open = c.self.inside.own_open; peers = c.self.inside.peers.items; tables = c.self.inside.tables; marks = c.self.inside.marks; stamp = c.self.inside.stamp } in
     let q = c.args.prefix.now in
-    let may = subst (λ (x : RouterView). MayTell x c.args.at q) (sym c.self.view_is) c.requires in
+    let may = subst (λ (x : RouterView). MayTell x c.args.at q) (sym c.self.view_is) c.requires.may in
     let p = c.index_mut.result.now in
     let is = c.index_mut.ensures.value in
     let kept : Peer = record { number = p.number; end = c.reserve_route.new.self } in
@@ -114,7 +115,7 @@ pub tell_route-requires-clause-up : goal.tell_route-requires-clause-up
 tell_route-requires-clause-up c =
     let r : RouterView = record { net = c.self.inside.network.now; number = c.self.inside.number; own_open = c.self.inside.own_open; peers = c.self.inside.peers.items; tables = c.self.inside.tables; marks = c.self.inside.marks; stamp = c.self.inside.stamp } in
     let q = c.args.prefix.now in
-    let may = subst (λ (x : RouterView). MayTell x c.args.at q) (sym c.self.view_is) c.requires in
+    let may = subst (λ (x : RouterView). MayTell x c.args.at q) (sym c.self.view_is) c.requires.may in
     let p = c.index_mut.result.now in
     let is = c.index_mut.ensures.value in
     let kept : Peer = record { number = p.number; end = c.reserve_route.new.self } in
@@ -125,7 +126,7 @@ pub tell_route-requires-clause-sayable : goal.tell_route-requires-clause-sayable
 tell_route-requires-clause-sayable c =
     let r : RouterView = record { net = c.self.inside.network.now; number = c.self.inside.number; own_open = c.self.inside.own_open; peers = c.self.inside.peers.items; tables = c.self.inside.tables; marks = c.self.inside.marks; stamp = c.self.inside.stamp } in
     let q = c.args.prefix.now in
-    let may = subst (λ (x : RouterView). MayTell x c.args.at q) (sym c.self.view_is) c.requires in
+    let may = subst (λ (x : RouterView). MayTell x c.args.at q) (sym c.self.view_is) c.requires.may in
     let p = c.index_mut.result.now in
     let width : (side c.reserve_route.new.self).width ≡ r.net.settings.width = ap (λ (s : Side). s.width) c.reserve_route.ensures.side ∙ has_width r c.self.invariant c.args.at q may p c.index_mut.ensures.value in
     subst (λ (w : Width). IsSayable w (UpdateMsg c.in-Ok.route)) (sym width) c.in-Ok.ensures.sayable
@@ -134,7 +135,7 @@ pub invariant_of-self-2 : goal.invariant_of-self-2
 invariant_of-self-2 c =
     let r : RouterView = record { net = c.self.inside.network.now; number = c.self.inside.number; own_open = c.self.inside.own_open; peers = c.self.inside.peers.items; tables = c.self.inside.tables; marks = c.self.inside.marks; stamp = c.self.inside.stamp } in
     let q = c.args.prefix.now in
-    let may = subst (λ (x : RouterView). MayTell x c.args.at q) (sym c.self.view_is) c.requires in
+    let may = subst (λ (x : RouterView). MayTell x c.args.at q) (sym c.self.view_is) c.requires.may in
     let p = c.index_mut.result.now in
     let is = c.index_mut.ensures.value in
     let told_peer : Peer = record { number = p.number; end = c.tell_route.new.self } in
@@ -151,7 +152,7 @@ pub returns-clause-tells : goal.returns-clause-tells
 returns-clause-tells c =
     let r : RouterView = record { net = c.self.inside.network.now; number = c.self.inside.number; own_open = c.self.inside.own_open; peers = c.self.inside.peers.items; tables = c.self.inside.tables; marks = c.self.inside.marks; stamp = c.self.inside.stamp } in
     let q = c.args.prefix.now in
-    let may = subst (λ (x : RouterView). MayTell x c.args.at q) (sym c.self.view_is) c.requires in
+    let may = subst (λ (x : RouterView). MayTell x c.args.at q) (sym c.self.view_is) c.requires.may in
     let p = c.index_mut.result.now in
     let is = c.index_mut.ensures.value in
     let told_peer : Peer = record { number = p.number; end = c.tell_route.new.self } in
