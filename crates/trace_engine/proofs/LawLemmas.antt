@@ -1,49 +1,40 @@
 -- A trace spells the run, and is played to the same.
-use Rattle.std.proofs.Common.{◌≡◌, ℕ, zero, suc, ◌-◌, ◌==◌, ◌<◌, ◌≤◌, Bool, true, false, List, [], ◌∷◌, ◌++◌, length, map, get_or, refl, ap, sym, subst, ◌∙◌, arith, append_assoc, inl, inr}
-use Rattle.std.specs.Prelude.{codes, if◌then◌else◌, ◌&&◌, nat_lt}
+use Rattle.std.proofs.Common.{◌≡◌, ℕ, ◌-◌, ◌≤◌, Bool, true, false, List, [], ◌∷◌, ◌++◌, length, map, refl, ap, sym, subst, ◌∙◌, arith, inl, inr}
+use Rattle.std.specs.Prelude.{codes, if◌then◌else◌}
 use Rattle.std.specs.List.{All, AllByRecursion}
-use Rattle.std.proofs.lemmas.Bool.{eq-eqb, lt-ltb}
-use Rattle.std.proofs.lemmas.Bool.Decides.{nat_tests}
-use Rattle.std.proofs.lemmas.List.{append-nil, append_cancel_left, length-append}
+use Rattle.std.proofs.lemmas.List.{append-nil, append_cancel_left}
 use Rattle.ranked_policy.specs.Plans.{Plan, IsNetwork}
 use Rattle.router_model.specs.Settings.{Setting, ChoosesByRank}
 use Rattle.router_runs.specs.Existence.{EachNetworkHasASetting}
 use Rattle.world_core.specs.declared.schedule.Event.{Event}
-use Rattle.world_core.specs.declared.schedule.Order.{Order}
-use Rattle.world_core.specs.declared.schedule.Order.TheVariants as order
 use Rattle.world_core.specs.World.{World, new_world, played}
 use Rattle.world_core.specs.Keeping.{WhatIsPlayedIsReplayed}
-use Rattle.world_core.specs.Orders.{events_of}
-use Rattle.net_text.specs.declared.code.Code.TheVariants as kinds
 use Rattle.net_text.specs.Laws.{OneNetwork, SpeltIsNotRefused}
 use Rattle.net_text.specs.Layout.{IsOneLine, LinesEndByLineFeeds}
-use Rattle.net_text.specs.Lexing.{Text, lines_of, without_return, first_more, begins_with, is_section, before_section, behind_section}
+use Rattle.net_text.specs.Lexing.{Text, lines_of, is_section, before_section, behind_section}
 use Rattle.net_text.specs.Networks.{SpellsNetwork}
-use Rattle.net_text.specs.Printing.{line}
 use Rattle.schedule_text.specs.declared.schedule.ScheduledOrder.{ScheduledOrder}
 use Rattle.schedule_text.specs.Sayings.{LinesAreReadAsTheySay}
 use Rattle.schedule_text.specs.Schedules.{orders_of, IsGood, SpellsSchedule}
+use Rattle.schedule_text.specs.Events.{head_of_schedule}
 use Rattle.text_engines.specs.declared.status.TheConstants.{DONE}
 use Rattle.text_engines.specs.declared.transfer.TheConstants.{INPUT_LIMIT}
 use Rattle.text_engines.specs.Decoding.{Output, output}
 use Rattle.text_engines.specs.Inputs.{NetworkGives}
-use Rattle.play_engine.specs.Playing.{all_events, LeadTo, IsReport, OrdersGive, ScheduleGives, Plays}
-use Rattle.play_engine.proofs.OneText.{refused_at, no_fault, no_halt}
-use Rattle.trace_engine.specs.Tracing.{ends_in_return, whole_line, network_text, head_of_trace, OrdersText, limit_comment, limited, OrdersTrace}
+use Rattle.schedule_text.specs.Obeying.{all_events, LeadTo}
+use Rattle.play_engine.specs.Playing.{IsReport, OrdersGive, ScheduleGives, Plays}
+use Rattle.schedule_text.proofs.Faults.{refused_at, no_fault}
+use Rattle.schedule_text.proofs.ObeyingLemmas.{no_halt, same_events}
+use Rattle.trace_engine.specs.Tracing.{OrdersText, OrdersTrace}
+use Rattle.text_engines.specs.Engine.{limited}
 use Rattle.trace_engine.specs.Tracings.{network_lines, ScheduleTraces, Traces}
 use Rattle.trace_engine.specs.Laws.{SpellsEvents, TracesSpellTheirRuns, TracesPlayBack}
-use Rattle.trace_engine.proofs.LineLemmas.{order_of, as_orders, line_parted, one_lines}
+use Rattle.schedule_text.proofs.LineLemmas.{order_of, as_orders, one_lines, all_of}
 use Rattle.trace_engine.proofs.RunLemmas.{MayOrder, lines_may, orders_say}
+use Rattle.schedule_text.proofs.HeadLemmas.{IsPlain, front_is, rest_is, head_parted}
+use Rattle.text_engines.proofs.WritingLemmas.{not_done, short_text}
 
 -- ---- what is printed spells the run
-
-all_at : (P : Text → Type 0) (x : Text) (xs : List Text) → P x → All P xs → All P (x ∷ xs)
-all_at P x xs here all zero d lt = here
-all_at P x xs here all (suc k) d lt = all k d (omega (arith, lt))
-
-pub all_of : (P : Text → Type 0) (xs : List Text) → AllByRecursion P xs → All P xs
-all_of P [] h = λ k d lt. absurd (omega (arith, lt))
-all_of P (x ∷ xs) h = all_at P x xs h.0 (all_of P xs h.1)
 
 module _ (feeds : LinesEndByLineFeeds) (read : LinesAreReadAsTheySay) where
   pub spell_their_runs : TracesSpellTheirRuns
@@ -68,9 +59,6 @@ kept : (P : Text → Type 0) (name : Text) (lines : List Text) → AllByRecursio
 kept P name [] h = tt
 kept P name (l ∷ ls) h = kept_by P (is_section name l) l (before_section name ls) h.0 (kept P name ls h.1)
 
-abbrev pub IsPlain : Text → Text → Type 0
-IsPlain name l = is_section name l ≡ false
-
 plain_by : (name : Text) (b : Bool) (l : Text) (ls : List Text) → is_section name l ≡ b → AllByRecursion (IsPlain name) ls → AllByRecursion (IsPlain name) (if b then [] else l ∷ ls)
 plain_by name true l ls is h = tt
 plain_by name false l ls is h = (is, h)
@@ -78,71 +66,6 @@ plain_by name false l ls is h = (is, h)
 plain : (name : Text) (lines : List Text) → AllByRecursion (IsPlain name) (before_section name lines)
 plain name [] = tt
 plain name (l ∷ ls) = plain_by name (is_section name l) l (before_section name ls) refl (plain name ls)
-
-pub front_is : (name s : Text) (front rest : List Text) → AllByRecursion (IsPlain name) front → is_section name s ≡ true → before_section name (front ++ s ∷ rest) ≡ front
-front_is name s [] rest h is = ap (λ (b : Bool). if b then [] else s ∷ before_section name rest) is
-front_is name s (l ∷ ls) rest h is = ap (λ (b : Bool). if b then [] else l ∷ before_section name (ls ++ s ∷ rest)) h.0 ∙ ap (λ (k : List Text). l ∷ k) (front_is name s ls rest h.1 is)
-
-pub rest_is : (name s : Text) (front rest : List Text) → AllByRecursion (IsPlain name) front → is_section name s ≡ true → behind_section name (front ++ s ∷ rest) ≡ rest
-rest_is name s [] rest h is = ap (λ (b : Bool). if b then rest else behind_section name rest) is
-rest_is name s (l ∷ ls) rest h is = ap (λ (b : Bool). if b then ls ++ s ∷ rest else behind_section name (ls ++ s ∷ rest)) h.0 ∙ rest_is name s ls rest h.1 is
-
-return_gone : (l : Text) → without_return (l ++ 13 ∷ []) ≡ l
-return_gone [] = refl
-return_gone (x ∷ []) = refl
-return_gone (x ∷ y ∷ ys) = ap (λ (t : Text). x ∷ t) (return_gone (y ∷ ys))
-
-no_line_end : (l : Text) → IsOneLine l → IsOneLine (l ++ 13 ∷ [])
-no_line_end [] h = ((λ e. absurd cc), tt)
-no_line_end (x ∷ xs) h = (h.0, no_line_end xs h.1)
-
-last_is : (x : ℕ) (b : Bool) → (x == 13) ≡ b → b ≡ false → (if x == 13 then [] else x ∷ []) ≡ x ∷ []
-last_is x b is other = ap (λ (c : Bool). if c then [] else x ∷ []) (is ∙ other)
-
-return_kept : (l : Text) → ends_in_return l ≡ false → without_return l ≡ l
-return_kept [] h = refl
-return_kept (x ∷ []) h = last_is x (x == 13) refl h
-return_kept (x ∷ y ∷ ys) h =
-    let long : length (x ∷ y ∷ ys) - 1 ≡ suc (length ys) = omega arith in
-    let short : length (y ∷ ys) - 1 ≡ length ys = omega arith in
-    let some : nat_lt 0 (length (x ∷ y ∷ ys)) ≡ true = lt-ltb 0 (length (x ∷ y ∷ ys)) (omega arith) in
-    let more : nat_lt 0 (length (y ∷ ys)) ≡ true = lt-ltb 0 (length (y ∷ ys)) (omega arith) in
-    let this : (get_or (y ∷ ys) (length ys) 0 == 13) ≡ false =
-    sym (ap (λ (k : ℕ). get_or (x ∷ y ∷ ys) k 0 == 13) long)
-    ∙ sym (ap (λ (b : Bool). b && (get_or (x ∷ y ∷ ys) (length (x ∷ y ∷ ys) - 1) 0 == 13)) some) ∙ h in
-    let that : ends_in_return (y ∷ ys) ≡ false =
-    ap (λ (b : Bool). b && (get_or (y ∷ ys) (length (y ∷ ys) - 1) 0 == 13)) more ∙ ap (λ (k : ℕ). get_or (y ∷ ys) k 0 == 13) short ∙ this in
-    ap (λ (t : Text). x ∷ t) (return_kept (y ∷ ys) that)
-
-module _ (feeds : LinesEndByLineFeeds) where
-  whole_line_by : (b : Bool) (l rest : Text) → ends_in_return l ≡ b → IsOneLine l → lines_of ((l ++ (if b then 13 ∷ 10 ∷ [] else 10 ∷ [])) ++ rest) ≡ l ∷ lines_of rest
-  whole_line_by true l rest is h =
-      ap lines_of (append_assoc l (13 ∷ 10 ∷ []) rest ∙ sym (append_assoc l (13 ∷ []) (10 ∷ rest)))
-      ∙ feeds.front (l ++ 13 ∷ []) rest (no_line_end l h) ∙ ap (λ (t : Text). t ∷ lines_of rest) (return_gone l)
-  whole_line_by false l rest is h =
-      ap lines_of (append_assoc l (10 ∷ []) rest) ∙ feeds.front l rest h ∙ ap (λ (t : Text). t ∷ lines_of rest) (return_kept l is)
-
-  network_parted : (front : List Text) (rest : Text) → AllByRecursion IsOneLine front → lines_of (network_text front ++ rest) ≡ front ++ lines_of rest
-  network_parted [] rest h = refl
-  network_parted (l ∷ ls) rest h =
-      ap lines_of (append_assoc (whole_line l) (network_text ls) rest) ∙ whole_line_by (ends_in_return l) l (network_text ls ++ rest) refl h.0
-      ∙ ap (λ (k : List Text). l ∷ k) (network_parted ls rest h.1)
-
-  pub trace_parted : (front : List Text) (body : Text) → AllByRecursion IsOneLine front → lines_of (head_of_trace front ++ body) ≡ front ++ codes "schedule" ∷ lines_of body
-  trace_parted front body h =
-      ap lines_of (append_assoc (network_text front) (line (codes "schedule")) body) ∙ network_parted front (line (codes "schedule") ++ body) h
-      ∙ ap (λ (k : List Text). front ++ k) (line_parted feeds (codes "schedule") body refl)
-
--- ---- what is played of it
-
-pub same_events : (net : Plan) (os : List ScheduledOrder) (es : List Event) → map order_of os ≡ as_orders es → all_events net os ≡ es
-same_events net [] [] h = refl
-same_events net [] (e ∷ es) h = absurd cc
-same_events net (o ∷ os) [] h = absurd cc
-same_events net (o ∷ os) (e ∷ es) h =
-    let here : o.order ≡ order.One e = cc in
-    let more : map order_of os ≡ as_orders es = cc in
-    ap (λ (k : Order). events_of net k ++ all_events net os) here ∙ ap (λ (k : List Event). e ∷ k) (same_events net os es more)
 
 -- what an input has whose trace was printed whole
 pub record IsTraced (input text : List ℕ) : Type 0 where
@@ -152,14 +75,8 @@ pub record IsTraced (input text : List ℕ) : Type 0 where
   pub lines : List Text
   pub orders : List ScheduledOrder
   pub spelled : SpellsSchedule net before lines orders
-  pub traced : OrdersTrace net (head_of_trace (network_lines input)) orders (output text DONE)
+  pub traced : OrdersTrace net (head_of_schedule (network_lines input)) orders (output text DONE)
   pub whole : (out : Output) → OrdersGive IsReport net orders out → Plays input out
-
--- what was printed whole is no refusal
-pub not_done : (text : List ℕ) (out : Output) → (out.status == 0) ≡ false → output text DONE ≡ out → ⊥
-not_done text out other e =
-    let k : true ≡ false = ap (λ (o : Output). o.status == 0) e ∙ other in
-    absurd cc
 
 traced_in : (input text : List ℕ) (net : Plan) (before : ℕ) (lines : List Text) → SpellsNetwork (network_lines input) net → ScheduleTraces (network_lines input) net before lines (output text DONE)
     → ((out : Output) → ScheduleGives IsReport net before lines out → Plays input out) → IsTraced input text
@@ -192,22 +109,12 @@ whole_text net head orders text g e ranks h = elim (h g e ranks) [
   | inr s ↦ absurd (not_done text _ refl s.5)
 ]
 
--- a text that an input may be has no comment that it is too long
-short_by : (limit : ℕ) (comment : List ℕ) (b : Bool) (t text : List ℕ) → nat_lt limit (length t) ≡ b → length text ≤ limit → text ≡ t ++ (if b then comment else []) → text ≡ t
-short_by limit comment true t text long short is =
-    let more : limit < length t = grind (arith, nat_tests, long) in
-    absurd (omega (arith, ap length is, length-append t comment, short, more))
-short_by limit comment false t text long short is = is ∙ append-nil t
-
-pub short_text : (t text : List ℕ) → length text ≤ INPUT_LIMIT → text ≡ limited t → text ≡ t
-short_text t text short is = short_by INPUT_LIMIT limit_comment (nat_lt INPUT_LIMIT (length t)) t text refl short is
-
 module _ (feeds : LinesEndByLineFeeds) (read : LinesAreReadAsTheySay) (one : OneNetwork) (spelt : SpeltIsNotRefused) (exists : EachNetworkHasASetting) (again : WhatIsPlayedIsReplayed) where
   -- the orders that the lines of a trace spell lead where those of the schedule lead
-  same_orders : (input text : List ℕ) (t : IsTraced input text) (body : List ℕ) → length text ≤ INPUT_LIMIT → text ≡ head_of_trace (network_lines input) ++ body → (n : ℕ) (os : List ScheduledOrder) → SpellsSchedule t.net n (lines_of body) os
+  same_orders : (input text : List ℕ) (t : IsTraced input text) (body : List ℕ) → length text ≤ INPUT_LIMIT → text ≡ head_of_schedule (network_lines input) ++ body → (n : ℕ) (os : List ScheduledOrder) → SpellsSchedule t.net n (lines_of body) os
       → (out : Output) → OrdersGive IsReport t.net os out → OrdersGive IsReport t.net t.orders out
   same_orders input text t body short is n os spelled out gives = λ g e ranks.
-      let head = head_of_trace (network_lines input) in
+      let head = head_of_schedule (network_lines input) in
       let k = whole_text t.net head t.orders text g e ranks t.traced in
       let w = k.0 in
       let here : k.1 ≡ body = append_cancel_left head k.1 body (sym (short_text (head ++ k.1) text short k.4) ∙ is) in
@@ -222,7 +129,7 @@ module _ (feeds : LinesEndByLineFeeds) (read : LinesAreReadAsTheySay) (one : One
         | inr s ↦ absurd (no_halt g (new_world g) w os s.0 s.1 s.2 leads)
       ]
 
-  played_lines : (input text : List ℕ) (t : IsTraced input text) (body : List ℕ) → length text ≤ INPUT_LIMIT → text ≡ head_of_trace (network_lines input) ++ body
+  played_lines : (input text : List ℕ) (t : IsTraced input text) (body : List ℕ) → length text ≤ INPUT_LIMIT → text ≡ head_of_schedule (network_lines input) ++ body
       → ((n : ℕ) → All (IsGood t.net) (lines_of body)) → (n : ℕ) (out : Output) → NetworkGives (ScheduleGives IsReport) (network_lines input) n (lines_of body) out → Plays input out
   played_lines input text t body short is good n out (inl r) = absurd (r.2 (spelt (network_lines input) t.net r.0 r.1 t.spells r.3))
   played_lines input text t body short is good n out (inr k) =
@@ -232,17 +139,17 @@ module _ (feeds : LinesEndByLineFeeds) (read : LinesAreReadAsTheySay) (one : One
         | inr s ↦ t.whole out (same_orders input text t body short is n s.0 s.1 out s.2)
       ]
 
-  all_lines : (input text : List ℕ) (t : IsTraced input text) (body : List ℕ) → text ≡ head_of_trace (network_lines input) ++ body → lines_of text ≡ network_lines input ++ codes "schedule" ∷ lines_of body
-  all_lines input text t body is = ap lines_of is ∙ trace_parted feeds (network_lines input) body (kept IsOneLine (codes "schedule") (lines_of input) (one_lines input))
+  all_lines : (input text : List ℕ) (t : IsTraced input text) (body : List ℕ) → text ≡ head_of_schedule (network_lines input) ++ body → lines_of text ≡ network_lines input ++ codes "schedule" ∷ lines_of body
+  all_lines input text t body is = ap lines_of is ∙ head_parted feeds (network_lines input) body (kept IsOneLine (codes "schedule") (lines_of input) (one_lines input))
 
   pub play_back : TracesPlayBack
   play_back input text h short out plays =
       let t = traced input text h in
       let s = exists t.net t.spells.network in
       let g = s.setting in
-      let k = whole_text t.net (head_of_trace (network_lines input)) t.orders text g s.over s.chooses t.traced in
+      let k = whole_text t.net (head_of_schedule (network_lines input)) t.orders text g s.over s.chooses t.traced in
       let body = k.1 in
-      let is = short_text (head_of_trace (network_lines input) ++ body) text short k.4 in
+      let is = short_text (head_of_schedule (network_lines input) ++ body) text short k.4 in
       let lines = all_lines input text t body is in
       let plain_lines = plain (codes "schedule") (lines_of input) in
       let front = ap (before_section (codes "schedule")) lines ∙ front_is (codes "schedule") (codes "schedule") (network_lines input) (lines_of body) plain_lines refl in

@@ -1,14 +1,9 @@
 -- What a trace prints of events and orders says the events that were done.
-use Rattle.std.proofs.Common.{◌≡◌, ℕ, zero, suc, ◌+◌, ◌-◌, ◌^◌, ◌==◌, Bool, true, false, cond, List, [], ◌∷◌, ◌++◌, length, map, refl, ap, sym, subst, ◌∙◌, arith, append_assoc, Option, Some, None, Result, Ok, Err}
-use Rattle.std.specs.Prelude.{◌&&◌, ◌||◌, not, max, nat_le, slice_get, codes, decimal, if◌then◌else◌}
-use Rattle.std.specs.List.{All, AllByRecursion, flat_map, list_any}
-use Rattle.std.proofs.lemmas.Bool.{eqb-true, eq-eqb, and_parts, or_right, le-leb}
+use Rattle.std.proofs.Common.{◌≡◌, ℕ, zero, suc, ◌+◌, ◌-◌, ◌^◌, ◌==◌, Bool, true, false, cond, List, [], ◌∷◌, ◌++◌, length, map, refl, ap, sym, subst, ◌∙◌, append_assoc, Option, Some, None, Result, Ok, Err}
+use Rattle.std.specs.Prelude.{◌&&◌, not, max, slice_get, codes, decimal, if◌then◌else◌}
+use Rattle.std.specs.List.{AllByRecursion, flat_map}
 use Rattle.std.proofs.lemmas.List.{append-nil}
-use Rattle.bgp_values.specs.declared.width.Width.{Width}
-use Rattle.bgp_values.specs.Ranges.{IsAsn, is_asn, greatest_asn}
-use Rattle.prefix_lanes.specs.Bits.{PrefixView, IsCanonical, is_prefix}
-use Rattle.ranked_policy.specs.declared.network.Origin.{Origin}
-use Rattle.ranked_policy.specs.declared.network.Router.{Router}
+use Rattle.prefix_lanes.specs.Bits.{PrefixView}
 use Rattle.ranked_policy.specs.Plans.{Plan, IsNetwork, numbers}
 use Rattle.router_model.specs.declared.command.Command.TheVariants as command
 use Rattle.router_model.specs.Calls as calls
@@ -31,13 +26,15 @@ use Rattle.net_text.specs.Layout.{LinesEndByLineFeeds}
 use Rattle.schedule_text.specs.declared.schedule.ScheduledOrder.{ScheduledOrder}
 use Rattle.schedule_text.specs.Schedules.{is_within, line_order, order_at, orders_of}
 use Rattle.schedule_text.specs.Sayings.{NamesRouter, NamesPeers, NamesPrefix, NamesNumber, Say, LinesAreReadAsTheySay}
-use Rattle.play_engine.specs.Playing.{all_events, LeadTo}
+use Rattle.schedule_text.specs.Obeying.{all_events, LeadTo}
 use Rattle.schedule_text.specs.Events.{event_line}
-use Rattle.trace_engine.specs.Tracing.{StepText, EventsText, BehindRound, RoundsText, WorkText, round_line, round_text, reached, place_text, head_line, head_text, idle_line, counted_line, ticked_line, tail_text, count_of, rest_of, OrderText, OrdersText}
-use Rattle.trace_engine.proofs.LineLemmas.{both_true, shown_both, decimal_shown, are_shown, IsNamed, named_from, number_from, Says, says_none, says_both, says_nothing, says_comments}
-use Rattle.trace_engine.proofs.EventLemmas.{IsOriginated, MaySay, event_said}
-use Rattle.play_engine.proofs.OneText.{played_parts}
-use Rattle.trace_engine.proofs.TextLemmas.{reached_is}
+use Rattle.world_core.specs.Watching.{StepText, EventsText, BehindRound, RoundsText, WorkText, round_text, reached, rest_of}
+use Rattle.world_core.proofs.WatchedRounds.{reached_is}
+use Rattle.trace_engine.specs.Tracing.{EventLines, round_line, place_text, head_line, head_text, idle_line, counted_line, ticked_line, tail_text, count_of, OrderText, OrdersText}
+use Rattle.schedule_text.proofs.LineLemmas.{shown_both, decimal_shown, are_shown, IsNamed, named_from, number_from, Says, says_none, says_both, says_nothing, says_comments}
+use Rattle.schedule_text.proofs.EventLemmas.{IsOriginated, MaySay, event_said}
+use Rattle.schedule_text.proofs.ObeyingLemmas.{played_parts}
+use Rattle.schedule_text.proofs.NameLemmas.{named_of, canonical_by}
 
 -- ---- comments
 
@@ -85,45 +82,6 @@ module _ (feeds : LinesEndByLineFeeds) (net : Plan) where
 
 -- ---- what is done names routers of the network
 
-known_at : (b : Bool) (u n : ℕ) (more rest : Bool) → (u == n) ≡ b → (b || more) ≡ true → (more ≡ true → rest ≡ true) → ((n == u) || rest) ≡ true
-known_at true u n more rest is h go = ap (λ (c : Bool). c || rest) (eq-eqb n u (sym (eqb-true u n is)))
-known_at false u n more rest is h go = or_right (n == u) rest (go h)
-
-known_by : (routers : List Router) (u : ℕ) → list_any (λ n. u == n) (numbers routers) ≡ true → is_router routers u ≡ true
-known_by [] u h = absurd cc
-known_by (r ∷ rs) u h = known_at (u == r.asn) u r.asn (list_any (λ n. u == n) (numbers rs)) (is_router rs u) refl h (known_by rs u)
-
-all_front : {X : Type 0} (P : X → Type 0) (x : X) (xs : List X) → All P (x ∷ xs) → P x
-all_front P x xs all = all 0 x (omega arith)
-
-all_rest : {X : Type 0} (P : X → Type 0) (x : X) (xs : List X) → All P (x ∷ xs) → All P xs
-all_rest P x xs all = λ k d lt. all (suc k) d (omega (arith, lt))
-
-range_at : (P : ℕ → Type 0) (b : Bool) (u n : ℕ) (more : Bool) → (u == n) ≡ b → (b || more) ≡ true → P n → (more ≡ true → P u) → P u
-range_at P true u n more is h here go = subst P (sym (eqb-true u n is)) here
-range_at P false u n more is h here go = go h
-
-range_by : (P : ℕ → Type 0) (ns : List ℕ) (u : ℕ) → All P ns → list_any (λ n. u == n) ns ≡ true → P u
-range_by P [] u all h = absurd cc
-range_by P (n ∷ ns) u all h = range_at P (u == n) u n (list_any (λ k. u == k) ns) refl h (all_front P n ns all) (range_by P ns u (all_rest P n ns all))
-
-asn_by : (width : Width) (u : ℕ) → IsAsn width u → is_asn width u ≡ true
-asn_by width u h = both_true (nat_le 1 u) (nat_le u (greatest_asn width)) (le-leb 1 u h.0) (le-leb u (greatest_asn width) h.1)
-
-same_prefix : (p q : PrefixView) → is_prefix p q ≡ true → p ≡ q
-same_prefix p q h =
-    let k = and_parts (p.addr == q.addr) (p.len == q.len) h in
-    ap (λ (n : ℕ). record { addr = n; len = p.len }) (eqb-true p.addr q.addr k.0) ∙ ap (λ (n : ℕ). record { addr = q.addr; len = n }) (eqb-true p.len q.len k.1)
-
-canonical_at : (b : Bool) (p q : PrefixView) (more : Bool) → is_prefix p q ≡ b → (b || more) ≡ true → IsCanonical p → (more ≡ true → IsCanonical q) → IsCanonical q
-canonical_at true p q more is h here go = subst IsCanonical (same_prefix p q is) here
-canonical_at false p q more is h here go = go h
-
-pub canonical_by : (origins : List Origin) (q : PrefixView) → All (λ o. IsCanonical o.prefix) origins → is_named origins q ≡ true → IsCanonical q
-canonical_by [] q all h = absurd cc
-canonical_by (o ∷ os) q all h =
-    canonical_at (is_prefix o.prefix q) o.prefix q (is_named os q) refl h (all_front (λ k. IsCanonical k.prefix) o os all) (canonical_by os q (all_rest (λ k. IsCanonical k.prefix) o os all))
-
 there : (b : Bool) (a : WorldAnswer) (u : ℕ) (e : RouterEvent) (stamp : ℕ) → cond b a (Stops NoSuchRouter) ≡ Does u e stamp → b ≡ true
 there true a u e stamp h = refl
 there false a u e stamp h = absurd cc
@@ -142,12 +100,6 @@ all_flat P f [] h = tt
 all_flat P f (x ∷ xs) h = all_both P (f x) (flat_map f xs) (h x) (all_flat P f xs h)
 
 module _ (g : Setting) (network : IsNetwork g.net) where
-  pub named_of : (u : ℕ) → settings.is_router g u ≡ true → IsNamed g.net u
-  named_of u h = record {
-    in_range = asn_by g.net.settings.width u (range_by (IsAsn g.net.settings.width) (numbers g.net.routers) u network.plan.in_range h);
-    known = known_by g.net.routers u h;
-  }
-
   -- a line may name it where it is done
   abbrev pub Speaks : Event → Type 0
   Speaks x = (w : World) (u : ℕ) (e : RouterEvent) (stamp : ℕ) → world_answer g w x ≡ Does u e stamp → MaySay g.net x
@@ -155,7 +107,7 @@ module _ (g : Setting) (network : IsNetwork g.net) where
   both_named : (u v : ℕ) (a : WorldAnswer) (k : ℕ) (e : RouterEvent) (stamp : ℕ) → where_linked g u v a ≡ Does k e stamp → IsNamed g.net u × IsNamed g.net v
   both_named u v a k e stamp h =
       let b = both_there (settings.is_router g u) (settings.is_router g v) (linked g.net u v) a k e stamp h in
-      (named_of u b.0, named_of v b.1)
+      (named_of g network u b.0, named_of g network v b.1)
 
   with_peer_speaks : (u v : ℕ) → AllByRecursion Speaks (with_peer u v)
   with_peer_speaks u v =
@@ -166,15 +118,15 @@ module _ (g : Setting) (network : IsNetwork g.net) where
 
   turn_speaks : (u : ℕ) → AllByRecursion Speaks (turn g.net u)
   turn_speaks u =
-      let decide : Speaks (event.Decide u) = λ w k e stamp h. named_of u (there (settings.is_router g u) (called g w u calls.Decide) k e stamp h) in
-      let advertise : Speaks (event.Advertise u) = λ w k e stamp h. named_of u (there (settings.is_router g u) (called g w u calls.Advertise) k e stamp h) in
-      let offer : Speaks (event.Offer u) = λ w k e stamp h. named_of u (there (settings.is_router g u) (of_offer u (max (w.routers u).stamp w.board + 1) (next_offer (w.routers u).router)) k e stamp h) in
+      let decide : Speaks (event.Decide u) = λ w k e stamp h. named_of g network u (there (settings.is_router g u) (called g w u calls.Decide) k e stamp h) in
+      let advertise : Speaks (event.Advertise u) = λ w k e stamp h. named_of g network u (there (settings.is_router g u) (called g w u calls.Advertise) k e stamp h) in
+      let offer : Speaks (event.Offer u) = λ w k e stamp h. named_of g network u (there (settings.is_router g u) (of_offer u (max (w.routers u).stamp w.board + 1) (next_offer (w.routers u).router)) k e stamp h) in
       all_both Speaks (flat_map (with_peer u) (settings.peers g.net u)) (event.Decide u ∷ event.Advertise u ∷ event.Offer u ∷ []) (all_flat Speaks (with_peer u) (settings.peers g.net u) (with_peer_speaks u))
       (decide, (advertise, (offer, tt)))
 
   seconds_speak : (ns : List ℕ) → AllByRecursion Speaks (map (λ u. event.Tick u) ns)
   seconds_speak [] = tt
-  seconds_speak (u ∷ ns) = ((λ w k e stamp h. named_of u (there (settings.is_router g u) (called g w u calls.Tick) k e stamp h)), seconds_speak ns)
+  seconds_speak (u ∷ ns) = ((λ w k e stamp h. named_of g network u (there (settings.is_router g u) (called g w u calls.Tick) k e stamp h)), seconds_speak ns)
 
   repeated_speak : (n : ℕ) (es : List Event) → AllByRecursion Speaks es → AllByRecursion Speaks (repeated n es)
   repeated_speak zero es h = tt
@@ -201,12 +153,12 @@ module _ (g : Setting) (network : IsNetwork g.net) where
       pub says : Says g.net text done
 
     done_by : (a : WorldAnswer) (w y : World) (x : Event) (xs : List Event) (at : ℕ) (text : List ℕ) → world_answer g w x ≡ a → Speaks x
-        → ((next : World) (t : List ℕ) → played g next (at + 1) xs ≡ Ok y → EventsText g next xs t → SaysDone next y t)
-        → onward (world_of g w x at a) (λ next. played g next (at + 1) xs) ≡ Ok y → StepText g w x a (λ next t. EventsText g next xs t) text → SaysDone w y text
+        → ((next : World) (t : List ℕ) → played g next (at + 1) xs ≡ Ok y → EventsText EventLines g next xs t → SaysDone next y t)
+        → onward (world_of g w x at a) (λ next. played g next (at + 1) xs) ≡ Ok y → StepText EventLines g w x a (λ next t. EventsText EventLines g next xs t) text → SaysDone w y text
     done_by (Does u e stamp) w y x xs at text is speaks go h s =
         let k = go (world_after g w x u e stamp) s.1 h s.3 in
-        let behind = says_both g.net s.0 s.1 [] k.done (says_comments feeds g.net s.0 s.2) k.says in
-        let whole = says_both g.net (event_line x) (s.0 ++ s.1) (x ∷ []) k.done (event_said feeds read g.net x (speaks w u e stamp is)) behind in
+        let line = says_both g.net (event_line x) s.2.0 (x ∷ []) [] (event_said feeds read g.net x (speaks w u e stamp is)) (says_comments feeds g.net s.2.0 s.2.1) in
+        let whole = says_both g.net s.0 s.1 (x ∷ []) k.done (subst (λ (t : List ℕ). Says g.net t (x ∷ [])) (sym s.2.2) line) k.says in
         record { done = x ∷ k.done; run = k.run ∙ append_assoc w.run (x ∷ []) k.done; says = subst (λ (t : List ℕ). Says g.net t (x ∷ k.done)) (sym s.4) whole }
     done_by Nothing w y x xs at text is speaks go h s = go w text h s
     done_by (Stops fault) w y x xs at text is speaks go h s = absurd cc
@@ -215,20 +167,20 @@ module _ (g : Setting) (network : IsNetwork g.net) where
     nothing_done w y text same none =
         record { done = []; run = ap (λ (v : World). v.run) (sym same) ∙ sym (append-nil w.run); says = subst (λ (t : List ℕ). Says g.net t []) (sym none) (says_none g.net) }
 
-    pub events_say : (xs : List Event) (w y : World) (at : ℕ) (text : List ℕ) → AllByRecursion Speaks xs → played g w at xs ≡ Ok y → EventsText g w xs text → SaysDone w y text
+    pub events_say : (xs : List Event) (w y : World) (at : ℕ) (text : List ℕ) → AllByRecursion Speaks xs → played g w at xs ≡ Ok y → EventsText EventLines g w xs text → SaysDone w y text
     events_say [] w y at text all h s = (let same : w ≡ y = cc in nothing_done w y text same s)
     events_say (x ∷ xs) w y at text all h s = done_by (world_answer g w x) w y x xs at text refl all.0 (λ next t k l. events_say xs next y (at + 1) t all.1 k l) h s
 
     -- so many rounds
-    rounds_say : (n : ℕ) (w y : World) (passed : ℕ) (text : List ℕ) → played g w 0 (repeated n (round g.net)) ≡ Ok y → RoundsText g w passed n text → SaysDone w y text
+    rounds_say : (n : ℕ) (w y : World) (passed : ℕ) (text : List ℕ) → played g w 0 (repeated n (round g.net)) ≡ Ok y → RoundsText EventLines round_line g w passed n text → SaysDone w y text
     rounds_say zero w y passed text h s = (let same : w ≡ y = cc in nothing_done w y text same s)
     rounds_say (suc n) w y passed text h s =
         let k = played_parts g (round g.net) (repeated n (round g.net)) w y 0 h in
-        let behind = subst (λ (p : Played). BehindRound w (passed + 1) p (λ next rest. RoundsText g next (passed + 1) n rest) s.1) k.1 s.3 in
+        let behind = subst (λ (p : Played). BehindRound round_line w (passed + 1) p (λ next rest. RoundsText EventLines round_line g next (passed + 1) n rest) s.1) k.1 s.3 in
         let one = events_say (round g.net) w k.0 0 s.0 (all_flat Speaks (turn g.net) (numbers g.net.routers) turn_speaks) k.1 s.2 in
         let more = rounds_say n k.0 y (passed + 1) behind.0 k.2 behind.1 in
         let spent = length k.0.run - length w.run in
-        let line = round_text (passed + 1) spent in
+        let line = round_text round_line (passed + 1) spent in
         let said = says_both g.net line behind.0 [] more.done (round_says feeds g.net (passed + 1) spent (spent == 0)) more.says in
         record {
           done = one.done ++ more.done;
@@ -238,7 +190,7 @@ module _ (g : Setting) (network : IsNetwork g.net) where
               (says_both g.net s.0 (line ++ behind.0) one.done more.done one.says said);
         }
 
-    work_says : (o : Order) (w y : World) (text : List ℕ) → MayOrder o → played g w 0 (events_of g.net o) ≡ Ok y → WorkText g w o text → SaysDone w y text
+    work_says : (o : Order) (w y : World) (text : List ℕ) → MayOrder o → played g w 0 (events_of g.net o) ≡ Ok y → WorkText EventLines round_line g w o text → SaysDone w y text
     work_says (order.One e) w y text may h s = events_say (e ∷ []) w y 0 text (order_speaks (order.One e) may) h s
     work_says (order.Rounds n) w y text may h s = rounds_say n w y 0 text h s
     work_says (order.Ticks n) w y text may h s = events_say (repeated n (second g.net)) w y 0 text (order_speaks (order.Ticks n) may) h s

@@ -8,7 +8,8 @@ use Rattle.world_core.specs.World.{World, new_world}
 use Rattle.net_text.specs.Lexing.{Text, lines_of}
 use Rattle.schedule_text.specs.declared.schedule.ScheduledOrder.{ScheduledOrder}
 use Rattle.schedule_text.specs.Schedules.{SpellsSchedule}
-use Rattle.play_engine.specs.Playing.{LeadTo, Plays}
+use Rattle.schedule_text.specs.Obeying.{LeadTo}
+use Rattle.play_engine.specs.Playing.{Plays}
 use Rattle.text_engines.specs.declared.status.TheConstants.{DONE}
 use Rattle.text_engines.specs.declared.transfer.TheConstants.{INPUT_LIMIT}
 use Rattle.text_engines.specs.Decoding.{Output, output}

@@ -7,15 +7,16 @@ use Rattle.net_text.specs.Lexing.{Text, lines_of, before_section}
 use Rattle.net_text.specs.Printing.{code_text}
 use Rattle.schedule_text.specs.declared.schedule.ScheduledOrder.{ScheduledOrder}
 use Rattle.schedule_text.specs.Schedules.{SpellsSchedule, RefusesSchedule}
+use Rattle.schedule_text.specs.Events.{head_of_schedule}
 use Rattle.text_engines.specs.Decoding.{Output, refused}
 use Rattle.text_engines.specs.Inputs.{NetworkGives, InputGives, Prints}
-use Rattle.trace_engine.specs.Tracing.{OrdersTrace, head_of_trace}
+use Rattle.trace_engine.specs.Tracing.{OrdersTrace}
 
 -- the text for the lines of a schedule behind a network of these lines, so many lines standing before them
 abbrev pub ScheduleTraces : List Text → Plan → ℕ → List Text → Output → Type 0
 ScheduleTraces front net before lines out =
     ((at : ℕ) × (code : Code) × (code ≢ kinds.Memory) × RefusesSchedule net before lines at code × (out ≡ refused at (code_text code)))
-    ⊎ ((orders : List ScheduledOrder) × SpellsSchedule net before lines orders × OrdersTrace net (head_of_trace front) orders out)
+    ⊎ ((orders : List ScheduledOrder) × SpellsSchedule net before lines orders × OrdersTrace net (head_of_schedule front) orders out)
 
 -- the text for the lines of a network, and those behind it
 abbrev pub LinesTrace : List Text → ℕ → List Text → Output → Type 0

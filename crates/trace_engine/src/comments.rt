@@ -1,15 +1,12 @@
-//! The comments of a trace: what an order orders and how it ended, which events were those of a round, what an event
-//! did, and that a trace is too long.
+//! The comments of a trace: what an order orders and how it ended, which events were those of a round, and that an order
+//! was refused.
 
-ghost use Rattle.std.specs.Prelude.{◌≡◌, ◌++◌, length, take, OnOk, OnErr};
-ghost use Rattle.net_text.specs.Lexing.{lines_of};
-ghost use Rattle.trace_engine.specs.Tracing.{place_text, head_line, head_text, idle_line, counted_line, ticked_line, tail_text, round_line, stop_comment, comment_line, comments_text, limit_text};
+ghost use Rattle.std.specs.Prelude.{◌≡◌, ◌++◌, OnOk};
+ghost use Rattle.trace_engine.specs.Tracing.{place_text, head_line, head_text, idle_line, counted_line, ticked_line, tail_text, round_line, stop_comment};
 
 use net_text::Tail;
-use net_text::lexing::next_line;
 use schedule_text::{ScheduledOrder, stop_line};
 use std::alloc::AllocError;
-use text_engines::INPUT_LIMIT;
 use world_core::{Order, StepFault};
 
 // Writes of which line a comment is.
@@ -171,55 +168,4 @@ pub(crate) fn put_stop(line: usize, why: StepFault, out: &mut Vec<u8>) -> Result
 {
     out.extend_from_slice(b"# ")?;
     stop_line(line, why, out)
-}
-
-// Appends a line as a comment. If memory is refused, a beginning of it stands behind what the buffer had.
-fn put_comment(line: &[u8], out: &mut Vec<u8>) -> Result<(), AllocError>
-    ensures kept { take (length out.old.items) out.new.items ≡ out.old.items }
-    ensures ok { OnOk result (out.new.items ≡ out.old.items ++ comment_line line.now) }
-{
-    out.extend_from_slice(b"# ")?;
-    out.extend_from_slice(line)?;
-    out.extend_from_slice(b"\n")
-}
-
-// Appends each line of a text as a comment. If memory is refused, a beginning of them stands behind what the buffer
-// had.
-fn put_each_comment(text: &[u8], out: &mut Vec<u8>) -> Result<(), AllocError>
-    ensures kept { take (length out.old.items) out.new.items ≡ out.old.items }
-    ensures ok { OnOk result (out.new.items ≡ out.old.items ++ comments_text (lines_of text.now)) }
-{
-    let mut left = text;
-    'lines: while !left.is_empty() {
-        let (line, rest) = next_line(left);
-        put_comment(line, out)?;
-        left = rest;
-    }
-    Ok(())
-}
-
-/// Appends each line of a text as a comment. It is refused only for want of memory, and then leaves what the buffer
-/// had.
-pub fn put_comments(text: &[u8], out: &mut Vec<u8>) -> Result<(), AllocError>
-    ensures ok { OnOk result (out.new.items ≡ out.old.items ++ comments_text (lines_of text.now)) }
-    ensures err { OnErr result (out.new.items ≡ out.old.items) }
-{
-    let start = out.len();
-    let result = put_each_comment(text, out);
-    if result.is_err() {
-        out.truncate(start);
-    }
-    result
-}
-
-/// Appends a comment that the text is longer than an input may be, if it is. It is refused only for want of memory, and
-/// then changes nothing.
-pub fn put_limit(out: &mut Vec<u8>) -> Result<(), AllocError>
-    ensures ok { OnOk result (out.new.items ≡ out.old.items ++ limit_text (length out.old.items)) }
-    ensures err { OnErr result (out.new.items ≡ out.old.items) }
-{
-    if out.len() <= INPUT_LIMIT {
-        return Ok(());
-    }
-    out.extend_from_slice(b"# too long to be played: an input has at most 16777216 octets\n")
 }

@@ -10,15 +10,10 @@
 mod comments;
 pub mod laws;
 mod lines;
-mod network;
 mod notes;
 mod orders;
-mod rounds;
-mod seconds;
-mod steps;
 mod stream;
 mod trace;
+mod tracer;
 
-pub use comments::{put_comments, put_limit};
-pub use network::put_network;
 pub use trace::trace_stream;

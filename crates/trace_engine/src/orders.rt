@@ -5,76 +5,50 @@ ghost use Rattle.net_text.specs.Lexing.{lines_of};
 ghost use Rattle.text_engines.specs.declared.status.TheConstants.{REFUSED};
 ghost use Rattle.text_engines.specs.Decoding.{output};
 ghost use Rattle.world_core.specs.Views.{Opens};
-ghost use Rattle.trace_engine.specs.Tracing.{TracesWork, TracesOrder, TracesAll, OrdersTrace, head_of_trace, stop_comment, limited};
+ghost use Rattle.schedule_text.specs.Events.{head_of_schedule};
+ghost use Rattle.text_engines.specs.Engine.{limited};
+ghost use Rattle.trace_engine.specs.Tracing.{TracesOrder, TracesAll, OrdersTrace, stop_comment};
 
-use crate::comments::{put_head, put_limit, put_stop, put_tail};
-use crate::network::put_network;
+use crate::comments::{put_head, put_stop, put_tail};
 use crate::notes::Notes;
-use crate::rounds::trace_rounds;
-use crate::seconds::{second_of, trace_seconds};
-use crate::steps::trace_events;
-use play_engine::Stop;
+use crate::tracer::Tracer;
+use net_text::put_network;
 use ranked_policy::Network;
-use schedule_text::ScheduledOrder;
+use schedule_text::{RefusedOrder, ScheduledOrder};
 use std::alloc::{AllocError, Global};
+use text_engines::put_limit;
 use text_engines::status::{DONE, REFUSED};
-use world_core::{Order, StepFault, World};
-
-// Does the events of an order. If one of its rounds did nothing, it answers how many did something before.
-fn trace_work(
-    alloc: Global,
-    world: &mut World<'_>,
-    order: &Order,
-    notes: &mut Notes,
-    out: &mut Vec<u8>,
-) -> Result<Option<u32>, StepFault>
-    ensures traces { TracesWork result world.old order.now out.old.items world.new out.new.items }
-    ensures same { world.new.net ≡ world.old.net }
-{
-    match order {
-        Order::One(event) => trace_events(world, &[*event], notes, out)?,
-        Order::Rounds(times) => return trace_rounds(alloc, world, *times, notes, out),
-        Order::Ticks(times) => {
-            let second = second_of(alloc, world.network())?;
-            trace_seconds(world, second.as_slice(), *times, notes, out)?;
-        }
-    }
-    Ok(None)
-}
+use world_core::{StepFault, World};
 
 // Obeys an order, and appends its lines.
 fn trace_order(
-    alloc: Global,
     world: &mut World<'_>,
     scheduled: &ScheduledOrder,
-    notes: &mut Notes,
-    out: &mut Vec<u8>,
+    tracer: &mut Tracer,
 ) -> Result<(), StepFault>
-    ensures traces { TracesOrder result world.old scheduled.now out.old.items world.new out.new.items }
+    ensures traces { TracesOrder result world.old scheduled.now tracer.old.out.items world.new tracer.new.out.items }
     ensures same { world.new.net ≡ world.old.net }
 {
-    put_head(scheduled, out)?;
+    put_head(scheduled, &mut tracer.out)?;
     let before = world.run().len();
-    let rest = trace_work(alloc, world, &scheduled.order, notes, out)?;
+    let rest = world.obey_watched(&scheduled.order, tracer)?;
     let count = world.run().len().saturating_sub(before);
-    put_tail(scheduled, count, rest, out)?;
+    put_tail(scheduled, count, rest, &mut tracer.out)?;
     Ok(())
 }
 
 // Obeys the orders up to the first that is refused, and appends their lines.
 fn trace_all(
-    alloc: Global,
     world: &mut World<'_>,
     orders: &[ScheduledOrder],
-    notes: &mut Notes,
-    out: &mut Vec<u8>,
-) -> Result<(), Stop>
-    ensures traces { TracesAll result world.old orders.now out.old.items world.new out.new.items }
+    tracer: &mut Tracer,
+) -> Result<(), RefusedOrder>
+    ensures traces { TracesAll result world.old orders.now tracer.old.out.items world.new tracer.new.out.items }
     ensures same { world.new.net ≡ world.old.net }
 {
     for scheduled in orders {
-        if let Err(why) = trace_order(alloc, world, scheduled, notes, out) {
-            return Err(Stop {
+        if let Err(why) = trace_order(world, scheduled, tracer) {
+            return Err(RefusedOrder {
                 line: scheduled.line,
                 why,
             });
@@ -93,7 +67,7 @@ fn end_output(mut out: Vec<u8>, status: u8) -> Result<(Vec<u8>, u8), AllocError>
 
 // The text printed if an order is refused, behind the trace up to it, and the exit status. Want of memory is no such
 // refusal: it is an error here.
-fn stop_output(stop: Stop, mut out: Vec<u8>) -> Result<(Vec<u8>, u8), AllocError>
+fn stop_output(stop: RefusedOrder, mut out: Vec<u8>) -> Result<(Vec<u8>, u8), AllocError>
     ensures kind { IfOk result (λ printed. stop.why ≢ StepFault.Memory) }
     ensures output { IfOk result
         (λ printed. output printed.0.items printed.1
@@ -113,15 +87,16 @@ fn world_output(
     mut world: World<'_>,
     orders: &[ScheduledOrder],
     shows_octets: bool,
-    mut out: Vec<u8>,
+    out: Vec<u8>,
 ) -> Result<(Vec<u8>, u8), AllocError>
     requires { Opens network.now world }
     ensures { IfOk result (λ printed. OrdersTrace network.now out.items orders.now (output printed.0.items printed.1)) }
 {
-    let mut notes = Notes::new(alloc, shows_octets);
-    match trace_all(alloc, &mut world, orders, &mut notes, &mut out) {
-        Ok(()) => end_output(out, DONE),
-        Err(stop) => stop_output(stop, out),
+    let notes = Notes::new(alloc, shows_octets);
+    let mut tracer = Tracer { notes, out };
+    match trace_all(&mut world, orders, &mut tracer) {
+        Ok(()) => end_output(tracer.out, DONE),
+        Err(stop) => stop_output(stop, tracer.out),
     }
 }
 
@@ -135,7 +110,7 @@ pub(crate) fn orders_output(
     shows_octets: bool,
 ) -> Result<(Vec<u8>, u8), AllocError>
     ensures { IfOk result
-        (λ printed. OrdersTrace network.now (head_of_trace (lines_of lines.now)) orders.now
+        (λ printed. OrdersTrace network.now (head_of_schedule (lines_of lines.now)) orders.now
         (output printed.0.items printed.1)) }
 {
     let mut out = Vec::new(alloc);

@@ -76,7 +76,7 @@ idle_obeys x u q =
     obeys_behind x x x (schedule.Decide u ∷ []) (schedule.Advertise u ∷ schedule.Offer u ∷ []) (Ok tt) refl (obeys_one x x (schedule.Decide u) stepped.Nothing q.decide)
     (obeys_behind x x x (schedule.Advertise u ∷ []) (schedule.Offer u ∷ []) (Ok tt) refl (obeys_one x x (schedule.Advertise u) stepped.Nothing q.advertise) (obeys_one x x (schedule.Offer u) stepped.Nothing q.offer))
 
-still_is : (g : Setting) (w z : World) (event : Event) (why : StepFault) (a : WorldAnswer) → Gives g (Err why) a w event z → z ≡ w
+pub still_is : (g : Setting) (w z : World) (event : Event) (why : StepFault) (a : WorldAnswer) → Gives g (Err why) a w event z → z ≡ w
 still_is g w z event why (Does u e stamp) h = h.1
 still_is g w z event why Nothing h = h.1
 still_is g w z event why (Stops fault) h = h.1

@@ -103,16 +103,6 @@ puts_nothing x u v i k xr whole at is_router rest = λ g e ranks.
     let a : answer g u (routers_of x u) (Put v) ≡ Idle = ap (λ (r : Stamped). answer g u r (Put v)) s.2 ∙ put_idle g u v (plain_of xr) l (none_is (next_item g.net.settings.cut (sides_of xr v).outbox) t.1) in
     rests g w (schedule.Put u v) (at.linked g e (called g w u (Put v)) ∙ idle_is g u (stamp_of g u (routers_of x u) (Put v)) (answer g u (routers_of x u) (Put v)) a)
 
-pub handles_nothing : (x : WorldView) (u v i k : ℕ) (xr : RouterView) → IsWhole x → LinkAt x u v i k → xr ≡ get_or x.routers i xr
-    → (linked xr.net xr.number v && not (is_waiting (sides_of xr v).held)) ≡ true → Answers (Ok stepped.Nothing) x (schedule.Handle u v) x
-handles_nothing x u v i k xr whole at is_router rest = λ g e ranks.
-    let s = stands x u i xr whole at.here is_router in
-    let w = plain_world x in
-    let t = none_put (linked xr.net xr.number v) (is_waiting (sides_of xr v).held) rest in
-    let l : linked g.net u v ≡ true = ap (λ (n : ℕ). linked g.net n v) (sym s.0) ∙ ap (λ (n : Plan). linked n xr.number v) (e ∙ sym s.1) ∙ t.0 in
-    let a : answer g u (routers_of x u) (Handle v) ≡ Idle = ap (λ (r : Stamped). answer g u r (Handle v)) s.2 ∙ handle_idle g u v (plain_of xr) l t.1 in
-    rests g w (schedule.Handle u v) (at.linked g e (called g w u (Handle v)) ∙ idle_is g u (stamp_of g u (routers_of x u) (Handle v)) (answer g u (routers_of x u) (Handle v)) a)
-
 -- ---- a router alone
 
 -- a router that gives nothing where it stays as it is has nothing to do

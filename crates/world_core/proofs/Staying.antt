@@ -1,19 +1,27 @@
 -- The places of a router and of a link stay as they are while the network does.
-use Rattle.std.proofs.Common.{◌≡◌, ℕ, zero, suc, ◌<◌, nat_eq, Bool, true, false, List, [], ◌∷◌, length, map, refl, ap, sym, ◌∙◌, arith, get_or, Some}
-use Rattle.std.specs.Prelude.{slice_get, ◌||◌}
+use Rattle.std.proofs.Common.{◌≡◌, ℕ, zero, suc, ◌+◌, ◌<◌, nat_eq, Bool, true, false, List, [], ◌∷◌, length, map, refl, ap, sym, subst, ◌∙◌, arith, get_or, None, Some}
+use Rattle.std.specs.Prelude.{slice_get, max, ◌||◌, Result, Ok, Err}
 use Rattle.std.specs.List.{list_any}
 use Rattle.std.proofs.lemmas.Bool.Decides.{nat_tests}
 use Rattle.std.proofs.lemmas.List.Kept.{AllPairs-filter}
 use Rattle.std.proofs.lemmas.Option.{get_or_from_slice_get, slice_get_within}
 use Rattle.ranked_policy.specs.Plans.{Plan, numbers}
-use Rattle.router_model.specs.Settings.{linked, peers}
+use Rattle.router_model.specs.Settings.{Setting, linked, peers}
+use Rattle.router_model.specs.Step.{next_offer}
+use Rattle.router_model.specs.Calls.{Obey, Tick, Put, Handle, Decide, Advertise}
 use Rattle.router_model.specs.Laws.{LinkedRoutersArePeers}
 use Rattle.world_core.specs.declared.inbox.Inbox.{Inbox}
-use Rattle.world_core.specs.Views.{WorldView, IsAt, IsWhole}
-use Rattle.world_core.specs.Steps.{StandsAt, LinkAt}
+use Rattle.world_core.specs.Views.{WorldView, IsAt, IsWhole, plain_world}
+use Rattle.world_core.specs.declared.schedule.Event.{Event}
+use Rattle.world_core.specs.declared.schedule.Event.TheVariants as schedule
+use Rattle.world_core.specs.declared.schedule.StepFault.{StepFault}
+use Rattle.world_core.specs.World.{WorldAnswer, Stops, of_offer, called, taking_of, where_router, world_answer}
+use Rattle.world_core.specs.Events.{router_of, peer_of}
+use Rattle.world_core.specs.Steps.{StandsAt, LinkAt, IsPlaceOf, FindsLink, ArePlaced, IsPlaced, FindsPlaces}
 use Rattle.world_core.proofs.Places.{moved, map_same, rising_at, all_here, number_here}
 use Rattle.world_core.proofs.Linking.{passes, passes_link}
-use Rattle.world_core.proofs.Stepping.{known}
+use Rattle.router_core.specs.Views.{RouterView}
+use Rattle.world_core.proofs.Stepping.{known, stands}
 
 pub place_stays : (x y : WorldView) (u i : ℕ) → IsWhole x → IsWhole y → y.net ≡ x.net → StandsAt x u i → StandsAt y u i
 place_stays x y u i wx wy same at =
@@ -76,3 +84,85 @@ link_here law x u v i k whole at inside is =
       pipe = λ b. moved (λ n. n) (λ p. p.peer) ps (get_or x.inboxes i b).pipes.items v k (peers_here x u i b whole at ∙ sym (map_same ps)) there;
       linked = λ g e a. passes_link g x.net u v a e (at.known g e) (known g x.net v e (law x.net whole.network u v joined).other) joined;
     }
+
+pub link_placed : LinkedRoutersArePeers → (x : WorldView) (u v i k : ℕ) → IsWhole x → ArePlaced x.net u v i k → LinkAt x u v i k
+link_placed law x u v i k whole at =
+    let ps = peers x.net u in
+    link_here law x u v i k whole (stands_here x u i whole at.0) (slice_get_within ps k v at.1) (λ d. get_or_from_slice_get ps k v d at.1)
+
+-- ---- what stands at a place
+
+read_at : {A : Type 0} (number : A → ℕ) (xs : List A) (u i : ℕ) → IsAt number xs u i → slice_get (map number xs) i ≡ Some u
+read_at number [] u i h = absurd h
+read_at number (x ∷ xs) u zero h = ap Some h
+read_at number (x ∷ xs) u (suc i) h = read_at number xs u i h.1
+
+some_of : {A : Type 0} (number : A → ℕ) (xs : List A) (u i : ℕ) → IsAt number xs u i → A
+some_of number [] u i h = absurd h
+some_of number (x ∷ xs) u i h = x
+
+router_placed : (x : WorldView) (u i : ℕ) → IsWhole x → StandsAt x u i → slice_get (numbers x.net.routers) i ≡ Some u
+router_placed x u i whole at = ap (λ (ns : List ℕ). slice_get ns i) (sym whole.routers) ∙ read_at (λ r. r.number) x.routers u i at.router
+
+placed_link : (x : WorldView) (u v i k : ℕ) → IsWhole x → LinkAt x u v i k → ArePlaced x.net u v i k
+placed_link x u v i k whole at =
+    let b = some_of (λ b. b.router) x.inboxes u i at.here.inbox in (
+      router_placed x u i whole at.here,
+      ap (λ (ns : List ℕ). slice_get ns k) (sym (peers_here x u i b whole at.here)) ∙ read_at (λ p. p.peer) (get_or x.inboxes i b).pipes.items v k (at.pipe b),
+    )
+
+-- the peer stands at that place among the peers of its router
+pub peer_placed : (x : WorldView) (u v i k : ℕ) (xr : RouterView) → IsWhole x → LinkAt x u v i k → xr ≡ get_or x.routers i xr → slice_get (peers xr.net xr.number) k ≡ Some v
+peer_placed x u v i k xr whole at is =
+    let s = stands x u i xr whole at.here is in
+    subst (λ (n : Plan). slice_get (peers n xr.number) k ≡ Some v) (sym s.1) (subst (λ (m : ℕ). slice_get (peers x.net m) k ≡ Some v) (sym s.0) (placed_link x u v i k whole at).1)
+
+-- the places of an event that names a peer
+finds_put : (r : Result (ℕ × ℕ) StepFault) (x : WorldView) (u v : ℕ) → IsWhole x → FindsLink r x u v → FindsPlaces r x (schedule.Put u v)
+finds_put (Ok p) x u v whole h = placed_link x u v p.0 p.1 whole h
+finds_put (Err why) x u v whole h = λ g e. h g e (called g (plain_world x) u (Put v))
+
+finds_take : (r : Result (ℕ × ℕ) StepFault) (x : WorldView) (u v : ℕ) → IsWhole x → FindsLink r x u v → FindsPlaces r x (schedule.Take u v)
+finds_take (Ok p) x u v whole h = placed_link x u v p.0 p.1 whole h
+finds_take (Err why) x u v whole h = λ g e. (let w = plain_world x in h g e (taking_of g w u v (slice_get (w.pipes v u) 0)))
+
+finds_handle : (r : Result (ℕ × ℕ) StepFault) (x : WorldView) (u v : ℕ) → IsWhole x → FindsLink r x u v → FindsPlaces r x (schedule.Handle u v)
+finds_handle (Ok p) x u v whole h = placed_link x u v p.0 p.1 whole h
+finds_handle (Err why) x u v whole h = λ g e. h g e (called g (plain_world x) u (Handle v))
+
+pub finds_linked : (r : Result (ℕ × ℕ) StepFault) (x : WorldView) (event : Event) (v : ℕ) → IsWhole x → Some v ≡ peer_of event → FindsLink r x (router_of event) v → FindsPlaces r x event
+finds_linked r x (schedule.Put u w) v whole is h = finds_put r x u w whole (subst (λ (k : ℕ). FindsLink r x u k) (let same : v ≡ w = cc in same) h)
+finds_linked r x (schedule.Take u w) v whole is h = finds_take r x u w whole (subst (λ (k : ℕ). FindsLink r x u k) (let same : v ≡ w = cc in same) h)
+finds_linked r x (schedule.Handle u w) v whole is h = finds_handle r x u w whole (subst (λ (k : ℕ). FindsLink r x u k) (let same : v ≡ w = cc in same) h)
+finds_linked r x (schedule.Command u c) v whole is h = absurd cc
+finds_linked r x (schedule.Tick u) v whole is h = absurd cc
+finds_linked r x (schedule.Decide u) v whole is h = absurd cc
+finds_linked r x (schedule.Advertise u) v whole is h = absurd cc
+finds_linked r x (schedule.Offer u) v whole is h = absurd cc
+
+-- the place of the router of an event that names none
+pub placed_alone : (x : WorldView) (event : Event) (i : ℕ) → IsWhole x → None ≡ peer_of event → StandsAt x (router_of event) i → IsPlaced x.net event i 0
+placed_alone x (schedule.Put u w) i whole is at = absurd cc
+placed_alone x (schedule.Take u w) i whole is at = absurd cc
+placed_alone x (schedule.Handle u w) i whole is at = absurd cc
+placed_alone x (schedule.Command u c) i whole is at = router_placed x u i whole at
+placed_alone x (schedule.Tick u) i whole is at = router_placed x u i whole at
+placed_alone x (schedule.Decide u) i whole is at = router_placed x u i whole at
+placed_alone x (schedule.Advertise u) i whole is at = router_placed x u i whole at
+placed_alone x (schedule.Offer u) i whole is at = router_placed x u i whole at
+
+no_router : (x : WorldView) (u : ℕ) (why : StepFault) → IsPlaceOf (Err why) x u → (g : Setting) → g.net ≡ x.net → (a : WorldAnswer) → where_router g u a ≡ Stops why
+no_router x u why h g e a = rw (h.1 g e) (ap Stops (sym h.0))
+
+-- and why it has none
+pub stops_alone : (x : WorldView) (event : Event) (why : StepFault) → None ≡ peer_of event → IsPlaceOf (Err why) x (router_of event) → (g : Setting) → g.net ≡ x.net → world_answer g (plain_world x) event ≡ Stops why
+stops_alone x (schedule.Put u w) why is h g e = absurd cc
+stops_alone x (schedule.Take u w) why is h g e = absurd cc
+stops_alone x (schedule.Handle u w) why is h g e = absurd cc
+stops_alone x (schedule.Command u c) why is h g e = no_router x u why h g e (called g (plain_world x) u (Obey c))
+stops_alone x (schedule.Tick u) why is h g e = no_router x u why h g e (called g (plain_world x) u Tick)
+stops_alone x (schedule.Decide u) why is h g e = no_router x u why h g e (called g (plain_world x) u Decide)
+stops_alone x (schedule.Advertise u) why is h g e = no_router x u why h g e (called g (plain_world x) u Advertise)
+stops_alone x (schedule.Offer u) why is h g e =
+    let w = plain_world x in
+    no_router x u why h g e (of_offer u (max (w.routers u).stamp w.board + 1) (next_offer (w.routers u).router))

@@ -25,7 +25,7 @@ use Rattle.router_core.specs.Views.{RouterView, plain_of, IsSame}
 use Rattle.world_core.specs.declared.schedule.Event.{Event}
 use Rattle.world_core.specs.declared.schedule.StepFault.{StepFault}
 use Rattle.world_core.specs.declared.schedule.StepFault.TheVariants.{NoSuchRouter}
-use Rattle.world_core.specs.World.{World, WorldAnswer, Stops, Gives, of_answer, refused_by, called, where_router, world_after, joined}
+use Rattle.world_core.specs.World.{World, WorldAnswer, Stops, Gives, world_answer, of_answer, refused_by, called, where_router, world_after, joined}
 use Rattle.world_core.specs.Views.{WorldView, plain_world, routers_of, new_stamped, IsAt, IsWhole, refusal, Entered, Enters}
 use Rattle.world_core.specs.Steps.{StandsAt, IsOwn, Asks}
 use Rattle.world_core.proofs.Places.{number_here, numbers_set, all_set, all_here, here, set_at}
@@ -181,3 +181,7 @@ own_asks law x u i xr y event call run r whole at is own enters same g e ranks =
 
 pub by_router : (g : Setting) (u : ℕ) (a : WorldAnswer) → is_router g u ≡ true → where_router g u a ≡ a
 by_router g u a h = rw h refl
+
+-- an event that is refused leaves the world as it is
+pub stays_stopped : (g : Setting) (w : World) (event : Event) (why : StepFault) → world_answer g w event ≡ Stops why → Gives g (Err why) (world_answer g w event) w event w
+stays_stopped g w event why h = rw h (refl, refl)

@@ -1,8 +1,9 @@
 -- What the parts of a step start from and leave.
-use Rattle.std.specs.Prelude.{ℕ, ◌≡◌, true, false, get_or, Result, Ok, MatchResult}
+use Rattle.std.specs.Prelude.{ℕ, ◌≡◌, true, false, get_or, slice_get, Some, Result, Ok, MatchResult}
+use Rattle.ranked_policy.specs.Plans.{Plan, numbers}
 use Rattle.router_model.specs.declared.refusal.Stepped.{Stepped}
 use Rattle.router_model.specs.declared.refusal.Stepped.TheVariants as stepped
-use Rattle.router_model.specs.Settings.{Setting, ChoosesByRank, is_router}
+use Rattle.router_model.specs.Settings.{Setting, ChoosesByRank, is_router, peers}
 use Rattle.router_model.specs.Calls.{Call, Obey, Tick, Put, Take, Handle, Decide, Advertise}
 use Rattle.world_core.specs.declared.inbox.Inbox.{Inbox}
 use Rattle.world_core.specs.declared.schedule.Event.{Event}
@@ -10,7 +11,7 @@ use Rattle.world_core.specs.declared.schedule.Event.TheVariants as schedule
 use Rattle.world_core.specs.declared.schedule.StepFault.{StepFault}
 use Rattle.world_core.specs.declared.schedule.StepFault.TheVariants.{NoSuchRouter}
 use Rattle.world_core.specs.declared.state.State.{State}
-use Rattle.world_core.specs.World.{WorldAnswer, Stops, Gives, called, where_router, where_linked}
+use Rattle.world_core.specs.World.{WorldAnswer, Stops, Gives, called, where_router, where_linked, world_answer}
 use Rattle.world_core.specs.Views.{WorldView, plain_world, IsAt, Answers}
 
 abbrev pub view_of : State → WorldView
@@ -63,6 +64,26 @@ FindsLink r x u v =
 abbrev pub FindsLinkTo : Result (ℕ × ℕ) StepFault → WorldView → ℕ → ℕ → Type 0
 FindsLinkTo r x u v =
     MatchResult r (λ p. LinkAt x v u p.0 p.1) (λ why. (g : Setting) → g.net ≡ x.net → (a : WorldAnswer) → where_linked g u v a ≡ Stops why)
+
+-- the router stands at that place of the network, and the peer at this one among its peers
+abbrev pub ArePlaced : Plan → ℕ → ℕ → ℕ → ℕ → Type 0
+ArePlaced net u v i k = (slice_get (numbers net.routers) i ≡ Some u) × (slice_get (peers net u) k ≡ Some v)
+
+-- so do the router of an event, and the peer if it names one
+abbrev pub IsPlaced : Plan → Event → ℕ → ℕ → Type 0
+IsPlaced net (schedule.Command u c) i k = slice_get (numbers net.routers) i ≡ Some u
+IsPlaced net (schedule.Tick u) i k = slice_get (numbers net.routers) i ≡ Some u
+IsPlaced net (schedule.Put u v) i k = ArePlaced net u v i k
+IsPlaced net (schedule.Take u v) i k = ArePlaced net u v i k
+IsPlaced net (schedule.Handle u v) i k = ArePlaced net u v i k
+IsPlaced net (schedule.Decide u) i k = slice_get (numbers net.routers) i ≡ Some u
+IsPlaced net (schedule.Advertise u) i k = slice_get (numbers net.routers) i ≡ Some u
+IsPlaced net (schedule.Offer u) i k = slice_get (numbers net.routers) i ≡ Some u
+
+-- the places of an event, or why it is refused
+abbrev pub FindsPlaces : Result (ℕ × ℕ) StepFault → WorldView → Event → Type 0
+FindsPlaces r x event =
+    MatchResult r (λ p. IsPlaced x.net event p.0 p.1) (λ why. (g : Setting) → g.net ≡ x.net → world_answer g (plain_world x) event ≡ Stops why)
 
 -- ---- what is at rest
 

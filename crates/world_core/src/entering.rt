@@ -1,6 +1,8 @@
 //! Events of one router, which join the run if they are done.
 
-ghost use Rattle.std.specs.Prelude.{◌≡◌};
+ghost use Rattle.std.specs.Prelude.{◌≡◌, slice_get, Some};
+ghost use Rattle.router_model.specs.Calls.{Handle};
+ghost use Rattle.router_model.specs.Settings.{peers};
 ghost use Rattle.router_core.specs.Calling.{call_of};
 ghost use Rattle.router_core.specs.Views.{IsSame};
 ghost use Rattle.world_core.specs.Views.{refusal, Enters, EntersPut, EntersTake, EntersOffer};
@@ -51,39 +53,66 @@ pub(crate) fn enter(
     }
 }
 
-/// A router puts the next item towards a peer into the pipe that leads to it.
+/// A router handles the message of the peer at a place. An event that is done joins the run.
+pub(crate) fn enter_handle(
+    router: &mut Router<'_>,
+    run: &mut Vec<Event>,
+    event: &Event,
+    place: usize,
+    peer: Asn,
+) -> Result<Stepped, StepFault>
+    requires { slice_get (peers router.old.net router.old.number) place ≡ Some peer }
+    ensures enters { Enters result router.old run.old.items event.now (Handle peer) router.new run.new.items }
+    ensures same { IsSame router.old router.new }
+{
+    let room = run.reserve(1);
+    match router.handle_at(place, peer, room) {
+        Ok(Stepped::Did) => {
+            join(run, event);
+            Ok(Stepped::Did)
+        }
+        Ok(Stepped::Nothing) => Ok(Stepped::Nothing),
+        Err(error) => refusal(error),
+    }
+}
+
+/// A router puts the next item towards the peer at a place into the pipe that leads to it.
 pub(crate) fn enter_put(
     router: &mut Router<'_>,
     run: &mut Vec<Event>,
     pipe: &mut VecDeque<Item>,
     event: &Event,
+    place: usize,
     peer: Asn,
 ) -> Result<Stepped, StepFault>
+    requires { slice_get (peers router.old.net router.old.number) place ≡ Some peer }
     ensures enters { EntersPut result router.old run.old.items pipe.old.items event.now peer router.new run.new.items
         pipe.new.items }
     ensures same { IsSame router.old router.new }
 {
-    let item = match router.next_item(peer) {
+    let item = match router.next_item_at(place, peer) {
         Ok(Some(item)) => item,
         Ok(None) => return Ok(Stepped::Nothing),
         Err(error) => return refusal(error),
     };
     run.reserve(1)?;
     pipe.reserve(1)?;
-    router.item_put(peer);
+    router.item_put_at(place, peer);
     pipe.push_back(item).unwrap();
     join(run, event);
     Ok(Stepped::Did)
 }
 
-/// A router takes the next item of the pipe from a peer.
+/// A router takes the next item of the pipe from the peer at a place.
 pub(crate) fn enter_take(
     router: &mut Router<'_>,
     run: &mut Vec<Event>,
     pipe: &mut VecDeque<Item>,
     event: &Event,
+    place: usize,
     peer: Asn,
 ) -> Result<Stepped, StepFault>
+    requires { slice_get (peers router.old.net router.old.number) place ≡ Some peer }
     ensures enters { EntersTake result router.old run.old.items pipe.old.items event.now peer router.new run.new.items
         pipe.new.items }
     ensures same { IsSame router.old router.new }
@@ -92,7 +121,7 @@ pub(crate) fn enter_take(
         return Ok(Stepped::Nothing);
     };
     let room = run.reserve(1);
-    match router.take(peer, item, room) {
+    match router.take_at(place, peer, item, room) {
         Ok(Stepped::Did) => {
             join(run, event);
             pipe.pop_front();

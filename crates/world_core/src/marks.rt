@@ -7,7 +7,7 @@ use ranked_policy::{Asn, Network};
 use std::alloc::Global;
 
 /// Room for a mark of each of so many routers, and no mark. If memory is refused, no mark can be made.
-pub fn no_marks(alloc: Global, routers: usize) -> Vec<bool>
+pub(crate) fn no_marks(alloc: Global, routers: usize) -> Vec<bool>
     ensures { (i : ℕ) → slice_get result.items i ≡ Some true → ⊥ }
 {
     let mut marks = Vec::new(alloc);
@@ -16,7 +16,7 @@ pub fn no_marks(alloc: Global, routers: usize) -> Vec<bool>
 }
 
 /// Whether the router at a place has a mark.
-pub fn is_marked(marks: &[bool], place: usize) -> bool
+pub(crate) fn is_marked(marks: &[bool], place: usize) -> bool
     ensures { IsTrue result ↔ (slice_get marks.now place ≡ Some true) }
 {
     match marks.get(place) {
@@ -26,7 +26,7 @@ pub fn is_marked(marks: &[bool], place: usize) -> bool
 }
 
 /// Marks the router at a place if there is room for it, or takes its mark away.
-pub fn mark(marks: &mut Vec<bool>, place: usize, rests: bool)
+pub(crate) fn mark(marks: &mut Vec<bool>, place: usize, rests: bool)
     ensures here { slice_get marks.new.items place ≡ Some true → rests ≡ true }
     ensures others { (other : ℕ) → other ≢ place → slice_get marks.new.items other ≡ slice_get marks.old.items other }
 {
@@ -36,7 +36,7 @@ pub fn mark(marks: &mut Vec<bool>, place: usize, rests: bool)
 }
 
 /// Takes the mark of a router away.
-pub fn wake(network: &Network, number: Asn, marks: &mut Vec<bool>)
+pub(crate) fn wake(network: &Network, number: Asn, marks: &mut Vec<bool>)
     ensures { Woken network.now number marks.old.items marks.new.items }
 {
     let _ = network.built();

@@ -1,19 +1,21 @@
-//! Orders that are obeyed, event by event.
+//! Orders that are obeyed, event by event, while a watcher looks on.
 
-ghost use Rattle.std.specs.Prelude.{◌≡◌, ◌∷◌, [], slice_get, Some, OnOk};
+ghost use Rattle.std.specs.Prelude.{◌≡◌, ◌<◌, ◌∷◌, [], true, length, slice_get, Some, OnOk};
 ghost use Rattle.ranked_policy.specs.Plans.{numbers};
+ghost use Rattle.router_model.specs.Settings.{peers};
 ghost use Rattle.world_core.specs.declared.schedule.Event.TheVariants.{Put, Take, Handle, Decide, Advertise, Offer};
 ghost use Rattle.world_core.specs.Orders.{with_peer, turn, round, second, repeated, events_of};
-ghost use Rattle.world_core.specs.Steps.{StandsAt, LinkAt};
 ghost use Rattle.world_core.specs.Resting.{AreResting, AreRestingBeside};
-ghost use Rattle.world_core.specs.Views.{Obeys, Answers, KeepsPromises};
+ghost use Rattle.world_core.specs.Steps.{ArePlaced, IsPlaced, FindsPlaces, IsQuiet, IsIdle};
+ghost use Rattle.world_core.specs.Views.{Answers, Obeys, KeepsPromises};
+ghost use Rattle.world_core.specs.Watching.{WatchesEvents, WatchesRounds, WatchesOrder};
 
 use crate::laws::{played_worlds_keep_their_promises, steps_are_replayed};
 use crate::marks::{is_marked, mark, no_marks, wake};
 use crate::schedule::{Event, Order, StepFault};
+use crate::watch::{Unwatched, Watch};
 use crate::world::World;
 use ranked_policy::Asn;
-use router_core::Call;
 use router_model::Stepped;
 use router_model::laws::{answers_are_steps, linked_routers_are_peers};
 
@@ -27,300 +29,327 @@ impl<'a> World<'a> {
         ensures same { self.new.net ≡ self.old.net }
         ensures promises { KeepsPromises self.new }
     {
+        self.obey_watched(order, &mut Unwatched)?;
+        Ok(())
+    }
+
+    /// Obeys an order as [`World::obey`] does, while a watcher looks on: it sees each event that is tried, and each
+    /// round. An event that is known to find nothing to do is not tried. Answers how many rounds did something, if a
+    /// round did nothing; behind that one no other is tried.
+    ///
+    /// Refused as [`World::obey`] is, and with [`StepFault::Memory`] where the watcher is refused memory: then the event
+    /// or the round that it looks at may be done.
+    pub fn obey_watched<W: Watch>(
+        &mut self,
+        order: &Order,
+        watcher: &mut W,
+    ) -> Result<Option<u32>, StepFault>
+        ensures watches { WatchesOrder W.says W.says_of_round W.may_want result self.old order.now (W.said watcher.old)
+            self.new (W.said watcher.new) }
+        ensures same { self.new.net ≡ self.old.net }
+        ensures promises { KeepsPromises self.new }
+    {
         played_worlds_keep_their_promises();
-        let obeyed = self.follow(order);
+        let obeyed = self.follow(order, watcher);
         let _ = &self.state;
         obeyed
     }
 
     // Does the events of an order one after the other.
-    fn follow(&mut self, order: &Order) -> Result<(), StepFault>
-        ensures obeys { Obeys result self.old (events_of self.old.net order.now) self.new }
+    fn follow<W: Watch>(&mut self, order: &Order, watcher: &mut W) -> Result<Option<u32>, StepFault>
+        ensures watches { WatchesOrder W.says W.says_of_round W.may_want result self.old order.now (W.said watcher.old)
+            self.new (W.said watcher.new) }
         ensures same { self.new.net ≡ self.old.net }
     {
         match *order {
-            Order::One(event) => self.each(&[event]),
-            Order::Rounds(times) => self.rounds(times),
-            Order::Ticks(times) => self.ticks(times),
+            Order::One(event) => self.one(&event, watcher)?,
+            Order::Rounds(times) => return self.rounds(times, watcher),
+            Order::Ticks(times) => self.ticks(times, watcher)?,
         }
+        Ok(None)
     }
 
     // Does so many rounds. Behind a round in which nothing was done, all others do nothing.
-    fn rounds(&mut self, times: u32) -> Result<(), StepFault>
-        ensures obeys { Obeys result self.old (repeated times (round self.old.net)) self.new }
+    fn rounds<W: Watch>(&mut self, times: u32, watcher: &mut W) -> Result<Option<u32>, StepFault>
+        ensures watches { WatchesRounds W.says W.says_of_round W.may_want result self.old times (W.said watcher.old)
+            self.new (W.said watcher.new) }
         ensures same { self.new.net ≡ self.old.net }
     {
         let mut marks = no_marks(*self.state.run.allocator(), self.network().routers().len());
-        for _ in 0..times {
+        for passed in 0..times {
             let before = self.run().len();
-            self.round(&mut marks)?;
-            if self.run().len() == before {
-                return Ok(());
+            self.round(&mut marks, watcher)?;
+            let after = self.run().len();
+            if after == before {
+                return Ok(Some(passed));
             }
+            watcher.behind_round(passed + 1, after.saturating_sub(before))?;
         }
-        Ok(())
+        Ok(None)
     }
 
     // Lets so many seconds pass.
-    fn ticks(&mut self, times: u32) -> Result<(), StepFault>
-        ensures obeys { Obeys result self.old (repeated times (second self.old.net)) self.new }
+    fn ticks<W: Watch>(&mut self, times: u32, watcher: &mut W) -> Result<(), StepFault>
+        ensures watches { WatchesEvents W.says W.may_want result self.old (repeated times (second self.old.net))
+            (W.said watcher.old) self.new (W.said watcher.new) }
         ensures same { self.new.net ≡ self.old.net }
     {
         for _ in 0..times {
-            self.second()?;
+            self.second(watcher)?;
         }
         Ok(())
     }
 
     // Gives each router a turn, rising, but for those that rest.
-    fn round(&mut self, marks: &mut Vec<bool>) -> Result<(), StepFault>
+    fn round<W: Watch>(&mut self, marks: &mut Vec<bool>, watcher: &mut W) -> Result<(), StepFault>
         requires { AreResting self.old marks.old.items }
-        ensures obeys { Obeys result self.old (round self.old.net) self.new }
+        ensures watches { WatchesEvents W.says W.may_want result self.old (round self.old.net) (W.said watcher.old)
+            self.new (W.said watcher.new) }
         ensures same { self.new.net ≡ self.old.net }
         ensures resting { OnOk result (AreResting self.new marks.new.items) }
     {
-        for (place, router) in self.network().routers().iter().enumerate() {
-            self.visit(place, router.asn, marks)?;
+        for (at, router) in self.network().routers().iter().enumerate() {
+            self.visit(at, router.asn, marks, watcher)?;
         }
         Ok(())
     }
 
     // Gives the router at a place its turn, unless it rests: its last turn did nothing, and nothing was put towards it
     // since.
-    fn visit(&mut self, place: usize, number: Asn, marks: &mut Vec<bool>) -> Result<(), StepFault>
-        requires place { slice_get (numbers self.old.net.routers) place ≡ Some number }
+    fn visit<W: Watch>(
+        &mut self,
+        at: usize,
+        number: Asn,
+        marks: &mut Vec<bool>,
+        watcher: &mut W,
+    ) -> Result<(), StepFault>
+        requires router { slice_get (numbers self.old.net.routers) at ≡ Some number }
         requires resting { AreResting self.old marks.old.items }
-        ensures obeys { Obeys result self.old (turn self.old.net number) self.new }
+        ensures watches { WatchesEvents W.says W.may_want result self.old (turn self.old.net number)
+            (W.said watcher.old) self.new (W.said watcher.new) }
         ensures same { self.new.net ≡ self.old.net }
         ensures resting { OnOk result (AreResting self.new marks.new.items) }
     {
-        if is_marked(marks.as_slice(), place) {
+        if is_marked(marks.as_slice(), at) {
             return Ok(());
         }
-        let _ = self.network().built();
-        let _ = &self.state;
+        let network = self.network();
+        let _ = network.built();
         let before = self.run().len();
-        self.turn(place, number, marks)?;
+        self.turn(at, number, marks, watcher)?;
         if self.run().len() == before {
-            mark(marks, place, true);
+            mark(marks, at, true);
         }
         Ok(())
     }
 
     // Lets a second pass at each router, rising.
-    fn second(&mut self) -> Result<(), StepFault>
-        ensures obeys { Obeys result self.old (second self.old.net) self.new }
+    fn second<W: Watch>(&mut self, watcher: &mut W) -> Result<(), StepFault>
+        ensures watches { WatchesEvents W.says W.may_want result self.old (second self.old.net) (W.said watcher.old)
+            self.new (W.said watcher.new) }
         ensures same { self.new.net ≡ self.old.net }
     {
-        for router in self.network().routers() {
-            self.each(&[Event::Tick(router.asn)])?;
+        for (at, router) in self.network().routers().iter().enumerate() {
+            self.watched(at, 0, &Event::Tick(router.asn), watcher)?;
         }
         Ok(())
     }
 
     // Does what the router at a place tries with each peer, rising, and then alone.
-    fn turn(&mut self, at: usize, number: Asn, marks: &mut Vec<bool>) -> Result<(), StepFault>
-        requires resting { AreRestingBeside self.old number marks.old.items }
-        requires stands { StandsAt self.old number at }
-        ensures obeys { Obeys result self.old (turn self.old.net number) self.new }
-        ensures same { self.new.net ≡ self.old.net }
-        ensures resting { OnOk result (AreRestingBeside self.new number marks.new.items) }
-    {
-        answers_are_steps();
-        linked_routers_are_peers();
-        for place in 0..self.state.pipes_at(at, number).len() {
-            let peer = self.state.pipes_at(at, number)[place].peer;
-            self.exchange(at, place, number, peer, marks)?;
-        }
-        self.alone(at, number)
-    }
-
-    // Does what a router tries with one peer. The router and the pipe from the peer stand at these places. Nothing is
-    // done if nothing waits between them. A peer towards which something is put rests no longer.
-    fn exchange(
+    fn turn<W: Watch>(
         &mut self,
         at: usize,
-        pipe: usize,
         number: Asn,
-        peer: Asn,
         marks: &mut Vec<bool>,
+        watcher: &mut W,
     ) -> Result<(), StepFault>
+        requires router { slice_get (numbers self.old.net.routers) at ≡ Some number }
         requires resting { AreRestingBeside self.old number marks.old.items }
-        requires link { LinkAt self.old number peer at pipe }
-        ensures obeys { Obeys result self.old (with_peer number peer) self.new }
+        ensures watches { WatchesEvents W.says W.may_want result self.old (turn self.old.net number)
+            (W.said watcher.old) self.new (W.said watcher.new) }
         ensures same { self.new.net ≡ self.old.net }
-        ensures link { LinkAt self.new number peer at pipe }
         ensures resting { OnOk result (AreRestingBeside self.new number marks.new.items) }
     {
         answers_are_steps();
-        if self.state.is_quiet_at(at, pipe, number, peer) {
+        let network = self.network();
+        let _ = network.built();
+        for place in 0..self.count_peers(at, number) {
+            let peer = self.peer_at(at, number, place);
+            self.exchange(at, number, place, peer, marks, watcher)?;
+        }
+        self.alone(at, number, watcher)
+    }
+
+    // Does what the router at a place tries with the peer at a place. Nothing is tried if nothing waits between them.
+    fn exchange<W: Watch>(
+        &mut self,
+        at: usize,
+        number: Asn,
+        place: usize,
+        peer: Asn,
+        marks: &mut Vec<bool>,
+        watcher: &mut W,
+    ) -> Result<(), StepFault>
+        requires placed { ArePlaced self.old.net number peer at place }
+        requires resting { AreRestingBeside self.old number marks.old.items }
+        ensures watches { WatchesEvents W.says W.may_want result self.old (with_peer number peer) (W.said watcher.old)
+            self.new (W.said watcher.new) }
+        ensures same { self.new.net ≡ self.old.net }
+        ensures resting { OnOk result (AreRestingBeside self.new number marks.new.items) }
+    {
+        answers_are_steps();
+        let network = self.network();
+        let _ = network.built();
+        if self.is_quiet_at(at, place, number, peer) {
             return Ok(());
         }
-        self.put(at, pipe, number, peer, marks)?;
-        self.take_and_handle(at, pipe, number, peer)
+        self.put(at, number, place, peer, marks, watcher)?;
+        self.take_and_handle(at, number, place, peer, watcher)
     }
 
-    // Lets a router put the next item towards a peer, if there is one. The peer then rests no longer.
-    fn put(
+    // Lets the router at a place take the next item of the peer at a place, and then handle its message.
+    fn take_and_handle<W: Watch>(
         &mut self,
         at: usize,
-        pipe: usize,
         number: Asn,
+        place: usize,
+        peer: Asn,
+        watcher: &mut W,
+    ) -> Result<(), StepFault>
+        requires { ArePlaced self.old.net number peer at place }
+        ensures watches { WatchesEvents W.says W.may_want result self.old (Take number peer ∷ Handle number peer ∷ [])
+            (W.said watcher.old) self.new (W.said watcher.new) }
+        ensures same { self.new.net ≡ self.old.net }
+    {
+        self.watched(at, place, &Event::Take(number, peer), watcher)?;
+        self.watched(at, place, &Event::Handle(number, peer), watcher)
+    }
+
+    // Lets the router at a place put the next item towards the peer at a place, if there is one. The peer then rests no
+    // longer.
+    fn put<W: Watch>(
+        &mut self,
+        at: usize,
+        number: Asn,
+        place: usize,
         peer: Asn,
         marks: &mut Vec<bool>,
+        watcher: &mut W,
     ) -> Result<(), StepFault>
+        requires placed { ArePlaced self.old.net number peer at place }
         requires resting { AreRestingBeside self.old number marks.old.items }
-        requires link { LinkAt self.old number peer at pipe }
-        ensures obeys { Obeys result self.old (Put number peer ∷ []) self.new }
+        ensures watches { WatchesEvents W.says W.may_want result self.old (Put number peer ∷ []) (W.said watcher.old)
+            self.new (W.said watcher.new) }
         ensures same { self.new.net ≡ self.old.net }
-        ensures link { LinkAt self.new number peer at pipe }
         ensures resting { OnOk result (AreRestingBeside self.new number marks.new.items) }
     {
         answers_are_steps();
         let network = self.network();
         let _ = network.built();
         let before = self.run().len();
-        self.put_from(at, pipe, number, peer)?;
+        self.watched(at, place, &Event::Put(number, peer), watcher)?;
         if self.run().len() != before {
             wake(network, peer, marks);
         }
         Ok(())
     }
 
-    // Lets a router put the next item towards a peer. The router and the pipe from the peer stand at these places. If
-    // nothing is next, the pipe to the peer is not looked for.
-    fn put_from(
-        &mut self,
-        at: usize,
-        pipe: usize,
-        number: Asn,
-        peer: Asn,
-    ) -> Result<Stepped, StepFault>
-        requires { LinkAt self.old number peer at pipe }
-        ensures answers { Answers result self.old (Put number peer) self.new }
-        ensures same { self.new.net ≡ self.old.net }
-        ensures link { LinkAt self.new number peer at pipe }
-    {
-        steps_are_replayed();
-        if self.state.puts_nothing_at(at, pipe, number, peer) {
-            return Ok(Stepped::Nothing);
-        }
-        self.state.put_from(at, number, peer)
-    }
-
-    // Lets a router take the next item of a peer, if the router and the pipe stand at these places.
-    fn take_at(
-        &mut self,
-        at: usize,
-        pipe: usize,
-        number: Asn,
-        peer: Asn,
-    ) -> Result<Stepped, StepFault>
-        requires { LinkAt self.old number peer at pipe }
-        ensures answers { Answers result self.old (Take number peer) self.new }
-        ensures same { self.new.net ≡ self.old.net }
-        ensures link { LinkAt self.new number peer at pipe }
-    {
-        steps_are_replayed();
-        self.state.take_at(at, pipe, number, peer)
-    }
-
-    // Lets a router handle the message of a peer. The router and the pipe stand at these places.
-    fn handle_at(
-        &mut self,
-        at: usize,
-        pipe: usize,
-        number: Asn,
-        peer: Asn,
-    ) -> Result<Stepped, StepFault>
-        requires { LinkAt self.old number peer at pipe }
-        ensures answers { Answers result self.old (Handle number peer) self.new }
-        ensures same { self.new.net ≡ self.old.net }
-        ensures link { LinkAt self.new number peer at pipe }
-    {
-        steps_are_replayed();
-        if self.state.handles_nothing_at(at, pipe, number, peer) {
-            return Ok(Stepped::Nothing);
-        }
-        self.state.handle_at(at, pipe, number, peer)
-    }
-
-    // Lets a router take the next item of a peer, and then handle its message. The router and the pipe stand at these
-    // places.
-    fn take_and_handle(
-        &mut self,
-        at: usize,
-        pipe: usize,
-        number: Asn,
-        peer: Asn,
-    ) -> Result<(), StepFault>
-        requires { LinkAt self.old number peer at pipe }
-        ensures obeys { Obeys result self.old (Take number peer ∷ Handle number peer ∷ []) self.new }
-        ensures same { self.new.net ≡ self.old.net }
-        ensures link { LinkAt self.new number peer at pipe }
-    {
-        self.take_at(at, pipe, number, peer)?;
-        self.handle_at(at, pipe, number, peer)?;
-        Ok(())
-    }
-
-    // Lets the router at a place decide, tell and offer, each once. Nothing is done if it has nothing to do.
-    fn alone(&mut self, at: usize, number: Asn) -> Result<(), StepFault>
-        requires { StandsAt self.old number at }
-        ensures obeys { Obeys result self.old (Decide number ∷ Advertise number ∷ Offer number ∷ []) self.new }
+    // Lets the router at a place decide, tell and offer, each once. Nothing is tried if it has nothing to do.
+    fn alone<W: Watch>(&mut self, at: usize, number: Asn, watcher: &mut W) -> Result<(), StepFault>
+        requires { slice_get (numbers self.old.net.routers) at ≡ Some number }
+        ensures watches { WatchesEvents W.says W.may_want result self.old
+            (Decide number ∷ Advertise number ∷ Offer number ∷ []) (W.said watcher.old) self.new (W.said watcher.new) }
         ensures same { self.new.net ≡ self.old.net }
     {
-        if self.state.is_idle_at(at, number) {
+        if self.is_idle_at(at, number) {
             return Ok(());
         }
-        self.decide_at(at, number)?;
-        self.advertise_at(at, number)?;
-        self.offer_at(at, number)?;
-        Ok(())
+        self.watched(at, 0, &Event::Decide(number), watcher)?;
+        self.watched(at, 0, &Event::Advertise(number), watcher)?;
+        self.watched(at, 0, &Event::Offer(number), watcher)
     }
 
-    // Lets the router at a place decide.
-    fn decide_at(&mut self, at: usize, number: Asn) -> Result<Stepped, StepFault>
-        requires { StandsAt self.old number at }
-        ensures answers { Answers result self.old (Decide number) self.new }
+    // Does one event.
+    fn one<W: Watch>(&mut self, event: &Event, watcher: &mut W) -> Result<(), StepFault>
+        ensures watches { WatchesEvents W.says W.may_want result self.old (event.now ∷ []) (W.said watcher.old)
+            self.new (W.said watcher.new) }
         ensures same { self.new.net ≡ self.old.net }
-        ensures stands { StandsAt self.new number at }
     {
-        steps_are_replayed();
-        let event = Event::Decide(number);
-        self.state.ask_at(at, &event, number, &Call::Decide)
+        let (at, place) = self.places(event)?;
+        self.watched(at, place, event, watcher)
     }
 
-    // Lets the router at a place tell a peer.
-    fn advertise_at(&mut self, at: usize, number: Asn) -> Result<Stepped, StepFault>
-        requires { StandsAt self.old number at }
-        ensures answers { Answers result self.old (Advertise number) self.new }
-        ensures same { self.new.net ≡ self.old.net }
-        ensures stands { StandsAt self.new number at }
-    {
-        steps_are_replayed();
-        let event = Event::Advertise(number);
-        self.state.ask_at(at, &event, number, &Call::Advertise)
-    }
-
-    // Lets the router at a place offer.
-    fn offer_at(&mut self, at: usize, number: Asn) -> Result<Stepped, StepFault>
-        requires { StandsAt self.old number at }
-        ensures answers { Answers result self.old (Offer number) self.new }
+    // Does an event of the router at a place, with the peer at a place if it names one, while a watcher looks on.
+    fn watched<W: Watch>(
+        &mut self,
+        at: usize,
+        place: usize,
+        event: &Event,
+        watcher: &mut W,
+    ) -> Result<(), StepFault>
+        requires { IsPlaced self.old.net event.now at place }
+        ensures watches { WatchesEvents W.says W.may_want result self.old (event.now ∷ []) (W.said watcher.old)
+            self.new (W.said watcher.new) }
         ensures same { self.new.net ≡ self.old.net }
     {
-        steps_are_replayed();
-        self.state.offer_at(at, number)
-    }
-
-    // Does events one after the other.
-    fn each(&mut self, events: &[Event]) -> Result<(), StepFault>
-        ensures obeys { Obeys result self.old events.now self.new }
-        ensures same { self.new.net ≡ self.old.net }
-    {
-        for event in events {
-            self.step(event)?;
+        watcher.before_event(self, event)?;
+        match self.step_at(at, place, event)? {
+            Stepped::Did => watcher.behind_event(self, event)?,
+            Stepped::Nothing => {}
         }
         Ok(())
+    }
+
+    // How many peers a router has. The router stands at that place of the network.
+    fn count_peers(&self, at: usize, number: Asn) -> usize
+        requires { slice_get (numbers self.now.net.routers) at ≡ Some number }
+        ensures { result ≡ length (peers self.now.net number) }
+    {
+        self.state.pipes_at(at, number).len()
+    }
+
+    // The peer at a place among those of a router, rising. The router stands at the place `at` of the network.
+    fn peer_at(&self, at: usize, number: Asn, place: usize) -> Asn
+        requires router { slice_get (numbers self.now.net.routers) at ≡ Some number }
+        requires within { place < length (peers self.now.net number) }
+        ensures { slice_get (peers self.now.net number) place ≡ Some result }
+    {
+        self.state.pipes_at(at, number)[place].peer
+    }
+
+    // Whether nothing has to be put, taken or handled between a router and a peer. The router stands at the place `at`
+    // of the network, and the peer at the place `place` among its peers.
+    fn is_quiet_at(&self, at: usize, place: usize, number: Asn, peer: Asn) -> bool
+        requires { ArePlaced self.now.net number peer at place }
+        ensures { result ≡ true → IsQuiet self.now number peer }
+    {
+        linked_routers_are_peers();
+        self.state.is_quiet_at(at, place, number, peer)
+    }
+
+    // Whether it is seen without a look at a path that a router has nothing to decide, nobody to tell and nothing to
+    // offer. The router stands at that place of the network.
+    fn is_idle_at(&self, at: usize, number: Asn) -> bool
+        requires { slice_get (numbers self.now.net.routers) at ≡ Some number }
+        ensures { result ≡ true → IsIdle self.now number }
+    {
+        self.state.is_idle_at(at, number)
+    }
+
+    // The place of the router that does an event, and that of the peer that the event names, if it names one.
+    fn places(&self, event: &Event) -> Result<(usize, usize), StepFault>
+        ensures { FindsPlaces result self.now event.now }
+    {
+        self.state.places(event)
+    }
+
+    // Does an event of the router at a place, with the peer at a place if it names one.
+    fn step_at(&mut self, at: usize, place: usize, event: &Event) -> Result<Stepped, StepFault>
+        requires { IsPlaced self.old.net event.now at place }
+        ensures answers { Answers result self.old event.now self.new }
+        ensures same { self.new.net ≡ self.old.net }
+    {
+        steps_are_replayed();
+        self.state.step_at(at, place, event)
     }
 }

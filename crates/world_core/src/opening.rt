@@ -10,7 +10,7 @@ ghost use Rattle.world_core.specs.Steps.{view_of};
 use crate::inbox::{Inbox, Pipe};
 use crate::state::State;
 use ranked_policy::{Asn, Network};
-use router_core::{Router, is_peer};
+use router_core::Router;
 use snap_collector::Collector;
 use std::alloc::{AllocError, Global};
 use std::collections::VecDeque;
@@ -49,12 +49,9 @@ fn new_pipes(alloc: Global, network: &Network, number: Asn) -> Result<Vec<Pipe>,
     ensures empty { IfOk result (λ made. AllByRecursion (λ p. p.items.items ≡ []) made.items) }
 {
     let mut made = Vec::new(alloc);
-    for router in network.routers() {
-        if !is_peer(network, number, router.asn) {
-            continue;
-        }
+    for link in network.links_of(number) {
         made.push(Pipe {
-            peer: router.asn,
+            peer: link.other,
             items: VecDeque::new(alloc),
         })?;
     }

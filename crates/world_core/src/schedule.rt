@@ -1,7 +1,7 @@
 //! The events of a schedule, the orders that stand for many of them, and why one is refused.
 
 ghost use Rattle.std.specs.Prelude.{◌≡◌, ◌<◌, ◌++◌, ◌∷◌, [], vec_len, vec_capacity};
-ghost use Rattle.world_core.specs.Events.{router_of};
+ghost use Rattle.world_core.specs.Events.{router_of, peer_of};
 
 use ranked_policy::Asn;
 use router_model::{Command, RouterError};
@@ -44,6 +44,21 @@ impl Event {
             | Event::Decide(number)
             | Event::Advertise(number)
             | Event::Offer(number) => number,
+        }
+    }
+
+    /// The peer that the router puts an item towards, takes one of, or handles the message of. `None` if the event names
+    /// no peer: a command has its own.
+    pub fn peer(&self) -> Option<Asn>
+        ensures { result ≡ peer_of self.now }
+    {
+        match *self {
+            Event::Put(_, peer) | Event::Take(_, peer) | Event::Handle(_, peer) => Some(peer),
+            Event::Command(..)
+            | Event::Tick(_)
+            | Event::Decide(_)
+            | Event::Advertise(_)
+            | Event::Offer(_) => None,
         }
     }
 }

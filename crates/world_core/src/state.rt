@@ -6,9 +6,9 @@ ghost use Rattle.world_core.specs.declared.schedule.Event.TheVariants.{Put, Take
 ghost use Rattle.router_model.specs.Settings.{peers};
 ghost use Rattle.router_core.specs.Calling.{call_of};
 ghost use Rattle.world_core.specs.Views.{IsWhole, Answers, IsNoRouter, IsRouterOf, comes_next, NothingComes};
-ghost use Rattle.world_core.specs.Steps.{view_of, IsSameNet, Asks, StandsAt, LinkAt, IsPlaceOf, FindsLink, FindsLinkTo, IsQuiet, IsIdle};
+ghost use Rattle.world_core.specs.Steps.{view_of, IsSameNet, Asks, StandsAt, LinkAt, IsPlaceOf, FindsLink, FindsLinkTo, IsPlaced, FindsPlaces, IsQuiet, IsIdle};
 
-use crate::entering::{enter, enter_offer, enter_put, enter_take};
+use crate::entering::{enter, enter_handle, enter_offer, enter_put, enter_take};
 use crate::inbox::{Inbox, Pipe, place_of};
 use crate::schedule::{Event, StepFault};
 use outbox::Item;
@@ -44,19 +44,8 @@ impl<'a> State<'a> {
         }
     }
 
-    // Makes a call of a router that touches no pipe.
-    fn ask(&mut self, event: &Event, number: Asn, call: &Call) -> Result<Stepped, StepFault>
-        requires whole { IsWhole (view_of self.old) }
-        ensures asks { Asks result (view_of self.old) number event.now (call_of call.now) (view_of self.new) }
-        ensures whole { IsWhole (view_of self.new) }
-        ensures same { IsSameNet (view_of self.old) (view_of self.new) }
-    {
-        let at = self.place(number)?;
-        self.ask_at(at, event, number, call)
-    }
-
-    /// Makes a call, which touches no pipe, of the router at a place.
-    pub fn ask_at(
+    // Makes a call, which touches no pipe, of the router at a place.
+    fn ask_at(
         &mut self,
         at: usize,
         event: &Event,
@@ -95,19 +84,8 @@ impl<'a> State<'a> {
         self.link(peer, number)
     }
 
-    // Lets a router handle the message of a peer.
-    fn handle(&mut self, number: Asn, peer: Asn) -> Result<Stepped, StepFault>
-        requires whole { IsWhole (view_of self.old) }
-        ensures answers { Answers result (view_of self.old) (Handle number peer) (view_of self.new) }
-        ensures whole { IsWhole (view_of self.new) }
-        ensures same { IsSameNet (view_of self.old) (view_of self.new) }
-    {
-        let (at, pipe) = self.link(number, peer)?;
-        self.handle_at(at, pipe, number, peer)
-    }
-
-    /// Lets a router handle the message of a peer. The router and the pipe from the peer stand at these places.
-    pub fn handle_at(
+    // Lets a router handle the message of a peer. The router and the pipe from the peer stand at these places.
+    fn handle_at(
         &mut self,
         at: usize,
         pipe: usize,
@@ -120,49 +98,45 @@ impl<'a> State<'a> {
         ensures whole { IsWhole (view_of self.new) }
         ensures same { IsSameNet (view_of self.old) (view_of self.new) }
     {
+        answers_are_steps();
         let event = Event::Handle(number, peer);
-        self.ask_at(at, &event, number, &Call::Handle(peer))
+        enter_handle(&mut self.routers[at], &mut self.run, &event, pipe, peer)
     }
 
-    // Lets a router put its next item into the pipe to a peer.
-    fn put(&mut self, number: Asn, peer: Asn) -> Result<Stepped, StepFault>
+    // Lets a router put its next item into the pipe to a peer. The router and the pipe from the peer stand at these
+    // places. If nothing is next, the pipe to the peer is not looked for.
+    fn put_at(
+        &mut self,
+        at: usize,
+        pipe: usize,
+        number: Asn,
+        peer: Asn,
+    ) -> Result<Stepped, StepFault>
         requires whole { IsWhole (view_of self.old) }
-        ensures answers { Answers result (view_of self.old) (Put number peer) (view_of self.new) }
-        ensures whole { IsWhole (view_of self.new) }
-        ensures same { IsSameNet (view_of self.old) (view_of self.new) }
-    {
-        let from = self.place(number)?;
-        self.put_from(from, number, peer)
-    }
-
-    /// Lets the router at a place put its next item into the pipe to a peer.
-    pub fn put_from(&mut self, from: usize, number: Asn, peer: Asn) -> Result<Stepped, StepFault>
-        requires whole { IsWhole (view_of self.old) }
-        requires stands { StandsAt (view_of self.old) number from }
+        requires link { LinkAt (view_of self.old) number peer at pipe }
         ensures answers { Answers result (view_of self.old) (Put number peer) (view_of self.new) }
         ensures whole { IsWhole (view_of self.new) }
         ensures same { IsSameNet (view_of self.old) (view_of self.new) }
     {
         answers_are_steps();
-        let (to, pipe) = self.link_to(number, peer)?;
-        let items = &mut self.inboxes[to].pipes[pipe].items;
+        if self.puts_nothing_at(at, pipe, number, peer) {
+            return Ok(Stepped::Nothing);
+        }
+        let (to, into) = self.link_to(number, peer)?;
+        let items = &mut self.inboxes[to].pipes[into].items;
         let event = Event::Put(number, peer);
-        enter_put(&mut self.routers[from], &mut self.run, items, &event, peer)
+        enter_put(
+            &mut self.routers[at],
+            &mut self.run,
+            items,
+            &event,
+            pipe,
+            peer,
+        )
     }
 
-    // Lets a router take the next item of the pipe from a peer.
-    fn take(&mut self, number: Asn, peer: Asn) -> Result<Stepped, StepFault>
-        requires whole { IsWhole (view_of self.old) }
-        ensures answers { Answers result (view_of self.old) (Take number peer) (view_of self.new) }
-        ensures whole { IsWhole (view_of self.new) }
-        ensures same { IsSameNet (view_of self.old) (view_of self.new) }
-    {
-        let (at, pipe) = self.link(number, peer)?;
-        self.take_at(at, pipe, number, peer)
-    }
-
-    /// Lets a router take the next item of the pipe from a peer. The router and the pipe stand at these places.
-    pub fn take_at(
+    // Lets a router take the next item of the pipe from a peer. The router and the pipe stand at these places.
+    fn take_at(
         &mut self,
         at: usize,
         pipe: usize,
@@ -178,22 +152,18 @@ impl<'a> State<'a> {
         answers_are_steps();
         let items = &mut self.inboxes[at].pipes[pipe].items;
         let event = Event::Take(number, peer);
-        enter_take(&mut self.routers[at], &mut self.run, items, &event, peer)
+        enter_take(
+            &mut self.routers[at],
+            &mut self.run,
+            items,
+            &event,
+            pipe,
+            peer,
+        )
     }
 
-    // Lets a router make the offer that waits in front.
-    fn offer(&mut self, number: Asn) -> Result<Stepped, StepFault>
-        requires whole { IsWhole (view_of self.old) }
-        ensures answers { Answers result (view_of self.old) (Offer number) (view_of self.new) }
-        ensures whole { IsWhole (view_of self.new) }
-        ensures same { IsSameNet (view_of self.old) (view_of self.new) }
-    {
-        let at = self.place(number)?;
-        self.offer_at(at, number)
-    }
-
-    /// Lets the router at a place make the offer that waits in front.
-    pub fn offer_at(&mut self, at: usize, number: Asn) -> Result<Stepped, StepFault>
+    // Lets the router at a place make the offer that waits in front.
+    fn offer_at(&mut self, at: usize, number: Asn) -> Result<Stepped, StepFault>
         requires whole { IsWhole (view_of self.old) }
         requires stands { StandsAt (view_of self.old) number at }
         ensures answers { Answers result (view_of self.old) (Offer number) (view_of self.new) }
@@ -227,27 +197,18 @@ impl<'a> State<'a> {
         ensures { result ≡ true → IsQuiet (view_of self.now) number peer }
     {
         match self.inboxes[at].pipes[pipe].items.front() {
-            None => self.routers[at].is_quiet(peer),
+            None => self.routers[at].is_quiet_at(pipe, peer),
             Some(_) => false,
         }
     }
 
-    /// Whether a router has nothing to put towards a peer. The router and the pipe from the peer stand at these places.
-    pub fn puts_nothing_at(&self, at: usize, pipe: usize, number: Asn, peer: Asn) -> bool
+    // Whether a router has nothing to put towards a peer. The router and the pipe from the peer stand at these places.
+    fn puts_nothing_at(&self, at: usize, pipe: usize, number: Asn, peer: Asn) -> bool
         requires whole { IsWhole (view_of self.now) }
         requires link { LinkAt (view_of self.now) number peer at pipe }
         ensures { result ≡ true → Answers (Ok Nothing) (view_of self.now) (Put number peer) (view_of self.now) }
     {
-        self.routers[at].puts_nothing(peer)
-    }
-
-    /// Whether a router has nothing of a peer to handle. The router and the pipe from the peer stand at these places.
-    pub fn handles_nothing_at(&self, at: usize, pipe: usize, number: Asn, peer: Asn) -> bool
-        requires whole { IsWhole (view_of self.now) }
-        requires link { LinkAt (view_of self.now) number peer at pipe }
-        ensures { result ≡ true → Answers (Ok Nothing) (view_of self.now) (Handle number peer) (view_of self.now) }
-    {
-        self.routers[at].may_take(peer)
+        self.routers[at].puts_nothing_at(pipe, peer)
     }
 
     /// Whether it is seen without a look at a path that the router at a place has nothing to decide, nobody to tell and
@@ -272,6 +233,40 @@ impl<'a> State<'a> {
         self.inboxes[at].pipes[pipe].items.front()
     }
 
+    /// The place of the router that does an event, and that of the pipe from the peer, if the event names one.
+    pub fn places(&self, event: &Event) -> Result<(usize, usize), StepFault>
+        requires { IsWhole (view_of self.now) }
+        ensures { FindsPlaces result (view_of self.now) event.now }
+    {
+        match event.peer() {
+            Some(peer) => self.link(event.router(), peer),
+            None => Ok((self.place(event.router())?, 0)),
+        }
+    }
+
+    /// Does one event. The router, and the pipe from the peer that it names, stand at these places.
+    pub fn step_at(&mut self, at: usize, pipe: usize, event: &Event) -> Result<Stepped, StepFault>
+        requires whole { IsWhole (view_of self.old) }
+        requires placed { IsPlaced (view_of self.old).net event.now at pipe }
+        ensures answers { Answers result (view_of self.old) event.now (view_of self.new) }
+        ensures whole { IsWhole (view_of self.new) }
+        ensures same { IsSameNet (view_of self.old) (view_of self.new) }
+    {
+        linked_routers_are_peers();
+        match *event {
+            Event::Command(number, command) => {
+                self.ask_at(at, event, number, &Call::Obey(command))
+            }
+            Event::Tick(number) => self.ask_at(at, event, number, &Call::Tick),
+            Event::Put(number, peer) => self.put_at(at, pipe, number, peer),
+            Event::Take(number, peer) => self.take_at(at, pipe, number, peer),
+            Event::Handle(number, peer) => self.handle_at(at, pipe, number, peer),
+            Event::Decide(number) => self.ask_at(at, event, number, &Call::Decide),
+            Event::Advertise(number) => self.ask_at(at, event, number, &Call::Advertise),
+            Event::Offer(number) => self.offer_at(at, number),
+        }
+    }
+
     /// Does one event.
     pub fn step(&mut self, event: &Event) -> Result<Stepped, StepFault>
         requires whole { IsWhole (view_of self.old) }
@@ -279,16 +274,8 @@ impl<'a> State<'a> {
         ensures whole { IsWhole (view_of self.new) }
         ensures same { IsSameNet (view_of self.old) (view_of self.new) }
     {
-        match *event {
-            Event::Command(number, command) => self.ask(event, number, &Call::Obey(command)),
-            Event::Tick(number) => self.ask(event, number, &Call::Tick),
-            Event::Put(number, peer) => self.put(number, peer),
-            Event::Take(number, peer) => self.take(number, peer),
-            Event::Handle(number, peer) => self.handle(number, peer),
-            Event::Decide(number) => self.ask(event, number, &Call::Decide),
-            Event::Advertise(number) => self.ask(event, number, &Call::Advertise),
-            Event::Offer(number) => self.offer(number),
-        }
+        let (at, pipe) = self.places(event)?;
+        self.step_at(at, pipe, event)
     }
 
     /// The router with this number, if the network has one.

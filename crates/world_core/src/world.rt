@@ -1,12 +1,9 @@
 //! A world: a network of routers that does what a schedule names.
 
-ghost use Rattle.std.specs.Prelude.{◌≡◌, ◌<◌, true, length, map, slice_get, Some, IfOk, IfErr, MatchOption};
-ghost use Rattle.ranked_policy.specs.Plans.{numbers};
-ghost use Rattle.router_model.specs.Settings as settings;
+ghost use Rattle.std.specs.Prelude.{◌≡◌, map, Some, IfOk, IfErr, MatchOption};
 ghost use Rattle.world_core.specs.declared.schedule.StepFault.TheVariants.{Memory};
 ghost use Rattle.snap_collector.specs.Collecting.{member_of};
 ghost use Rattle.snap_collector.specs.Collector.{AreMembers};
-ghost use Rattle.world_core.specs.Steps.{IsQuiet, IsIdle};
 ghost use Rattle.world_core.specs.Verdicts.{members_of, JudgesItsRuns, SettledCanBeBelieved};
 ghost use Rattle.world_core.specs.Views.{Opens, Answers, ComesOut, KeepsPromises, IsNoRouter, IsRouterOf, comes_next, NothingComes};
 
@@ -21,7 +18,6 @@ use outbox::Item;
 use ranked_policy::{Asn, Network};
 use router_core::Router;
 use router_model::Stepped;
-use router_model::laws::linked_routers_are_peers;
 use router_runs::snapshots_of_runs;
 use snap_collector::Collector;
 use std::alloc::Global;
@@ -88,43 +84,6 @@ impl<'a> World<'a> {
             (λ item. comes_next self.now number peer ≡ Some item.now) }
     {
         self.state.next_to_take(number, peer)
-    }
-
-    /// How many peers a router has. The router stands at that place of the network.
-    pub fn count_peers(&self, at: usize, number: Asn) -> usize
-        requires { slice_get (numbers self.now.net.routers) at ≡ Some number }
-        ensures { result ≡ length (settings.peers self.now.net number) }
-    {
-        self.state.pipes_at(at, number).len()
-    }
-
-    /// The peer at a place among those of a router, rising. The router stands at the place `at` of the network.
-    pub fn peer_at(&self, at: usize, number: Asn, place: usize) -> Asn
-        requires router { slice_get (numbers self.now.net.routers) at ≡ Some number }
-        requires within { place < length (settings.peers self.now.net number) }
-        ensures { slice_get (settings.peers self.now.net number) place ≡ Some result }
-    {
-        self.state.pipes_at(at, number)[place].peer
-    }
-
-    /// Whether nothing has to be put, taken or handled between a router and a peer. The router stands at the place `at`
-    /// of the network, and the peer at the place `place` among its peers.
-    pub fn is_quiet_at(&self, at: usize, place: usize, number: Asn, peer: Asn) -> bool
-        requires router { slice_get (numbers self.now.net.routers) at ≡ Some number }
-        requires peer { slice_get (settings.peers self.now.net number) place ≡ Some peer }
-        ensures { result ≡ true → IsQuiet self.now number peer }
-    {
-        linked_routers_are_peers();
-        self.state.is_quiet_at(at, place, number, peer)
-    }
-
-    /// Whether it is seen without a look at a path that a router has nothing to decide, nobody to tell and nothing to
-    /// offer. The router stands at that place of the network.
-    pub fn is_idle_at(&self, at: usize, number: Asn) -> bool
-        requires { slice_get (numbers self.now.net.routers) at ≡ Some number }
-        ensures { result ≡ true → IsIdle self.now number }
-    {
-        self.state.is_idle_at(at, number)
     }
 
     /// The network.

@@ -10,6 +10,7 @@ mod scripts;
 mod sleepers;
 mod threads;
 mod through;
+mod watching;
 
 fn push_two_routers(net: &mut NetBuilder, prefix: Prefix) -> Result<(), NetError> {
     net.push_router(1, 0x0a00_0001)?;

@@ -58,7 +58,7 @@ fn count(world: &World<'_>) -> usize {
     world.run().len()
 }
 
-fn ten_one() -> Result<Prefix, &'static str> {
+pub(super) fn ten_one() -> Result<Prefix, &'static str> {
     Prefix::new(0x0a01_0000, 16).ok_or("a prefix")
 }
 
@@ -118,7 +118,7 @@ fn does(world: &mut World<'_>, event: Event) -> bool {
 }
 
 // Both start and router 1 originates, each by its order.
-fn starts(world: &mut World<'_>, prefix: Prefix) -> bool {
+pub(super) fn starts(world: &mut World<'_>, prefix: Prefix) -> bool {
     does(world, Event::Command(1, Command::Start(2)))
         && does(world, Event::Command(2, Command::Start(1)))
         && does(world, Event::Command(1, Command::Originate(prefix)))

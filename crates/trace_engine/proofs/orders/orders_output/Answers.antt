@@ -4,7 +4,8 @@ use Rattle.net_text.specs.Lexing.{lines_of}
 use Rattle.net_text.specs.Printing.{line}
 use Rattle.text_engines.specs.Decoding.{output}
 use Rattle.text_engines.proofs.CheckLemmas.{if_ok}
-use Rattle.trace_engine.specs.Tracing.{OrdersTrace, network_text}
+use Rattle.trace_engine.specs.Tracing.{OrdersTrace}
+use Rattle.net_text.specs.Layout.{network_text}
 use Rattle.trace_engine.proofs.orders.orders_output.Goals as goal
 
 pub returns-in-Ok : goal.returns-in-Ok

@@ -7,5 +7,5 @@ abbrev pub invariant-loop-scheduled : goal.invariant-loop-scheduled
 invariant-loop-scheduled l =
     record {
       same : l.world.net ≡ l.fn.world.net;
-      done : AreTraced l.fn.world (take l.scheduled-index l.orders) l.fn.out.items l.world l.out.items;
+      done : AreTraced l.fn.world (take l.scheduled-index l.orders) l.fn.tracer.out.items l.world l.tracer.out.items;
     }

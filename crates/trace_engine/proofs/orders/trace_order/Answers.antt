@@ -7,11 +7,11 @@ pub returns-in_err-rest-clause-traces : goal.returns-in_err-rest-clause-traces
 returns-in_err-rest-clause-traces c =
     let p = err_from_is_err_and c.from_residual-in_err-rest.result c.from_residual-in_err-rest.ensures.1 in
     rw (p.1, p.2)
-    (order_halts c.args.world.now c.trace_work.new.world c.args.scheduled.now c.args.out.now.items c.put_head.new.out.items c.trace_work.new.out.items c.in_err-rest.field-0.0 c.in_ok-put_head.ensures c.in_err-rest.ensures.traces)
+    (order_halts c.args.world.now c.obey_watched.new.self c.args.scheduled.now c.args.tracer.now.out.items c.put_head.new.out.items c.obey_watched.new.watcher.out.items c.in_err-rest.field-0.0 c.in_ok-put_head.ensures c.in_err-rest.ensures.watches)
 
 pub returns-clause-traces : goal.returns-clause-traces
 returns-clause-traces c =
-    let counted : c.saturating_sub-count.result ≡ length c.trace_work.new.world.run - length c.args.world.now.run =
+    let counted : c.saturating_sub-count.result ≡ length c.obey_watched.new.self.run - length c.args.world.now.run =
     omega (arith, c.saturating_sub-count.ensures, ap length c.run.ensures, ap length c.run-before.ensures) in
-    order_done c.args.world.now c.trace_work.new.world c.args.scheduled.now c.args.out.now.items c.put_head.new.out.items c.trace_work.new.out.items c.put_tail.new.out.items c.in_ok-rest.rest c.saturating_sub-count.result
-    c.in_ok-put_head.ensures c.in_ok-rest.ensures.traces c.in_ok-put_tail.ensures counted
+    order_done c.args.world.now c.obey_watched.new.self c.args.scheduled.now c.args.tracer.now.out.items c.put_head.new.out.items c.obey_watched.new.watcher.out.items c.put_tail.new.out.items c.in_ok-rest.rest c.saturating_sub-count.result
+    c.in_ok-put_head.ensures c.in_ok-rest.ensures.watches c.in_ok-put_tail.ensures counted

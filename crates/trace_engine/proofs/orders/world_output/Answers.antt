@@ -10,7 +10,7 @@ returns-in-Ok c =
     if_ok _ _ c.end_output.result
     (λ printed is.
     subst (λ (o : Output). OrdersTrace c.args.network.now c.args.out.items c.args.orders.now o) (sym is)
-    (all_traced c.args.network.now c.args.world c.trace_all.new.world c.args.out.items c.args.orders.now c.trace_all.new.out.items c.requires c.in-Ok.ensures.traces))
+    (all_traced c.args.network.now c.args.world c.trace_all.new.world c.args.out.items c.args.orders.now c.trace_all.new.tracer.out.items c.requires c.in-Ok.ensures.traces))
     c.end_output.ensures
 
 pub returns : goal.returns
@@ -18,5 +18,5 @@ returns c =
     both_ok _ _ _ c.stop_output.result
     (λ printed kind is.
     subst (λ (o : Output). OrdersTrace c.args.network.now c.args.out.items c.args.orders.now o) (sym is)
-    (all_stopped c.args.network.now c.args.world c.trace_all.new.world c.args.out.items c.args.orders.now c.in-Err.stop c.trace_all.new.out.items kind c.requires c.in-Err.ensures.traces))
+    (all_stopped c.args.network.now c.args.world c.trace_all.new.world c.args.out.items c.args.orders.now c.in-Err.stop c.trace_all.new.tracer.out.items kind c.requires c.in-Err.ensures.traces))
     c.stop_output.ensures.kind c.stop_output.ensures.output

@@ -1,12 +1,12 @@
--- the pipes that were made, and those from the routers that are left, are all
-use Rattle.std.proofs.Common.{◌≡◌, ◌++◌, map, filter, drop, []}
+-- the pipes that were made, and those of the links that are left, are all
+use Rattle.std.proofs.Common.{◌≡◌, ◌++◌, map, drop, []}
 use Rattle.std.specs.List.{AllByRecursion}
-use Rattle.router_model.specs.Settings.{linked, peers}
+use Rattle.router_model.specs.Settings.{peers}
 use Rattle.world_core.proofs.opening.new_pipes.Given as goal
 
-abbrev pub invariant-loop-router : goal.invariant-loop-router
-invariant-loop-router l =
+abbrev pub invariant-loop-link : goal.invariant-loop-link
+invariant-loop-link l =
     record {
-      peers : map (λ p. p.peer) l.made.items ++ filter (linked l.fn.network l.fn.number) (map (λ r. r.asn) (drop l.router-index l.router-items)) ≡ peers l.fn.network l.fn.number;
+      peers : map (λ p. p.peer) l.made.items ++ map (λ k. k.other) (drop l.link-index l.link-items) ≡ peers l.fn.network l.fn.number;
       empty : AllByRecursion (λ p. p.items.items ≡ []) l.made.items;
     }

@@ -4,6 +4,7 @@ use Rattle.world_core.specs.Views.{IsAt}
 use Rattle.world_core.specs.Steps.{view_of}
 use Rattle.world_core.proofs.Places.{is_below}
 use Rattle.world_core.proofs.Quiet.{quiet, empty_is}
+use Rattle.world_core.proofs.Staying.{peer_placed}
 use Rattle.world_core.proofs.state.State.is_quiet_at.Goals as goal
 
 pub index-requires : goal.index-requires
@@ -25,4 +26,9 @@ index-requires-in-None c =
 pub returns-in-None : goal.returns-in-None
 returns-in-None c = λ yes.
     quiet (view_of c.args.self.now) c.args.number c.args.peer c.args.at c.args.pipe c.index-in-None.result.now c.index.result.now c.index-2.result.now c.requires.whole c.requires.link
-    c.index-in-None.ensures c.index.ensures c.index-2.ensures (empty_is c.index-2.result.now.items.items c.in-None.ensures.item.3) (λ cut. sym (c.is_quiet.ensures cut) ∙ yes)
+    c.index-in-None.ensures c.index.ensures c.index-2.ensures (empty_is c.index-2.result.now.items.items c.in-None.ensures.item.3) (λ cut. sym (c.is_quiet_at.ensures cut) ∙ yes)
+
+pub is_quiet_at-requires : goal.is_quiet_at-requires
+is_quiet_at-requires c = record {
+  stands = peer_placed (view_of c.args.self.now) c.args.number c.args.peer c.args.at c.args.pipe c.index-in-None.result.now c.requires.whole c.requires.link c.index-in-None.ensures;
+}

@@ -5,6 +5,7 @@ use Rattle.world_core.specs.declared.inbox.Pipe.{Pipe}
 use Rattle.world_core.specs.Views.{IsAt}
 use Rattle.world_core.specs.Steps.{view_of}
 use Rattle.world_core.proofs.Places.{is_below}
+use Rattle.world_core.proofs.Staying.{peer_placed}
 use Rattle.world_core.proofs.Stepping.{stands}
 use Rattle.world_core.proofs.Moving.{PipeAt, take_steps, whole_pipe}
 use Rattle.world_core.proofs.state.State.take_at.Goals as goal
@@ -46,3 +47,6 @@ returns-clause-whole c =
     let pipe : PipeAt x c.args.number c.args.peer c.args.at c.args.pipe old new p q = record { link = c.requires.link; was = c.index_mut.ensures.value; held = c.index_mut-2.ensures.value; router = refl; pipes = refl; peer = refl } in
     let s = stands x c.args.number c.args.at c.index_mut-3.result.now c.requires.whole c.requires.link.here c.index_mut-3.ensures.value in
     whole_pipe x c.args.number c.args.peer c.args.number c.args.at c.args.at c.args.pipe c.enter_take.new.router old new p q c.enter_take.new.run.items c.requires.whole c.requires.link.here pipe (c.enter_take.ensures.same.number ∙ s.0) (c.enter_take.ensures.same.net ∙ s.1)
+
+pub enter_take-requires : goal.enter_take-requires
+enter_take-requires c = peer_placed (view_of c.args.self.now) c.args.number c.args.peer c.args.at c.args.pipe c.index_mut-3.result.now c.requires.whole c.requires.link c.index_mut-3.ensures.value

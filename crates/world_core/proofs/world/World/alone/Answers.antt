@@ -1,58 +1,51 @@
-use Rattle.std.proofs.Common.{◌∷◌, [], sym, subst}
-use Rattle.std.specs.Prelude.{Ok, Err}
+use Rattle.std.proofs.Common.{◌∷◌, [], ◌≡◌, sym, subst, ◌∙◌, Err}
+use Rattle.std.specs.Prelude.{slice_get, Some}
 use Rattle.std.proofs.lemmas.Result.{err_from_is_err_and}
+use Rattle.ranked_policy.specs.Plans.{Plan, numbers}
 use Rattle.world_core.specs.declared.schedule.Event.TheVariants as schedule
-use Rattle.world_core.specs.Steps.{StandsAt, IsIdle}
-use Rattle.world_core.specs.Views.{WorldView}
-use Rattle.world_core.proofs.Orders.{obeys_one, obeys_none, obeys_before, obeys_behind, idle_obeys}
+use Rattle.world_core.proofs.Watched.{idle_over, watched_before, watched_behind}
 use Rattle.world_core.proofs.world.World.alone.Goals as goal
 
-pub returns-in_err-decide_at-clause-obeys : goal.returns-in_err-decide_at-clause-obeys
-returns-in_err-decide_at-clause-obeys c =
+pub returns-then-is_idle_at-clause-watches : goal.returns-then-is_idle_at-clause-watches
+returns-then-is_idle_at-clause-watches g c = idle_over g.W.Watch.says g.W.Watch.may_want c.args.self.now c.args.number (g.W.Watch.said c.args.watcher.now) (c.is_idle_at.ensures c.if-is_idle_at.true)
+
+pub returns-in_err-watched-clause-watches : goal.returns-in_err-watched-clause-watches
+returns-in_err-watched-clause-watches g c =
     let p = err_from_is_err_and c.from_residual.result c.from_residual.ensures.1 in
-    let x = c.args.self.now in
     let u = c.args.number in
-    let why = c.in_err-decide_at.field-0.0 in
     rw (p.1, p.2)
-    (obeys_before x c.decide_at.new.self (schedule.Decide u ∷ []) (schedule.Advertise u ∷ schedule.Offer u ∷ []) why (obeys_none x c.decide_at.new.self (schedule.Decide u) why c.in_err-decide_at.ensures.answers))
+    (watched_before g.W.Watch.says g.W.Watch.may_want c.args.self.now c.watched.new.self (schedule.Decide u ∷ []) (schedule.Advertise u ∷ schedule.Offer u ∷ []) c.in_err-watched.field-0.0 (g.W.Watch.said c.args.watcher.now)
+    (g.W.Watch.said c.watched.new.watcher) c.in_err-watched.ensures.watches)
 
-pub returns-in_err-advertise_at-clause-obeys : goal.returns-in_err-advertise_at-clause-obeys
-returns-in_err-advertise_at-clause-obeys c =
-    let p = err_from_is_err_and c.from_residual-in_err-advertise_at.result c.from_residual-in_err-advertise_at.ensures.1 in
-    let x = c.args.self.now in
-    let y = c.decide_at.new.self in
-    let z = c.advertise_at.new.self in
+pub returns-in_err-watched-2-clause-watches : goal.returns-in_err-watched-2-clause-watches
+returns-in_err-watched-2-clause-watches g c =
+    let p = err_from_is_err_and c.from_residual-in_err-watched-2.result c.from_residual-in_err-watched-2.ensures.1 in
     let u = c.args.number in
-    let why = c.in_err-advertise_at.field-0.0 in
+    let why = c.in_err-watched-2.field-0.0 in
+    let says = g.W.Watch.says in
+    let may = g.W.Watch.may_want in
+    let one = g.W.Watch.said c.watched.new.watcher in
+    let two = g.W.Watch.said c.watched-2.new.watcher in
     rw (p.1, p.2)
-    (obeys_behind x y z (schedule.Decide u ∷ []) (schedule.Advertise u ∷ schedule.Offer u ∷ []) (Err why) c.in_ok-decide_at.ensures.same (obeys_one x y (schedule.Decide u) c.in_ok-decide_at.field-0 c.in_ok-decide_at.ensures.answers)
-    (obeys_before y z (schedule.Advertise u ∷ []) (schedule.Offer u ∷ []) why (obeys_none y z (schedule.Advertise u) why c.in_err-advertise_at.ensures.answers)))
+    (watched_behind says may c.args.self.now c.watched.new.self c.watched-2.new.self (schedule.Decide u ∷ []) (schedule.Advertise u ∷ schedule.Offer u ∷ []) (Err why) (g.W.Watch.said c.args.watcher.now) one two c.watched.ensures.same
+    c.in_ok-watched.ensures.watches (watched_before says may c.watched.new.self c.watched-2.new.self (schedule.Advertise u ∷ []) (schedule.Offer u ∷ []) why one two c.in_err-watched-2.ensures.watches))
 
-pub returns-in_err-offer_at-clause-obeys : goal.returns-in_err-offer_at-clause-obeys
-returns-in_err-offer_at-clause-obeys c =
-    let p = err_from_is_err_and c.from_residual-in_err-offer_at.result c.from_residual-in_err-offer_at.ensures.1 in
-    let x = c.args.self.now in
-    let y = c.decide_at.new.self in
-    let z = c.advertise_at.new.self in
+pub returns-clause-watches : goal.returns-clause-watches
+returns-clause-watches g c =
     let u = c.args.number in
-    let why = c.in_err-offer_at.field-0.0 in
-    rw (p.1, p.2)
-    (obeys_behind x y c.offer_at.new.self (schedule.Decide u ∷ []) (schedule.Advertise u ∷ schedule.Offer u ∷ []) (Err why) c.in_ok-decide_at.ensures.same (obeys_one x y (schedule.Decide u) c.in_ok-decide_at.field-0 c.in_ok-decide_at.ensures.answers)
-    (obeys_behind y z c.offer_at.new.self (schedule.Advertise u ∷ []) (schedule.Offer u ∷ []) (Err why) c.in_ok-advertise_at.ensures.same (obeys_one y z (schedule.Advertise u) c.in_ok-advertise_at.field-0 c.in_ok-advertise_at.ensures.answers)
-    (obeys_none z c.offer_at.new.self (schedule.Offer u) why c.in_err-offer_at.ensures.answers)))
+    let says = g.W.Watch.says in
+    let may = g.W.Watch.may_want in
+    let x = c.watched.new.self in
+    let y = c.watched-2.new.self in
+    let z = c.watched-3.new.self in
+    let one = g.W.Watch.said c.watched.new.watcher in
+    let two = g.W.Watch.said c.watched-2.new.watcher in
+    let three = g.W.Watch.said c.watched-3.new.watcher in
+    watched_behind says may c.args.self.now x z (schedule.Decide u ∷ []) (schedule.Advertise u ∷ schedule.Offer u ∷ []) c.watched-3.result (g.W.Watch.said c.args.watcher.now) one three c.watched.ensures.same c.in_ok-watched.ensures.watches
+    (watched_behind says may x y z (schedule.Advertise u ∷ []) (schedule.Offer u ∷ []) c.watched-3.result one two three c.watched-2.ensures.same c.in_ok-watched-2.ensures.watches c.watched-3.ensures.watches)
 
-pub returns-clause-obeys : goal.returns-clause-obeys
-returns-clause-obeys c =
-    let x = c.args.self.now in
-    let y = c.decide_at.new.self in
-    let z = c.advertise_at.new.self in
-    let u = c.args.number in
-    obeys_behind x y c.offer_at.new.self (schedule.Decide u ∷ []) (schedule.Advertise u ∷ schedule.Offer u ∷ []) (Ok tt) c.in_ok-decide_at.ensures.same (obeys_one x y (schedule.Decide u) c.in_ok-decide_at.field-0 c.in_ok-decide_at.ensures.answers)
-    (obeys_behind y z c.offer_at.new.self (schedule.Advertise u ∷ []) (schedule.Offer u ∷ []) (Ok tt) c.in_ok-advertise_at.ensures.same (obeys_one y z (schedule.Advertise u) c.in_ok-advertise_at.field-0 c.in_ok-advertise_at.ensures.answers)
-    (obeys_one z c.offer_at.new.self (schedule.Offer u) c.in_ok-offer_at.field-0 c.in_ok-offer_at.ensures.answers))
+pub watched-requires-2 : goal.watched-requires-2
+watched-requires-2 g c = subst (λ (n : Plan). slice_get (numbers n.routers) c.args.at ≡ Some c.args.number) (sym c.watched.ensures.same) c.requires
 
-pub is_idle_at-requires-clause-stands : goal.is_idle_at-requires-clause-stands
-is_idle_at-requires-clause-stands c = subst (λ (x : WorldView). StandsAt x c.args.number c.args.at) (sym c.self.view_is) c.requires
-
-pub returns-then-is_idle_at-clause-obeys : goal.returns-then-is_idle_at-clause-obeys
-returns-then-is_idle_at-clause-obeys c = idle_obeys c.args.self.now c.args.number (subst (λ (x : WorldView). IsIdle x c.args.number) c.self.view_is (c.is_idle_at.ensures c.if-is_idle_at.true))
+pub watched-requires-3 : goal.watched-requires-3
+watched-requires-3 g c = subst (λ (n : Plan). slice_get (numbers n.routers) c.args.at ≡ Some c.args.number) (sym (c.watched-2.ensures.same ∙ c.watched.ensures.same)) c.requires

@@ -1,9 +1,13 @@
-use Rattle.std.proofs.Common.{subst}
-use Rattle.world_core.specs.Views.{WorldView, KeepsPromises}
-use Rattle.world_core.specs.Steps.{view_of}
-use Rattle.world_core.proofs.Worlds.{promises}
+use Rattle.std.proofs.Common.{◌≡◌, ℕ, List, [], false, refl}
+use Rattle.std.proofs.lemmas.Result.{err_from_is_err_and}
+use Rattle.world_core.specs.declared.schedule.Event.{Event}
+use Rattle.world_core.proofs.WatchedRounds.{obeyed_order, stopped_order}
 use Rattle.world_core.proofs.world.World.obey.Goals as goal
 
-pub returns-clause-promises : goal.returns-clause-promises
-returns-clause-promises c =
-    subst (λ (x : WorldView). KeepsPromises x) c.self.view_is (promises c.played_worlds_keep_their_promises.ensures (view_of c.self.inside.state) c.self.invariant.1)
+pub returns-in_err-obey_watched-clause-obeys : goal.returns-in_err-obey_watched-clause-obeys
+returns-in_err-obey_watched-clause-obeys c =
+    let p = err_from_is_err_and c.from_residual.result c.from_residual.ensures.1 in
+    rw (p.1, p.2) (stopped_order (λ (e : Event) (t : List ℕ). t ≡ []) (λ (n k : ℕ). []) false c.args.self.now c.obey_watched.new.self c.args.order.now [] [] c.in_err-obey_watched.field-0.0 refl c.in_err-obey_watched.ensures.watches)
+
+pub returns-clause-obeys : goal.returns-clause-obeys
+returns-clause-obeys c = obeyed_order (λ (e : Event) (t : List ℕ). t ≡ []) (λ (n k : ℕ). []) false c.args.self.now c.obey_watched.new.self c.args.order.now [] [] c.in_ok-obey_watched.field-0 c.in_ok-obey_watched.ensures.watches

@@ -1,16 +1,15 @@
--- the turns of the routers before this one were obeyed
-use Rattle.std.proofs.Common.{◌≡◌, take}
-use Rattle.std.specs.Prelude.{Ok}
+-- the turns of the routers before this one are done and written
+use Rattle.std.proofs.Common.{◌≡◌, take, Ok}
 use Rattle.std.specs.List.{flat_map}
 use Rattle.world_core.specs.Orders.{turn}
 use Rattle.world_core.specs.Resting.{AreResting}
-use Rattle.world_core.specs.Views.{Obeys}
+use Rattle.world_core.specs.Watching.{WatchesEvents}
 use Rattle.world_core.proofs.world.World.round.Given as goal
 
-abbrev pub invariant-loop-place : goal.invariant-loop-place
-invariant-loop-place l =
+abbrev pub invariant-loop-at : goal.invariant-loop-at
+invariant-loop-at g l =
     record {
       net : l.self.net ≡ l.fn.self.net;
-      done : Obeys (Ok tt) l.fn.self (flat_map (λ r. turn l.fn.self.net r.asn) (take l.place l.router-items)) l.self;
+      done : WatchesEvents g.W.Watch.says g.W.Watch.may_want (Ok tt) l.fn.self (flat_map (λ r. turn l.fn.self.net r.asn) (take l.at l.router-items)) (g.W.Watch.said l.fn.watcher) l.self (g.W.Watch.said l.watcher);
       resting : AreResting l.self l.marks.items;
     }

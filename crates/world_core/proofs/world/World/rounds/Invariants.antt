@@ -1,15 +1,17 @@
--- what is done so often was obeyed
-use Rattle.std.proofs.Common.{◌≡◌}
-use Rattle.std.specs.Prelude.{Ok}
-use Rattle.world_core.specs.Orders.{round, repeated}
+-- so many are done, and each of them did something
+use Rattle.std.proofs.Common.{◌≡◌, ◌-◌, Ok}
+use Rattle.world_core.specs.Orders.{repeated, round}
 use Rattle.world_core.specs.Resting.{AreResting}
 use Rattle.world_core.specs.Views.{Obeys}
+use Rattle.world_core.proofs.WatchedRounds.{RestsAs, SaysAs}
 use Rattle.world_core.proofs.world.World.rounds.Given as goal
 
-abbrev pub invariant-loop : goal.invariant-loop
-invariant-loop l =
+abbrev pub invariant-loop-passed : goal.invariant-loop-passed
+invariant-loop-passed g l =
     record {
-      net : l.self.net ≡ l.fn.self.net;
-      done : Obeys (Ok tt) l.fn.self (repeated l.counter (round l.fn.self.net)) l.self;
+      same : l.self.net ≡ l.fn.self.net;
+      done : Obeys (Ok tt) l.fn.self (repeated l.passed (round l.fn.self.net)) l.self;
+      said : SaysAs g.W.Watch.says g.W.Watch.says_of_round l.fn.self l.times (g.W.Watch.said l.fn.watcher) l.self l.passed (l.times - l.passed) (g.W.Watch.said l.watcher);
+      rest : RestsAs l.fn.self l.times l.self l.passed (l.times - l.passed);
       resting : AreResting l.self l.marks.items;
     }

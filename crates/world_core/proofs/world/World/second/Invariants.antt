@@ -1,14 +1,14 @@
--- the ticks of the routers before this one were obeyed
+-- the ticks of the routers before this one are done
 use Rattle.std.proofs.Common.{◌≡◌, ◌∷◌, [], take}
 use Rattle.std.specs.Prelude.{Ok}
 use Rattle.std.specs.List.{flat_map}
 use Rattle.world_core.specs.declared.schedule.Event.TheVariants as schedule
-use Rattle.world_core.specs.Views.{Obeys}
+use Rattle.world_core.specs.Watching.{WatchesEvents}
 use Rattle.world_core.proofs.world.World.second.Given as goal
 
-abbrev pub invariant-loop-router : goal.invariant-loop-router
-invariant-loop-router l =
+abbrev pub invariant-loop-at : goal.invariant-loop-at
+invariant-loop-at g l =
     record {
       net : l.self.net ≡ l.fn.self.net;
-      done : Obeys (Ok tt) l.fn.self (flat_map (λ r. schedule.Tick r.asn ∷ []) (take l.router-index l.router-items)) l.self;
+      done : WatchesEvents g.W.Watch.says g.W.Watch.may_want (Ok tt) l.fn.self (flat_map (λ r. schedule.Tick r.asn ∷ []) (take l.at l.router-items)) (g.W.Watch.said l.fn.watcher) l.self (g.W.Watch.said l.watcher);
     }

@@ -1,40 +1,26 @@
-use Rattle.std.proofs.Common.{◌∷◌, []}
-use Rattle.std.specs.Prelude.{Ok, Err}
+use Rattle.std.proofs.Common.{◌∷◌, [], sym, subst}
 use Rattle.std.proofs.lemmas.Result.{err_from_is_err_and}
+use Rattle.ranked_policy.specs.Plans.{Plan}
 use Rattle.world_core.specs.declared.schedule.Event.TheVariants as schedule
-use Rattle.world_core.proofs.Orders.{obeys_one, obeys_none, obeys_before, obeys_behind}
+use Rattle.world_core.specs.Steps.{ArePlaced}
+use Rattle.world_core.proofs.Watched.{watched_before, watched_behind}
 use Rattle.world_core.proofs.world.World.take_and_handle.Goals as goal
 
-pub returns-in_err-take_at-clause-obeys : goal.returns-in_err-take_at-clause-obeys
-returns-in_err-take_at-clause-obeys c =
+pub returns-in_err-watched-clause-watches : goal.returns-in_err-watched-clause-watches
+returns-in_err-watched-clause-watches g c =
     let p = err_from_is_err_and c.from_residual.result c.from_residual.ensures.1 in
-    let take = schedule.Take c.args.number c.args.peer in
-    let handle = schedule.Handle c.args.number c.args.peer in
-    let why = c.in_err-take_at.field-0.0 in
-    rw (p.1, p.2) (obeys_before c.args.self.now c.take_at.new.self (take ∷ []) (handle ∷ []) why (obeys_none c.args.self.now c.take_at.new.self take why c.in_err-take_at.ensures.answers))
-
-pub handle_at-requires : goal.handle_at-requires
-handle_at-requires c = c.in_ok-take_at.ensures.link
-
-pub returns-in_err-handle_at-clause-obeys : goal.returns-in_err-handle_at-clause-obeys
-returns-in_err-handle_at-clause-obeys c =
-    let p = err_from_is_err_and c.from_residual-in_err-handle_at.result c.from_residual-in_err-handle_at.ensures.1 in
-    let x = c.args.self.now in
-    let y = c.take_at.new.self in
-    let z = c.handle_at.new.self in
-    let take = schedule.Take c.args.number c.args.peer in
-    let handle = schedule.Handle c.args.number c.args.peer in
-    let why = c.in_err-handle_at.field-0.0 in
+    let u = c.args.number in
+    let v = c.args.peer in
     rw (p.1, p.2)
-    (obeys_behind x y z (take ∷ []) (handle ∷ []) (Err why) c.in_ok-take_at.ensures.same (obeys_one x y take c.in_ok-take_at.field-0 c.in_ok-take_at.ensures.answers)
-    (obeys_none y z handle why c.in_err-handle_at.ensures.answers))
+    (watched_before g.W.Watch.says g.W.Watch.may_want c.args.self.now c.watched.new.self (schedule.Take u v ∷ []) (schedule.Handle u v ∷ []) c.in_err-watched.field-0.0 (g.W.Watch.said c.args.watcher.now)
+    (g.W.Watch.said c.watched.new.watcher) c.in_err-watched.ensures.watches)
 
-pub returns-clause-obeys : goal.returns-clause-obeys
-returns-clause-obeys c =
-    let x = c.args.self.now in
-    let y = c.take_at.new.self in
-    let z = c.handle_at.new.self in
-    let take = schedule.Take c.args.number c.args.peer in
-    let handle = schedule.Handle c.args.number c.args.peer in
-    obeys_behind x y z (take ∷ []) (handle ∷ []) (Ok tt) c.in_ok-take_at.ensures.same (obeys_one x y take c.in_ok-take_at.field-0 c.in_ok-take_at.ensures.answers)
-    (obeys_one y z handle c.in_ok-handle_at.field-0 c.in_ok-handle_at.ensures.answers)
+pub watched-requires-2 : goal.watched-requires-2
+watched-requires-2 g c = subst (λ (n : Plan). ArePlaced n c.args.number c.args.peer c.args.at c.args.place) (sym c.watched.ensures.same) c.requires
+
+pub returns-clause-watches : goal.returns-clause-watches
+returns-clause-watches g c =
+    let u = c.args.number in
+    let v = c.args.peer in
+    watched_behind g.W.Watch.says g.W.Watch.may_want c.args.self.now c.watched.new.self c.watched-2.new.self (schedule.Take u v ∷ []) (schedule.Handle u v ∷ []) c.watched-2.result (g.W.Watch.said c.args.watcher.now)
+    (g.W.Watch.said c.watched.new.watcher) (g.W.Watch.said c.watched-2.new.watcher) c.watched.ensures.same c.in_ok-watched.ensures.watches c.watched-2.ensures.watches

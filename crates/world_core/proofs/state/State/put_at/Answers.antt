@@ -1,0 +1,55 @@
+use Rattle.std.proofs.Common.{◌∙◌, rules, refl, sym, subst}
+use Rattle.std.specs.Vec.{with_item}
+use Rattle.world_core.specs.declared.inbox.Inbox.{Inbox}
+use Rattle.world_core.specs.declared.inbox.Pipe.{Pipe}
+use Rattle.world_core.specs.Views.{IsAt}
+use Rattle.world_core.specs.Steps.{view_of}
+use Rattle.world_core.proofs.Places.{is_below}
+use Rattle.world_core.proofs.Staying.{peer_placed}
+use Rattle.world_core.proofs.Stepping.{stands}
+use Rattle.world_core.proofs.Moving.{PipeAt, put_steps, whole_pipe}
+use Rattle.world_core.proofs.state.State.put_at.Goals as goal
+
+pub returns-then-puts_nothing_at-clause-answers : goal.returns-then-puts_nothing_at-clause-answers
+returns-then-puts_nothing_at-clause-answers c = c.puts_nothing_at.ensures c.if-puts_nothing_at.true
+
+pub index_mut-requires : goal.index_mut-requires
+index_mut-requires c =
+    let inside = is_below (λ b. b.router) c.args.self.now.inboxes.items c.args.peer c.in_ok-to.to c.in_ok-to.ensures.here.inbox in
+    search rules
+
+pub index_mut-requires-2 : goal.index_mut-requires-2
+index_mut-requires-2 c =
+    let at = subst (λ (i : Inbox). IsAt (λ p. p.peer) i.pipes.items c.args.number c.in_ok-to.into) (sym c.index_mut.ensures.value) (c.in_ok-to.ensures.pipe c.index_mut.result.now) in
+    let inside = is_below (λ p. p.peer) c.index_mut.result.now.pipes.items c.args.number c.in_ok-to.into at in
+    search rules
+
+pub index_mut-requires-3 : goal.index_mut-requires-3
+index_mut-requires-3 c =
+    let inside = is_below (λ r. r.number) c.args.self.now.routers.items c.args.number c.args.at c.requires.link.here.router in
+    search rules
+
+pub returns-clause-answers : goal.returns-clause-answers
+returns-clause-answers c =
+    let x = view_of c.args.self.now in
+    let old = c.index_mut.result.now in
+    let p = c.index_mut-2.result.now in
+    let q : Pipe = record { peer = p.peer; items = c.enter_put.new.pipe } in
+    let new : Inbox = record { router = old.router; pipes = with_item old.pipes c.in_ok-to.into q } in
+    let pipe : PipeAt x c.args.peer c.args.number c.in_ok-to.to c.in_ok-to.into old new p q = record { link = c.in_ok-to.ensures; was = c.index_mut.ensures.value; held = c.index_mut-2.ensures.value; router = refl; pipes = refl; peer = refl } in
+    put_steps c.answers_are_steps.ensures x c.args.number c.args.peer c.args.at c.in_ok-to.to c.in_ok-to.into c.index_mut-3.result.now c.enter_put.new.router old new p q c.enter_put.new.run.items c.enter_put.result
+    c.requires.whole c.requires.link.here pipe c.index_mut-3.ensures.value c.enter_put.ensures.enters c.enter_put.ensures.same
+
+pub returns-clause-whole : goal.returns-clause-whole
+returns-clause-whole c =
+    let x = view_of c.args.self.now in
+    let old = c.index_mut.result.now in
+    let p = c.index_mut-2.result.now in
+    let q : Pipe = record { peer = p.peer; items = c.enter_put.new.pipe } in
+    let new : Inbox = record { router = old.router; pipes = with_item old.pipes c.in_ok-to.into q } in
+    let pipe : PipeAt x c.args.peer c.args.number c.in_ok-to.to c.in_ok-to.into old new p q = record { link = c.in_ok-to.ensures; was = c.index_mut.ensures.value; held = c.index_mut-2.ensures.value; router = refl; pipes = refl; peer = refl } in
+    let s = stands x c.args.number c.args.at c.index_mut-3.result.now c.requires.whole c.requires.link.here c.index_mut-3.ensures.value in
+    whole_pipe x c.args.peer c.args.number c.args.number c.args.at c.in_ok-to.to c.in_ok-to.into c.enter_put.new.router old new p q c.enter_put.new.run.items c.requires.whole c.requires.link.here pipe (c.enter_put.ensures.same.number ∙ s.0) (c.enter_put.ensures.same.net ∙ s.1)
+
+pub enter_put-requires : goal.enter_put-requires
+enter_put-requires c = peer_placed (view_of c.args.self.now) c.args.number c.args.peer c.args.at c.args.pipe c.index_mut-3.result.now c.requires.whole c.requires.link c.index_mut-3.ensures.value
