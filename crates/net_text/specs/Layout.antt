@@ -1,6 +1,6 @@
 -- How a text is laid out, said without reading it: lines with their ends, words with the blanks between them.
-use Rattle.std.specs.Prelude.{◌≡◌, ◌≢◌, ◌↔◌, true, false, List, [], ◌∷◌, ◌++◌}
-use Rattle.std.specs.List.{AllByRecursion}
+use Rattle.std.specs.Prelude.{◌≡◌, ◌≢◌, ◌↔◌, ℕ, ◌-◌, ◌==◌, ◌&&◌, nat_lt, Bool, true, false, List, [], ◌∷◌, ◌++◌, length, get_or, if◌then◌else◌}
+use Rattle.std.specs.List.{AllByRecursion, flat_map}
 use Rattle.net_text.specs.Lexing.{Text, is_blank, ends_word, lines_of, without_return, words_of}
 
 -- ---- words
@@ -34,3 +34,16 @@ pub record LinesEndByLineFeeds : Type 0 where
   pub front : (line rest : Text) → IsOneLine line → lines_of (line ++ 10 ∷ rest) ≡ without_return line ∷ lines_of rest
   pub last : (line : Text) → line ≢ [] → IsOneLine line → lines_of line ≡ line ∷ []
   pub none : lines_of [] ≡ []
+
+-- ---- lines that are written again
+
+-- the last octet of a text is a CR
+abbrev pub ends_in_return : Text → Bool
+ends_in_return text = nat_lt 0 (length text) && (get_or text (length text - 1) 0 == 13)
+
+-- a line with its end; a CR at its end stands twice, since the reader takes one away
+abbrev pub whole_line : Text → List ℕ
+whole_line text = text ++ (if ends_in_return text then 13 ∷ 10 ∷ [] else 10 ∷ [])
+
+abbrev pub network_text : List Text → List ℕ
+network_text lines = flat_map whole_line lines

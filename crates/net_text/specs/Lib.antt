@@ -11,3 +11,4 @@ pub mod Assignments
 pub mod Laws
 pub mod Printing
 pub mod Appending
+pub mod Comments

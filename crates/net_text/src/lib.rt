@@ -8,12 +8,13 @@
 //!
 //! [`message_line`] appends the line of a message, [`flight_line`] that of an UPDATE in flight, [`fault_lines`] those
 //! of a fault, [`truncated_line`] that of a rest. [`refused_line`], [`unstable_line`] and [`stable_line`] append the
-//! lines of a check of an assignment. A refused call leaves the buffer's octets as they were.
+//! lines of a check of an assignment. [`put_network`] appends the lines of a text as they were read, [`put_comments`] as
+//! comments. A refused call leaves the buffer's octets as they were.
 //!
-//! The definitions stand in `specs/`: `Lexing` (lines and words), `Words` (what a word stands for
-//! and its fault), `Lines` (what a network line adds and its first fault), `Networks` and
-//! `Assignments` (whole texts), `Printing` (lines of messages, of paths and of checks). The laws that
-//! tie the texts together are the public functions of [`laws`].
+//! The definitions stand in `specs/`: `Lexing` (lines and words), `Layout` (how they are laid out), `Words` (what a word
+//! stands for and its fault), `Lines` (what a network line adds and its first fault), `Networks` and `Assignments` (whole
+//! texts), `Printing` (lines of messages, of paths and of checks), `Comments`. The laws that tie the texts together are
+//! the public functions of [`laws`].
 //!
 //! Readers of other texts stand on the same [`lexing`] and [`words`]. Writers of other lines stand on
 //! [`path_line`] and [`Tail`]; or, where room for a whole line was made, on [`write_text`], [`write_mark`],
@@ -42,6 +43,7 @@ mod settings;
 mod tail;
 mod texts;
 mod updates;
+mod whole_lines;
 pub mod words;
 
 pub use assignment::{Entry, read_assignment};
@@ -58,3 +60,4 @@ pub use prefix_texts::write_prefix;
 pub use sections::{Split, split_at_section};
 pub use tail::Tail;
 pub use texts::{write_mark, write_text};
+pub use whole_lines::{put_comments, put_network};

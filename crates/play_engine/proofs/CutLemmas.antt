@@ -24,10 +24,10 @@ use Rattle.world_core.specs.World.{World, new_world, played}
 use Rattle.schedule_text.specs.Reports.{cut_line, cut_none_line}
 use Rattle.text_engines.specs.declared.status.TheConstants.{DONE}
 use Rattle.text_engines.specs.Decoding.{Output, output}
-use Rattle.play_engine.specs.Reporting.{deciding, outcome}
+use Rattle.schedule_text.specs.Routes.{deciding, outcome}
 use Rattle.play_engine.specs.Playing.{Shows}
 use Rattle.play_engine.specs.Cutting.{recorded_text, cut_text, HasCut, IsCutReport}
-use Rattle.play_engine.proofs.SettledLemmas.{parts_in, printed_is, have_made}
+use Rattle.schedule_text.proofs.SettledLemmas.{parts_in, printed_is, have_made}
 
 -- ---- the UPDATEs in flight are those of the parts
 

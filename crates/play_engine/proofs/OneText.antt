@@ -1,72 +1,44 @@
 -- An input has one text.
-use Rattle.std.proofs.Common.{◌≡◌, ◌≢◌, ℕ, zero, suc, ◌+◌, ◌<◌, List, [], ◌∷◌, ◌++◌, length, refl, ap, sym, subst, ◌∙◌, arith, append_assoc, inl, inr, Ok, Err, Option}
-use Rattle.std.specs.Prelude.{Result, IsOk, slice_index_or, ◌⊎◌}
-use Rattle.std.specs.List.{All, AllPairs, Contains}
+use Rattle.std.proofs.Common.{◌≡◌, ◌≢◌, ℕ, ◌+◌, List, [], ◌∷◌, ◌++◌, length, refl, ap, sym, subst, ◌∙◌, inl, inr, Ok, Err}
+use Rattle.std.specs.Prelude.{◌⊎◌}
 use Rattle.std.proofs.lemmas.List.{append-nil}
-use Rattle.std.proofs.lemmas.Grind.{flat_map-append}
 use Rattle.prefix_lanes.specs.Bits.{PrefixView}
 use Rattle.ranked_policy.specs.Plans.{Plan}
 use Rattle.bgp_codec.specs.declared.message.Message.{Message}
 use Rattle.run_model.specs.Offers.{Waiting, Abandoned, Moving, Settled, OutcomeIsOne}
-use Rattle.snap_marker.specs.Recordings.{MadeOffer}
-use Rattle.snap_collector.specs.Verdicts.{Member}
 use Rattle.router_model.specs.Settings.{Setting, IsSetting}
 use Rattle.router_runs.specs.Model.{network_of}
 use Rattle.router_runs.specs.Existence.{EachNetworkHasASetting}
 use Rattle.world_core.specs.declared.schedule.Event.{Event}
-use Rattle.world_core.specs.declared.schedule.Order.{Order}
 use Rattle.world_core.specs.declared.schedule.StepFault.{StepFault}
 use Rattle.world_core.specs.declared.schedule.StepFault.TheVariants.{Memory}
-use Rattle.world_core.specs.World.{World, WorldAnswer, Does, Nothing, Stops, new_world, world_answer, world_after, world_of, onward, played}
+use Rattle.world_core.specs.World.{World, Stops, new_world, played}
 use Rattle.world_core.specs.Orders.{events_of, StopsAt, IsRefused}
 use Rattle.world_core.specs.Answering.{IsUndecided}
 use Rattle.world_core.specs.Replays.{PlayedRun}
 use Rattle.world_core.specs.Through.{IsDecided}
 use Rattle.world_core.specs.OneRun.{PlayedCutsAreOne}
 use Rattle.world_core.specs.Verdicts.{members_of}
-use Rattle.world_core.proofs.Orders.{any_place}
 use Rattle.net_text.specs.declared.code.Code.{Code}
-use Rattle.net_text.specs.declared.code.Code.TheVariants as kinds
 use Rattle.net_text.specs.Lexing.{Text}
 use Rattle.schedule_text.specs.declared.schedule.ScheduledOrder.{ScheduledOrder}
-use Rattle.schedule_text.specs.Schedules.{line_order, IsGood, IsFirstFault, RefusesSchedule}
+use Rattle.schedule_text.specs.Schedules.{line_order, IsGood, IsFirstFault}
 use Rattle.text_engines.specs.declared.status.TheConstants.{DONE}
 use Rattle.net_text.specs.Printing.{code_text}
 use Rattle.text_engines.specs.Decoding.{Output, output, refused}
 use Rattle.text_engines.specs.Laws.{GivesOne}
 use Rattle.text_engines.proofs.OneText.{one_first}
-use Rattle.play_engine.specs.declared.schedules.Stop.{Stop}
-use Rattle.play_engine.specs.Reporting.{AreDecided, snapshots_text, now_text}
-use Rattle.play_engine.specs.Playing.{all_events, LeadTo, IsFirstRefused, IsReport, OrdersGive, ScheduleGives, stopped}
+use Rattle.schedule_text.specs.declared.report.RefusedOrder.{RefusedOrder}
+use Rattle.play_engine.specs.Reporting.{snapshots_text, now_text}
+use Rattle.schedule_text.specs.Obeying.{all_events, LeadTo, IsFirstRefused}
+use Rattle.play_engine.specs.Playing.{IsReport, OrdersGive, ScheduleGives, stopped}
 use Rattle.play_engine.specs.Cutting.{IsCutReport, cut_text}
 use Rattle.play_engine.specs.Laws.{WorldsGiveOne}
+use Rattle.schedule_text.proofs.Faults.{refused_at, no_fault, not_good}
+use Rattle.schedule_text.proofs.ObeyingLemmas.{no_stop, no_halt}
+use Rattle.schedule_text.proofs.DecidedLemmas.{decided_one}
 
 -- ---- the text of a schedule
-
-pub refused_at : (net : Plan) (before : ℕ) (lines : List Text) (at : ℕ) (code : Code) → code ≢ kinds.Memory → RefusesSchedule net before lines at code → IsFirstFault net before lines at code
-refused_at net before lines at kinds.BadForm k h = h
-refused_at net before lines at kinds.Unreadable k h = h
-refused_at net before lines at kinds.UnknownRouter k h = h
-refused_at net before lines at kinds.Repeated k h = h
-refused_at net before lines at kinds.NotConnected k h = h
-refused_at net before lines at kinds.OutOfLimit k h = h
-refused_at net before lines at kinds.NotSimple k h = h
-refused_at net before lines at kinds.BadPrefix k h = h
-refused_at net before lines at kinds.Memory k h = absurd (k refl)
-refused_at net before lines at kinds.NotPermitted k h = h
-
-good_in : (P : Text → Type 0) (front : List Text) (x : Text) (rest : List Text) → All P (front ++ x ∷ rest) → P x
-good_in P [] x rest all = all 0 x (omega arith)
-good_in P (y ∷ ys) x rest all = good_in P ys x rest (λ k d lt. all (suc k) d (omega (arith, lt)))
-
-not_good : (r : Result (Option Order) Code) (code : Code) → r ≡ Err code → IsOk r → ⊥
-not_good (Ok o) code is h = absurd cc
-not_good (Err e) code is h = absurd cc
-
-pub no_fault : (net : Plan) (before : ℕ) (lines : List Text) (at : ℕ) (code : Code) → All (IsGood net) lines → IsFirstFault net before lines at code → ⊥
-no_fault net before lines at code all f =
-    let good = good_in (IsGood net) f.front f.faulty f.behind (subst (All (IsGood net)) f.parted all) in
-    not_good (line_order net f.faulty) code f.fault good
 
 module _ (net : Plan) (before : ℕ) (lines : List Text) where
   fault_one : (at bt : ℕ) (code reason : Code) → IsFirstFault net before lines at code → IsFirstFault net before lines bt reason → (at ≡ bt) × (code ≡ reason)
@@ -78,44 +50,6 @@ module _ (net : Plan) (before : ℕ) (lines : List Text) where
       (places, cc)
 
 -- ---- what orders lead to
-
-module _ (g : Setting) where
-  -- ---- played events in two parts
-
-  parts_by : (a : WorldAnswer) (w y : World) (x : Event) (at : ℕ) (xs ys : List Event)
-      → ((next : World) → played g next (at + 1) (xs ++ ys) ≡ Ok y → (z : World) × (played g next (at + 1) xs ≡ Ok z) × (played g z 0 ys ≡ Ok y))
-      → onward (world_of g w x at a) (λ next. played g next (at + 1) (xs ++ ys)) ≡ Ok y
-      → (z : World) × (onward (world_of g w x at a) (λ next. played g next (at + 1) xs) ≡ Ok z) × (played g z 0 ys ≡ Ok y)
-  parts_by (Does u e stamp) w y x at xs ys go h = go (world_after g w x u e stamp) h
-  parts_by Nothing w y x at xs ys go h = go w h
-  parts_by (Stops fault) w y x at xs ys go h = absurd cc
-
-  pub played_parts : (xs ys : List Event) (w y : World) (at : ℕ) → played g w at (xs ++ ys) ≡ Ok y → (z : World) × (played g w at xs ≡ Ok z) × (played g z 0 ys ≡ Ok y)
-  played_parts [] ys w y at h = (w, refl, any_place g ys w y at 0 h)
-  played_parts (x ∷ xs) ys w y at h = parts_by (world_answer g w x) w y x at xs ys (λ next k. played_parts xs ys next y (at + 1) k) h
-
-  not_refused : (y z : World) (x : Event) (xs : List Event) (why : StepFault) → why ≢ Memory → IsRefused g y x why → played g y 0 (x ∷ xs) ≡ Ok z → ⊥
-  not_refused y z x xs why kind (inl is) h =
-      let stops : played g y 0 (x ∷ xs) ≡ Err (record { at = 0; why = why }) = ap (λ (a : WorldAnswer). onward (world_of g y x 0 a) (λ next. played g next 1 xs)) is in
-      absurd (let k = sym stops ∙ h in cc)
-  not_refused y z x xs why kind (inr m) h = kind m.3
-
-  no_stop : (w z y : World) (es more : List Event) (at : ℕ) (why : StepFault) → why ≢ Memory → StopsAt g w es at why y → played g w 0 (es ++ more) ≡ Ok z → ⊥
-  no_stop w z y es more at why kind s h =
-      let whole : played g w 0 (s.before ++ (s.event ∷ (s.behind ++ more))) ≡ Ok z =
-      ap (λ (k : List Event). played g w 0 k) (sym (ap (λ (k : List Event). k ++ more) s.parts ∙ append_assoc s.before (s.event ∷ s.behind) more)) ∙ h in
-      let k = played_parts s.before (s.event ∷ (s.behind ++ more)) w z 0 whole in
-      let same : k.0 ≡ y = (let e = sym k.1 ∙ s.reached in cc) in
-      not_refused y z s.event (s.behind ++ more) why kind s.refused (subst (λ (v : World). played g v 0 (s.event ∷ (s.behind ++ more)) ≡ Ok z) same k.2)
-
-  pub no_halt : (w z : World) (os : List ScheduledOrder) (stop : Stop) → stop.why ≢ Memory → IsFirstRefused g w os stop → LeadTo g w os z → ⊥
-  no_halt w z os stop kind s h =
-      let events : all_events g.net os ≡ all_events g.net s.before ++ (events_of g.net s.order.order ++ all_events g.net s.behind) =
-      ap (all_events g.net) s.parts ∙ flat_map-append (λ o. events_of g.net o.order) s.before (s.order ∷ s.behind) in
-      let k = played_parts (all_events g.net s.before) (events_of g.net s.order.order ++ all_events g.net s.behind) w z 0 (ap (λ (es : List Event). played g w 0 es) (sym events) ∙ h) in
-      let same : k.0 ≡ s.reached = (let e = sym k.1 ∙ s.done in cc) in
-      no_stop s.reached z s.left (events_of g.net s.order.order) (all_events g.net s.behind) s.at stop.why kind s.stops
-      (subst (λ (v : World). played g v 0 (events_of g.net s.order.order ++ all_events g.net s.behind) ≡ Ok z) same k.2)
 
 -- two ways to part a list
 module _ {X : Type 0} where
@@ -168,12 +102,12 @@ module _ (g : Setting) where
       ]
 
   -- the orders before a refused one are not obeyed behind it
-  not_led : (w z : World) (os : List ScheduledOrder) (stop : Stop) → stop.why ≢ Memory → (s : IsFirstRefused g w os stop) (zs later : List ScheduledOrder) → later ≡ s.before ++ s.order ∷ zs → LeadTo g w later z → ⊥
+  not_led : (w z : World) (os : List ScheduledOrder) (stop : RefusedOrder) → stop.why ≢ Memory → (s : IsFirstRefused g w os stop) (zs later : List ScheduledOrder) → later ≡ s.before ++ s.order ∷ zs → LeadTo g w later z → ⊥
   not_led w z os stop kind s zs later is h =
       no_halt g w z later stop kind
       (record { before = s.before; order = s.order; behind = zs; reached = s.reached; left = s.left; at = s.at; parts = is; stands = s.stands; done = s.done; stops = s.stops }) h
 
-  stop_one : (w : World) (os : List ScheduledOrder) (stop halt : Stop) → stop.why ≢ Memory → halt.why ≢ Memory → IsFirstRefused g w os stop → IsFirstRefused g w os halt → stop ≡ halt
+  stop_one : (w : World) (os : List ScheduledOrder) (stop halt : RefusedOrder) → stop.why ≢ Memory → halt.why ≢ Memory → IsFirstRefused g w os stop → IsFirstRefused g w os halt → stop ≡ halt
   stop_one w os stop halt kind differs a b =
       elim (parting a.before b.before a.behind b.behind a.order b.order (sym a.parts ∙ b.parts)) [
         | inl alike ↦
@@ -221,58 +155,6 @@ module _ (each : EachNetworkHasASetting) (Gives : Setting → World → Output �
       orders_one net has.setting has.over (has.is hold) u.0 a b (subst (λ (os : List ScheduledOrder). OrdersGive Gives net os a) orders t.2) u.2
 
 -- ---- a report
-
--- rising numbers are told by which they are
-by_place : (z s : ℕ) (zs : List ℕ) (k : ℕ) → k < length (z ∷ zs) → slice_index_or (z ∷ zs) k s ≡ s → (z ≡ s) ⊎ Contains zs s
-by_place z s zs zero lt is = inl is
-by_place z s zs (suc k) lt is = inr (k, omega (arith, lt), is)
-
-in_cons : (z s : ℕ) (zs : List ℕ) → Contains (z ∷ zs) s → (z ≡ s) ⊎ Contains zs s
-in_cons z s zs h = by_place z s zs h.0 h.1 h.2
-
-behind : (z s : ℕ) (zs : List ℕ) → Contains zs s → Contains (z ∷ zs) s
-behind z s zs h = (suc h.0, omega (arith, h.1), h.2)
-
-abbrev Rising : List ℕ → Type 0
-Rising xs = AllPairs (λ s t. s < t) xs
-
-above : (z s : ℕ) (zs : List ℕ) → Rising (z ∷ zs) → Contains zs s → z < s
-above z s zs rise h = subst (λ t. z < t) h.2 (rise zero (suc h.0) s (omega arith) (omega (arith, h.1)))
-
-rest_rises : (z : ℕ) (zs : List ℕ) → Rising (z ∷ zs) → Rising zs
-rest_rises z zs rise i j d lt l = rise (suc i) (suc j) d (omega (arith, lt)) (omega (arith, l))
-
-head_one : (x y : ℕ) (xs ys : List ℕ) → Rising (x ∷ xs) → Rising (y ∷ ys) → Contains (y ∷ ys) x → Contains (x ∷ xs) y → x ≡ y
-head_one x y xs ys rx ry there here = elim (in_cons y x ys there) [
-  | inl same ↦ sym same
-  | inr more ↦ elim (in_cons x y xs here) [
-    | inl same ↦ same
-    | inr much ↦ absurd (omega (arith, above y x ys ry more, above x y xs rx much))
-  ]
-]
-
-tail_has : (x y s : ℕ) (xs ys : List ℕ) → Rising (x ∷ xs) → x ≡ y → Contains (y ∷ ys) s → Contains xs s → Contains ys s
-tail_has x y s xs ys rx same there here = elim (in_cons y s ys there) [
-  | inl is ↦ absurd (omega (arith, above x s xs rx here, same, is))
-  | inr more ↦ more
-]
-
-none_in : (s : ℕ) → Contains [] s → ⊥
-none_in s h = omega (arith, h.1)
-
-rising_one : (xs ys : List ℕ) → Rising xs → Rising ys → ((s : ℕ) → Contains xs s → Contains ys s) → ((s : ℕ) → Contains ys s → Contains xs s) → xs ≡ ys
-rising_one [] [] rx ry go back = refl
-rising_one [] (y ∷ ys) rx ry go back = absurd (none_in y (back y (zero, omega arith, refl)))
-rising_one (x ∷ xs) [] rx ry go back = absurd (none_in x (go x (zero, omega arith, refl)))
-rising_one (x ∷ xs) (y ∷ ys) rx ry go back =
-    let same = head_one x y xs ys rx ry (go x (zero, omega arith, refl)) (back y (zero, omega arith, refl)) in
-    let more = rising_one xs ys (rest_rises x xs rx) (rest_rises y ys ry) (λ s h. tail_has x y s xs ys rx same (go s (behind x s xs h)) h)
-    (λ s h. tail_has y x s ys xs ry (sym same) (back s (behind y s ys h)) h) in
-    ap (λ z. z ∷ xs) same ∙ ap (λ zs. y ∷ zs) more
-
-pub decided_one : (members : List Member) (made : ℕ → List MadeOffer) (xs ys : List ℕ) → AreDecided members made xs → AreDecided members made ys → xs ≡ ys
-decided_one members made xs ys a b =
-    rising_one xs ys a.rising b.rising (λ s h. (b.exact s).1 ((a.exact s).0 h)) (λ s h. (a.exact s).1 ((b.exact s).0 h))
 
 pub report_one : WorldsGiveOne IsReport
 report_one g set w a b x y =

@@ -23,7 +23,7 @@ use Rattle.text_engines.specs.Inputs.{Prints}
 use Rattle.why_engine.specs.Explaining.{Explains}
 use Rattle.play_engine.specs.declared.stream.Shown.{Shown}
 use Rattle.play_engine.specs.declared.stream.Shown.TheVariants as shown
-use Rattle.play_engine.specs.Reporting.{deciding, parts_text, recorded}
+use Rattle.schedule_text.specs.Routes.{deciding, parts_text, recorded}
 use Rattle.play_engine.specs.Playing.{IsReport, ScheduleGives}
 
 -- ---- the text

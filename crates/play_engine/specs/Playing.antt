@@ -1,6 +1,5 @@
 -- The text printed for a network and a schedule.
-use Rattle.std.specs.Prelude.{◌≡◌, ◌≢◌, ℕ, true, List, ◌∷◌, ◌++◌, Some, Result, Ok, codes, MatchResult, ◌⊎◌}
-use Rattle.std.specs.List.{flat_map}
+use Rattle.std.specs.Prelude.{◌≡◌, ◌≢◌, ℕ, true, List, ◌++◌, Some, Result, codes, MatchResult, ◌⊎◌}
 use Rattle.ranked_policy.specs.Plans.{Plan}
 use Rattle.run_model.specs.Network.{Run}
 use Rattle.run_model.specs.Offers.{HasOutcome, Settled}
@@ -9,11 +8,9 @@ use Rattle.router_model.specs.Settings.{Setting, IsSetting, ChoosesByRank, is_ro
 use Rattle.router_runs.specs.Model.{network_of}
 use Rattle.router_runs.specs.Runs.{RunOrder, RunState, IsRunTo, logged_steps}
 use Rattle.router_runs.specs.Snapshots.{AreStable, IsBelievable}
-use Rattle.world_core.specs.declared.schedule.Event.{Event}
 use Rattle.world_core.specs.declared.schedule.StepFault.TheVariants.{Memory}
-use Rattle.world_core.specs.World.{World, AgreesWith, new_world, played}
+use Rattle.world_core.specs.World.{World, AgreesWith, new_world}
 use Rattle.world_core.specs.Keeping.{KeepsItsPromises}
-use Rattle.world_core.specs.Orders.{events_of, StopsAt}
 use Rattle.world_core.specs.Views.{WorldView, plain_world}
 use Rattle.world_core.specs.Verdicts.{members_of}
 use Rattle.net_text.specs.declared.code.Code.{Code}
@@ -23,11 +20,13 @@ use Rattle.net_text.specs.Printing.{code_text}
 use Rattle.schedule_text.specs.declared.schedule.ScheduledOrder.{ScheduledOrder}
 use Rattle.schedule_text.specs.Schedules.{SpellsSchedule, RefusesSchedule}
 use Rattle.schedule_text.specs.Reports.{stop_line}
-use Rattle.play_engine.specs.declared.schedules.Stop.{Stop}
+use Rattle.schedule_text.specs.declared.report.RefusedOrder.{RefusedOrder}
 use Rattle.text_engines.specs.declared.status.TheConstants.{DONE, REFUSED}
 use Rattle.text_engines.specs.Decoding.{Output, output, refused}
-use Rattle.play_engine.specs.Reporting.{AreDecided, deciding, outcome, recorded, snapshots_text, now_text}
+use Rattle.schedule_text.specs.Routes.{AreDecided, deciding, outcome, recorded}
+use Rattle.play_engine.specs.Reporting.{snapshots_text, now_text}
 use Rattle.text_engines.specs.Inputs.{Prints}
+use Rattle.schedule_text.specs.Obeying.{LeadTo, IsFirstRefused}
 
 -- ---- the text printed of a world
 
@@ -54,38 +53,17 @@ pub record IsReport (g : Setting) (w : World) (out : Output) : Type 0 where
 abbrev pub Shows : (Setting → World → Output → Type 0) → WorldView → Output → Type 0
 Shows Gives x out = (g : Setting) → g.net ≡ x.net → Gives g (plain_world x) out
 
--- ---- the events that orders lead to
-
--- the events that orders stand for, one after the other
-abbrev pub all_events : Plan → List ScheduledOrder → List Event
-all_events net orders = flat_map (λ o. events_of net o.order) orders
-
--- all events of the orders are done, and lead from one world to the other
-abbrev pub LeadTo : Setting → World → List ScheduledOrder → World → Type 0
-LeadTo g w orders y = played g w 0 (all_events g.net orders) ≡ Ok y
-
--- the first order that is refused, since one of its events is; all before it are done
-pub record IsFirstRefused (g : Setting) (w : World) (orders : List ScheduledOrder) (stop : Stop) : Type 0 where
-  pub before : List ScheduledOrder
-  pub order : ScheduledOrder
-  pub behind : List ScheduledOrder
-  pub reached : World
-  pub left : World
-  pub at : ℕ
-  pub parts : orders ≡ before ++ order ∷ behind
-  pub stands : order.line ≡ stop.line
-  pub done : LeadTo g w before reached
-  pub stops : StopsAt g reached (events_of g.net order.order) at stop.why left
+-- ---- the world that orders lead to
 
 -- what a call that obeys orders has to answer and to leave, in every setting of the network that chooses by rank
-abbrev pub Obeyed : Result (Unit {0}) Stop → WorldView → List ScheduledOrder → WorldView → Type 0
+abbrev pub Obeyed : Result (Unit {0}) RefusedOrder → WorldView → List ScheduledOrder → WorldView → Type 0
 Obeyed r x orders y =
     (g : Setting) → g.net ≡ x.net → ChoosesByRank g
     → MatchResult r (λ _. LeadTo g (plain_world x) orders (plain_world y)) (λ stop. IsFirstRefused g (plain_world x) orders stop)
 
 -- ---- the text printed; `Gives` says what is shown of the world that the orders lead to
 
-abbrev pub stopped : Stop → Output
+abbrev pub stopped : RefusedOrder → Output
 stopped stop = output (stop_line stop.line stop.why) REFUSED
 
 -- the text for the orders of a schedule, in every setting of the network that chooses by rank: what is shown of the
@@ -94,7 +72,7 @@ abbrev pub OrdersGive : (Setting → World → Output → Type 0) → Plan → L
 OrdersGive Gives net orders out =
     (g : Setting) → g.net ≡ net → ChoosesByRank g
     → ((w : World) × LeadTo g (new_world g) orders w × (IsSetting g → KeepsItsPromises g w) × Gives g w out)
-    ⊎ ((stop : Stop) × (stop.why ≢ Memory) × IsFirstRefused g (new_world g) orders stop × (out ≡ stopped stop))
+    ⊎ ((stop : RefusedOrder) × (stop.why ≢ Memory) × IsFirstRefused g (new_world g) orders stop × (out ≡ stopped stop))
 
 -- the text for the lines of a schedule, so many lines standing before them
 abbrev pub ScheduleGives : (Setting → World → Output → Type 0) → Plan → ℕ → List Text → Output → Type 0

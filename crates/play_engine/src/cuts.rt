@@ -11,11 +11,10 @@ ghost use Rattle.text_engines.specs.Decoding.{output};
 ghost use Rattle.play_engine.specs.Playing.{Shows};
 ghost use Rattle.play_engine.specs.Cutting.{flights_text, recorded_text, IsCutReport};
 
-use crate::snapshots::put_parts;
 use net_text::flight_line;
 use ranked_policy::Network;
 use run_cuts::laws::runs_pass_through_snapshots;
-use schedule_text::{cut_line, cut_none_line};
+use schedule_text::{cut_line, cut_none_line, put_parts};
 use snap_collector::{Collector, InFlight, Outcome};
 use std::alloc::{AllocError, Global};
 use text_engines::status::DONE;

@@ -6,8 +6,7 @@
 //! `bgpnet why` that of [`why_stream`]: what is written is the text of what was read. The definitions stand in
 //! `specs/`: `Playing` (the text of a schedule), `Reporting` (that of routes and snapshots) and `Cutting` (that of a
 //! cut); what is said of a router is `why_engine`'s. The lines themselves are `net_text`'s and `schedule_text`'s. No
-//! thread is started here: `run_engine` and `record_engine`, which run a network in threads, take [`put_parts`] and
-//! [`put_router`] from here.
+//! thread is started here.
 #![tactic(auto)]
 
 mod cut;
@@ -21,6 +20,4 @@ mod why;
 
 pub use cut::cut_stream;
 pub use play::play_stream;
-pub use schedules::{Stop, put_router};
-pub use snapshots::put_parts;
 pub use why::why_stream;

@@ -1,73 +1,21 @@
 //! The text printed for a network and the orders of a schedule.
 
-ghost use Rattle.std.specs.Prelude.{◌≡◌, ◌≢◌, ◌++◌, IfOk, OnOk, OnErr, MatchResult, length, take};
-ghost use Rattle.router_core.specs.Views.{plain_of};
+ghost use Rattle.std.specs.Prelude.{◌≡◌, ◌≢◌, ◌++◌, IfOk, OnOk};
 ghost use Rattle.world_core.specs.Views.{plain_world, Opens, KeepsPromises};
 ghost use Rattle.text_engines.specs.Decoding.{output};
-ghost use Rattle.play_engine.specs.Reporting.{router_text, routes_text};
+ghost use Rattle.schedule_text.specs.Routes.{routes_text};
 ghost use Rattle.play_engine.specs.Playing.{Obeyed, IsReport, Shows, stopped, OrdersGive};
 ghost use Rattle.play_engine.specs.Cutting.{IsShown};
 
 use crate::cuts::cut_output;
 use crate::snapshots::put_snapshots;
 use crate::stream::Shown;
-use ranked_policy::{Asn, Network, Origin};
-use router_core::Router;
-use schedule_text::{ScheduledOrder, now_line, route_line, stop_line};
+use ranked_policy::Network;
+use schedule_text::{RefusedOrder, ScheduledOrder, now_line, put_router, stop_line};
 use std::alloc::{AllocError, Global};
 use text_engines::status::{DONE, REFUSED};
 use why_engine::why_output;
 use world_core::{StepFault, World};
-
-/// An order that was refused.
-#[derive(Clone, Copy, PartialEq, Eq)]
-pub struct Stop {
-    /// The line that it stands on.
-    pub line: usize,
-    /// Why it was refused.
-    pub why: StepFault,
-}
-
-// Appends the path that a router keeps for the prefix of each origin. If memory is refused, some of the lines stand
-// behind what the buffer had.
-fn put_each_path(
-    number: Asn,
-    router: &Router<'_>,
-    origins: &[Origin],
-    out: &mut Vec<u8>,
-) -> Result<(), AllocError>
-    ensures kept { take (length out.old.items) out.new.items ≡ out.old.items }
-    ensures ok { OnOk result
-        (out.new.items ≡ out.old.items ++ router_text (plain_of router.now).router.kept number origins.now) }
-{
-    for origin in origins {
-        let prefix = &origin.prefix;
-        route_line(number, prefix, router.kept(prefix), out)?;
-    }
-    Ok(())
-}
-
-/// Appends the routes of a router: a line for the prefix of each origin, with this number and the path that the router
-/// keeps for the prefix, or `none`.
-///
-/// It is refused only where memory was, and then leaves what the buffer had.
-pub fn put_router(
-    number: Asn,
-    router: &Router<'_>,
-    origins: &[Origin],
-    out: &mut Vec<u8>,
-) -> Result<(), AllocError>
-    ensures ok { OnOk result
-        (out.new.items ≡ out.old.items ++ router_text (plain_of router.now).router.kept number origins.now) }
-    ensures err { OnErr result (out.new.items ≡ out.old.items) }
-{
-    let start = out.len();
-    let result = put_each_path(number, router, origins, out);
-    if result.is_err() {
-        out.truncate(start);
-    }
-    result
-}
 
 // Appends the path that each router keeps for the prefix of each origin.
 fn put_routes(network: &Network, world: &World<'_>, out: &mut Vec<u8>) -> Result<(), AllocError>
@@ -121,7 +69,7 @@ fn shown_output(
 }
 
 // Obeys the orders up to the first that is refused.
-fn obey_all(world: &mut World<'_>, orders: &[ScheduledOrder]) -> Result<(), Stop>
+fn obey_all(world: &mut World<'_>, orders: &[ScheduledOrder]) -> Result<(), RefusedOrder>
     requires { KeepsPromises world.old }
     ensures obeyed { Obeyed result world.old orders.now world.new }
     ensures same { world.new.net ≡ world.old.net }
@@ -129,7 +77,7 @@ fn obey_all(world: &mut World<'_>, orders: &[ScheduledOrder]) -> Result<(), Stop
 {
     for scheduled in orders {
         if let Err(why) = world.obey(&scheduled.order) {
-            return Err(Stop {
+            return Err(RefusedOrder {
                 line: scheduled.line,
                 why,
             });
@@ -140,7 +88,7 @@ fn obey_all(world: &mut World<'_>, orders: &[ScheduledOrder]) -> Result<(), Stop
 
 // The text printed for an order that is refused, and the exit status. Want of memory is no such refusal: it is an error
 // here.
-fn stop_output(alloc: Global, stop: Stop) -> Result<(Vec<u8>, u8), AllocError>
+fn stop_output(alloc: Global, stop: RefusedOrder) -> Result<(Vec<u8>, u8), AllocError>
     ensures kind { IfOk result (λ printed. stop.why ≢ StepFault.Memory) }
     ensures output { IfOk result (λ printed. output printed.0.items printed.1 ≡ stopped stop) }
 {

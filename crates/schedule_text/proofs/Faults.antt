@@ -1,5 +1,5 @@
--- Want of memory is no line's fault.
-use Rattle.std.proofs.Common.{◌≡◌, ℕ, Bool, true, false, cond, List, [], ◌∷◌, Option, None, Some, Result, Ok, Err, ap, sym, not}
+-- Want of memory is no line's fault, and any other refusal is that of the first line with a fault.
+use Rattle.std.proofs.Common.{◌≡◌, ℕ, Bool, true, false, cond, List, [], ◌∷◌, Option, None, Some, Result, Ok, Err, ap, sym, not, ◌≢◌, suc, ◌++◌, refl, subst, arith}
 use Rattle.prefix_lanes.specs.Bits.{PrefixView}
 use Rattle.ranked_policy.specs.Plans.{Plan}
 use Rattle.ranked_policy.specs.declared.network.Router.{Router}
@@ -13,7 +13,10 @@ use Rattle.bgp_values.specs.Ranges.{is_asn}
 use Rattle.schedule_text.specs.declared.operands.TheConstants.{MOST_COUNT}
 use Rattle.schedule_text.specs.declared.keyword.Keyword.{Keyword}
 use Rattle.schedule_text.specs.declared.keyword.Keyword.TheVariants as keyword
-use Rattle.schedule_text.specs.Schedules.{is_within, router_operand, peer_operands, prefix_operands, number_operands, count_operand, ordered, keyword_of, keyword_order, words_order, line_order, IsFaulty}
+use Rattle.schedule_text.specs.Schedules.{is_within, router_operand, peer_operands, prefix_operands, number_operands, count_operand, ordered, keyword_of, keyword_order, words_order, line_order, IsFaulty, IsGood, IsFirstFault, RefusesSchedule}
+use Rattle.std.specs.Prelude.{IsOk}
+use Rattle.std.specs.List.{All}
+use Rattle.world_core.specs.declared.schedule.Order.{Order}
 
 abbrev NoMemory : {A : Type 0} → Result A Code → Type 0
 NoMemory {A} r = let memory : Result A Code = Err codes.Memory in r ≡ memory → ⊥
@@ -144,3 +147,30 @@ module _ (net : Plan) where
   is_faulty text codes.NotSimple e = sym e
   is_faulty text codes.BadPrefix e = sym e
   is_faulty text codes.NotPermitted e = sym e
+
+-- ---- a schedule that is refused
+
+pub refused_at : (net : Plan) (before : ℕ) (lines : List Text) (at : ℕ) (code : Code) → code ≢ codes.Memory → RefusesSchedule net before lines at code → IsFirstFault net before lines at code
+refused_at net before lines at codes.BadForm k h = h
+refused_at net before lines at codes.Unreadable k h = h
+refused_at net before lines at codes.UnknownRouter k h = h
+refused_at net before lines at codes.Repeated k h = h
+refused_at net before lines at codes.NotConnected k h = h
+refused_at net before lines at codes.OutOfLimit k h = h
+refused_at net before lines at codes.NotSimple k h = h
+refused_at net before lines at codes.BadPrefix k h = h
+refused_at net before lines at codes.Memory k h = absurd (k refl)
+refused_at net before lines at codes.NotPermitted k h = h
+
+good_in : (P : Text → Type 0) (front : List Text) (x : Text) (rest : List Text) → All P (front ++ x ∷ rest) → P x
+good_in P [] x rest all = all 0 x (omega arith)
+good_in P (y ∷ ys) x rest all = good_in P ys x rest (λ k d lt. all (suc k) d (omega (arith, lt)))
+
+pub not_good : (r : Result (Option Order) Code) (code : Code) → r ≡ Err code → IsOk r → ⊥
+not_good (Ok o) code is h = absurd cc
+not_good (Err e) code is h = absurd cc
+
+pub no_fault : (net : Plan) (before : ℕ) (lines : List Text) (at : ℕ) (code : Code) → All (IsGood net) lines → IsFirstFault net before lines at code → ⊥
+no_fault net before lines at code all f =
+    let good = good_in (IsGood net) f.front f.faulty f.behind (subst (All (IsGood net)) f.parted all) in
+    not_good (line_order net f.faulty) code f.fault good

@@ -1,3 +1,13 @@
 pub mod Texts
 pub mod Faults
 pub mod SayingLemmas
+pub mod LineLemmas
+pub mod EventLemmas
+pub mod NameLemmas
+pub mod HeadLemmas
+pub mod ObeyingLemmas
+pub mod DecidedLemmas
+pub mod BufferLemmas
+pub mod PartLemmas
+pub mod PathLemmas
+pub mod SettledLemmas

@@ -1,11 +1,17 @@
--- The line that orders an event.
+-- The line that orders an event, and the lines before the first.
 use Rattle.std.specs.Prelude.{ℕ, List, ◌++◌, codes, decimal}
 use Rattle.prefix_lanes.specs.Bits.{PrefixView}
 use Rattle.router_model.specs.declared.command.Command.{Command}
 use Rattle.router_model.specs.declared.command.Command.TheVariants as command
 use Rattle.world_core.specs.declared.schedule.Event.{Event}
 use Rattle.world_core.specs.declared.schedule.Event.TheVariants as event
+use Rattle.net_text.specs.Lexing.{Text}
+use Rattle.net_text.specs.Layout.{network_text}
 use Rattle.net_text.specs.Printing.{line, prefix_text}
+
+-- the lines of a network, and the line that begins its schedule
+abbrev pub head_of_schedule : List Text → List ℕ
+head_of_schedule lines = network_text lines ++ line (codes "schedule")
 
 -- a word with a number behind it, with two, and with a number and a prefix
 unfoldable pub one_line : List ℕ → ℕ → List ℕ

@@ -3,3 +3,5 @@ pub mod Keywords
 pub mod Sayings
 pub mod Events
 pub mod Reports
+pub mod Routes
+pub mod Obeying

@@ -15,6 +15,15 @@ use snap_marker::{Cause, Lost};
 use std::alloc::AllocError;
 use world_core::StepFault;
 
+/// An order that was refused.
+#[derive(Clone, Copy, PartialEq, Eq)]
+pub struct RefusedOrder {
+    /// The line that it stands on.
+    pub line: usize,
+    /// Why it was refused.
+    pub why: StepFault,
+}
+
 // Writes why a snapshot is moving.
 fn put_why(out: &mut Tail, why: Why) -> Result<(), AllocError>
     ensures text { OnOk result (out.new.text ≡ out.old.text ++ why_text (why_of why)) }

@@ -1,17 +1,19 @@
 -- Writing a text a piece at a time, and what an engine leaves written.
-use Rattle.std.proofs.Common.{◌≡◌, ℕ, ◌+◌, ◌≤◌, List, length, take, drop, take-add, codes, Option, Some, None, Result, Ok, Err, IfOk, subst, sym, ap, arith, inl, inr}
-use Rattle.std.specs.Prelude.{OnErr, IfSome, Vec, ◌⊎◌}
-use Rattle.std.proofs.lemmas.List.{length-take}
+use Rattle.std.proofs.Common.{◌≡◌, ℕ, ◌+◌, ◌<◌, ◌≤◌, ◌==◌, Bool, true, false, List, [], ◌++◌, length, take, drop, take-add, codes, Option, Some, None, Result, Ok, Err, IfOk, refl, subst, sym, ap, ◌∙◌, arith, inl, inr}
+use Rattle.std.specs.Prelude.{OnErr, IfSome, Vec, ◌⊎◌, nat_lt, if◌then◌else◌}
+use Rattle.std.proofs.lemmas.Bool.Decides.{nat_tests}
+use Rattle.std.proofs.lemmas.List.{append-nil, length-append, length-take}
 use Rattle.std.specs.Io.KnownBytes.{Appends}
 use Rattle.std.proofs.KnownBytes.{Appends-trans, Appends-nil}
 use Rattle.std.specs.declared.alloc.AllocError.{AllocError}
 use Rattle.bgp_codec.specs.declared.rule.Rule.{Rule}
 use Rattle.text_engines.specs.declared.channel.IoStopped.{IoStopped}
 use Rattle.text_engines.specs.declared.hex_input.HexInput.{HexInput}
+use Rattle.text_engines.specs.declared.status.TheConstants.{DONE}
 use Rattle.text_engines.specs.declared.transfer.TheConstants.{INPUT_LIMIT}
 use Rattle.text_engines.specs.Decoding.{Output, output, memory_output, WithinLimit, OrMemory, DecodeGives, Prints}
 use Rattle.text_engines.specs.Digits.{HearsHex}
-use Rattle.text_engines.specs.Engine.{ReadsUpTo, AppendsFront, IsMade, WrittenBy, WrittenFrontBy, PrintedBy, PrintedFrontBy}
+use Rattle.text_engines.specs.Engine.{ReadsUpTo, AppendsFront, IsMade, WrittenBy, WrittenFrontBy, PrintedBy, PrintedFrontBy, limit_comment, limited}
 
 pub one_more : (a b c : Option (List ℕ)) (text : List ℕ) (at n : ℕ) → Appends a b (take at text) → Appends b c (take n (drop at text)) → Appends a c (take (at + n) text)
 one_more a b c text at n first second = subst (Appends a c) (sym (take-add at n text)) (Appends-trans a b c (take at text) (take n (drop at text)) first second)
@@ -91,3 +93,21 @@ pub heard_made : {Z : Type 0} (rule : Rule) (known : Option (List ℕ)) (heard :
 heard_made rule None heard made read gives = tt
 heard_made rule (Some input) heard (Ok printed) read gives = λ out is. inl (subst (DecodeGives rule input) (sym is) (gives input read))
 heard_made rule (Some input) heard (Err short) read gives = λ out is. inr is
+
+-- ---- texts that were printed whole
+
+-- what was printed whole is no refusal
+pub not_done : (text : List ℕ) (out : Output) → (out.status == 0) ≡ false → output text DONE ≡ out → ⊥
+not_done text out other e =
+    let k : true ≡ false = ap (λ (o : Output). o.status == 0) e ∙ other in
+    absurd cc
+
+-- a text that an input may be has no comment that it is too long
+short_by : (limit : ℕ) (comment : List ℕ) (b : Bool) (t text : List ℕ) → nat_lt limit (length t) ≡ b → length text ≤ limit → text ≡ t ++ (if b then comment else []) → text ≡ t
+short_by limit comment true t text long short is =
+    let more : limit < length t = grind (arith, nat_tests, long) in
+    absurd (omega (arith, ap length is, length-append t comment, short, more))
+short_by limit comment false t text long short is = is ∙ append-nil t
+
+pub short_text : (t text : List ℕ) → length text ≤ INPUT_LIMIT → text ≡ limited t → text ≡ t
+short_text t text short is = short_by INPUT_LIMIT limit_comment (nat_lt INPUT_LIMIT (length t)) t text refl short is

@@ -1,7 +1,9 @@
 -- How an engine reads and writes.
-use Rattle.std.specs.Prelude.{◌≡◌, ℕ, ◌≤◌, List, length, take, Option, IfSome, Result, MatchResult, Vec}
+use Rattle.std.specs.Prelude.{◌≡◌, ℕ, ◌≤◌, nat_lt, List, [], ◌++◌, length, take, codes, Option, IfSome, Result, MatchResult, Vec, if◌then◌else◌}
 use Rattle.std.specs.Io.KnownBytes.{Appends}
 use Rattle.bgp_codec.specs.declared.rule.Rule.{Rule}
+use Rattle.net_text.specs.Printing.{line}
+use Rattle.text_engines.specs.declared.transfer.TheConstants.{INPUT_LIMIT}
 use Rattle.text_engines.specs.Decoding.{Output, output, memory_output, Prints}
 
 -- what was read is all the known octets that were left, or a beginning of them that is above the limit
@@ -38,3 +40,15 @@ Printed rule known old new status = PrintedBy (Prints rule) known old new status
 
 abbrev pub PrintedFront : Rule → Option (List ℕ) → Option (List ℕ) → Option (List ℕ) → Type 0
 PrintedFront rule known old new = PrintedFrontBy (Prints rule) known old new
+
+-- ---- texts that are read again
+
+-- the comment that a text of so many octets is longer than an input may be
+abbrev pub limit_comment : List ℕ
+limit_comment = line (codes "# too long to be played: an input has at most 16777216 octets")
+
+abbrev pub limit_text : ℕ → List ℕ
+limit_text n = if nat_lt INPUT_LIMIT n then limit_comment else []
+
+abbrev pub limited : List ℕ → List ℕ
+limited text = text ++ limit_text (length text)

@@ -1,4 +1,4 @@
--- The text printed for an input that is a network with a section behind it.
+-- The text printed for an input that is a network, or one with a section behind it.
 use Rattle.std.specs.Prelude.{◌≡◌, ◌≢◌, ℕ, ◌-◌, List, length, ◌⊎◌}
 use Rattle.ranked_policy.specs.Plans.{Plan}
 use Rattle.net_text.specs.declared.code.Code.{Code}
@@ -7,6 +7,14 @@ use Rattle.net_text.specs.Lexing.{Text, lines_of, before_section, behind_section
 use Rattle.net_text.specs.Networks.{SpellsNetwork, RefusesNetwork}
 use Rattle.net_text.specs.Printing.{code_text}
 use Rattle.text_engines.specs.Decoding.{Output, refused, WithinLimit, OrMemory}
+
+-- ---- a network alone
+
+-- the text for lines; `Gives` says what is printed for the network that they spell
+abbrev pub LinesPrint : (Plan → Output → Type 0) → List Text → Output → Type 0
+LinesPrint Gives lines out =
+    ((at : ℕ) × (code : Code) × (code ≢ kinds.Memory) × RefusesNetwork lines at code × (out ≡ refused at (code_text code)))
+    ⊎ ((net : Plan) × SpellsNetwork lines net × Gives net out)
 
 -- ---- `Gives` says what is printed for a network and the lines of the section, so many lines standing before them
 

@@ -9,7 +9,7 @@
 //! (octets in hex). The lines themselves are `net_text`'s. What every engine shares is here too: an [`Engine`] says what
 //! it answers to a text, and [`answer_input`] reads the text and writes that answer. One that reads something else, or
 //! starts threads, ends in [`write_output`] behind its own reading. [`refused_output`] and [`text_output`] make the answer
-//! to a refusal.
+//! to a refusal, and [`put_limit`] says where an answer is too long to be read again.
 #![tactic(auto)]
 
 mod assignments;
@@ -31,4 +31,6 @@ pub use check::check_stream;
 pub use decode::decode_stream;
 pub use engine::{Engine, answer_input};
 pub use refusals::{refused_output, text_output};
-pub use transfer::{INPUT_LIMIT, InputError, read_input, want_of_memory, write_out, write_output};
+pub use transfer::{
+    INPUT_LIMIT, InputError, put_limit, read_input, want_of_memory, write_out, write_output,
+};

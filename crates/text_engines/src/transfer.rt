@@ -1,8 +1,8 @@
 //! How an input is read whole, and a text written.
 
-ghost use Rattle.std.specs.Prelude.{◌≡◌, ℕ, ◌+◌, ◌<◌, ◌≤◌, length, vec_len, IfOk, OnOk, OnErr, IsErrOf, true};
+ghost use Rattle.std.specs.Prelude.{◌≡◌, ℕ, ◌+◌, ◌<◌, ◌≤◌, ◌++◌, length, vec_len, IfOk, OnOk, OnErr, IsErrOf, true};
 ghost use Rattle.std.specs.Io.KnownBytes.{Appends};
-ghost use Rattle.text_engines.specs.Engine.{ReadsUpTo, AppendsFront, IsMade, WrittenBy, WrittenFrontBy};
+ghost use Rattle.text_engines.specs.Engine.{ReadsUpTo, AppendsFront, IsMade, WrittenBy, WrittenFrontBy, limit_text};
 ghost use Rattle.text_engines.specs.Decoding.{memory_output};
 ghost use Rattle.text_engines.specs.declared.status.TheConstants.{MEMORY};
 
@@ -70,6 +70,18 @@ pub fn read_input<S: Source>(alloc: Global, source: &mut S) -> Result<Vec<u8>, I
         Ok(mut chunk) => read_by(alloc, source, chunk.as_mut_slice()),
         Err(_) => Err(InputError::Memory),
     }
+}
+
+/// Appends a comment that the text is longer than an input may be, if it is. It is refused only for want of memory, and
+/// then changes nothing.
+pub fn put_limit(out: &mut Vec<u8>) -> Result<(), AllocError>
+    ensures ok { OnOk result (out.new.items ≡ out.old.items ++ limit_text (length out.old.items)) }
+    ensures err { OnErr result (out.new.items ≡ out.old.items) }
+{
+    if out.len() <= INPUT_LIMIT {
+        return Ok(());
+    }
+    out.extend_from_slice(b"# too long to be played: an input has at most 16777216 octets\n")
 }
 
 /// Writes the text that was made and returns its status. If memory was refused it writes `memory` alone and returns 3.

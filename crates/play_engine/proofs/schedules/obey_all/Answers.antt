@@ -2,8 +2,9 @@ use Rattle.std.proofs.Common.{List, subst, sym, ◌∙◌}
 use Rattle.std.proofs.lemmas.List.{take_all}
 use Rattle.schedule_text.specs.declared.schedule.ScheduledOrder.{ScheduledOrder}
 use Rattle.world_core.specs.Views.{plain_world}
-use Rattle.play_engine.specs.Playing.{LeadTo}
-use Rattle.play_engine.proofs.PlayLemmas.{lead_on, refused_found}
+use Rattle.schedule_text.specs.Obeying.{LeadTo}
+use Rattle.schedule_text.proofs.ObeyingLemmas.{lead_on}
+use Rattle.play_engine.proofs.PlayLemmas.{refused_found}
 use Rattle.play_engine.proofs.schedules.obey_all.Goals as goal
 
 pub returns-in-Err-clause-obeyed : goal.returns-in-Err-clause-obeyed

@@ -2,7 +2,7 @@
 use Rattle.std.proofs.Common.{◌≡◌, take}
 use Rattle.router_model.specs.Settings.{Setting, ChoosesByRank}
 use Rattle.world_core.specs.Views.{plain_world, KeepsPromises}
-use Rattle.play_engine.specs.Playing.{LeadTo}
+use Rattle.schedule_text.specs.Obeying.{LeadTo}
 use Rattle.play_engine.proofs.schedules.obey_all.Given as goal
 
 abbrev pub invariant-loop-scheduled : goal.invariant-loop-scheduled

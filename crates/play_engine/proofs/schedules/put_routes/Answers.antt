@@ -2,7 +2,7 @@ use Rattle.std.proofs.Common.{List, ap, ◌++◌, ◌∙◌}
 use Rattle.ranked_policy.specs.declared.network.Origin.{Origin}
 use Rattle.router_model.specs.Calls.{Stamped}
 use Rattle.world_core.specs.Views.{plain_world}
-use Rattle.play_engine.specs.Reporting.{router_text}
+use Rattle.schedule_text.specs.Routes.{router_text}
 use Rattle.play_engine.proofs.PlayLemmas.{text_on}
 use Rattle.play_engine.proofs.schedules.put_routes.Goals as goal
 

@@ -2,7 +2,7 @@
 use Rattle.std.proofs.Common.{◌≡◌, ◌++◌, drop}
 use Rattle.std.specs.List.{flat_map}
 use Rattle.world_core.specs.Views.{plain_world}
-use Rattle.play_engine.specs.Reporting.{router_text, routes_text}
+use Rattle.schedule_text.specs.Routes.{router_text, routes_text}
 use Rattle.play_engine.proofs.schedules.put_routes.Given as goal
 
 abbrev pub invariant-loop-member : goal.invariant-loop-member

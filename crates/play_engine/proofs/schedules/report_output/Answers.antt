@@ -5,7 +5,8 @@ use Rattle.snap_collector.specs.Collector.{made_for}
 use Rattle.world_core.specs.Views.{plain_world}
 use Rattle.schedule_text.specs.Reports.{now_line}
 use Rattle.text_engines.specs.Decoding.{output}
-use Rattle.play_engine.specs.Reporting.{snapshots_text, routes_text, now_text}
+use Rattle.play_engine.specs.Reporting.{snapshots_text, now_text}
+use Rattle.schedule_text.specs.Routes.{routes_text}
 use Rattle.play_engine.proofs.PlayLemmas.{report_is, reports}
 use Rattle.play_engine.proofs.schedules.report_output.Goals as goal
 

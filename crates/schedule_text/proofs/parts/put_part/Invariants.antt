@@ -3,8 +3,8 @@
 use Rattle.std.proofs.Common.{◌≡◌, ◌≤◌, ◌<◌, ◌++◌, ℕ, drop, get_or, length, take}
 use Rattle.ranked_policy.specs.declared.network.Origin.{Origin}
 use Rattle.snap_marker.specs.Parts.{kept_in}
-use Rattle.play_engine.specs.Reporting.{router_text}
-use Rattle.play_engine.proofs.snapshots.put_part.Given as goal
+use Rattle.schedule_text.specs.Routes.{router_text}
+use Rattle.schedule_text.proofs.parts.put_part.Given as goal
 
 abbrev pub invariant-loop-origin : goal.invariant-loop-origin
 invariant-loop-origin l = record {

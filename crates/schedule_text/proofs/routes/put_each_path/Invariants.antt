@@ -1,8 +1,8 @@
 -- what was put, before what is left, is what all are printed as; and what the buffer had stands in front
 use Rattle.std.proofs.Common.{◌≡◌, ◌++◌, drop, length, take}
 use Rattle.router_core.specs.Views.{plain_of}
-use Rattle.play_engine.specs.Reporting.{router_text}
-use Rattle.play_engine.proofs.schedules.put_each_path.Given as goal
+use Rattle.schedule_text.specs.Routes.{router_text}
+use Rattle.schedule_text.proofs.routes.put_each_path.Given as goal
 
 abbrev pub invariant-loop-origin : goal.invariant-loop-origin
 invariant-loop-origin l = record {

@@ -2,9 +2,9 @@ use Rattle.std.proofs.Common.{◌≡◌, ◌++◌, Option, Some, None, sym, subs
 use Rattle.std.specs.Prelude.{OnOk}
 use Rattle.std.proofs.lemmas.List.{append-nil}
 use Rattle.snap_marker.specs.Recordings.{RouterPart}
-use Rattle.play_engine.specs.Reporting.{part_text}
-use Rattle.play_engine.proofs.PartLemmas.{part_is_recorded}
-use Rattle.play_engine.proofs.snapshots.put_recorded.Goals as goal
+use Rattle.schedule_text.specs.Routes.{part_text}
+use Rattle.schedule_text.proofs.PartLemmas.{part_is_recorded}
+use Rattle.schedule_text.proofs.parts.put_recorded.Goals as goal
 
 pub returns-in-Some-clause-ok : goal.returns-in-Some-clause-ok
 returns-in-Some-clause-ok c =

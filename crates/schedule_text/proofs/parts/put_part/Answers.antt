@@ -3,9 +3,9 @@ use Rattle.std.proofs.lemmas.Grind.{common_steps}
 use Rattle.std.proofs.lemmas.List.{get_or_default}
 use Rattle.prefix_lanes.specs.Bits.{is_prefix}
 use Rattle.ranked_policy.specs.declared.network.Origin.{Origin}
-use Rattle.play_engine.proofs.BufferLemmas.{kept_before}
-use Rattle.play_engine.proofs.PathLemmas.{before_apart}
-use Rattle.play_engine.proofs.snapshots.put_part.Goals as goal
+use Rattle.schedule_text.proofs.BufferLemmas.{kept_before}
+use Rattle.schedule_text.proofs.PathLemmas.{before_apart}
+use Rattle.schedule_text.proofs.parts.put_part.Goals as goal
 
 pub loop-origin-preserved : goal.loop-origin-preserved
 loop-origin-preserved c =

@@ -1,7 +1,7 @@
 use Rattle.std.proofs.Common.{arith}
 use Rattle.std.proofs.lemmas.Grind.{common_steps}
-use Rattle.play_engine.proofs.BufferLemmas.{kept_before}
-use Rattle.play_engine.proofs.schedules.put_each_path.Goals as goal
+use Rattle.schedule_text.proofs.BufferLemmas.{kept_before}
+use Rattle.schedule_text.proofs.routes.put_each_path.Goals as goal
 
 pub loop-origin-preserved : goal.loop-origin-preserved
 loop-origin-preserved c = record {

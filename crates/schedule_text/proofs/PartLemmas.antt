@@ -8,7 +8,7 @@ use Rattle.snap_marker.specs.Parts.{part_of}
 use Rattle.snap_marker.specs.Recordings.{MadeOffer}
 use Rattle.snap_collector.specs.Collecting.{made_in, member_of}
 use Rattle.snap_collector.specs.Collector.{CollectorView, IsPartOf, first_part, kept_of, made_for}
-use Rattle.play_engine.specs.Reporting.{recorded}
+use Rattle.schedule_text.specs.Routes.{recorded}
 
 first_is : (os : List Offer) (u : ℕ) → option_map part_of (first_part os u) ≡ recorded (made_in os) u
 first_is [] u = refl

@@ -1,25 +1,20 @@
 -- What is printed of a snapshot that is settled or moving is what every router recorded.
-use Rattle.std.proofs.Common.{◌≡◌, ℕ, ◌==◌, Bool, true, false, ◌&&◌, cond, List, [], ◌∷◌, ◌++◌, map, filter, Option, Some, None, refl, sym, ap, subst, ◌∙◌, inl, inr}
+use Rattle.std.proofs.Common.{◌≡◌, ℕ, ◌==◌, Bool, true, false, ◌&&◌, cond, List, [], ◌∷◌, ◌++◌, map, filter, Option, Some, None, refl, sym, ap, subst, ◌∙◌, inl, inr, append_assoc}
 use Rattle.std.specs.Prelude.{◌||◌}
 use Rattle.std.specs.List.{list_any}
-use Rattle.std.proofs.Common.{append_assoc}
 use Rattle.std.proofs.lemmas.Bool.{eqb-true, and_parts}
 use Rattle.std.proofs.lemmas.List.{append-nil}
-use Rattle.ranked_policy.specs.Plans.{Plan, numbers}
-use Rattle.run_model.specs.Network.{Run}
-use Rattle.run_model.specs.Offers.{Finished, Lost, Why, Outcome, Settled, IsIn, made_of}
+use Rattle.ranked_policy.specs.Plans.{numbers}
+use Rattle.run_model.specs.Offers.{Finished, Lost, Why, Outcome, IsIn, made_of}
 use Rattle.snap_marker.specs.Recordings.{RouterOffer, RouterPart, MadeOffer}
-use Rattle.snap_collector.specs.Verdicts.{Member, has_part, of_part, all_parts, first_fault, decides, whole_or_waiting, abandoned_by, abandoned_or, verdict}
-use Rattle.snap_collector.specs.Collector.{kept_behind, kept_of, is_for}
+use Rattle.snap_collector.specs.Verdicts.{Member, has_part, of_part, all_parts, first_fault, decides, whole_or_waiting, abandoned_by, abandoned_or}
+use Rattle.snap_collector.specs.Collector.{kept_behind, is_for}
 use Rattle.snap_collector.specs.Flights.{part_or, is_whole}
-use Rattle.router_model.specs.Settings.{Setting, IsSetting, is_router, peers}
-use Rattle.router_runs.specs.Runs.{RunOrder, RunState, IsRunTo, logged_steps}
-use Rattle.router_runs.specs.Snapshots.{HaveMade, IsBelievable}
-use Rattle.world_core.specs.World.{World, AgreesWith}
-use Rattle.world_core.specs.Keeping.{KeepsItsPromises}
+use Rattle.router_model.specs.Settings.{Setting, is_router, peers}
+use Rattle.router_runs.specs.Runs.{RunState}
+use Rattle.router_runs.specs.Snapshots.{HaveMade}
 use Rattle.world_core.specs.Verdicts.{members_of}
-use Rattle.play_engine.specs.Reporting.{deciding, outcome, recorded}
-use Rattle.play_engine.specs.Playing.{CanBeBelieved}
+use Rattle.schedule_text.specs.Routes.{deciding, outcome, recorded}
 
 -- ---- it has a part of every router
 
@@ -135,20 +130,3 @@ module _ (g : Setting) (made : ℕ → List MadeOffer) (s : ℕ) (whole : is_who
       let k = in_offered s state.offered x (subst (IsIn x) (of s) all) in
       let number : at.0 ≡ s = eqb-true at.0 s k.1 in
       subst (λ (n : ℕ). IsIn (made_of u (Finished n (parts_of u))) state.offered) number k.0
-
--- of a world
-module _ (g : Setting) (w : World) (s : ℕ) (settled : outcome g.net w.made s ≡ Settled) where
-  pub can_be_believed : KeepsItsPromises g w
-      → ((before later : RunOrder) (at last : RunState) → IsRunTo g before at → Run (logged_steps g) at later last → AgreesWith g w last → (parts : ℕ → RouterPart) → HaveMade g last s parts → IsBelievable g before later at last s parts)
-      → CanBeBelieved g w s
-  can_be_believed keeps belief =
-      let k = keeps.run in
-      let parts = parts_in (deciding g.net w.made s) in
-      let whole = ap is_whole settled in
-      let made = have_made g w.made s whole in
-      record {
-        parts = parts;
-        printed = printed_is g w.made s whole;
-        stable = (belief k.order [] k.state k.state k.run refl k.agrees parts (made k.state k.agrees.offers_made)).stable;
-        believed = λ before later at last run goes agrees. belief before later at last run goes agrees parts (made last agrees.offers_made);
-      }

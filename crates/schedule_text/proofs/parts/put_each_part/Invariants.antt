@@ -3,8 +3,8 @@ use Rattle.std.proofs.Common.{◌≡◌, ◌++◌, drop, length, map, take}
 use Rattle.std.specs.List.{flat_map}
 use Rattle.snap_collector.specs.Collecting.{member_of}
 use Rattle.snap_collector.specs.Collector.{made_for, kept_of}
-use Rattle.play_engine.specs.Reporting.{recorded, part_text, parts_text}
-use Rattle.play_engine.proofs.snapshots.put_each_part.Given as goal
+use Rattle.schedule_text.specs.Routes.{recorded, part_text, parts_text}
+use Rattle.schedule_text.proofs.parts.put_each_part.Given as goal
 
 abbrev pub invariant-loop-member : goal.invariant-loop-member
 invariant-loop-member l =
