@@ -7,13 +7,14 @@ ghost use Rattle.command_line.specs.Tasks.{TaskPrints, ThreadsPrint};
 use bgp_codec::Rule;
 use play_engine::{cut_stream, play_stream, why_stream};
 use record_engine::record_stream;
-use run_engine::{RunOptions, run_stream};
+use run_engine::run_stream;
 use stable_engine::stable_stream;
 use stable_search::Limits;
 use std::alloc::Global;
 use std::sync::Wait;
 use std::thread::Threads;
 use text_engines::{IoStopped, Sink, Source, check_stream, decode_stream};
+use thread_runs::RunOptions;
 use trace_engine::trace_stream;
 
 /// A task that starts no thread.

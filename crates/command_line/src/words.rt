@@ -13,10 +13,10 @@ use bgp_codec::{NOBODY, Rule};
 use bgp_values::{Width, greatest_asn};
 use clap::error::ErrorKind;
 use clap::{Arg, ArgAction, ArgMatches, Command, Error};
-use run_engine::RunOptions;
 use stable_search::Limits;
 use std::alloc::{AllocError, Global};
 use text_engines::status::{DONE, USAGE};
+use thread_runs::RunOptions;
 
 /// What the words ask for.
 #[derive(Drop)]

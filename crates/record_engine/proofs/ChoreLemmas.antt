@@ -14,9 +14,9 @@ use Rattle.net_workers.specs.declared.record.TheConstants.{MOST_TURNS}
 use Rattle.net_workers.specs.declared.record.Worked.{Worked}
 use Rattle.net_workers.specs.Ran.{Passed, HasWorked}
 use Rattle.net_workers.specs.Runs.{chores_of}
-use Rattle.run_engine.specs.declared.chores.RunOptions.{RunOptions}
-use Rattle.run_engine.specs.declared.gates.RunGate.{RunGate}
-use Rattle.run_engine.specs.Gates.{Told, HasRoom, opening, originated, first_router, numbered_or_turn, later_chore, chore_at, first_chores, told_of, given_by, told_each}
+use Rattle.thread_runs.specs.declared.chores.RunOptions.{RunOptions}
+use Rattle.thread_runs.specs.declared.gates.RunGate.{RunGate}
+use Rattle.thread_runs.specs.Gates.{Told, HasRoom, opening, originated, first_router, numbered_or_turn, later_chore, chore_at, first_chores, told_of, given_by, told_each}
 
 -- a snapshot that it takes has at most this number
 abbrev IsLow : ℕ → Chore → Type 0

@@ -18,9 +18,9 @@ use Rattle.world_core.specs.Verdicts.{judged, members_of}
 use Rattle.world_core.specs.World.{World}
 use Rattle.net_workers.specs.declared.record.Worked.{Worked}
 use Rattle.schedule_text.specs.Reports.{snapshot_line, now_line}
-use Rattle.play_engine.specs.Reporting.{AreDecided, router_text, routes_text, outcome}
-use Rattle.play_engine.proofs.OneText.{decided_one}
-use Rattle.run_engine.specs.declared.gates.RunGate.{RunGate}
+use Rattle.schedule_text.specs.Routes.{AreDecided, router_text, routes_text, outcome}
+use Rattle.schedule_text.proofs.DecidedLemmas.{decided_one}
+use Rattle.thread_runs.specs.declared.gates.RunGate.{RunGate}
 use Rattle.record_engine.specs.Recording.{verdicts_text, kept_text, ending_text}
 use Rattle.record_engine.specs.Laws.{ends_of}
 

@@ -32,10 +32,10 @@ use Rattle.net_text.specs.Printing.{prefix_text}
 use Rattle.net_text.specs.Words.{is_named}
 use Rattle.schedule_text.specs.Events.{one_line, two_line, prefix_line, event_line}
 use Rattle.schedule_text.specs.Sayings.{LinesAreReadAsTheySay}
-use Rattle.trace_engine.proofs.EventLemmas.{IsOriginated, MaySay, event_said}
-use Rattle.trace_engine.proofs.LawLemmas.{IsPlain}
-use Rattle.trace_engine.proofs.LineLemmas.{IsNamed, Says, says_none, says_both, both_true}
-use Rattle.trace_engine.proofs.RunLemmas.{named_of, canonical_by}
+use Rattle.schedule_text.proofs.EventLemmas.{IsOriginated, MaySay, event_said}
+use Rattle.schedule_text.proofs.HeadLemmas.{IsPlain}
+use Rattle.schedule_text.proofs.LineLemmas.{IsNamed, Says, says_none, says_both, both_true}
+use Rattle.schedule_text.proofs.NameLemmas.{named_of, canonical_by}
 use Rattle.record_engine.specs.Recording.{events_text}
 
 -- ---- the lines of a network

@@ -26,24 +26,28 @@ use Rattle.net_text.specs.Networks.{SpellsNetwork}
 use Rattle.schedule_text.specs.declared.schedule.ScheduledOrder.{ScheduledOrder}
 use Rattle.schedule_text.specs.Sayings.{LinesAreReadAsTheySay}
 use Rattle.schedule_text.specs.Schedules.{IsGood}
+use Rattle.schedule_text.specs.Events.{head_of_schedule}
 use Rattle.worker_loop.specs.declared.chore.Chore.TheVariants as chore
 use Rattle.net_workers.specs.declared.record.Worked.{Worked}
 use Rattle.net_workers.specs.Runs.{IsRunOfThreads, chores_of}
 use Rattle.net_workers.specs.Ways.{passed_in}
-use Rattle.play_engine.specs.Playing.{LeadTo, IsReport, OrdersGive, ScheduleGives}
+use Rattle.schedule_text.specs.Obeying.{LeadTo}
+use Rattle.play_engine.specs.Playing.{IsReport, OrdersGive, ScheduleGives}
 use Rattle.text_engines.specs.declared.status.TheConstants.{DONE}
 use Rattle.text_engines.specs.declared.transfer.TheConstants.{INPUT_LIMIT}
 use Rattle.text_engines.specs.Decoding.{Output, output}
 use Rattle.text_engines.specs.Inputs.{NetworkGives}
-use Rattle.trace_engine.specs.Tracing.{head_of_trace, comments_text}
-use Rattle.trace_engine.proofs.EventLemmas.{MaySay}
-use Rattle.play_engine.proofs.OneText.{refused_at, no_fault, no_halt}
-use Rattle.trace_engine.proofs.LawLemmas.{all_of, front_is, rest_is, trace_parted, same_events, not_done, short_text}
-use Rattle.trace_engine.proofs.LineLemmas.{order_of, as_orders, Says, says_both, says_comments, one_lines, all_comments}
-use Rattle.run_engine.specs.declared.chores.RunOptions.{RunOptions}
-use Rattle.run_engine.specs.declared.gates.RunGate.{RunGate}
-use Rattle.run_engine.specs.Gates.{HasRoom, spacing_of}
-use Rattle.run_engine.specs.Running.{RunRecord, RunRefused}
+use Rattle.net_text.specs.Comments.{comments_text}
+use Rattle.schedule_text.proofs.EventLemmas.{MaySay}
+use Rattle.schedule_text.proofs.Faults.{refused_at, no_fault}
+use Rattle.schedule_text.proofs.ObeyingLemmas.{no_halt, same_events}
+use Rattle.schedule_text.proofs.LineLemmas.{all_of, order_of, as_orders, Says, says_both, says_comments, one_lines, all_comments}
+use Rattle.schedule_text.proofs.HeadLemmas.{front_is, rest_is, head_parted}
+use Rattle.text_engines.proofs.WritingLemmas.{not_done, short_text}
+use Rattle.thread_runs.specs.declared.chores.RunOptions.{RunOptions}
+use Rattle.thread_runs.specs.declared.gates.RunGate.{RunGate}
+use Rattle.thread_runs.specs.Gates.{HasRoom, spacing_of}
+use Rattle.thread_runs.specs.Records.{RunRecord, RunRefused}
 use Rattle.record_engine.specs.Recording.{events_of, events_text, record_text, ending_text, RecordGives, PrintsRecord, Records}
 use Rattle.record_engine.specs.Laws.{ends_of, EndsAsRecorded, PlaysAsRecorded, RecordsPlayBack}
 use Rattle.record_engine.proofs.ChoreLemmas.{few_snapshots, numbers_low}
@@ -130,7 +134,7 @@ module _ (hold : HoldTimesFit) (feeds : LinesEndByLineFeeds) (one : OneNetwork) 
         × AllByRecursion (λ k. (w.routers k.router.number).router ≡ (plain_of k.router).router) threads.workers × AgreesWith g w (ran g e set).state
     to_the_end g e set =
         let r = ran g e set in
-        let head = head_of_trace (lines_of input) in
+        let head = head_of_schedule (lines_of input) in
         let as_long : length r.order ≡ length events = sym (length-map r.order _) ∙ ap length r.events in
         let whole : length text ≡ length ((head ++ events_text events) ++ comments) = ap length printed in
         let all : length r.order ≤ GREATEST_STAMP =
@@ -199,7 +203,7 @@ module _ (hold : HoldTimesFit) (feeds : LinesEndByLineFeeds) (one : OneNetwork) 
       let plain = plain_lines front t.net t.spells in
       let body : lines_of texts ≡ said.lines = ap lines_of (sym (append-nil texts)) ∙ said.parted [] ∙ append-nil said.lines in
       let lines : lines_of text ≡ front ++ codes "schedule" ∷ said.lines =
-      ap lines_of (printed options input text short t ∙ append_assoc (head_of_trace front) (events_text es) behind_them) ∙ trace_parted feeds front texts (one_lines input)
+      ap lines_of (printed options input text short t ∙ append_assoc (head_of_schedule front) (events_text es) behind_them) ∙ head_parted feeds front texts (one_lines input)
       ∙ ap (λ (k : List Text). front ++ codes "schedule" ∷ k) body in
       let before = ap (before_section (codes "schedule")) lines ∙ front_is (codes "schedule") (codes "schedule") front said.lines plain refl in
       let behind = ap (behind_section (codes "schedule")) lines ∙ rest_is (codes "schedule") (codes "schedule") front said.lines plain refl in

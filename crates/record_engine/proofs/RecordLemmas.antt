@@ -5,10 +5,10 @@ use Rattle.net_text.specs.Lexing.{Text}
 use Rattle.net_workers.specs.declared.record.RunFault.{RunFault}
 use Rattle.net_workers.specs.declared.record.RunFault.TheVariants as fault
 use Rattle.text_engines.specs.Decoding.{Output}
-use Rattle.run_engine.specs.declared.chores.RunOptions.{RunOptions}
+use Rattle.thread_runs.specs.declared.chores.RunOptions.{RunOptions}
 use Rattle.net_workers.specs.Faults.{FaultOf}
-use Rattle.run_engine.specs.Gates.{given_by, told_of}
-use Rattle.run_engine.specs.Running.{IsFaultOfRun, run_tellings, faulty}
+use Rattle.thread_runs.specs.Gates.{given_by, told_of}
+use Rattle.thread_runs.specs.Records.{IsFaultOfRun, run_tellings, faulty}
 use Rattle.record_engine.specs.Recording.{RecordGives}
 
 module _ (options : RunOptions) (lines : List Text) (net : Plan) (out : Output) where

@@ -8,13 +8,13 @@ use Rattle.world_core.specs.World.{World, new_world, played}
 use Rattle.net_text.specs.Lexing.{lines_of}
 use Rattle.net_text.specs.Networks.{SpellsNetwork}
 use Rattle.schedule_text.specs.Reports.{snapshot_line, now_line}
-use Rattle.play_engine.specs.Reporting.{outcome, routes_text}
+use Rattle.schedule_text.specs.Routes.{outcome, routes_text}
 use Rattle.play_engine.specs.Playing.{IsReport, Plays}
 use Rattle.text_engines.specs.declared.status.TheConstants.{DONE}
 use Rattle.text_engines.specs.declared.transfer.TheConstants.{INPUT_LIMIT}
 use Rattle.text_engines.specs.Decoding.{Output, output, memory_output}
-use Rattle.run_engine.specs.declared.chores.RunOptions.{RunOptions}
-use Rattle.run_engine.specs.Running.{RunRecord}
+use Rattle.thread_runs.specs.declared.chores.RunOptions.{RunOptions}
+use Rattle.thread_runs.specs.Records.{RunRecord}
 use Rattle.record_engine.specs.Recording.{PrintsRecord, Records, events_of, ending_text}
 
 -- the lines of a report, without the routes of settled snapshots: how the snapshots of these numbers came out, and the

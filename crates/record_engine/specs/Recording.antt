@@ -8,18 +8,20 @@ use Rattle.router_core.specs.Views.{plain_of}
 use Rattle.net_text.specs.Lexing.{Text, lines_of}
 use Rattle.world_core.specs.declared.schedule.Event.{Event}
 use Rattle.world_core.specs.Verdicts.{judged}
-use Rattle.schedule_text.specs.Events.{event_line}
+use Rattle.schedule_text.specs.Events.{event_line, head_of_schedule}
 use Rattle.schedule_text.specs.Reports.{snapshot_line, now_line}
 use Rattle.worker_loop.specs.declared.journal.Entry.{Entry}
 use Rattle.net_workers.specs.declared.record.RunFault.TheVariants as fault
 use Rattle.net_workers.specs.declared.record.Worked.{Worked}
 use Rattle.text_engines.specs.declared.status.TheConstants.{DONE}
 use Rattle.text_engines.specs.Decoding.{Output, output, WithinLimit, OrMemory}
-use Rattle.play_engine.specs.Reporting.{router_text}
-use Rattle.trace_engine.specs.Tracing.{head_of_trace, comments_text, limited}
-use Rattle.run_engine.specs.declared.chores.RunOptions.{RunOptions}
-use Rattle.run_engine.specs.Gates.{HasRoom}
-use Rattle.run_engine.specs.Running.{RunRecord, RunRefused, faulty, LinesPrint}
+use Rattle.schedule_text.specs.Routes.{router_text}
+use Rattle.net_text.specs.Comments.{comments_text}
+use Rattle.text_engines.specs.Engine.{limited}
+use Rattle.thread_runs.specs.declared.chores.RunOptions.{RunOptions}
+use Rattle.thread_runs.specs.Gates.{HasRoom}
+use Rattle.thread_runs.specs.Records.{RunRecord, RunRefused, faulty}
+use Rattle.text_engines.specs.Inputs.{LinesPrint}
 
 -- ---- the text of a record
 
@@ -33,7 +35,7 @@ events_text events = flat_map event_line events
 
 -- the events behind the network's lines, and behind the line that begins a schedule
 abbrev pub record_text : List Text → List Event → List ℕ
-record_text lines events = head_of_trace lines ++ events_text events
+record_text lines events = head_of_schedule lines ++ events_text events
 
 -- ---- the end of the threads
 

@@ -7,19 +7,18 @@ ghost use Rattle.text_engines.specs.Engine.{PrintedBy, PrintedFrontBy};
 ghost use Rattle.record_engine.specs.Recording.{events_of, ending_text, record_output, RecordGives, InputRecords, Records};
 
 use crate::text::{ending_text, record_text};
-use net_text::{Code, read_network};
+use net_text::{Code, put_comments, read_network};
 use net_workers::Record;
 use ranked_policy::Network;
-use run_engine::{RunOptions, fault_output, run_network};
 use std::alloc::{AllocError, Global};
 use std::sync::Wait;
 use std::thread::Threads;
 use text_engines::status::DONE;
 use text_engines::{
-    INPUT_LIMIT, InputError, IoStopped, Sink, Source, read_input, refused_output, text_output,
-    want_of_memory, write_output,
+    INPUT_LIMIT, InputError, IoStopped, Sink, Source, put_limit, read_input, refused_output,
+    text_output, want_of_memory, write_output,
 };
-use trace_engine::{put_comments, put_limit};
+use thread_runs::{RunOptions, fault_output, run_network};
 
 /// What is printed of a record of a network of these lines, and the status: the lines, the line `schedule`, and each
 /// event of the record as an order, as they stand there; behind them, as comments, how each snapshot that is decided

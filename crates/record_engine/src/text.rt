@@ -6,13 +6,12 @@ ghost use Rattle.world_core.specs.Verdicts.{judged};
 ghost use Rattle.schedule_text.specs.Reports.{snapshot_line};
 ghost use Rattle.record_engine.specs.Recording.{events_of, events_text, record_text, verdicts_text, kept_text, ending_text};
 
+use net_text::put_network;
 use net_workers::{Entry, Record, Worked};
-use play_engine::put_router;
 use ranked_policy::{Network, Origin};
-use schedule_text::{event_line, now_line, snapshot_line};
+use schedule_text::{event_line, now_line, put_router, snapshot_line};
 use snap_collector::Collector;
 use std::alloc::{AllocError, Global};
-use trace_engine::put_network;
 
 // Appends the events of these entries, each as an order.
 fn put_events(entries: &[Entry], out: &mut Vec<u8>) -> Result<(), AllocError>

@@ -29,16 +29,17 @@ use Rattle.net_workers.specs.Ran.{AreLimits}
 use Rattle.net_workers.specs.Faults.{FaultOf}
 use Rattle.net_workers.specs.Ways.{passed_in}
 use Rattle.net_workers.specs.Runs.{KeepsPromises}
-use Rattle.run_engine.specs.declared.chores.RunOptions.{RunOptions}
+use Rattle.thread_runs.specs.declared.chores.RunOptions.{RunOptions}
 use Rattle.run_engine.specs.declared.settled.Demand.{Demand}
 use Rattle.run_engine.specs.declared.settled.Demand.TheVariants.{AsRecorded, EveryOrigin}
 use Rattle.text_engines.specs.declared.status.TheConstants.{DONE}
 use Rattle.text_engines.specs.Decoding.{Output, output}
 use Rattle.text_engines.specs.Checking.{at_prefix}
-use Rattle.play_engine.specs.Reporting.{recorded, part_text, parts_text, router_text}
-use Rattle.run_engine.specs.Running.{HasSetting, ThreadsRecord, Meets, IsPassedOver, SettlesOn, SettlesOnNone, PrintsRoutes, PrintsUnsettled, PrintsStableRoutes, SnapshotsGive, is_settled, decided_by, says, all_originate, meets, is_wanted, IsFirstWanted, CollectorGives, IsRefusedInside, ThreadsGive, IsFaultOfRun, run_tellings, RunGives, faulty}
-use Rattle.run_engine.specs.Gates.{HasRoom, Told, given_by, told_of}
-use Rattle.play_engine.proofs.SettledLemmas.{AreOffersOf, parts_in, the_part, printed_is, have_made}
+use Rattle.schedule_text.specs.Routes.{recorded, part_text, parts_text, router_text}
+use Rattle.run_engine.specs.Running.{HasSetting, Meets, IsPassedOver, SettlesOn, SettlesOnNone, PrintsRoutes, PrintsUnsettled, PrintsStableRoutes, SnapshotsGive, is_settled, decided_by, says, all_originate, meets, is_wanted, IsFirstWanted, CollectorGives, ThreadsGive, RunGives}
+use Rattle.thread_runs.specs.Records.{ThreadsRecord, IsRefusedInside, IsFaultOfRun, run_tellings, faulty}
+use Rattle.thread_runs.specs.Gates.{HasRoom, Told, given_by, told_of}
+use Rattle.schedule_text.proofs.SettledLemmas.{AreOffersOf, parts_in, the_part, printed_is, have_made}
 
 -- ---- the text of parts that were recorded
 

@@ -1,5 +1,5 @@
 -- The text printed for a network that runs in threads.
-use Rattle.std.specs.Prelude.{◌≡◌, ◌≢◌, ℕ, ◌<◌, ◌≤◌, ◌⊎◌, Bool, true, false, ◌&&◌, List, ◌++◌, length, map, codes, Option, None, Some}
+use Rattle.std.specs.Prelude.{◌≡◌, ℕ, ◌<◌, ◌≤◌, ◌⊎◌, Bool, true, false, ◌&&◌, List, ◌++◌, length, map, codes, Option, None, Some}
 use Rattle.std.specs.List.{flat_map, list_all}
 use Rattle.prefix_lanes.specs.Bits.{PrefixView}
 use Rattle.ranked_policy.specs.Plans.{Plan, IsOrigin}
@@ -14,29 +14,22 @@ use Rattle.router_model.specs.Settings.{Setting, IsSetting, names}
 use Rattle.router_runs.specs.Runs.{RunOrder, RunState, IsRunTo, logged_steps}
 use Rattle.router_runs.specs.Snapshots.{ComesOut, HaveMade, AreStable, IsBelievable}
 use Rattle.world_core.specs.Verdicts.{judged}
-use Rattle.net_text.specs.declared.code.Code.{Code}
-use Rattle.net_text.specs.declared.code.Code.TheVariants as kinds
 use Rattle.net_text.specs.Lexing.{Text, lines_of}
-use Rattle.net_text.specs.Networks.{SpellsNetwork, RefusesNetwork}
-use Rattle.net_text.specs.Printing.{code_text}
-use Rattle.net_workers.specs.declared.record.RunFault.{RunFault}
 use Rattle.net_workers.specs.declared.record.RunFault.TheVariants as fault
 use Rattle.worker_loop.specs.declared.chore.Chore.{Chore}
-use Rattle.worker_loop.specs.declared.journal.Entry.{Entry}
-use Rattle.net_workers.specs.declared.record.Worked.{Worked}
-use Rattle.net_workers.specs.declared.record.Way.{Way}
-use Rattle.net_workers.specs.Ran.{AreLimits, IsRecord}
-use Rattle.net_workers.specs.Faults.{FaultOf}
-use Rattle.net_workers.specs.Runs.{IsRunOfThreads, RunKeepsPromises}
-use Rattle.net_workers.specs.Ways.{AreWays, passed_in}
-use Rattle.run_engine.specs.declared.chores.RunOptions.{RunOptions}
+use Rattle.net_workers.specs.Ran.{AreLimits}
+use Rattle.net_workers.specs.Runs.{IsRunOfThreads}
+use Rattle.net_workers.specs.Ways.{passed_in}
+use Rattle.thread_runs.specs.declared.chores.RunOptions.{RunOptions}
 use Rattle.run_engine.specs.declared.settled.Demand.{Demand}
 use Rattle.run_engine.specs.declared.settled.Demand.TheVariants.{AsRecorded, EveryOrigin}
 use Rattle.text_engines.specs.declared.status.TheConstants.{DONE}
-use Rattle.text_engines.specs.Decoding.{Output, output, refused, memory_output, WithinLimit, OrMemory}
+use Rattle.text_engines.specs.Decoding.{Output, output, memory_output, WithinLimit, OrMemory}
 use Rattle.text_engines.specs.Checking.{at_prefix}
-use Rattle.play_engine.specs.Reporting.{router_text, recorded, parts_text}
-use Rattle.run_engine.specs.Gates.{HasRoom, Told, given_by, told_of, told_each, spacing_of}
+use Rattle.schedule_text.specs.Routes.{router_text, recorded, parts_text}
+use Rattle.thread_runs.specs.Gates.{HasRoom}
+use Rattle.thread_runs.specs.Records.{ThreadsRecord, faulty, IsRefusedInside, RunRecord, RunRefused}
+use Rattle.text_engines.specs.Inputs.{LinesPrint}
 
 -- the text printed if no snapshot is wanted
 abbrev pub unsettled_output : Output
@@ -55,20 +48,6 @@ EveryOriginOriginates net parts = (u : ℕ) (q : PrefixView) → IsOrigin net.or
 abbrev pub Meets : Demand → Plan → (ℕ → RouterPart) → Type 0
 Meets AsRecorded net parts = Unit {0}
 Meets EveryOrigin net parts = EveryOriginOriginates net parts
-
--- ---- the record of the threads
-
--- a record of threads that ran so many chores each, and of their pipes: what they did is one run of the network, which
--- keeps the promises of runs; each router, rising, was told what stands for it here
-pub record ThreadsRecord {G T : Type 0} (given : G → List Chore) (told : G → T) (net : Plan) (turns : ℕ) (tellings : List T) : Type 0 where
-  pub workers : List (Worked G)
-  pub ways : List Way
-  pub collector : CollectorView
-  pub gathered : List Entry
-  pub recorded : IsRecord given net turns (passed_in ways) workers collector gathered
-  pub pipes : AreWays net ways
-  pub gates : map (λ w. told w.gate) workers ≡ tellings
-  pub promises : RunKeepsPromises net (passed_in ways) workers collector gathered
 
 -- ---- how its snapshots came out
 
@@ -126,20 +105,6 @@ abbrev pub SnapshotsGive : {G T : Type 0} → (G → List Chore) → (G → T) �
 SnapshotsGive given told demand net turns tellings last out =
     (r : ThreadsRecord given told net turns tellings) × (PrintsRoutes r demand last out ⊎ PrintsUnsettled r demand last out)
 
--- the text for a fault of a run
-abbrev pub faulty : RunFault → Output
-faulty (fault.WorkerRefused u) = refused 0 (codes "G2")
-faulty fault.BadLimits = refused 0 (codes "G3")
-faulty fault.BoardDiffers = refused 0 (codes "G4")
-faulty fault.Memory = memory_output
-
--- the text for routers that were told this: a worker was refused, that of the least router that has a fault; or none
--- has one, and the board and the journals differ
-abbrev pub IsRefusedInside : {G T : Type 0} → (G → List Chore) → (G → T) → Plan → (turns : ℕ) → List T → Output → Type 0
-IsRefusedInside given told net turns tellings out =
-    ((u : ℕ) × FaultOf given told net turns tellings (fault.WorkerRefused u) × (out ≡ faulty (fault.WorkerRefused u)))
-    ⊎ (FaultOf given told net turns tellings fault.BoardDiffers × (out ≡ faulty fault.BoardDiffers))
-
 -- the text for so many chores of each worker, at the word of these gates
 abbrev pub ThreadsGive : {G T : Type 0} → (G → List Chore) → (G → T) → Plan → (turns : ℕ) → List G → (last : ℕ) → Output → Type 0
 ThreadsGive given told net turns gates last out =
@@ -156,34 +121,11 @@ Gated given told net turns gates last out = ThreadsGive given told net turns gat
 abbrev pub HasSetting : Plan → Type 0
 HasSetting net = (g : Setting) × (g.net ≡ net) × IsSetting g
 
--- what each router is told: to start its sessions, originate its prefixes and go on in turns; and the least to take the snapshots
-abbrev pub run_tellings : RunOptions → Plan → List Told
-run_tellings options net = told_each net (spacing_of net options) options.snapshots net.routers
-
--- a record of threads in which each router started its sessions, originated its prefixes and went on in turns, and the least took
--- the snapshots
-abbrev pub RunRecord : RunOptions → Plan → Type 0
-RunRecord options net = ThreadsRecord given_by told_of net options.turns (run_tellings options net)
-
--- some threads that were told this have no record
-abbrev pub RunRefused : RunOptions → Plan → Output → Type 0
-RunRefused options net out = IsRefusedInside given_by told_of net options.turns (run_tellings options net) out
-
--- why a network does not run: the chores have no room, or another fault
-abbrev pub IsFaultOfRun : RunOptions → Plan → RunFault → Type 0
-IsFaultOfRun options net why = ((why ≡ fault.BadLimits) × (HasRoom net options → ⊥)) ⊎ ((why ≢ fault.BadLimits) × HasRoom net options)
-
 abbrev pub RunGives : RunOptions → Plan → Output → Type 0
 RunGives options net out =
     ((HasRoom net options → ⊥) × (out ≡ faulty fault.BadLimits))
     ⊎ (HasRoom net options
     × (RunRefused options net out ⊎ ((r : RunRecord options net) × (PrintsStableRoutes r options.snapshots out ⊎ PrintsUnsettled r EveryOrigin options.snapshots out))))
-
--- the text for lines; `Gives` says what is printed for the network that they spell
-abbrev pub LinesPrint : (Plan → Output → Type 0) → List Text → Output → Type 0
-LinesPrint Gives lines out =
-    ((at : ℕ) × (code : Code) × (code ≢ kinds.Memory) × RefusesNetwork lines at code × (out ≡ refused at (code_text code)))
-    ⊎ ((net : Plan) × SpellsNetwork lines net × Gives net out)
 
 abbrev pub LinesRun : RunOptions → List Text → Output → Type 0
 LinesRun options lines out = LinesPrint (RunGives options) lines out

@@ -7,10 +7,8 @@ ghost use Rattle.text_engines.specs.Decoding.{output};
 ghost use Rattle.text_engines.specs.Engine.{PrintedBy, PrintedFrontBy, WrittenBy, WrittenFrontBy};
 ghost use Rattle.run_engine.specs.Running.{HasSetting, RunGives, InputRuns, Runs, Gated};
 
-use crate::chores::RunOptions;
-use crate::network::run_network;
 use crate::settled::{Demand, settled_output};
-use crate::threads::{fault_output, threads_output};
+use crate::threads::threads_output;
 use bgp_codec::Message;
 use net_text::{Code, read_network};
 use net_workers::{Gate, Limits};
@@ -25,6 +23,7 @@ use text_engines::{
     INPUT_LIMIT, InputError, IoStopped, Sink, Source, read_input, refused_output, text_output,
     want_of_memory, write_output,
 };
+use thread_runs::{RunOptions, fault_output, run_network};
 use world_core::laws::members_are_the_routers;
 
 /// Runs a network in threads at the word of these gates, which have given no chore yet, and writes

@@ -8,9 +8,9 @@ ghost use Rattle.world_core.specs.Verdicts.{judged};
 ghost use Rattle.text_engines.specs.Decoding.{output};
 ghost use Rattle.run_engine.specs.Running.{is_settled, all_originate, is_wanted, IsFirstWanted, CollectorGives};
 
-use play_engine::put_parts;
 use prefix_lanes::Prefix;
 use ranked_policy::Network;
+use schedule_text::put_parts;
 use snap_collector::{Collector, Outcome};
 use snap_marker::Part;
 use std::alloc::{AllocError, Global};

@@ -1,35 +1,21 @@
 //! The text printed of a network that runs in threads.
 
-ghost use Rattle.std.specs.Prelude.{◌≡◌, ◌≢◌, [], length, IfOk};
+ghost use Rattle.std.specs.Prelude.{◌≡◌, [], length, IfOk};
 ghost use Rattle.std.specs.List.{AllByRecursion};
-ghost use Rattle.net_workers.specs.declared.record.RunFault.TheVariants.{Memory};
 ghost use Rattle.text_engines.specs.Decoding.{output};
-ghost use Rattle.run_engine.specs.Running.{faulty, ThreadsGive};
+ghost use Rattle.run_engine.specs.Running.{ThreadsGive};
 
 use crate::settled::{Demand, settled_output};
 use bgp_codec::Message;
-use net_workers::{Gate, Limits, RunFault, run_net};
+use net_workers::{Gate, Limits, run_net};
 use prefix_lanes::Prefix;
 use ranked_policy::{Network, Path};
 use run_model::outcome_is_one;
 use std::alloc::{AllocError, Global};
 use std::sync::Wait;
 use std::thread::Threads;
-use text_engines::refused_output;
+use thread_runs::fault_output;
 use world_core::laws::members_are_the_routers;
-
-/// The text printed for a fault of the run, and the exit status. Want of memory is no such fault: it is an error here.
-pub fn fault_output(alloc: Global, fault: RunFault) -> Result<(Vec<u8>, u8), AllocError>
-    ensures kind { IfOk result (λ printed. fault ≢ Memory) }
-    ensures output { IfOk result (λ printed. output printed.0.items printed.1 ≡ faulty fault) }
-{
-    match fault {
-        RunFault::Memory => Err(AllocError),
-        RunFault::WorkerRefused { .. } => refused_output(alloc, 0, b"G2"),
-        RunFault::BadLimits => refused_output(alloc, 0, b"G3"),
-        RunFault::BoardDiffers => refused_output(alloc, 0, b"G4"),
-    }
-}
 
 /// The text printed of a network that runs in threads at the word of these gates, and the exit status: the routes of
 /// the first of the snapshots from 1 to the last that came out settled, or `unsettled`; or that the run was refused.

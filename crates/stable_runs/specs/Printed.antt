@@ -8,7 +8,7 @@ use Rattle.router_model.specs.Settings.{Setting, IsSetting, names}
 use Rattle.router_runs.specs.Snapshots.{AsOriginated}
 use Rattle.world_core.specs.World.{World}
 use Rattle.text_engines.specs.Decoding.{Output}
-use Rattle.play_engine.specs.Reporting.{outcome}
+use Rattle.schedule_text.specs.Routes.{outcome}
 use Rattle.play_engine.specs.Playing.{IsReport}
 use Rattle.stable_engine.specs.Answers.{Answer, AreAnswered}
 use Rattle.stable_runs.specs.Listing.{AreListed}

@@ -12,7 +12,7 @@ use net_workers::{Chore, Gate, Limits, ScriptGate, run_net};
 use prefix_lanes::Prefix;
 use ranked_policy::{Asn, Network};
 use router_model::Command;
-use run_engine::{new_gates, run_gated};
+use run_engine::run_gated;
 use std::alloc::{AllocError, Global};
 use std::sync::Wait;
 use std::sync::atomic::{AtomicU64, Ordering};
@@ -20,6 +20,7 @@ use std::test::Fail;
 use std::thread;
 use std::thread::Threads;
 use text_engines::Watched;
+use thread_runs::new_gates;
 
 // Two routers and a link; router 1 originates 10.1.0.0/16. Pipes of one item, and of many.
 const NARROW: &str =

@@ -11,13 +11,12 @@ use ranked_policy::Network;
 use record_engine::record_output;
 use router_core::Router;
 use router_model::{Command, Stepped};
-use run_engine::new_gates;
 use std::alloc::{AllocError, Global};
 use std::sync::Wait;
 use std::test::Fail;
 use std::thread::Threads;
-use text_engines::INPUT_LIMIT;
-use trace_engine::put_limit;
+use text_engines::{INPUT_LIMIT, put_limit};
+use thread_runs::new_gates;
 use world_core::World;
 
 // Two routers and a link; and DISAGREE, where 2 and 3 prefer the way through each other.

@@ -3,13 +3,13 @@
 use bgp_codec::Rule;
 use bgp_values::Width;
 use command_line::{Asked, Task, ThreadTask, read_words, run_task, run_thread_task};
-use run_engine::RunOptions;
 use stable_search::Limits;
 use std::alloc::Global;
 use std::sync::Wait;
 use std::test::Fail;
 use std::thread::Threads;
 use text_engines::Watched;
+use thread_runs::RunOptions;
 
 // Words whose task starts no thread, what is read, what is written for it, and the status.
 struct Row {

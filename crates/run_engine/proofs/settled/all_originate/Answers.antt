@@ -3,7 +3,7 @@ use Rattle.snap_marker.specs.Recordings.{RouterPart}
 use Rattle.snap_collector.specs.Collecting.{member_of}
 use Rattle.snap_collector.specs.Collector.{made_for, kept_of}
 use Rattle.run_engine.specs.Running.{says}
-use Rattle.play_engine.proofs.PartLemmas.{part_is_recorded}
+use Rattle.schedule_text.proofs.PartLemmas.{part_is_recorded}
 use Rattle.run_engine.proofs.RunLemmas.{origin_fails, origin_passes}
 use Rattle.run_engine.proofs.settled.all_originate.Goals as goal
 

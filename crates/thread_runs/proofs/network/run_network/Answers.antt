@@ -1,9 +1,9 @@
 use Rattle.std.proofs.Common.{◌≡◌, ◌∙◌, ℕ, List, map, ap, subst}
 use Rattle.std.specs.Prelude.{IfErr}
 use Rattle.net_workers.specs.Faults.{FaultOf}
-use Rattle.run_engine.specs.Gates.{Told, given_by, told_of, told_each}
-use Rattle.run_engine.specs.Running.{run_tellings}
-use Rattle.run_engine.proofs.network.run_network.Goals as goal
+use Rattle.thread_runs.specs.Gates.{Told, given_by, told_of, told_each}
+use Rattle.thread_runs.specs.Records.{run_tellings}
+use Rattle.thread_runs.proofs.network.run_network.Goals as goal
 
 pub returns-clause-fault : goal.returns-clause-fault
 returns-clause-fault g c =

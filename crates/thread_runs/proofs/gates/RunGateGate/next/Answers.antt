@@ -1,8 +1,8 @@
 use Rattle.std.proofs.Common.{◌∙◌, ap, List}
 use Rattle.worker_loop.specs.declared.chore.Chore.{Chore}
-use Rattle.run_engine.specs.Gates.{told_of, chore_at}
-use Rattle.run_engine.proofs.GateLemmas.{next_is}
-use Rattle.run_engine.proofs.gates.RunGateGate.next.Goals as goal
+use Rattle.thread_runs.specs.Gates.{told_of, chore_at}
+use Rattle.thread_runs.proofs.GateLemmas.{next_is}
+use Rattle.thread_runs.proofs.gates.RunGateGate.next.Goals as goal
 
 pub returns-clause-given : goal.returns-clause-given
 returns-clause-given g c =

@@ -1,8 +1,8 @@
 -- the gates that were made, before those of the routers that are left, are all; and none has given a chore
 use Rattle.std.proofs.Common.{◌≡◌, ◌++◌, [], drop, map}
 use Rattle.std.specs.List.{AllByRecursion}
-use Rattle.run_engine.specs.Gates.{told_of, told_each, given_by}
-use Rattle.run_engine.proofs.chores.new_gates.Given as goal
+use Rattle.thread_runs.specs.Gates.{told_of, told_each, given_by}
+use Rattle.thread_runs.proofs.chores.new_gates.Given as goal
 
 abbrev pub invariant-loop-router : goal.invariant-loop-router
 invariant-loop-router l = record {

@@ -1,8 +1,8 @@
 use Rattle.std.proofs.Common.{◌∙◌, ◌++◌, ap, sym, List}
 use Rattle.ranked_policy.specs.declared.network.Origin.{Origin}
 use Rattle.worker_loop.specs.declared.chore.Chore.{Chore}
-use Rattle.run_engine.proofs.GateLemmas.{chosen, start, is_peer, originate, is_of, all_chosen, opening_is}
-use Rattle.run_engine.proofs.chores.opening.Goals as goal
+use Rattle.thread_runs.proofs.GateLemmas.{chosen, start, is_peer, originate, is_of, all_chosen, opening_is}
+use Rattle.thread_runs.proofs.chores.opening.Goals as goal
 
 pub loop-origin-init : goal.loop-origin-init
 loop-origin-init c =

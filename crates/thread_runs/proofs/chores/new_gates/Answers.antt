@@ -1,8 +1,8 @@
 use Rattle.std.proofs.Common.{◌∙◌, ap, sym, length}
 use Rattle.std.proofs.lemmas.List.{length-map}
-use Rattle.run_engine.specs.Gates.{told_of}
-use Rattle.run_engine.proofs.GateLemmas.{all_told, told_len}
-use Rattle.run_engine.proofs.chores.new_gates.Goals as goal
+use Rattle.thread_runs.specs.Gates.{told_of}
+use Rattle.thread_runs.proofs.GateLemmas.{all_told, told_len}
+use Rattle.thread_runs.proofs.chores.new_gates.Goals as goal
 
 pub returns-clause-many : goal.returns-clause-many
 returns-clause-many c =

@@ -1,20 +1,24 @@
-//! A network that runs in threads as `bgpnet run` and `bgpnet record` have it run.
+//! A network that runs in threads as `bgpnet run` and `bgpnet record` have it run, and the text printed where it does
+//! not.
 
-ghost use Rattle.std.specs.Prelude.{◌≡◌, map, IfOk, IfErr, OnOk};
+ghost use Rattle.std.specs.Prelude.{◌≡◌, ◌≢◌, map, IfOk, IfErr, OnOk};
+ghost use Rattle.net_workers.specs.declared.record.RunFault.TheVariants.{Memory};
 ghost use Rattle.net_workers.specs.Ran.{IsRecord};
 ghost use Rattle.net_workers.specs.Runs.{RunKeepsPromises};
 ghost use Rattle.net_workers.specs.Ways.{AreWays, passed_in};
 ghost use Rattle.net_workers.specs.Faults.{FaultOf};
-ghost use Rattle.run_engine.specs.Gates.{HasRoom, given_by, told_of};
-ghost use Rattle.run_engine.specs.Running.{IsFaultOfRun, run_tellings};
+ghost use Rattle.text_engines.specs.Decoding.{output};
+ghost use Rattle.thread_runs.specs.Gates.{HasRoom, given_by, told_of};
+ghost use Rattle.thread_runs.specs.Records.{IsFaultOfRun, faulty, run_tellings};
 
 use crate::chores::{RunOptions, new_gates, spacing};
 use crate::gates::RunGate;
 use net_workers::{Limits, Record, RunFault, run_net};
 use ranked_policy::Network;
-use std::alloc::Global;
+use std::alloc::{AllocError, Global};
 use std::sync::Wait;
 use std::thread::Threads;
+use text_engines::refused_output;
 
 /// Runs a network in threads: each router starts its session with each peer, originates each prefix of which it is
 /// the origin, and goes on in turns; the least router takes the snapshots of the options, evenly spaced.
@@ -52,4 +56,17 @@ where
         turns: options.turns,
     };
     run_net(rt, alloc, network, gates, limits)
+}
+
+/// The text printed for a fault of the run, and the exit status. Want of memory is no such fault: it is an error here.
+pub fn fault_output(alloc: Global, fault: RunFault) -> Result<(Vec<u8>, u8), AllocError>
+    ensures kind { IfOk result (λ printed. fault ≢ Memory) }
+    ensures output { IfOk result (λ printed. output printed.0.items printed.1 ≡ faulty fault) }
+{
+    match fault {
+        RunFault::Memory => Err(AllocError),
+        RunFault::WorkerRefused { .. } => refused_output(alloc, 0, b"G2"),
+        RunFault::BadLimits => refused_output(alloc, 0, b"G3"),
+        RunFault::BoardDiffers => refused_output(alloc, 0, b"G4"),
+    }
 }

@@ -1,8 +1,8 @@
 -- the chores that were put, before those of what is left, are all
 use Rattle.std.proofs.Common.{◌≡◌, ◌++◌, drop}
-use Rattle.run_engine.specs.Gates.{opening}
-use Rattle.run_engine.proofs.GateLemmas.{chosen, start, is_peer, originate, is_of}
-use Rattle.run_engine.proofs.chores.opening.Given as goal
+use Rattle.thread_runs.specs.Gates.{opening}
+use Rattle.thread_runs.proofs.GateLemmas.{chosen, start, is_peer, originate, is_of}
+use Rattle.thread_runs.proofs.chores.opening.Given as goal
 
 abbrev pub invariant-loop-router : goal.invariant-loop-router
 invariant-loop-router l =

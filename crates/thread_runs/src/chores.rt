@@ -3,7 +3,7 @@
 ghost use Rattle.std.specs.Prelude.{◌≡◌, ◌<◌, ◌==◌, [], length, map, count_by, IfOk, MatchOption};
 ghost use Rattle.std.specs.List.{AllByRecursion};
 ghost use Rattle.router_model.specs.Settings.{linked};
-ghost use Rattle.run_engine.specs.Gates.{opening, given_by, told_of, told_each, spacing_of, HasRoom};
+ghost use Rattle.thread_runs.specs.Gates.{opening, given_by, told_of, told_each, spacing_of, HasRoom};
 
 use crate::gates::RunGate;
 use net_workers::{Chore, MOST_TURNS};

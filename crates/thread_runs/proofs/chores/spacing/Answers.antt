@@ -1,10 +1,10 @@
 use Rattle.std.proofs.Common.{◌∙◌, ◌≡◌, ◌<◌, ◌≤◌, ◌/◌, ◌+◌, ◌-◌, ℕ, ap, sym, subst, arith, length, get_or, List}
 use Rattle.std.specs.List.{All}
 use Rattle.ranked_policy.specs.declared.network.Router.{Router}
-use Rattle.run_engine.specs.Gates.{opening, first_router, spacing_of}
+use Rattle.thread_runs.specs.Gates.{opening, first_router, spacing_of}
 use Rattle.text_engines.proofs.CheckLemmas.{all_all}
-use Rattle.run_engine.proofs.GateLemmas.{first_is}
-use Rattle.run_engine.proofs.chores.spacing.Goals as goal
+use Rattle.thread_runs.proofs.GateLemmas.{first_is}
+use Rattle.thread_runs.proofs.chores.spacing.Goals as goal
 
 pub returns-else-spacing-eq0 : goal.returns-else-spacing-eq0
 returns-else-spacing-eq0 c =

@@ -9,8 +9,8 @@ use Rattle.router_model.specs.Settings.{peers}
 use Rattle.worker_loop.specs.declared.chore.Chore.{Chore}
 use Rattle.worker_loop.specs.declared.chore.Chore.TheVariants.{Turn, Command}
 use Rattle.net_workers.specs.declared.record.TheConstants.{MOST_TURNS}
-use Rattle.run_engine.specs.declared.gates.RunGate.{RunGate}
-use Rattle.run_engine.specs.declared.chores.RunOptions.{RunOptions}
+use Rattle.thread_runs.specs.declared.gates.RunGate.{RunGate}
+use Rattle.thread_runs.specs.declared.chores.RunOptions.{RunOptions}
 
 -- ---- the chores of one router
 

@@ -1,7 +1,7 @@
 //! The gate of a router of `bgpnet run`.
 
 ghost use Rattle.std.specs.Prelude.{◌≡◌, ◌<◌, []};
-ghost use Rattle.run_engine.specs.Gates.{AreChores, chore_at, later_chore, given_by, told_of};
+ghost use Rattle.thread_runs.specs.Gates.{AreChores, chore_at, later_chore, given_by, told_of};
 
 use net_workers::{Chore, Gate};
 use ranked_policy::Asn;
@@ -79,7 +79,7 @@ fn turns_from(spacing: u32, snapshots: u32, behind: u32) -> u32 {
 }
 
 impl Gate for RunGate {
-    ghost use Rattle.run_engine.specs.Gates.{Told};
+    ghost use Rattle.thread_runs.specs.Gates.{Told};
 
     ghost Told = { Told };
 

@@ -14,7 +14,7 @@ use Rattle.router_model.specs.Settings.{linked}
 use Rattle.router_model.specs.declared.command.Command.TheVariants.{Start, Originate, Snapshot}
 use Rattle.worker_loop.specs.declared.chore.Chore.{Chore}
 use Rattle.worker_loop.specs.declared.chore.Chore.TheVariants.{Turn, Command}
-use Rattle.run_engine.specs.Gates.{opening, first_router, Told, AreChores, numbered_or_turn, later_chore, chore_at, first_chores, told_each}
+use Rattle.thread_runs.specs.Gates.{opening, first_router, Told, AreChores, numbered_or_turn, later_chore, chore_at, first_chores, told_each}
 use Rattle.text_engines.proofs.CheckLemmas.{within}
 
 -- ---- one more chore is given

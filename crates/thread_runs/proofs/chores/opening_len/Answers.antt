@@ -1,7 +1,7 @@
 use Rattle.std.proofs.Common.{arith}
 use Rattle.std.proofs.lemmas.List.Sums.{count_by-le-length}
-use Rattle.run_engine.proofs.GateLemmas.{opening_len, is_peer, is_of}
-use Rattle.run_engine.proofs.chores.opening_len.Goals as goal
+use Rattle.thread_runs.proofs.GateLemmas.{opening_len, is_peer, is_of}
+use Rattle.thread_runs.proofs.chores.opening_len.Goals as goal
 
 pub overflow_add-result : goal.overflow_add-result
 overflow_add-result c =

@@ -1,0 +1,16 @@
+//! A network in threads as the program has it run: each router starts its sessions, originates its prefixes, and goes on
+//! in turns, and the least router takes the snapshots.
+//!
+//! [`run_network`] answers the record of a network that ran for [`RunOptions`], at the word of gates that [`new_gates`]
+//! makes, each a [`RunGate`]; [`fault_output`] makes the text where there is none. The definitions stand in `specs/`:
+//! `Gates` (what routers are told) and `Records`. Left out: what is printed of a record, by `run_engine` and
+//! `record_engine`.
+#![tactic(auto)]
+
+mod chores;
+mod gates;
+mod network;
+
+pub use chores::{RunOptions, new_gates};
+pub use gates::RunGate;
+pub use network::{fault_output, run_network};
