@@ -9,7 +9,7 @@ use Rattle.std.proofs.lemmas.Option.{get_or_from_slice_get, slice_get_within}
 use Rattle.run_model.specs.Network.{alone, puts, takes, offers}
 use Rattle.outbox.specs.declared.item.Item.{Item}
 use Rattle.ranked_policy.specs.declared.network.Router.{Router}
-use Rattle.ranked_policy.specs.Plans.{Plan, IsNetwork, IsRouter, numbers}
+use Rattle.ranked_policy.specs.Plans.{Plan, IsNetwork, numbers}
 use Rattle.snap_marker.specs.Recordings.{RouterOffer}
 use Rattle.router_model.specs.declared.refusal.RouterError.TheVariants as error
 use Rattle.router_model.specs.Settings.{Setting, is_router, peers}
@@ -295,10 +295,6 @@ pub woken_at : (net : Plan) (v place : ℕ) (old new : List Bool) → IsNetwork 
 woken_at net v place old new is_net at here others i b mark is =
     let away : i ≢ place = λ same. here (subst (λ (k : ℕ). slice_get new k ≡ Some true) same mark) in
     (sym (others i away) ∙ mark, λ same. away (one_place (numbers net.routers) i place v is_net.plan.rising (is ∙ ap Some (sym same)) at))
-
-pub woken_none : (net : Plan) (v : ℕ) (marks : List Bool) → (IsRouter net.routers v → ⊥) → Woken net v marks marks
-woken_none net v marks none i b mark is =
-    (mark, λ same. none (i, slice_get_within (numbers net.routers) i b is, get_or_from_slice_get (numbers net.routers) i b v is ∙ sym same))
 
 pub none_rests : (x : WorldView) (marks : List Bool) → ((i : ℕ) → slice_get marks i ≡ Some true → ⊥) → AreResting x marks
 none_rests x marks none i u mark is = absurd (none i mark)

@@ -1,6 +1,6 @@
 -- The pipe from a peer is found where a link joins the two.
 use Rattle.std.proofs.Common.{◌≡◌, ℕ, zero, suc, ◌+◌, ◌<◌, ◌≤◌, ◌==◌, nat_eq, Bool, true, false, ◌&&◌, not, cond, List, [], ◌∷◌, length, map, filter, refl, ap, sym, ◌∙◌, arith, subst, ◌↔◌, inl, inr, Option, None, Some}
-use Rattle.std.specs.Prelude.{nat_lt, MatchOption, ◌||◌, IsTrue, Result, Ok, Err}
+use Rattle.std.specs.Prelude.{nat_lt, MatchOption, ◌||◌, IsTrue}
 use Rattle.std.specs.List.{position, position_or_len, list_any}
 use Rattle.std.proofs.lemmas.Bool.{eqb-true, eqb-false, eq-eqb}
 use Rattle.std.proofs.lemmas.Bool.Decides.{nat_tests}
@@ -10,11 +10,9 @@ use Rattle.ranked_policy.specs.Plans.{Plan, IsNetwork, Joins, Linked, numbers}
 use Rattle.router_model.specs.Settings.{Setting, joins, linked, peers, is_router}
 use Rattle.router_model.specs.Laws.{LinkedRoutersArePeers}
 use Rattle.world_core.specs.declared.inbox.Pipe.{Pipe}
-use Rattle.world_core.specs.declared.schedule.StepFault.{StepFault}
 use Rattle.world_core.specs.declared.schedule.StepFault.TheVariants.{NoSuchRouter, NoSuchLink}
 use Rattle.world_core.specs.World.{WorldAnswer, Stops, where_linked}
-use Rattle.world_core.specs.Views.{WorldView, is_from, IsAt}
-use Rattle.world_core.specs.Steps.{FindsLink, FindsLinkTo}
+use Rattle.world_core.specs.Views.{is_from, IsAt}
 
 at_head : (b : Bool) (p : Pipe) (ps : List Pipe) (v k : ℕ) → (p.peer == v) ≡ b → (k < length ps → IsAt (λ p. p.peer) ps v k)
     → cond (not b) (1 + k) 0 < length (p ∷ ps) → IsAt (λ p. p.peer) (p ∷ ps) v (cond (not b) (1 + k) 0)
@@ -110,10 +108,6 @@ pub link_turned : (g : Setting) (u v : ℕ) (a : WorldAnswer) → where_linked g
 link_turned g u v a =
     ap (λ (b : Bool). cond b (cond (linked g.net u v) a (Stops NoSuchLink)) (Stops NoSuchRouter)) (and_turned (is_router g u) (is_router g v))
     ∙ ap (λ (b : Bool). cond (is_router g v && is_router g u) (cond b a (Stops NoSuchLink)) (Stops NoSuchRouter)) (joins_back u v g.net.links)
-
-pub finds_turned : (r : Result (ℕ × ℕ) StepFault) (x : WorldView) (u v : ℕ) → FindsLink r x v u → FindsLinkTo r x u v
-finds_turned (Ok p) x u v h = h
-finds_turned (Err why) x u v h = λ g e a. link_turned g u v a ∙ h g e a
 
 -- ---- the relation and the test
 

@@ -1,6 +1,7 @@
 -- A put, a take and an offer, as steps of the world.
 use Rattle.std.proofs.Common.{◌≡◌, ℕ, ◌+◌, ◌==◌, Bool, true, false, ◌&&◌, cond, List, [], ◌∷◌, ◌++◌, map, refl, ap, sym, ◌∙◌, subst, get_or, set, Option, None, Some}
 use Rattle.std.specs.Prelude.{Result, Ok, Err, drop, slice_get, nat_lt, max}
+use Rattle.std.specs.List.{AllByRecursion}
 use Rattle.std.proofs.Math.Path.{fun_ext}
 use Rattle.std.proofs.lemmas.Bool.{eqb-true, eq-eqb}
 use Rattle.run_model.specs.Network.{puts, takes, offers}
@@ -24,7 +25,7 @@ use Rattle.world_core.specs.declared.schedule.Event.TheVariants as schedule
 use Rattle.world_core.specs.declared.schedule.StepFault.{StepFault}
 use Rattle.world_core.specs.declared.schedule.StepFault.TheVariants.{Refused}
 use Rattle.world_core.specs.World.{World, Does, Stops, Gives, of_offer, called, taking_of, world_after, piped}
-use Rattle.world_core.specs.Views.{WorldView, plain_world, routers_of, pipes_of, pipes_to, items_from, IsAt, IsWhole, Answers, Entered, EntersPut, EntersTake, TakesFrom, EntersOffer, OffersTo}
+use Rattle.world_core.specs.Views.{WorldView, plain_world, routers_of, pipes_of, pipes_to, items_from, IsAt, KnowsBack, IsWhole, Answers, Entered, EntersPut, EntersTake, TakesFrom, EntersOffer, OffersTo}
 use Rattle.world_core.specs.Steps.{StandsAt, LinkAt}
 use Rattle.world_core.proofs.Places.{number_here, numbers_set, all_set, all_here, here, set_at}
 use Rattle.world_core.proofs.Linking.{link_turned}
@@ -39,6 +40,7 @@ pub record PipeAt (x : WorldView) (b a to k : ℕ) (old new : Inbox) (p q : Pipe
   pub router : new.router ≡ old.router
   pub pipes : new.pipes.items ≡ set old.pipes.items k q
   pub peer : q.peer ≡ p.peer
+  pub back : (net : Plan) (u : ℕ) → KnowsBack net u p → KnowsBack net u q
 
 pub old_router : (x : WorldView) (b a to k : ℕ) (old new : Inbox) (p q : Pipe) → PipeAt x b a to k old new p q → old.router ≡ b
 old_router x b a to k old new p q at = ap (λ (i : Inbox). i.router) at.was ∙ number_here (λ i. i.router) x.inboxes b to old at.link.here.inbox
@@ -205,6 +207,16 @@ take_steps law x u v i k xr y old new p q run r whole pipe is enters same g e ra
 
 -- ---- all is whole after it
 
+-- each pipe beside it still knows the way back
+backs_set : (x : WorldView) (b a to k : ℕ) (old new : Inbox) (p q : Pipe) → PipeAt x b a to k old new p q → IsWhole x → AllByRecursion (KnowsBack x.net old.router) (set old.pipes.items k q)
+backs_set x b a to k old new p q pipe whole =
+    let net = x.net in
+    let at = pipe_at x b a to k old new p q pipe in
+    let was = subst (λ (i : Inbox). AllByRecursion (KnowsBack net i.router) i.pipes.items) (sym pipe.was)
+    (all_here (λ i. i.router) (λ i. AllByRecursion (KnowsBack net i.router) i.pipes.items) x.inboxes b to old pipe.link.here.inbox whole.backs) in
+    let held = subst (KnowsBack net old.router) (sym pipe.held) (all_here (λ p. p.peer) (KnowsBack net old.router) old.pipes.items a k p at was) in
+    all_set (λ p. p.peer) (KnowsBack net old.router) old.pipes.items a k q at was (pipe.back net old.router held)
+
 pub whole_pipe : (x : WorldView) (b a u i to k : ℕ) (y : RouterView) (old new : Inbox) (p q : Pipe) (run : List Event) → IsWhole x → StandsAt x u i → PipeAt x b a to k old new p q → y.number ≡ u → y.net ≡ x.net
     → IsWhole (record x { routers = set x.routers i y; inboxes = set x.inboxes to new; run = run })
 whole_pipe x b a u i to k y old new p q run whole at pipe e n =
@@ -218,6 +230,8 @@ whole_pipe x b a u i to k y old new p q run whole at pipe e n =
       inboxes = numbers_set (λ i. i.router) x.inboxes b to new pipe.link.here.inbox (pipe.router ∙ old_is) ∙ whole.inboxes;
       pipes = all_set (λ i. i.router) (λ i. map (λ p. p.peer) i.pipes.items ≡ peers x.net i.router) x.inboxes b to new pipe.link.here.inbox whole.pipes
           (ap (map (λ (p : Pipe). p.peer)) pipe.pipes ∙ numbers_set (λ p. p.peer) old.pipes.items a k q (pipe_at x b a to k old new p q pipe) (pipe_peer x b a to k old new p q pipe) ∙ was ∙ ap (peers x.net) (sym pipe.router));
+      backs = all_set (λ i. i.router) (λ i. AllByRecursion (KnowsBack x.net i.router) i.pipes.items) x.inboxes b to new pipe.link.here.inbox whole.backs
+          (subst (λ (u : ℕ). AllByRecursion (KnowsBack x.net u) new.pipes.items) (sym pipe.router) (subst (AllByRecursion (KnowsBack x.net old.router)) (sym pipe.pipes) (backs_set x b a to k old new p q pipe whole)));
       members = whole.members;
     }
 
@@ -283,5 +297,6 @@ whole_offer x u i y kept board run whole at e n same = record {
   nets = all_set (λ r. r.number) (λ r. r.net ≡ x.net) x.routers u i y at.router whole.nets n;
   inboxes = whole.inboxes;
   pipes = whole.pipes;
+  backs = whole.backs;
   members = subst (AreMembers x.net) (sym same) whole.members;
 }

@@ -1,7 +1,7 @@
 -- The places of a router and of a link stay as they are while the network does.
 use Rattle.std.proofs.Common.{◌≡◌, ℕ, zero, suc, ◌+◌, ◌<◌, nat_eq, Bool, true, false, List, [], ◌∷◌, length, map, refl, ap, sym, subst, ◌∙◌, arith, get_or, None, Some}
 use Rattle.std.specs.Prelude.{slice_get, max, ◌||◌, Result, Ok, Err}
-use Rattle.std.specs.List.{list_any}
+use Rattle.std.specs.List.{list_any, AllByRecursion}
 use Rattle.std.proofs.lemmas.Bool.Decides.{nat_tests}
 use Rattle.std.proofs.lemmas.List.Kept.{AllPairs-filter}
 use Rattle.std.proofs.lemmas.Option.{get_or_from_slice_get, slice_get_within}
@@ -11,13 +11,14 @@ use Rattle.router_model.specs.Step.{next_offer}
 use Rattle.router_model.specs.Calls.{Obey, Tick, Put, Handle, Decide, Advertise}
 use Rattle.router_model.specs.Laws.{LinkedRoutersArePeers}
 use Rattle.world_core.specs.declared.inbox.Inbox.{Inbox}
-use Rattle.world_core.specs.Views.{WorldView, IsAt, IsWhole, plain_world}
+use Rattle.world_core.specs.declared.inbox.Pipe.{Pipe}
+use Rattle.world_core.specs.Views.{WorldView, ArePlaced, KnowsBack, IsAt, IsWhole, plain_world}
 use Rattle.world_core.specs.declared.schedule.Event.{Event}
 use Rattle.world_core.specs.declared.schedule.Event.TheVariants as schedule
 use Rattle.world_core.specs.declared.schedule.StepFault.{StepFault}
 use Rattle.world_core.specs.World.{WorldAnswer, Stops, of_offer, called, taking_of, where_router, world_answer}
 use Rattle.world_core.specs.Events.{router_of, peer_of}
-use Rattle.world_core.specs.Steps.{StandsAt, LinkAt, IsPlaceOf, FindsLink, ArePlaced, IsPlaced, FindsPlaces}
+use Rattle.world_core.specs.Steps.{StandsAt, LinkAt, IsPlaceOf, FindsLink, IsPlaced, FindsPlaces}
 use Rattle.world_core.proofs.Places.{moved, map_same, rising_at, all_here, number_here}
 use Rattle.world_core.proofs.Linking.{passes, passes_link}
 use Rattle.router_core.specs.Views.{RouterView}
@@ -101,7 +102,7 @@ some_of : {A : Type 0} (number : A → ℕ) (xs : List A) (u i : ℕ) → IsAt n
 some_of number [] u i h = absurd h
 some_of number (x ∷ xs) u i h = x
 
-router_placed : (x : WorldView) (u i : ℕ) → IsWhole x → StandsAt x u i → slice_get (numbers x.net.routers) i ≡ Some u
+pub router_placed : (x : WorldView) (u i : ℕ) → IsWhole x → StandsAt x u i → slice_get (numbers x.net.routers) i ≡ Some u
 router_placed x u i whole at = ap (λ (ns : List ℕ). slice_get ns i) (sym whole.routers) ∙ read_at (λ r. r.number) x.routers u i at.router
 
 placed_link : (x : WorldView) (u v i k : ℕ) → IsWhole x → LinkAt x u v i k → ArePlaced x.net u v i k
@@ -116,6 +117,18 @@ pub peer_placed : (x : WorldView) (u v i k : ℕ) (xr : RouterView) → IsWhole 
 peer_placed x u v i k xr whole at is =
     let s = stands x u i xr whole at.here is in
     subst (λ (n : Plan). slice_get (peers n xr.number) k ≡ Some v) (sym s.1) (subst (λ (m : ℕ). slice_get (peers x.net m) k ≡ Some v) (sym s.0) (placed_link x u v i k whole at).1)
+
+-- where the pipe the other way stands, as the pipe from the peer knows
+pub back_placed : (x : WorldView) (u v i k : ℕ) (b : Inbox) (p : Pipe) → IsWhole x → LinkAt x u v i k → b ≡ get_or x.inboxes i b → p ≡ get_or b.pipes.items k p → ArePlaced x.net v u p.router p.back
+back_placed x u v i k b p whole at box_is pipe_is =
+    let net = x.net in
+    let all0 = all_here (λ b. b.router) (λ b. AllByRecursion (KnowsBack net b.router) b.pipes.items) x.inboxes u i b at.here.inbox whole.backs in
+    let all = subst (λ (b : Inbox). AllByRecursion (KnowsBack net b.router) b.pipes.items) (sym box_is) all0 in
+    let here = subst (λ (b : Inbox). IsAt (λ p. p.peer) b.pipes.items v k) (sym box_is) (at.pipe b) in
+    let known = subst (KnowsBack net b.router) (sym pipe_is) (all_here (λ p. p.peer) (KnowsBack net b.router) b.pipes.items v k p here all) in
+    let peer_is : p.peer ≡ v = ap (λ (p : Pipe). p.peer) pipe_is ∙ number_here (λ p. p.peer) b.pipes.items v k p here in
+    let router_is : b.router ≡ u = ap (λ (b : Inbox). b.router) box_is ∙ number_here (λ b. b.router) x.inboxes u i b at.here.inbox in
+    subst (λ (w : ℕ). ArePlaced net w u p.router p.back) peer_is (subst (λ (w : ℕ). ArePlaced net p.peer w p.router p.back) router_is known)
 
 -- the places of an event that names a peer
 finds_put : (r : Result (ℕ × ℕ) StepFault) (x : WorldView) (u v : ℕ) → IsWhole x → FindsLink r x u v → FindsPlaces r x (schedule.Put u v)

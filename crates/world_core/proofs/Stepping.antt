@@ -154,6 +154,7 @@ whole_router x u i y run whole at e n = record {
   nets = all_set (λ r. r.number) (λ r. r.net ≡ x.net) x.routers u i y at.router whole.nets n;
   inboxes = whole.inboxes;
   pipes = whole.pipes;
+  backs = whole.backs;
   members = whole.members;
 }
 

@@ -3,7 +3,7 @@ use Rattle.std.specs.Prelude.{ℕ, ◌≡◌, true, false, get_or, slice_get, So
 use Rattle.ranked_policy.specs.Plans.{Plan, numbers}
 use Rattle.router_model.specs.declared.refusal.Stepped.{Stepped}
 use Rattle.router_model.specs.declared.refusal.Stepped.TheVariants as stepped
-use Rattle.router_model.specs.Settings.{Setting, ChoosesByRank, is_router, peers}
+use Rattle.router_model.specs.Settings.{Setting, ChoosesByRank, is_router}
 use Rattle.router_model.specs.Calls.{Call, Obey, Tick, Put, Take, Handle, Decide, Advertise}
 use Rattle.world_core.specs.declared.inbox.Inbox.{Inbox}
 use Rattle.world_core.specs.declared.schedule.Event.{Event}
@@ -12,7 +12,7 @@ use Rattle.world_core.specs.declared.schedule.StepFault.{StepFault}
 use Rattle.world_core.specs.declared.schedule.StepFault.TheVariants.{NoSuchRouter}
 use Rattle.world_core.specs.declared.state.State.{State}
 use Rattle.world_core.specs.World.{WorldAnswer, Stops, Gives, called, where_router, where_linked, world_answer}
-use Rattle.world_core.specs.Views.{WorldView, plain_world, IsAt, Answers}
+use Rattle.world_core.specs.Views.{WorldView, plain_world, IsAt, ArePlaced, Answers}
 
 abbrev pub view_of : State → WorldView
 view_of s = record {
@@ -61,15 +61,7 @@ abbrev pub FindsLink : Result (ℕ × ℕ) StepFault → WorldView → ℕ → �
 FindsLink r x u v =
     MatchResult r (λ p. LinkAt x u v p.0 p.1) (λ why. (g : Setting) → g.net ≡ x.net → (a : WorldAnswer) → where_linked g u v a ≡ Stops why)
 
-abbrev pub FindsLinkTo : Result (ℕ × ℕ) StepFault → WorldView → ℕ → ℕ → Type 0
-FindsLinkTo r x u v =
-    MatchResult r (λ p. LinkAt x v u p.0 p.1) (λ why. (g : Setting) → g.net ≡ x.net → (a : WorldAnswer) → where_linked g u v a ≡ Stops why)
-
--- the router stands at that place of the network, and the peer at this one among its peers
-abbrev pub ArePlaced : Plan → ℕ → ℕ → ℕ → ℕ → Type 0
-ArePlaced net u v i k = (slice_get (numbers net.routers) i ≡ Some u) × (slice_get (peers net u) k ≡ Some v)
-
--- so do the router of an event, and the peer if it names one
+-- the router of an event stands at that place of the network, and the peer, if it names one, at this one among its peers
 abbrev pub IsPlaced : Plan → Event → ℕ → ℕ → Type 0
 IsPlaced net (schedule.Command u c) i k = slice_get (numbers net.routers) i ≡ Some u
 IsPlaced net (schedule.Tick u) i k = slice_get (numbers net.routers) i ≡ Some u

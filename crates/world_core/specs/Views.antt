@@ -82,6 +82,14 @@ plain_world x = record {
   run = x.run;
 }
 
+-- the router stands at that place of the network, and the peer at this one among its peers
+abbrev pub ArePlaced : Plan → ℕ → ℕ → ℕ → ℕ → Type 0
+ArePlaced net u v i k = (slice_get (numbers net.routers) i ≡ Some u) × (slice_get (peers net u) k ≡ Some v)
+
+-- a pipe that leads to a router knows where its peer stands, and where the pipe the other way
+abbrev pub KnowsBack : Plan → ℕ → Pipe → Type 0
+KnowsBack net u p = ArePlaced net p.peer u p.router p.back
+
 -- every router of the network is there once, and the pipes that lead to it from its peers
 pub record IsWhole (x : WorldView) : Type 0 where
   pub network : IsNetwork x.net
@@ -89,6 +97,7 @@ pub record IsWhole (x : WorldView) : Type 0 where
   pub nets : AllByRecursion (λ r. r.net ≡ x.net) x.routers
   pub inboxes : map (λ i. i.router) x.inboxes ≡ numbers x.net.routers
   pub pipes : AllByRecursion (λ i. map (λ p. p.peer) i.pipes.items ≡ peers x.net i.router) x.inboxes
+  pub backs : AllByRecursion (λ i. AllByRecursion (KnowsBack x.net i.router) i.pipes.items) x.inboxes
   pub members : AreMembers x.net x.collector.members
 
 -- a router that did nothing

@@ -12,6 +12,10 @@ use std::collections::VecDeque;
 #[derive(Drop)]
 pub(crate) struct Pipe {
     pub peer: Asn,
+    // The place of the peer in the network.
+    pub router: usize,
+    // The place of the pipe that leads back, among those to the peer.
+    pub back: usize,
     pub items: VecDeque<Item>,
 }
 

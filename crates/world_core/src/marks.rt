@@ -1,9 +1,7 @@
 //! Marks of routers by their places: which of them rest.
 
 ghost use Rattle.std.specs.Prelude.{◌≡◌, ◌≢◌, ◌↔◌, ℕ, IsTrue, true, slice_get, Some};
-ghost use Rattle.world_core.specs.Resting.{Woken};
 
-use ranked_policy::{Asn, Network};
 use std::alloc::Global;
 
 /// Room for a mark of each of so many routers, and no mark. If memory is refused, no mark can be made.
@@ -32,15 +30,5 @@ pub(crate) fn mark(marks: &mut Vec<bool>, place: usize, rests: bool)
 {
     if place < marks.len() {
         marks[place] = rests;
-    }
-}
-
-/// Takes the mark of a router away.
-pub(crate) fn wake(network: &Network, number: Asn, marks: &mut Vec<bool>)
-    ensures { Woken network.now number marks.old.items marks.new.items }
-{
-    let _ = network.built();
-    if let Some(place) = network.place(number) {
-        mark(marks, place, false);
     }
 }

@@ -6,12 +6,12 @@ ghost use Rattle.router_model.specs.Settings.{peers};
 ghost use Rattle.world_core.specs.declared.schedule.Event.TheVariants.{Put, Take, Handle, Decide, Advertise, Offer};
 ghost use Rattle.world_core.specs.Orders.{with_peer, turn, round, second, repeated, events_of};
 ghost use Rattle.world_core.specs.Resting.{AreResting, AreRestingBeside};
-ghost use Rattle.world_core.specs.Steps.{ArePlaced, IsPlaced, FindsPlaces, IsQuiet, IsIdle};
-ghost use Rattle.world_core.specs.Views.{Answers, Obeys, KeepsPromises};
+ghost use Rattle.world_core.specs.Steps.{IsPlaced, FindsPlaces, IsQuiet, IsIdle};
+ghost use Rattle.world_core.specs.Views.{ArePlaced, Answers, Obeys, KeepsPromises};
 ghost use Rattle.world_core.specs.Watching.{WatchesEvents, WatchesRounds, WatchesOrder};
 
 use crate::laws::{played_worlds_keep_their_promises, steps_are_replayed};
-use crate::marks::{is_marked, mark, no_marks, wake};
+use crate::marks::{is_marked, mark, no_marks};
 use crate::schedule::{Event, Order, StepFault};
 use crate::watch::{Unwatched, Watch};
 use crate::world::World;
@@ -249,7 +249,7 @@ impl<'a> World<'a> {
         let before = self.run().len();
         self.watched(at, place, &Event::Put(number, peer), watcher)?;
         if self.run().len() != before {
-            wake(network, peer, marks);
+            mark(marks, self.place_of_peer(at, number, place, peer), false);
         }
         Ok(())
     }
@@ -315,6 +315,15 @@ impl<'a> World<'a> {
         ensures { slice_get (peers self.now.net number) place ≡ Some result }
     {
         self.state.pipes_at(at, number)[place].peer
+    }
+
+    // The place in the network of the peer at a place among those of a router. The router stands at the place `at`.
+    fn place_of_peer(&self, at: usize, number: Asn, place: usize, peer: Asn) -> usize
+        requires { ArePlaced self.now.net number peer at place }
+        ensures { slice_get (numbers self.now.net.routers) result ≡ Some peer }
+    {
+        linked_routers_are_peers();
+        self.state.back_at(at, place, number, peer).0
     }
 
     // Whether nothing has to be put, taken or handled between a router and a peer. The router stands at the place `at`

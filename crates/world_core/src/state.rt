@@ -6,7 +6,7 @@ ghost use Rattle.world_core.specs.declared.schedule.Event.TheVariants.{Put, Take
 ghost use Rattle.router_model.specs.Settings.{peers};
 ghost use Rattle.router_core.specs.Calling.{call_of};
 ghost use Rattle.world_core.specs.Views.{IsWhole, Answers, IsNoRouter, IsRouterOf, comes_next, NothingComes};
-ghost use Rattle.world_core.specs.Steps.{view_of, IsSameNet, Asks, StandsAt, LinkAt, IsPlaceOf, FindsLink, FindsLinkTo, IsPlaced, FindsPlaces, IsQuiet, IsIdle};
+ghost use Rattle.world_core.specs.Steps.{view_of, IsSameNet, Asks, StandsAt, LinkAt, IsPlaceOf, FindsLink, IsPlaced, FindsPlaces, IsQuiet, IsIdle};
 
 use crate::entering::{enter, enter_handle, enter_offer, enter_put, enter_take};
 use crate::inbox::{Inbox, Pipe, place_of};
@@ -76,12 +76,16 @@ impl<'a> State<'a> {
         }
     }
 
-    // The place of a peer, and that of the pipe from a router among those that lead to it.
-    fn link_to(&self, number: Asn, peer: Asn) -> Result<(usize, usize), StepFault>
-        requires { IsWhole (view_of self.now) }
-        ensures { FindsLinkTo result (view_of self.now) number peer }
+    /// The place of a peer, and that of the pipe from a router to it. The router and the pipe from the peer stand at the
+    /// places given.
+    pub fn back_at(&self, at: usize, pipe: usize, number: Asn, peer: Asn) -> (usize, usize)
+        requires whole { IsWhole (view_of self.now) }
+        requires link { LinkAt (view_of self.now) number peer at pipe }
+        ensures { LinkAt (view_of self.now) peer number result.0 result.1 }
     {
-        self.link(peer, number)
+        linked_routers_are_peers();
+        let pipe = &self.inboxes[at].pipes[pipe];
+        (pipe.router, pipe.back)
     }
 
     // Lets a router handle the message of a peer. The router and the pipe from the peer stand at these places.
@@ -104,7 +108,7 @@ impl<'a> State<'a> {
     }
 
     // Lets a router put its next item into the pipe to a peer. The router and the pipe from the peer stand at these
-    // places. If nothing is next, the pipe to the peer is not looked for.
+    // places.
     fn put_at(
         &mut self,
         at: usize,
@@ -122,7 +126,7 @@ impl<'a> State<'a> {
         if self.puts_nothing_at(at, pipe, number, peer) {
             return Ok(Stepped::Nothing);
         }
-        let (to, into) = self.link_to(number, peer)?;
+        let (to, into) = self.back_at(at, pipe, number, peer);
         let items = &mut self.inboxes[to].pipes[into].items;
         let event = Event::Put(number, peer);
         enter_put(

@@ -15,13 +15,13 @@ returns-then-puts_nothing_at-clause-answers c = c.puts_nothing_at.ensures c.if-p
 
 pub index_mut-requires : goal.index_mut-requires
 index_mut-requires c =
-    let inside = is_below (λ b. b.router) c.args.self.now.inboxes.items c.args.peer c.in_ok-to.to c.in_ok-to.ensures.here.inbox in
+    let inside = is_below (λ b. b.router) c.args.self.now.inboxes.items c.args.peer c.back_at-to.result.0 c.back_at-to.ensures.here.inbox in
     search rules
 
 pub index_mut-requires-2 : goal.index_mut-requires-2
 index_mut-requires-2 c =
-    let at = subst (λ (i : Inbox). IsAt (λ p. p.peer) i.pipes.items c.args.number c.in_ok-to.into) (sym c.index_mut.ensures.value) (c.in_ok-to.ensures.pipe c.index_mut.result.now) in
-    let inside = is_below (λ p. p.peer) c.index_mut.result.now.pipes.items c.args.number c.in_ok-to.into at in
+    let at = subst (λ (i : Inbox). IsAt (λ p. p.peer) i.pipes.items c.args.number c.back_at-to.result.1) (sym c.index_mut.ensures.value) (c.back_at-to.ensures.pipe c.index_mut.result.now) in
+    let inside = is_below (λ p. p.peer) c.index_mut.result.now.pipes.items c.args.number c.back_at-to.result.1 at in
     search rules
 
 pub index_mut-requires-3 : goal.index_mut-requires-3
@@ -34,10 +34,10 @@ returns-clause-answers c =
     let x = view_of c.args.self.now in
     let old = c.index_mut.result.now in
     let p = c.index_mut-2.result.now in
-    let q : Pipe = record { peer = p.peer; items = c.enter_put.new.pipe } in
-    let new : Inbox = record { router = old.router; pipes = with_item old.pipes c.in_ok-to.into q } in
-    let pipe : PipeAt x c.args.peer c.args.number c.in_ok-to.to c.in_ok-to.into old new p q = record { link = c.in_ok-to.ensures; was = c.index_mut.ensures.value; held = c.index_mut-2.ensures.value; router = refl; pipes = refl; peer = refl } in
-    put_steps c.answers_are_steps.ensures x c.args.number c.args.peer c.args.at c.in_ok-to.to c.in_ok-to.into c.index_mut-3.result.now c.enter_put.new.router old new p q c.enter_put.new.run.items c.enter_put.result
+    let q : Pipe = record { peer = p.peer; router = p.router; back = p.back; items = c.enter_put.new.pipe } in
+    let new : Inbox = record { router = old.router; pipes = with_item old.pipes c.back_at-to.result.1 q } in
+    let pipe : PipeAt x c.args.peer c.args.number c.back_at-to.result.0 c.back_at-to.result.1 old new p q = record { link = c.back_at-to.ensures; was = c.index_mut.ensures.value; held = c.index_mut-2.ensures.value; router = refl; pipes = refl; peer = refl; back = λ net u h. h } in
+    put_steps c.answers_are_steps.ensures x c.args.number c.args.peer c.args.at c.back_at-to.result.0 c.back_at-to.result.1 c.index_mut-3.result.now c.enter_put.new.router old new p q c.enter_put.new.run.items c.enter_put.result
     c.requires.whole c.requires.link.here pipe c.index_mut-3.ensures.value c.enter_put.ensures.enters c.enter_put.ensures.same
 
 pub returns-clause-whole : goal.returns-clause-whole
@@ -45,11 +45,11 @@ returns-clause-whole c =
     let x = view_of c.args.self.now in
     let old = c.index_mut.result.now in
     let p = c.index_mut-2.result.now in
-    let q : Pipe = record { peer = p.peer; items = c.enter_put.new.pipe } in
-    let new : Inbox = record { router = old.router; pipes = with_item old.pipes c.in_ok-to.into q } in
-    let pipe : PipeAt x c.args.peer c.args.number c.in_ok-to.to c.in_ok-to.into old new p q = record { link = c.in_ok-to.ensures; was = c.index_mut.ensures.value; held = c.index_mut-2.ensures.value; router = refl; pipes = refl; peer = refl } in
+    let q : Pipe = record { peer = p.peer; router = p.router; back = p.back; items = c.enter_put.new.pipe } in
+    let new : Inbox = record { router = old.router; pipes = with_item old.pipes c.back_at-to.result.1 q } in
+    let pipe : PipeAt x c.args.peer c.args.number c.back_at-to.result.0 c.back_at-to.result.1 old new p q = record { link = c.back_at-to.ensures; was = c.index_mut.ensures.value; held = c.index_mut-2.ensures.value; router = refl; pipes = refl; peer = refl; back = λ net u h. h } in
     let s = stands x c.args.number c.args.at c.index_mut-3.result.now c.requires.whole c.requires.link.here c.index_mut-3.ensures.value in
-    whole_pipe x c.args.peer c.args.number c.args.number c.args.at c.in_ok-to.to c.in_ok-to.into c.enter_put.new.router old new p q c.enter_put.new.run.items c.requires.whole c.requires.link.here pipe (c.enter_put.ensures.same.number ∙ s.0) (c.enter_put.ensures.same.net ∙ s.1)
+    whole_pipe x c.args.peer c.args.number c.args.number c.args.at c.back_at-to.result.0 c.back_at-to.result.1 c.enter_put.new.router old new p q c.enter_put.new.run.items c.requires.whole c.requires.link.here pipe (c.enter_put.ensures.same.number ∙ s.0) (c.enter_put.ensures.same.net ∙ s.1)
 
 pub enter_put-requires : goal.enter_put-requires
 enter_put-requires c = peer_placed (view_of c.args.self.now) c.args.number c.args.peer c.args.at c.args.pipe c.index_mut-3.result.now c.requires.whole c.requires.link c.index_mut-3.ensures.value

@@ -31,9 +31,9 @@ returns-clause-answers c =
     let x = view_of c.args.self.now in
     let old = c.index_mut.result.now in
     let p = c.index_mut-2.result.now in
-    let q : Pipe = record { peer = p.peer; items = c.enter_take.new.pipe } in
+    let q : Pipe = record { peer = p.peer; router = p.router; back = p.back; items = c.enter_take.new.pipe } in
     let new : Inbox = record { router = old.router; pipes = with_item old.pipes c.args.pipe q } in
-    let pipe : PipeAt x c.args.number c.args.peer c.args.at c.args.pipe old new p q = record { link = c.requires.link; was = c.index_mut.ensures.value; held = c.index_mut-2.ensures.value; router = refl; pipes = refl; peer = refl } in
+    let pipe : PipeAt x c.args.number c.args.peer c.args.at c.args.pipe old new p q = record { link = c.requires.link; was = c.index_mut.ensures.value; held = c.index_mut-2.ensures.value; router = refl; pipes = refl; peer = refl; back = λ net u h. h } in
     take_steps c.answers_are_steps.ensures x c.args.number c.args.peer c.args.at c.args.pipe c.index_mut-3.result.now c.enter_take.new.router old new p q c.enter_take.new.run.items c.enter_take.result
     c.requires.whole pipe c.index_mut-3.ensures.value c.enter_take.ensures.enters c.enter_take.ensures.same
 
@@ -42,9 +42,9 @@ returns-clause-whole c =
     let x = view_of c.args.self.now in
     let old = c.index_mut.result.now in
     let p = c.index_mut-2.result.now in
-    let q : Pipe = record { peer = p.peer; items = c.enter_take.new.pipe } in
+    let q : Pipe = record { peer = p.peer; router = p.router; back = p.back; items = c.enter_take.new.pipe } in
     let new : Inbox = record { router = old.router; pipes = with_item old.pipes c.args.pipe q } in
-    let pipe : PipeAt x c.args.number c.args.peer c.args.at c.args.pipe old new p q = record { link = c.requires.link; was = c.index_mut.ensures.value; held = c.index_mut-2.ensures.value; router = refl; pipes = refl; peer = refl } in
+    let pipe : PipeAt x c.args.number c.args.peer c.args.at c.args.pipe old new p q = record { link = c.requires.link; was = c.index_mut.ensures.value; held = c.index_mut-2.ensures.value; router = refl; pipes = refl; peer = refl; back = λ net u h. h } in
     let s = stands x c.args.number c.args.at c.index_mut-3.result.now c.requires.whole c.requires.link.here c.index_mut-3.ensures.value in
     whole_pipe x c.args.number c.args.peer c.args.number c.args.at c.args.at c.args.pipe c.enter_take.new.router old new p q c.enter_take.new.run.items c.requires.whole c.requires.link.here pipe (c.enter_take.ensures.same.number ∙ s.0) (c.enter_take.ensures.same.net ∙ s.1)
 

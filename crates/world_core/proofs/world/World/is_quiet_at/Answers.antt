@@ -1,6 +1,6 @@
 use Rattle.std.proofs.Common.{sym, subst}
-use Rattle.world_core.specs.Steps.{view_of, ArePlaced}
-use Rattle.world_core.specs.Views.{WorldView}
+use Rattle.world_core.specs.Steps.{view_of}
+use Rattle.world_core.specs.Views.{WorldView, ArePlaced}
 use Rattle.world_core.proofs.Staying.{link_placed}
 use Rattle.world_core.proofs.world.World.is_quiet_at.Goals as goal
 

@@ -2,7 +2,7 @@ use Rattle.std.proofs.Common.{◌∷◌, [], sym, subst}
 use Rattle.std.proofs.lemmas.Result.{err_from_is_err_and}
 use Rattle.ranked_policy.specs.Plans.{Plan}
 use Rattle.world_core.specs.declared.schedule.Event.TheVariants as schedule
-use Rattle.world_core.specs.Steps.{ArePlaced}
+use Rattle.world_core.specs.Views.{ArePlaced}
 use Rattle.world_core.proofs.Watched.{watched_before, watched_behind}
 use Rattle.world_core.proofs.world.World.take_and_handle.Goals as goal
 
