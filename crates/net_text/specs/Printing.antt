@@ -36,6 +36,10 @@ line text = text ++ 10 ∷ []
 unfoldable pub notice_line : Notice → List ℕ
 notice_line notice = codes "notification " ++ (decimal notice.code ++ (codes " " ++ (decimal notice.sub ++ (codes " " ++ hex_or_dash notice.extra))))
 
+-- a NOTIFICATION of these parts
+abbrev pub noticed : ℕ → ℕ → List ℕ → Notice
+noticed code sub extra = record { code = code; sub = sub; extra = extra }
+
 -- an address as its four octets
 unfoldable pub address_text : ℕ → List ℕ
 address_text address =

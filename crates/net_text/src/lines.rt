@@ -7,10 +7,11 @@ ghost use Rattle.net_text.specs.Printing.{line, message_line, fault_lines, fligh
 ghost use Rattle.net_text.specs.Appending.{text_of, IsSendable};
 
 use crate::checks::{put_refused, put_unstable};
-use crate::messages::{put_fault, put_notice, put_open, put_truncated};
+use crate::messages::{put_fault, put_open, put_truncated};
+use crate::notices::notice_line;
 use crate::tail::Tail;
 use crate::updates::{put_flight, put_update};
-use bgp_codec::{Fault, Message, Notice, Open, Update};
+use bgp_codec::{Fault, Message, Open, Update};
 use ranked_policy::Asn;
 use std::alloc::{AllocError, Global};
 
@@ -21,7 +22,6 @@ enum Line<'a> {
     Update(&'a Update),
     // From whom, to whom.
     Flight(Asn, Asn, &'a Update),
-    Notice(&'a Notice),
     Fault(&'a Fault),
     // How many octets are left.
     Truncated(usize),
@@ -41,7 +41,6 @@ fn put_line(alloc: Global, out: &mut Tail, line: &Line) -> Result<(), AllocError
         Line::Open(message) => put_open(out, message),
         Line::Update(message) => put_update(out, message),
         Line::Flight(from, to, message) => put_flight(out, *from, *to, message),
-        Line::Notice(notice) => put_notice(out, notice),
         Line::Fault(fault) => put_fault(alloc, out, fault),
         Line::Truncated(len) => put_truncated(out, *len),
         Line::Refused(line, code) => put_refused(out, *line, code),
@@ -76,7 +75,9 @@ pub fn message_line(message: &Message, out: &mut Vec<u8>) -> Result<(), AllocErr
     match message {
         Message::OpenMsg(message) => append(out, &Line::Open(message)),
         Message::UpdateMsg(message) => append(out, &Line::Update(message)),
-        Message::NoticeMsg(notice) => append(out, &Line::Notice(notice)),
+        Message::NoticeMsg(notice) => {
+            notice_line(notice.code, notice.sub, notice.extra.as_slice(), out)
+        }
         Message::AliveMsg => out.extend_from_slice(b"keepalive\n"),
     }
 }

@@ -7,10 +7,10 @@ ghost use Rattle.std.specs.List.{flat_map};
 ghost use Rattle.bgp_values.specs.declared.messages.TheConstants.{MOST_DATA};
 ghost use Rattle.bgp_values.specs.declared.width.Width.TheVariants.{Two};
 ghost use Rattle.bgp_codec.specs.Spelling.{written};
-ghost use Rattle.net_text.specs.Printing.{line, open_line, cap_text, param_text, notice_line, notice_of, fault_lines, truncated_line};
+ghost use Rattle.net_text.specs.Printing.{line, open_line, cap_text, param_text, notice_of, fault_lines, truncated_line};
 
 use crate::tail::Tail;
-use bgp_codec::{Cap, Fault, Items, Message, NOBODY, Notice, Open, encode, notice_of};
+use bgp_codec::{Cap, Fault, Items, Message, NOBODY, Open, encode, notice_of};
 use std::alloc::{AllocError, Global};
 
 // Appends a capability.
@@ -61,21 +61,6 @@ pub fn put_open(out: &mut Tail, message: &Open) -> Result<(), AllocError>
     out.put_text(b" id ")?;
     out.put_address(message.id)?;
     put_params(out, message.params.as_slice())?;
-    out.put_text(b"\n")
-}
-
-/// Appends the line of a NOTIFICATION.
-#[tactic(auto, unfolding(crate::specs::Printing::notice_line))]
-pub fn put_notice(out: &mut Tail, notice: &Notice) -> Result<(), AllocError>
-    ensures text { OnOk result (out.new.text ≡ out.old.text ++ line (notice_line notice.now)) }
-    ensures front { out.new.front ≡ out.old.front }
-{
-    out.put_text(b"notification ")?;
-    out.put_octet(notice.code)?;
-    out.put_text(b" ")?;
-    out.put_octet(notice.sub)?;
-    out.put_text(b" ")?;
-    out.put_hex_or_dash(notice.extra.as_slice())?;
     out.put_text(b"\n")
 }
 

@@ -112,6 +112,32 @@ pub fn write_address(text: &mut [u8], at: usize, address: u32) -> usize
     write_octet(text, at, (address % 256) as u8)
 }
 
+// Writes octets in hex at a place, two digits each, and answers the place behind them.
+fn write_hex(text: &mut [u8], at: usize, octets: &[u8]) -> usize
+    requires { at + 2 * length octets.now ≤ length text.old }
+    ensures end { result ≡ at + 2 * length octets.now }
+    ensures text { take result text.new ≡ take at text.old ++ encode_lower octets.now }
+{
+    let end = at + 2 * octets.len();
+    if encode_to_slice(octets, &mut text[at..end]).is_err() {
+        unreachable!();
+    }
+    end
+}
+
+/// Writes octets in hex at a place, or a dash if there are none, and answers the place behind them.
+pub fn write_hex_or_dash(text: &mut [u8], at: usize, octets: &[u8]) -> usize
+    requires { at + (2 * length octets.now + 1) ≤ length text.old }
+    ensures end { result ≤ at + (2 * length octets.now + 1) }
+    ensures text { take result text.new ≡ take at text.old ++ hex_or_dash octets.now }
+{
+    if octets.is_empty() {
+        write_mark(text, at, b'-')
+    } else {
+        write_hex(text, at, octets)
+    }
+}
+
 /// Appends an octet as a number in decimal digits.
 pub fn put_octet(out: &mut Vec<u8>, octet: u8) -> Result<(), AllocError>
     ensures ok { OnOk result (out.new.items ≡ out.old.items ++ decimal octet) }

@@ -278,6 +278,21 @@ begun octets none = (λ _. (refl, ap Ok (sym none)), λ bad. absurd (true≢fals
 spoilt : (digits new : List ℕ) (half : Option ℕ) (are_hex : Bool) → are_hex ≡ false → list_all is_hex_digit digits ≡ false → Has are_hex new half digits
 spoilt digits new half are_hex is bad = (λ good. absurd (true≢false (sym good ∙ is)), λ _. bad)
 
+-- what is added behind octets is added behind those that were taken away before them
+pub adds_behind : (taken digits old new : List ℕ) (added : Bool) → Adds digits old new added → Adds digits (taken ++ old) (taken ++ new) added
+adds_behind taken digits old new added adds = (
+  adds.0,
+  λ yes. let more = adds.1 yes in (more.0, more.1, ap (λ (l : List ℕ). taken ++ l) more.2 ∙ sym (append_assoc taken old more.0)),
+)
+
+-- octets that are taken away join those that were
+pub took : (taken octets new digits : List ℕ) (n : ℕ) (hex : Bool) (half : Option ℕ) → new ≡ drop n octets → Has hex (taken ++ octets) half digits → Has hex ((taken ++ take n octets) ++ new) half digits
+took taken octets new digits n hex half is has =
+    let whole : taken ++ octets ≡ (taken ++ take n octets) ++ new
+    = ap (λ (l : List ℕ). taken ++ l) (sym (take-append-drop n octets)) ∙ sym (append_assoc taken (take n octets) (drop n octets)) ∙ ap (λ (l : List ℕ). (taken ++ take n octets) ++ l) (sym is)
+    in
+    subst (λ (l : List ℕ). Has hex l half digits) whole has
+
 pub completed : (before old new : List ℕ) (hex added : Bool) (high low : ℕ) → Adds (high ∷ low ∷ []) old new added → Has hex old (Some high) before → Has (added && hex) new None (before ++ low ∷ [])
 completed before old new false added high low adds has = spoilt (before ++ low ∷ []) new None (added && false) (and_no added) (false_before before (low ∷ []) (has.1 refl))
 completed before old new true false high low adds has =

@@ -8,11 +8,9 @@ use Rattle.std.proofs.KnownBytes.{Appends-trans, Appends-nil}
 use Rattle.std.specs.declared.alloc.AllocError.{AllocError}
 use Rattle.bgp_codec.specs.declared.rule.Rule.{Rule}
 use Rattle.text_engines.specs.declared.channel.IoStopped.{IoStopped}
-use Rattle.text_engines.specs.declared.hex_input.HexInput.{HexInput}
 use Rattle.text_engines.specs.declared.status.TheConstants.{DONE}
 use Rattle.text_engines.specs.declared.transfer.TheConstants.{INPUT_LIMIT}
 use Rattle.text_engines.specs.Decoding.{Output, output, memory_output, WithinLimit, OrMemory, DecodeGives, Prints}
-use Rattle.text_engines.specs.Digits.{HearsHex}
 use Rattle.text_engines.specs.Engine.{ReadsUpTo, AppendsFront, IsMade, WrittenBy, WrittenFrontBy, PrintedBy, PrintedFrontBy, limit_comment, limited}
 
 pub one_more : (a b c : Option (List ℕ)) (text : List ℕ) (at n : ℕ) → Appends a b (take at text) → Appends b c (take n (drop at text)) → Appends a c (take (at + n) text)
@@ -87,12 +85,11 @@ module _ (Gives : List ℕ → Output → Type 0) where
   limited_made (Some input) items (Ok printed) read gives = λ out is. inl (within_limit input items out read.0 read.1 (subst (WithinLimit Gives items) (sym is) gives))
   limited_made (Some input) items (Err short) read gives = λ out is. inr is
 
--- and of an input in hex
-pub heard_made : {Z : Type 0} (rule : Rule) (known : Option (List ℕ)) (heard : HexInput) (made : Result (Vec ℕ Z × ℕ) AllocError) → IfSome known (λ input. HearsHex input heard)
-    → IfOk made (λ printed. (input : List ℕ) → HearsHex input heard → DecodeGives rule input (output printed.0.items printed.1)) → IfSome known (λ input. (out : Output) → IsMade made out → Prints rule input out)
-heard_made rule None heard made read gives = tt
-heard_made rule (Some input) heard (Ok printed) read gives = λ out is. inl (subst (DecodeGives rule input) (sym is) (gives input read))
-heard_made rule (Some input) heard (Err short) read gives = λ out is. inr is
+-- and of what was made whole
+pub given_made : {Z : Type 0} (rule : Rule) (known : Option (List ℕ)) (printed : Vec ℕ Z × ℕ) → IfSome known (λ input. DecodeGives rule input (output printed.0.items printed.1))
+    → IfSome known (λ input. (out : Output) → IsMade {Z = Z} {E = AllocError} (Ok printed) out → Prints rule input out)
+given_made rule None printed gives = tt
+given_made rule (Some input) printed gives = λ out is. inl (subst (DecodeGives rule input) (sym is) gives)
 
 -- ---- texts that were printed whole
 

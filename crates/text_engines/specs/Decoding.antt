@@ -66,13 +66,21 @@ frames_output rule (frame ∷ frames) rest = read_output (reading rule frame) (f
 abbrev pub StreamGives : Rule → List ℕ → Output → Type 0
 StreamGives rule octets out = (frames : List (List ℕ)) × (rest : List ℕ) × Splits octets frames rest × (out ≡ frames_output rule frames rest)
 
+-- what is printed for octets, whatever comes behind them: with no status this text, and then what is printed for what comes; else this text alone
+abbrev pub Leads : Rule → List ℕ → List ℕ → Option ℕ → Type 0
+Leads rule octets text None = (later : List ℕ) (more : Output) → StreamGives rule later more → StreamGives rule (octets ++ later) (behind text more)
+Leads rule octets text (Some status) = (later : List ℕ) → StreamGives rule (octets ++ later) (output text status)
+
 abbrev pub is_blank : ℕ → Bool
 is_blank octet = (octet == 32) || ((octet == 9) || ((octet == 13) || (octet == 10)))
 
+-- for digits
+abbrev pub DigitsGive : Rule → List ℕ → Output → Type 0
+DigitsGive rule digits out = MatchResult (decode_of digits) (λ octets. StreamGives rule octets out) (λ _. out ≡ output (codes "bad hex\n") REFUSED)
+
 -- for a text in hex, its blanks (space, tab, CR, LF) skipped
 abbrev pub HexGives : Rule → List ℕ → Output → Type 0
-HexGives rule input out =
-    MatchResult (decode_of (filter (λ octet. not (is_blank octet)) input)) (λ octets. StreamGives rule octets out) (λ _. out ≡ output (codes "bad hex\n") REFUSED)
+HexGives rule input out = DigitsGive rule (filter (λ octet. not (is_blank octet)) input) out
 
 -- for an input, which may be too long
 abbrev pub DecodeGives : Rule → List ℕ → Output → Type 0

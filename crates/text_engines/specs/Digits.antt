@@ -1,12 +1,9 @@
 -- Hex digits that come in pieces.
-use Rattle.std.specs.Prelude.{◌≡◌, ℕ, ◌%◌, ◌<◌, ◌≤◌, Bool, true, false, not, List, [], ◌∷◌, ◌++◌, length, filter, Option, Some, None, Ok, IsErr}
+use Rattle.std.specs.Prelude.{◌≡◌, ℕ, ◌%◌, Bool, true, false, not, List, [], ◌∷◌, ◌++◌, length, filter, Option, Some, None, Ok}
 use Rattle.std.specs.List.{list_all}
-use Rattle.hex.specs.Hex.{decode_of, decode_pairs, is_hex_digit}
+use Rattle.hex.specs.Hex.{decode_pairs, is_hex_digit}
 use Rattle.text_engines.specs.declared.digits.Digits.{Digits}
-use Rattle.text_engines.specs.declared.hex_input.HexInput.{HexInput}
-use Rattle.text_engines.specs.declared.hex_input.HexInput.TheVariants.{TooLong, BadHex, Octets}
 use Rattle.text_engines.specs.Decoding.{is_blank}
-use Rattle.text_engines.specs.declared.transfer.TheConstants.{INPUT_LIMIT}
 
 -- the octets of pairs of digits stand behind the old ones, where all are digits
 abbrev pub Adds : List ℕ → List ℕ → List ℕ → Bool → Type 0
@@ -18,16 +15,11 @@ abbrev pub HoldsPairs : List ℕ → List ℕ → Option ℕ → Type 0
 HoldsPairs digits octets None = (length digits % 2 ≡ 0) × (decode_pairs 0 digits ≡ Ok octets)
 HoldsPairs digits octets (Some digit) = (pairs : List ℕ) × (digits ≡ pairs ++ digit ∷ []) × (length pairs % 2 ≡ 0) × (decode_pairs 0 pairs ≡ Ok octets)
 
--- this is what was read of these digits: their octets, or that one of them is none
-abbrev pub HasRead : Digits → List ℕ → Type 0
-HasRead reader digits = (reader.are_hex ≡ true → HoldsPairs digits reader.octets.items reader.half) × (reader.are_hex ≡ false → list_all is_hex_digit digits ≡ false)
+-- this is what was read of these digits, from which octets were taken away: their other octets, or that one of them is none
+abbrev pub HasRead : List ℕ → Digits → List ℕ → Type 0
+HasRead taken reader digits =
+    (reader.are_hex ≡ true → HoldsPairs digits (taken ++ reader.octets.items) reader.half) × (reader.are_hex ≡ false → list_all is_hex_digit digits ≡ false)
 
 -- a text without its blanks
 abbrev pub without_blanks : List ℕ → List ℕ
 without_blanks text = filter (λ octet. not (is_blank octet)) text
-
--- what an input in hex is
-abbrev pub HearsHex : List ℕ → HexInput → Type 0
-HearsHex input TooLong = INPUT_LIMIT < length input
-HearsHex input BadHex = (length input ≤ INPUT_LIMIT) × IsErr (decode_of (without_blanks input))
-HearsHex input (Octets octets) = (length input ≤ INPUT_LIMIT) × (decode_of (without_blanks input) ≡ Ok octets.items)

@@ -1,32 +1,13 @@
 //! `bgpnet decode`: a stream of BGP octets in hex, as lines.
 
-ghost use Rattle.std.specs.Prelude.{◌≡◌, ℕ, List, ◌⊎◌, IfOk, OnOk, OnErr, true, false};
-ghost use Rattle.text_engines.specs.Decoding.{output, DecodeGives};
-ghost use Rattle.text_engines.specs.Digits.{HearsHex};
+ghost use Rattle.std.specs.Prelude.{◌≡◌, ◌⊎◌, IfOk, OnOk, OnErr, true, false};
 ghost use Rattle.text_engines.specs.Engine.{Printed, PrintedFront};
 
 use crate::channel::{IoStopped, Sink, Source};
-use crate::hex_input::{HexInput, read_hex};
-use crate::refusals::refused_output;
-use crate::status::REFUSED;
-use crate::stream::stream_output;
+use crate::hex_input::hear;
 use crate::transfer::{InputError, want_of_memory, write_output};
 use bgp_codec::Rule;
-use net_text::Code;
-use std::alloc::{AllocError, Global};
-
-// What is printed for an input, and the status.
-fn decode_output(alloc: Global, rule: &Rule, heard: HexInput) -> Result<(Vec<u8>, u8), AllocError>
-    ensures { IfOk result
-        (λ printed. (input : List ℕ) → HearsHex input heard
-        → DecodeGives rule.now input (output printed.0.items printed.1)) }
-{
-    match heard {
-        HexInput::TooLong => refused_output(alloc, 0, Code::OutOfLimit.text()),
-        HexInput::BadHex => Ok((Vec::from_slice(alloc, b"bad hex\n")?, REFUSED)),
-        HexInput::Octets(octets) => stream_output(alloc, rule, octets.as_slice()),
-    }
-}
+use std::alloc::Global;
 
 /// Reads a stream in hex, writes a line for each message, or the first fault and its NOTIFICATION,
 /// and answers the status.
@@ -53,8 +34,8 @@ pub fn decode_stream<S: Source, T: Sink>(
     ensures stopped { OnErr result
         (PrintedFront rule.now (S.remaining source.old) (T.contents sink.old) (T.contents sink.new)) }
 {
-    match read_hex(alloc, source) {
-        Ok(input) => write_output(sink, decode_output(alloc, rule, input)),
+    match hear(alloc, rule, source) {
+        Ok(printed) => write_output(sink, Ok(printed)),
         Err(InputError::Memory) => want_of_memory(sink),
         Err(InputError::Stopped) => Err(IoStopped),
     }

@@ -3,7 +3,7 @@
 //! The definition is that of the crate `hex`, which reads what is left behind blocks of 32 digits; a block is read by
 //! lanes.
 
-ghost use Rattle.std.specs.Prelude.{◌≡◌, ℕ, List, ◌+◌, ◌++◌, ◌*◌, ◌%◌, ◌<◌, nat_lt, length, map, slice_index, unwrap_or, IfOk, OnOk, IsErr, ◌∷◌, [], MatchOption, Ok, Some, None, true};
+ghost use Rattle.std.specs.Prelude.{◌≡◌, ℕ, List, ◌+◌, ◌++◌, ◌*◌, ◌%◌, ◌<◌, ◌≤◌, nat_lt, length, take, map, vec_len, slice_index, unwrap_or, IfOk, OnOk, IsErr, ◌∷◌, [], MatchOption, Ok, Some, None, true};
 ghost use Rattle.std.specs.List.{list_all};
 ghost use Rattle.hex.specs.Hex.{decode_of, decode_pairs, hex_digit_value, is_hex_digit};
 ghost use Rattle.text_engines.specs.Digits.{Adds, HasRead, without_blanks};
@@ -15,7 +15,7 @@ use std::simd::prelude::*;
 /// A text in hex that is read piece by piece.
 #[derive(Debug, Drop)]
 pub struct Digits {
-    /// The octets of the whole pairs, as long as all were digits.
+    /// The octets of the whole pairs that were not taken away, as long as all were digits.
     pub octets: Vec<u8>,
     /// A digit that waits for the second of its pair.
     pub half: Option<u8>,
@@ -110,7 +110,7 @@ fn append_octets(octets: &mut Vec<u8>, digits: &[u8]) -> Result<bool, AllocError
 impl Digits {
     /// No digit yet.
     pub fn new(alloc: Global) -> Digits
-        ensures { HasRead result [] }
+        ensures { HasRead [] result [] }
     {
         Digits {
             octets: Vec::new(alloc),
@@ -124,7 +124,7 @@ impl Digits {
         requires { self.old.half ≡ Some high }
         ensures whole { OnOk result (self.new.half ≡ None) }
         ensures read { OnOk result
-            ((before : List ℕ) → HasRead self.old before → HasRead self.new (before ++ low ∷ [])) }
+            ((taken before : List ℕ) → HasRead taken self.old before → HasRead taken self.new (before ++ low ∷ [])) }
     {
         self.are_hex = append_octets(&mut self.octets, &[high, low])? & self.are_hex;
         self.half = None;
@@ -134,7 +134,8 @@ impl Digits {
     // Reads digits where no pair waits.
     fn append(&mut self, digits: &[u8]) -> Result<(), AllocError>
         requires { self.old.half ≡ None }
-        ensures { OnOk result ((before : List ℕ) → HasRead self.old before → HasRead self.new (before ++ digits.now)) }
+        ensures { OnOk result
+            ((taken before : List ℕ) → HasRead taken self.old before → HasRead taken self.new (before ++ digits.now)) }
     {
         let (pairs, last) = digits.split_at(digits.len() / 2 * 2);
         self.are_hex = append_octets(&mut self.octets, pairs)? & self.are_hex;
@@ -147,7 +148,8 @@ impl Digits {
 
     // Reads digits behind those that came.
     fn extend(&mut self, digits: &[u8]) -> Result<(), AllocError>
-        ensures { OnOk result ((before : List ℕ) → HasRead self.old before → HasRead self.new (before ++ digits.now)) }
+        ensures { OnOk result
+            ((taken before : List ℕ) → HasRead taken self.old before → HasRead taken self.new (before ++ digits.now)) }
     {
         match (self.half, digits) {
             (Some(high), [low, rest @ ..]) => {
@@ -162,7 +164,8 @@ impl Digits {
     /// Reads a piece of the text, whose digits are moved to its front.
     pub fn feed(&mut self, text: &mut [u8]) -> Result<(), AllocError>
         ensures { OnOk result
-            ((before : List ℕ) → HasRead self.old before → HasRead self.new (before ++ without_blanks text.old)) }
+            ((taken before : List ℕ) → HasRead taken self.old before
+            → HasRead taken self.new (before ++ without_blanks text.old)) }
     {
         let kept = pack(text);
         if !self.are_hex {
@@ -172,10 +175,21 @@ impl Digits {
         self.extend(digits)
     }
 
-    /// The octets that the text stands for, where it stands for any.
+    /// Takes so many octets away from the front.
+    pub fn drop_front(&mut self, count: usize)
+        requires { count ≤ vec_len self.old.octets }
+        ensures { (taken digits : List ℕ) → HasRead taken self.old digits
+            → HasRead (taken ++ take count self.old.octets.items) self.new digits }
+    {
+        let left = self.octets.len() - count;
+        self.octets.copy_within(count.., 0);
+        self.octets.truncate(left);
+    }
+
+    /// The octets that the text stands for, without those that were taken away, where it stands for any.
     pub fn finish(self) -> Option<Vec<u8>>
-        ensures { (digits : List ℕ) → HasRead self digits
-            → MatchOption result (IsErr (decode_of digits)) (λ octets. decode_of digits ≡ Ok octets.items) }
+        ensures { (taken digits : List ℕ) → HasRead taken self digits
+            → MatchOption result (IsErr (decode_of digits)) (λ octets. decode_of digits ≡ Ok (taken ++ octets.items)) }
     {
         match self.half {
             None if self.are_hex => Some(self.octets),

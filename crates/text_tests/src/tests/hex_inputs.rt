@@ -1,7 +1,7 @@
 //! Texts in hex that are made: of every length, read in pieces, with blanks, and with an octet that is no digit at
 //! each place. What they stand for is what the crate `hex` makes of them without their blanks.
 
-use super::streams::{copies, rule};
+use super::streams::{KEEPALIVE, MESSAGE, ROUTE, copies, joined, rule};
 use hex::FromHexError;
 use std::alloc::{AllocError, Global};
 use std::io;
@@ -257,4 +257,59 @@ fn many_lines_are_read(rt: HostRuntime) -> Result<(), Fail> {
         );
     }
     Ok(())
+}
+
+// A NOTIFICATION with data, and what is printed for it.
+const CEASE: &[u8] = b"ffffffffffffffffffffffffffffffff00180306020a0b0c";
+
+const CEASED: &[u8] = b"notification 6 2 0a0b0c\n";
+
+// A header of type 9, and what is printed for it.
+const UNKNOWN: &[u8] = b"ffffffffffffffffffffffffffffffff001309";
+
+const FAULT: &[u8] = b"fault 1 3\nffffffffffffffffffffffffffffffff001603010309\n";
+
+// An UPDATE that has no NEXT_HOP, and what is printed for it.
+const MISSING: &[u8] =
+    b"ffffffffffffffffffffffffffffffff00250200000 00b 40010100 40020402010001 100a01";
+
+const MISSED: &[u8] = b"fault 3 3\nffffffffffffffffffffffffffffffff001603030303\n";
+
+fn each_piece_goes_on(
+    rt: &impl Abort,
+    alloc: Global,
+    texts: &[&[u8]],
+    lines: &[&[u8]],
+) -> Result<(), Fail> {
+    let text = joined(alloc, texts)?;
+    let wanted = joined(alloc, lines)?;
+    for step in 1..150usize {
+        assert!(rt;
+            prints(alloc, text.as_slice(), step, wanted.as_slice()),
+            "{step}"
+        );
+    }
+    Ok(())
+}
+
+// A stream is printed as it is read: messages that come in pieces, and what stands behind the first fault.
+#[test]
+fn pieces_go_on(rt: HostRuntime) -> Result<(), Fail> {
+    let alloc = rt.alloc();
+    let front = [KEEPALIVE, MESSAGE, CEASE, MESSAGE];
+    let lines: [&[u8]; 4] = [b"keepalive\n", ROUTE, CEASED, ROUTE];
+    each_piece_goes_on(&rt, alloc, &front, &lines)?;
+    for (fault, line) in [(UNKNOWN, FAULT), (MISSING, MISSED)] {
+        let texts = [KEEPALIVE, CEASE, MESSAGE, fault, KEEPALIVE, CEASE, b"0a0"];
+        let lines = [b"keepalive\n".as_slice(), CEASED, ROUTE, line];
+        let (whole, _) = texts.as_slice().split_at(6);
+        each_piece_goes_on(&rt, alloc, whole, &lines)?;
+        each_piece_goes_on(&rt, alloc, &texts, &[b"bad hex\n"])?;
+    }
+    each_piece_goes_on(
+        &rt,
+        alloc,
+        &[CEASE, KEEPALIVE, b"ffffffff"],
+        &[CEASED, b"keepalive\n", b"truncated 4\n"],
+    )
 }

@@ -8,13 +8,13 @@ use std::test::Fail;
 use text_engines::{Watched, decode_stream};
 
 // A KEEPALIVE.
-const KEEPALIVE: &[u8] = b"ffffffffffffffffffffffffffffffff001304";
+pub const KEEPALIVE: &[u8] = b"ffffffffffffffffffffffffffffffff001304";
 
 // What is printed for a route.
-const ROUTE: &[u8] = b"update announce 10.1.0.0/16 path 1 next 10.0.0.1\n";
+pub const ROUTE: &[u8] = b"update announce 10.1.0.0/16 path 1 next 10.0.0.1\n";
 
 // A message of 44 octets that announces it.
-const MESSAGE: &[u8] =
+pub const MESSAGE: &[u8] =
     b"ffffffffffffffffffffffffffffffff002c020000001240010100400204020100014003040a000001100a01";
 
 // AS numbers of two octets, and nothing known of a peer.
@@ -45,7 +45,7 @@ pub fn copies(alloc: Global, text: &[u8], count: usize) -> Result<Vec<u8>, Alloc
 }
 
 // The texts one behind the other.
-fn joined(alloc: Global, texts: &[&[u8]]) -> Result<Vec<u8>, AllocError> {
+pub fn joined(alloc: Global, texts: &[&[u8]]) -> Result<Vec<u8>, AllocError> {
     let mut all = Vec::new(alloc);
     for text in texts {
         all.extend_from_slice(text)?;

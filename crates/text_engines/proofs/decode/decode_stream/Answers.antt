@@ -1,6 +1,6 @@
-use Rattle.std.proofs.Common.{inr, refl}
+use Rattle.std.proofs.Common.{Ok, inr, refl}
 use Rattle.text_engines.specs.Decoding.{Prints}
-use Rattle.text_engines.proofs.WritingLemmas.{nothing_stopped, memory_stopped, made_done, made_stopped, heard_made}
+use Rattle.text_engines.proofs.WritingLemmas.{nothing_stopped, memory_stopped, made_done, made_stopped, given_made}
 use Rattle.text_engines.proofs.decode.decode_stream.Goals as goal
 
 pub returns-in-Err-Stopped-clause-stopped : goal.returns-in-Err-Stopped-clause-stopped
@@ -11,10 +11,8 @@ returns-in-Err-Memory-clause-stopped g c = memory_stopped (Prints c.args.rule.no
 
 pub returns-in-Ok-clause-done : goal.returns-in-Ok-clause-done
 returns-in-Ok-clause-done g c =
-    let made = c.decode_output.result in
-    made_done (Prints c.args.rule.now) _ _ _ made c.write_output.result (heard_made c.args.rule.now _ c.in-Ok.input made c.in-Ok.ensures.ok c.decode_output.ensures) c.write_output.ensures.done
+    made_done (Prints c.args.rule.now) _ _ _ (Ok c.in-Ok.printed) c.write_output.result (given_made c.args.rule.now _ c.in-Ok.printed c.in-Ok.ensures.ok) c.write_output.ensures.done
 
 pub returns-in-Ok-clause-stopped : goal.returns-in-Ok-clause-stopped
 returns-in-Ok-clause-stopped g c =
-    let made = c.decode_output.result in
-    made_stopped (Prints c.args.rule.now) _ _ _ made c.write_output.result (heard_made c.args.rule.now _ c.in-Ok.input made c.in-Ok.ensures.ok c.decode_output.ensures) c.write_output.ensures.stopped
+    made_stopped (Prints c.args.rule.now) _ _ _ (Ok c.in-Ok.printed) c.write_output.result (given_made c.args.rule.now _ c.in-Ok.printed c.in-Ok.ensures.ok) c.write_output.ensures.stopped

@@ -5,4 +5,4 @@ use Rattle.text_engines.proofs.digits.Digits.feed.Goals as goal
 
 pub returns : goal.returns
 returns c =
-    on_ok c.extend.result (λ more before has. subst (λ (l : List ℕ). HasRead c.extend.new.self (before ++ l)) (c.split_at.ensures.front ∙ c.pack-kept.ensures.kept) (more before has)) c.extend.ensures
+    on_ok c.extend.result (λ more taken before has. subst (λ (l : List ℕ). HasRead taken c.extend.new.self (before ++ l)) (c.split_at.ensures.front ∙ c.pack-kept.ensures.kept) (more taken before has)) c.extend.ensures

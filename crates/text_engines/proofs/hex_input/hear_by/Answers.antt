@@ -3,9 +3,10 @@ use Rattle.std.proofs.KnownBytes.{Consumes-trans}
 use Rattle.std.proofs.lemmas.List.{length-append, length-drop, length-take-le}
 use Rattle.std.proofs.lemmas.List.Elements.{filter-append}
 use Rattle.text_engines.specs.Decoding.{is_blank}
-use Rattle.text_engines.specs.Digits.{HasRead, without_blanks}
+use Rattle.text_engines.specs.Digits.{without_blanks}
+use Rattle.text_engines.specs.Hearing.{Hears}
 use Rattle.text_engines.proofs.DigitLemmas.{was_ok}
-use Rattle.text_engines.proofs.hex_input.read_hex_by.Goals as goal
+use Rattle.text_engines.proofs.hex_input.hear_by.Goals as goal
 
 pub chunks-preserved : goal.chunks-preserved
 chunks-preserved g c =
@@ -16,7 +17,7 @@ chunks-preserved g c =
         before.0 ++ piece,
         Consumes-trans _ _ _ before.0 piece before.1 c.in-Ok.ensures.bytes.0,
         omega (arith, length-append before.0 piece, length-take-le c.in-Ok.n c.take.new.buf c.in-Ok.ensures.bound.0, before.2),
-        subst (HasRead c.feed.new.self) (sym (filter-append (λ octet. not (is_blank octet)) before.0 piece)) read,
+        subst (Hears c.args.rule.now c.feed.new.self) (sym (filter-append (λ octet. not (is_blank octet)) before.0 piece)) read,
       ),
       c.in-Ok.ensures.ok ∙ c.chunks.invariant.1,
       omega (arith, length-append c.feed.new.text (drop c.in-Ok.n c.take.new.buf), length-drop c.in-Ok.n c.take.new.buf, c.feed.auto.text, length-take-le c.in-Ok.n c.take.new.buf c.in-Ok.ensures.bound.0, c.take.auto.buf, c.chunks.invariant.2),
