@@ -33,3 +33,15 @@ fits_on width left rest part l all = (and_parts (is_asn width (value_of part)) (
 
 pub count_on : (left rest : List Text) (part : Text) → left ≡ part ∷ rest → length left ≡ length rest + 1
 count_on left rest part l = ap length l ∙ omega arith
+
+and_grouped : (a b c : Bool) → (a && (b && c)) ≡ ((a && b) && c)
+and_grouped true b c = refl
+and_grouped false b c = refl
+
+-- one number more of which something is asked
+pub all_on : (P : ℕ → Bool) (path : List ℕ) (b hit : Bool) (v : ℕ) (left rest : List Text) (part : Text) → left ≡ part ∷ rest → v ≡ value_of part → hit ≡ P v
+    → list_all P path ≡ (b && list_all P (map value_of left)) → list_all P path ≡ ((b && hit) && list_all P (map value_of rest))
+all_on P path b hit v left rest part l is says w =
+    w ∙ ap (λ (ps : List Text). b && list_all P (map value_of ps)) l
+    ∙ and_grouped b (P (value_of part)) (list_all P (map value_of rest))
+    ∙ ap (λ (h : Bool). (b && h) && list_all P (map value_of rest)) (sym (says ∙ ap P is))

@@ -28,12 +28,16 @@ pub record IsTakeable (word : Text) : Type 0 where
 
 -- ---- what is known of a path by its numbers
 
+-- the first fault of numbers, by whether all are inside their limit, and whether all are of routers
+abbrev pub judged : Bool → Bool → Result (Unit {0}) Code
+judged are_asns are_routers =
+    if not are_asns then Err OutOfLimit
+    else if not are_routers then Err UnknownRouter
+    else Ok tt
+
 -- the first fault of a path's numbers: one outside its limit anywhere, then one of no router anywhere
 abbrev pub routers_word : Width → List Router → List ℕ → Result (Unit {0}) Code
-routers_word width routers path =
-    if not (list_all (is_asn width) path) then Err OutOfLimit
-    else if not (list_all (is_router routers) path) then Err UnknownRouter
-    else Ok tt
+routers_word width routers path = judged (list_all (is_asn width) path) (list_all (is_router routers) path)
 
 -- the first fault of the numbers of a rule's path: those above, then a path that does not begin with router u, or names
 -- a router twice

@@ -1,8 +1,5 @@
 //! Laws of the definitions of texts. Each function here has an empty body; its contract is the law.
 
-ghost use Rattle.ranked_policy.specs.Plans.{Plan};
-ghost use Rattle.net_text.specs.Lexing.{lines_of};
-ghost use Rattle.net_text.specs.declared.draft.Draft.{Draft};
 ghost use Rattle.net_text.specs.Declaring.{NetworksHaveWhatIsNamed};
 ghost use Rattle.net_text.specs.Layout.{WordsStandBetweenBlanks, LinesEndByLineFeeds};
 ghost use Rattle.net_text.specs.Laws.{FirstFaultDecidesNetworks, FirstFaultDecidesAssignments, OneNetwork, SettingsAreNamed, HoldTimesFit, SpeltIsNotRefused, OneRefusal};

@@ -1,5 +1,5 @@
 //! Words that are paths. If a path has no more numbers than it may, they are read once to be
-//! judged; those of a longer path are read again for each question. Paths are taken into memory
+//! judged; those of a longer path are read again for some questions. Paths are taken into memory
 //! only once their whole line is good.
 
 ghost use Rattle.std.specs.Prelude.{◌≡◌, ◌<◌, ◌≤◌, ◌==◌, ◌∷◌, [], true, false, not, nat_le, length, map, take, Ok, Err, IfOk, IfErr, IfSome, if◌then◌else◌};
@@ -9,12 +9,12 @@ ghost use Rattle.net_text.specs.Words.{is_number, is_router, value_of, path_of, 
 ghost use Rattle.ranked_policy.specs.Tests.{is_simple};
 ghost use Rattle.bgp_values.specs.Ranges.{is_asn};
 ghost use Rattle.net_text.specs.Lines.{are_distinct};
-ghost use Rattle.net_text.specs.Taking.{parts_left, IsTakeable, IsBrief, AreBrief, routers_word, rule_numbers_word, digest, digest_next};
+ghost use Rattle.net_text.specs.Taking.{parts_left, judged, IsTakeable, IsBrief, AreBrief, routers_word, rule_numbers_word, digest, digest_next};
 
 use crate::code::Code;
 use crate::lexing::{cut, next_word, same};
 use crate::repeats::are_apart_in_order;
-use crate::words::{is_number, number_of, value_of};
+use crate::words::{number_of, value_of};
 use bgp_values::{Width, is_asn};
 use ranked_policy::{Asn, LONGEST_PATH, MOST_PATHS, NetBuilder, Path};
 use std::alloc::{AllocError, Global};
@@ -54,38 +54,6 @@ pub(crate) fn next_part(word: &[u8]) -> (&[u8], &[u8], bool)
     }
 }
 
-// Whether each part is a number.
-fn are_numbers(word: &[u8]) -> bool
-    ensures { result ≡ list_all is_number (parts 45 word.now) }
-{
-    let (mut left, mut more) = (word, true);
-    'parts: while more {
-        let (part, rest, on) = next_part(left);
-        if !is_number(part) {
-            return false;
-        }
-        left = rest;
-        more = on;
-    }
-    true
-}
-
-// Whether each number is one that an AS can have.
-fn are_asns(width: Width, word: &[u8]) -> bool
-    ensures { result ≡ list_all (is_asn width) (path_of word.now) }
-{
-    let (mut left, mut more) = (word, true);
-    'parts: while more {
-        let (part, rest, on) = next_part(left);
-        if !is_asn(width, value_of(part)) {
-            return false;
-        }
-        left = rest;
-        more = on;
-    }
-    true
-}
-
 // Whether the number is a router's. A network finds its routers by their order.
 fn names_router(net: &NetBuilder, number: u64) -> bool
     ensures { result ≡ is_router net.now.routers number }
@@ -98,36 +66,36 @@ fn names_router(net: &NetBuilder, number: u64) -> bool
     net.has_router(number as Asn)
 }
 
-// Whether each number is a router's.
-fn are_routers(net: &NetBuilder, word: &[u8]) -> bool
-    ensures { result ≡ list_all (is_router net.now.routers) (path_of word.now) }
+// Judges a path of routers by whether each of its numbers is one that an AS can have, and whether each is a router's.
+fn judged(are_asns: bool, are_routers: bool) -> Result<(), Code>
+    ensures { result ≡ judged are_asns are_routers }
 {
-    let (mut left, mut more) = (word, true);
-    'parts: while more {
-        let (part, rest, on) = next_part(left);
-        if !names_router(net, value_of(part)) {
-            return false;
-        }
-        left = rest;
-        more = on;
-    }
-    true
-}
-
-// Judges a path of routers, however long, by reading its numbers for each question.
-fn judge_long_path(width: Width, net: &NetBuilder, word: &[u8]) -> Result<(), Code>
-    ensures { result ≡ path_word width net.now.routers word.now }
-{
-    if !are_numbers(word) {
-        return Err(Code::Unreadable);
-    }
-    if !are_asns(width, word) {
+    if !are_asns {
         return Err(Code::OutOfLimit);
     }
-    if !are_routers(net, word) {
+    if !are_routers {
         return Err(Code::UnknownRouter);
     }
     Ok(())
+}
+
+// Judges a path of routers, however long. Its numbers are read once, and not kept.
+fn judge_long_path(width: Width, net: &NetBuilder, word: &[u8]) -> Result<(), Code>
+    ensures { result ≡ path_word width net.now.routers word.now }
+{
+    let (mut are_asns, mut are_routers) = (true, true);
+    let (mut left, mut more) = (word, true);
+    'parts: while more {
+        let (part, rest, on) = next_part(left);
+        let Some(number) = number_of(part) else {
+            return Err(Code::Unreadable);
+        };
+        are_asns = are_asns & is_asn(width, number);
+        are_routers = are_routers & names_router(net, number);
+        left = rest;
+        more = on;
+    }
+    judged(are_asns, are_routers)
 }
 
 // Reads the numbers of a path once, and answers how many they are. `None` if a part is no number,
@@ -174,13 +142,7 @@ fn all_routers(net: &NetBuilder, numbers: &[u64]) -> bool
 fn judge_numbers(width: Width, net: &NetBuilder, numbers: &[u64]) -> Result<(), Code>
     ensures { result ≡ routers_word width net.now.routers numbers.now }
 {
-    if !all_asns(width, numbers) {
-        return Err(Code::OutOfLimit);
-    }
-    if !all_routers(net, numbers) {
-        return Err(Code::UnknownRouter);
-    }
-    Ok(())
+    judged(all_asns(width, numbers), all_routers(net, numbers))
 }
 
 // Judges a path of routers. Its numbers are read once if they are few.

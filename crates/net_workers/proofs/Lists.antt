@@ -1,9 +1,9 @@
 -- Lists that are made one by one.
-use Rattle.std.proofs.Common.{◌≡◌, ℕ, zero, suc, arith, ◌+◌, ◌<◌, ◌≤◌, take, subst, add-one, List, [], ◌∷◌, ◌++◌, map, length, drop, get_or, refl, sym, ap, ◌∙◌}
+use Rattle.std.proofs.Common.{◌≡◌, ℕ, zero, suc, arith, ◌+◌, ◌<◌, take, subst, add-one, List, [], ◌∷◌, ◌++◌, map, length, drop, get_or, refl, sym, ap, ◌∙◌}
 use Rattle.std.specs.List.{AllByRecursion}
 use Rattle.ranked_policy.specs.declared.network.Router.{Router}
 use Rattle.ranked_policy.specs.Plans.{IsRouter, numbers}
-use Rattle.std.proofs.lemmas.List.{drop_more, map-append, take_all}
+use Rattle.std.proofs.lemmas.List.{drop_more, map-append}
 use Rattle.std.proofs.Math.Seq.{take-suc}
 
 pub all_more : {X : Type 0} (P : X → Type 0) (xs : List X) (x : X) → AllByRecursion P xs → P x → AllByRecursion P (xs ++ x ∷ [])
@@ -40,9 +40,6 @@ take_more xs i x below is = ap (λ n. take n xs) (add-one i) ∙ take-suc xs i x
 -- what holds of those read, and of the next, holds of one more
 pub read_more : {X : Type 0} → (P : X → Type 0) (xs : List X) (i : ℕ) (x : X) → i < length xs → x ≡ get_or xs i x → AllByRecursion P (take i xs) → P x → AllByRecursion P (take (i + 1) xs)
 read_more P xs i x below is all here = subst (AllByRecursion P) (sym (take_more xs i x below is)) (all_more P (take i xs) x all here)
-
-pub all_read : {X : Type 0} → (P : X → Type 0) (xs : List X) (i : ℕ) → length xs ≤ i → AllByRecursion P (take i xs) → AllByRecursion P xs
-all_read P xs i far all = subst (AllByRecursion P) (take_all i xs far) all
 
 pub none_left : {X : Type 0} → (xs : List X) → length xs ≡ 0 → xs ≡ []
 none_left [] none = refl

@@ -51,14 +51,7 @@ use Rattle.net_workers.proofs.Blocks.{Block, IsFit, acts_of, acts_by, routers_of
 -- ---- lines of journals
 
 named_router : (u : ℕ) (e : RouterEvent) → router_of (name_of u e) ≡ u
-named_router u (alone (step.Obeys c)) = refl
-named_router u (alone step.Ticks) = refl
-named_router u (alone (step.Handles v)) = refl
-named_router u (alone step.Decides) = refl
-named_router u (alone (step.Advertises v)) = refl
-named_router u (puts v i) = refl
-named_router u (takes v i) = refl
-named_router u (offers made) = refl
+named_router u e = grind arith
 
 abbrev stamp_of : Entry → ℕ
 stamp_of e = e.stamp

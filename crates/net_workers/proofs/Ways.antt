@@ -1,7 +1,7 @@
 -- The ways between routers, as the lanes of the workers were.
-use Rattle.std.proofs.Common.{◌≡◌, ◌≢◌, ◌↔◌, ℕ, suc, ◌<◌, None, ◌==◌, Bool, true, false, cond, List, [], ◌∷◌, length, map, refl, ap, sym, ◌∙◌, subst}
+use Rattle.std.proofs.Common.{◌≡◌, ℕ, suc, ◌<◌, None, ◌==◌, Bool, true, false, cond, List, [], ◌∷◌, length, map, refl, ap, sym, ◌∙◌, subst, arith}
 use mathlib.Core.List.{IsPrefix}
-use Rattle.std.specs.Prelude.{IfNone, IfErr, Result, Ok, Err, slice_index_or}
+use Rattle.std.specs.Prelude.{IfNone, slice_index_or}
 use Rattle.std.specs.List.{AllByRecursion}
 use Rattle.std.proofs.Math.Path.{fun_ext}
 use Rattle.ranked_policy.specs.declared.network.Link.{Link}
@@ -11,8 +11,6 @@ use Rattle.ruled_pipe.specs.Ends.{left}
 use Rattle.worker_loop.specs.declared.chore.Chore.{Chore}
 use Rattle.net_workers.specs.declared.ends.Ends.{Ends}
 use Rattle.net_workers.specs.declared.ends.Lane.{Lane}
-use Rattle.net_workers.specs.declared.record.RunFault.{RunFault}
-use Rattle.net_workers.specs.declared.record.RunFault.TheVariants.{BadLimits}
 use Rattle.net_workers.specs.declared.record.Way.{Way}
 use Rattle.net_workers.specs.declared.running.Ended.{Ended}
 use Rattle.net_workers.specs.Lanes.{wire_of, wires_of, put_of, taken_of}
@@ -113,9 +111,3 @@ module _ {G : Type 0} (given : G → List Chore) (plan : Plan) (turns : ℕ) (be
   passed_then ends ways is are passed =
       passed_is (numbers plan.routers) after ways (same_numbers WorkedOn (λ b a r. r.same.number) before after all_ran ∙ are)
       (subst (λ (es : List Ends). HavePassed (lanes_by (numbers plan.routers) (lanes_in es)) ways) is passed)
-
--- ---- how a run is refused
-
-pub refuses_by : {A : Type 0} (r : Result A RunFault) (P : Type 0) → P → IfErr r (λ why. why ≢ BadLimits) → IfErr r (λ why. why ≡ BadLimits ↔ (P → ⊥))
-refuses_by (Ok a) P p other = tt
-refuses_by (Err why) P p other = (λ same. absurd (other same), λ not. absurd (not p))

@@ -116,35 +116,6 @@ fn run_one<R: Wait, G: Gate>(rt: &R, board: &Board, turns: u32, ended: &mut Ende
     board.sleepers.leave();
 }
 
-// Runs each of these workers in a thread of its own.
-fn run_each<'a, R, G>(rt: &R, board: &Board, turns: u32, workers: &mut [Ended<'a, G>])
-where
-    R: Threads + Wait + Sync,
-    G: Gate + Send,
-    requires gates { All (λ e. G.given e.worker.gate ≡ []) workers.old }
-    requires chores { All (λ e. e.worker.journal.chores.items ≡ []) workers.old }
-    ensures many { length workers.new ≡ length workers.old }
-    ensures ran { (i : ℕ) (d : _) → i < length workers.old → IfNone (slice_index_or workers.new i d).fault
-        (Ran G.given turns (slice_index_or workers.old i d).worker (slice_index_or workers.new i d).worker) }
-    ensures told { (i : ℕ) (d : _) → i < length workers.old
-        → G.told (slice_index_or workers.new i d).worker.gate ≡ G.told (slice_index_or workers.old i d).worker.gate }
-    ensures same { (i : ℕ) (d : _) → i < length workers.old
-        → IsLaterWorker wires_of (slice_index_or workers.old i d).worker (slice_index_or workers.new i d).worker }
-    ensures ended { (i : ℕ) (d : _) → i < length workers.old
-        → IfSome (slice_index_or workers.new i d).fault (Ceased G.given turns (slice_index_or workers.new i d).worker) }
-{
-    let threads = workers.len();
-    if threads == 0 {
-        return;
-    }
-    thread::for_each_mut(
-        rt,
-        workers,
-        threads,
-        &|_, ended: &mut Ended<G>| { run_one(rt, board, turns, ended) },
-    );
-}
-
 /// Runs each worker in a thread of its own, and returns once all have ended. A worker that ends
 /// without a fault did what its gate said, and one with a fault ended for it.
 pub(crate) fn run_all<'a, R, G>(rt: &R, board: &Board, turns: u32, workers: &mut Vec<Ended<'a, G>>)
@@ -166,5 +137,15 @@ where
         → IfSome (slice_index_or workers.new.items i d).fault
         (Ceased G.given turns (slice_index_or workers.new.items i d).worker) }
 {
-    run_each(rt, board, turns, workers.as_mut_slice());
+    let workers = workers.as_mut_slice();
+    let threads = workers.len();
+    if threads == 0 {
+        return;
+    }
+    thread::for_each_mut(
+        rt,
+        workers,
+        threads,
+        &|_, ended: &mut Ended<G>| { run_one(rt, board, turns, ended) },
+    );
 }

@@ -9,9 +9,6 @@ use Rattle.prefix_lanes.specs.Bits.{PrefixView, Covers}
 use Rattle.prefix_lanes.specs.Best.{IsLonger, IsBest}
 use Rattle.prefix_lanes.specs.Covering.{IsLongest}
 
-pub best_none : (q : PrefixView) → IsBest [] q None
-best_none q = All-nil (λ e. Covers e q → ⊥)
-
 -- an entry that doesn't cover, or is no longer
 pub best_stays : (xs : List PrefixView) (q : PrefixView) (best : Option Candidate) (e : PrefixView) → (Covers e q → IsLonger e.len best → ⊥) → IsBest xs q best → IsBest (xs ++ e ∷ []) q best
 best_stays xs q None e fails b = All-push (λ x. Covers x q → ⊥) xs e b (λ h. fails h tt)

@@ -11,3 +11,4 @@ mod TestLemmas
 pub mod PlaceLemmas
 mod WayLemmas
 mod PeerLemmas
+pub mod OneTable

@@ -1,13 +1,11 @@
 -- Loops that test each element of a list, and stop at the first that fails, or that passes.
-use Rattle.std.proofs.Common.{◌≡◌, ℕ, zero, suc, ◌+◌, ◌<◌, ◌≤◌, Bool, true, false, List, [], ◌∷◌, ◌++◌, length, get_or, take, refl, sym, ap, subst, ◌∙◌, arith, map, IsTrue}
+use Rattle.std.proofs.Common.{◌≡◌, ℕ, zero, suc, ◌+◌, ◌<◌, ◌≤◌, true, false, List, [], ◌∷◌, ◌++◌, length, get_or, take, refl, sym, ap, subst, ◌∙◌, arith, map, IsTrue}
 use Rattle.std.specs.Prelude.{◌↔◌}
 use Rattle.std.specs.List.{All, AllPairs, Any, Contains}
 use Rattle.std.proofs.lemmas.List.{take_all, take_more, length-take-le, get_or-take, get_or_default, get_or-map, length-map}
 use Rattle.std.proofs.lemmas.List.Elements.{All-more}
 use Rattle.std.proofs.lemmas.List.Quantifiers.{all_pairs_push}
 use Rattle.std.proofs.lemmas.Bool.{false≢true}
-use Rattle.ranked_policy.specs.declared.network.Router.{Router}
-use Rattle.ranked_policy.specs.Plans.{IsRouter}
 
 pub all_more : {X : Type 0} (P : X → Type 0) (xs : List X) (i : ℕ) (x : X) → i < length xs → x ≡ get_or xs i x → All P (take i xs) → P x → All P (take (i + 1) xs)
 all_more P xs i x l read h p = All-more P xs i x l h (subst P read p)
@@ -30,9 +28,6 @@ any_none P xs i l all =
 pub contains_any : {X : Type 0} (xs : List X) (y : X) → Contains xs y → Any (λ x. x ≡ y) xs
 contains_any xs y h = (h.0, y, h.1, h.2, refl)
 
-pub any_contains : {X : Type 0} (xs : List X) (y : X) → Any (λ x. x ≡ y) xs → Contains xs y
-any_contains {X} xs y h = let P : X → Type 0 = λ x. get_or xs h.0 x ≡ x in (h.0, h.2, subst P h.4 h.3)
-
 -- a list that is read by a function contains what the function gives somewhere
 contains_map_at : {X Y : Type 0} (f : X → Y) (xs : List X) (k : ℕ) (y : Y) → k < length (map f xs) → get_or (map f xs) k y ≡ y → Any (λ x. f x ≡ y) xs
 contains_map_at f [] k y l e = absurd (omega (arith, l))
@@ -44,9 +39,6 @@ contains_map f xs y h = contains_map_at f xs h.0 y h.1 h.2
 
 pub map_contains : {X Y : Type 0} (f : X → Y) (xs : List X) (y : Y) → Any (λ x. f x ≡ y) xs → Contains (map f xs) y
 map_contains f xs y h = (h.0, omega (arith, h.2, length-map xs f), get_or-map f xs h.0 h.1 y h.2 ∙ ap f h.3 ∙ h.4)
-
-pub iff_both : {P Q R : Type 0} → P ↔ Q → Q ↔ R → P ↔ R
-iff_both a b = (λ p. b.0 (a.0 p), λ r. a.1 (b.1 r))
 
 -- each element in turn, against those before it
 pub pairs_more : {X : Type 0} (R : X → X → Type 0) (xs : List X) (i : ℕ) (x : X) → i < length xs → x ≡ get_or xs i x → AllPairs R (take i xs) → All (λ y. R y x) (take i xs) → AllPairs R (take (i + 1) xs)
@@ -64,7 +56,3 @@ pub again : {X : Type 0} (xs : List X) (i : ℕ) (x : X) → i < length xs → x
 again xs i x l read h =
     let below : h.0 < i = omega (arith, h.1, length-take-le i xs (omega (arith, l))) in
     (λ t. absurd (false≢true t), λ pairs. absurd (pairs h.0 i x below l (sym (get_or-take i xs h.0 x below) ∙ h.2 ∙ read)))
-
--- a router has the number
-pub numbers_iff : (routers : List Router) (u : ℕ) (b : Bool) → IsTrue b ↔ Any (λ r. r.asn ≡ u) routers → IsTrue b ↔ IsRouter routers u
-numbers_iff routers u b h = ((λ t. map_contains (λ r. r.asn) routers u (h.0 t)), (λ known. h.1 (contains_map (λ r. r.asn) routers u known)))

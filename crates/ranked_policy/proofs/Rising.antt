@@ -1,10 +1,10 @@
 -- Lists that rise.
-use Rattle.std.proofs.Common.{◌≡◌, ℕ, zero, suc, ◌+◌, ◌<◌, List, [], ◌∷◌, ◌++◌, length, get_or, drop, sym, ap, subst, ◌∙◌, arith, map, inl, inr, Bool, false, eqb, ◌&&◌}
+use Rattle.std.proofs.Common.{◌≡◌, ℕ, zero, suc, ◌+◌, ◌<◌, List, [], ◌∷◌, ◌++◌, length, get_or, drop, sym, ap, subst, ◌∙◌, arith, map, inl, inr}
 use Rattle.std.specs.List.{All, AllPairs}
 use Rattle.std.proofs.lemmas.List.{get_or-drop, length-drop, length-map, get_or-map, get_or_default}
 use Rattle.std.proofs.lemmas.List.Elements.{All-nil, All-cons, All-append, All-head, All-tail, All-map}
 use Rattle.std.proofs.lemmas.List.Kept.{AllPairs-cons}
-use Rattle.std.proofs.lemmas.Bool.{cases_order, both_ways, and_from, eq-eqb}
+use Rattle.std.proofs.lemmas.Bool.{cases_order}
 use Rattle.prefix_lanes.specs.Bits.{PrefixView}
 use Rattle.ranked_policy.specs.Plans.{IsBefore}
 
@@ -65,16 +65,8 @@ pairs_unmap f R xs pairs i j d l m =
     subst (λ z. R z (f (get_or xs j d))) (get_or-map f xs i d (f d) (omega (arith, l, m)))
     (subst (R (get_or (map f xs) i (f d))) (get_or-map f xs j d (f d) m) (pairs i j (f d) l (omega (arith, m, length-map xs f))))
 
--- what `==` says of two prefixes
-pub prefix_apart : (p q : PrefixView) (b : Bool) → b ≡ (eqb p.addr q.addr && eqb p.len q.len) → b ≡ false → p ≡ q → ⊥
-prefix_apart p q b says f same =
-    both_ways b f (says ∙ and_from (eqb p.addr q.addr) (eqb p.len q.len) (eq-eqb p.addr q.addr (ap (λ x. x.addr) same)) (eq-eqb p.len q.len (ap (λ x. x.len) same)))
-
 -- what is said of what a function reads, of another list where it reads the same
 pub pairs_map : {X Y : Type 0} (f : X → Y) (R : Y → Y → Type 0) (xs : List X) → AllPairs (λ x y. R (f x) (f y)) xs → AllPairs R (map f xs)
 pairs_map f R [] pairs = λ i j d l m. absurd (omega (arith, m))
 pairs_map f R (x ∷ xs) pairs =
     AllPairs-cons R (f x) (map f xs) (All-map (R (f x)) f xs (pairs_head (λ x y. R (f x) (f y)) x xs pairs)) (pairs_map f R xs (pairs_tail (λ x y. R (f x) (f y)) x xs pairs))
-
-pub pairs_unread : {X Y : Type 0} (f : X → Y) (R : Y → Y → Type 0) (xs ys : List X) → map f xs ≡ map f ys → AllPairs (λ x y. R (f x) (f y)) xs → AllPairs (λ x y. R (f x) (f y)) ys
-pairs_unread f R xs ys same pairs = pairs_unmap f R ys (subst (AllPairs R) same (pairs_map f R xs pairs))

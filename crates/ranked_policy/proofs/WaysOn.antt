@@ -1,5 +1,5 @@
 -- A path that is a router and the way on from it, by its parts.
-use Rattle.std.proofs.Common.{◌≡◌, ◌≢◌, ℕ, zero, suc, ◌<◌, ◌≤◌, false, List, [], ◌∷◌, ◌++◌, length, get_or, drop, refl, sym, ap, subst, ◌∙◌, arith, inl, inr}
+use Rattle.std.proofs.Common.{◌≡◌, ◌≢◌, ℕ, zero, suc, ◌<◌, false, List, [], ◌∷◌, ◌++◌, length, get_or, drop, refl, sym, ap, subst, ◌∙◌, arith, inl, inr}
 use Rattle.std.specs.Prelude.{◌↔◌}
 use Rattle.std.specs.List.{Contains}
 use Rattle.std.proofs.lemmas.List.Elements.{Contains-get_or}
@@ -10,30 +10,12 @@ use Rattle.ranked_policy.specs.Paths.{IsSimple, EndsWith}
 use Rattle.ranked_policy.specs.Orders.{IsShorter}
 use Rattle.ranked_policy.specs.Laws.{Earlier, earlier_from_comes, comes_from_earlier}
 
-pub onward_parts : (path rest : List ℕ) (r : ℕ) → 1 ≤ length path → get_or path 0 0 ≡ r → (drop 1 path ≡ rest) ↔ (path ≡ r ∷ rest)
-onward_parts [] rest r some head = absurd (omega (arith, some))
-onward_parts (x ∷ xs) rest r some head = (λ e. ap (λ (n : ℕ). n ∷ xs) head ∙ ap (λ (ys : List ℕ). r ∷ ys) e, λ e. ap (λ (ys : List ℕ). drop 1 ys) e)
-
-pub none_onward : (path rest : List ℕ) (r : ℕ) → length path ≡ 0 → path ≡ r ∷ rest → ⊥
-none_onward path rest r none e = let l = ap (λ (xs : List ℕ). length xs) e in omega (arith, none, l)
-
-pub other_onward : (path rest : List ℕ) (r : ℕ) → (get_or path 0 0 ≡ r → ⊥) → path ≡ r ∷ rest → ⊥
-other_onward path rest r apart e = apart (ap (λ (xs : List ℕ). get_or xs 0 0) e)
-
 ends_front : (front rest : List ℕ) (r v : ℕ) → (rest ≢ []) → r ∷ rest ≡ front ++ v ∷ [] → EndsWith rest v
 ends_front [] rest r v some e = absurd (some (ap (λ (xs : List ℕ). drop 1 xs) e))
 ends_front (y ∷ ys) rest r v some e = (ys, ap (λ (xs : List ℕ). drop 1 xs) e)
 
 pub ends_more : (rest : List ℕ) (r v : ℕ) → (rest ≢ []) → EndsWith (r ∷ rest) v ↔ EndsWith rest v
 ends_more rest r v some = (λ h. ends_front h.0 rest r v some h.1, λ h. (r ∷ h.0, ap (λ (xs : List ℕ). r ∷ xs) h.1))
-
-alone_front : (front : List ℕ) (r v : ℕ) → r ∷ [] ≡ front ++ v ∷ [] → r ≡ v
-alone_front [] r v e = ap (λ (xs : List ℕ). get_or xs 0 0) e
-alone_front (y ∷ []) r v e = let l = ap (λ (xs : List ℕ). length xs) e in absurd (omega (arith, l))
-alone_front (y ∷ z ∷ ys) r v e = let l = ap (λ (xs : List ℕ). length xs) e in absurd (omega (arith, l))
-
-pub ends_alone : (r v : ℕ) → EndsWith (r ∷ []) v ↔ (r ≡ v)
-ends_alone r v = (λ h. alone_front h.0 r v h.1, λ e. ([], ap (λ (n : ℕ). n ∷ []) e))
 
 earlier_tail : (r : ℕ) (a b : List ℕ) → Earlier (r ∷ a) (r ∷ b) → Earlier a b
 earlier_tail r a b h = elim h [ inl l ↦ absurd (omega (arith, l)) | inr t ↦ t.1 ]

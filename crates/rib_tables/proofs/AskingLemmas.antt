@@ -1,5 +1,5 @@
 -- What is asked of the owner: what a peer waits for, what is to be decided, whether anything is left.
-use Rattle.std.proofs.Common.{◌≡◌, ◌≢◌, ℕ, ◌<◌, true, false, List, length, get_or, sym, ap, subst, arith, Some, None, Option}
+use Rattle.std.proofs.Common.{◌≡◌, ◌≢◌, ℕ, ◌<◌, true, false, List, length, get_or, sym, subst, arith, Some, None, Option}
 use Rattle.std.specs.Prelude.{MatchOption}
 use Rattle.std.specs.Option.{is_some}
 use Rattle.std.specs.List.{slice_get}
@@ -15,9 +15,7 @@ use Rattle.rib_tables.specs.declared.row.Row.{Row}
 use Rattle.rib_tables.specs.Places.{has}
 use Rattle.rib_tables.specs.Words.{nothing}
 use Rattle.rib_tables.specs.Least.{HoldsOfAll, IsLeastWithout}
-use Rattle.rib_tables.specs.Tables.{path_of}
-use Rattle.rib_tables.specs.Choices.{SourcesView, IsBest}
-use Rattle.rib_tables.specs.Owners.{RibView, sources_of, IsSettled, IsServed, IsAwaited, AllServed, KeepsPath}
+use Rattle.rib_tables.specs.Owners.{RibView, IsSettled, IsServed, IsAwaited, AllServed}
 use Rattle.rib_tables.specs.Rows.{IsRib, AreDecided, AreJudged, AllBest, IsFirstUndecided, view_of}
 use Rattle.rib_tables.proofs.RibLemmas.{row_named}
 use Rattle.rib_tables.proofs.SessionLemmas.{listed_up}
@@ -87,9 +85,3 @@ word_seen {X} value (Some x) line k whole is some = (sym (is (value x) some.0), 
 pub found_least : (origins : List Origin) (All : Type 0) (Holds : PrefixView → Type 0) (r : Option PrefixView) → is_some r ≡ true → MatchOption r All (IsLeastWithout origins Holds) → (q : PrefixView) × IsNamed origins q × (Holds q → ⊥)
 found_least origins All Holds None some least = absurd (false≢true some)
 found_least origins All Holds (Some q) some least = (q, least.is_named, least.fails)
-
--- a best that is kept settles its prefix
-pub kept_settles : (old new : RibView) (q : PrefixView) (path : List ℕ) → IsBest (sources_of old) q path → KeepsPath old new q path → IsSettled new q
-kept_settles old new q path best keeps =
-    let same : sources_of new ≡ sources_of old = ap sources_of keeps.rest in
-    subst (λ (s : SourcesView). IsBest s q (path_of new.kept q)) (sym same) (subst (IsBest (sources_of old) q) (sym keeps.paths.kept) best)

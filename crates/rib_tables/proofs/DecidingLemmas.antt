@@ -14,7 +14,8 @@ use Rattle.rib_tables.specs.declared.row.Row.{Row}
 use Rattle.rib_tables.specs.Places.{has}
 use Rattle.rib_tables.specs.Choices.{IsFirstOrNone, IsBestOf}
 use Rattle.rib_tables.specs.Rows.{RowHears, IsRow, IsRowBest, AreDecided, AllBest, IsFirstUndecided}
-use Rattle.rib_tables.proofs.RouterLemmas.{one_table, table_stands, best_once}
+use Rattle.ranked_policy.proofs.OneTable.{one_table, table_stands}
+use Rattle.rib_tables.proofs.RouterLemmas.{best_once}
 use Rattle.rib_tables.proofs.RowChoices.{some_of}
 use Rattle.rib_tables.proofs.ChangeLemmas.{from_map}
 

@@ -21,7 +21,7 @@ use Rattle.rib_tables.specs.Choices.{Speaks}
 use Rattle.rib_tables.specs.Owners.{IsNew}
 use Rattle.rib_tables.specs.Rows.{IsRow, AreRows, IsRowBest, IsRib, IsFresh, AreFresh, said_in, view_of}
 use Rattle.rib_tables.proofs.WordLemmas.{is_prefix-true}
-use Rattle.rib_tables.proofs.RouterLemmas.{one_table}
+use Rattle.ranked_policy.proofs.OneTable.{one_table}
 use Rattle.rib_tables.proofs.RowChoices.{some_of}
 use Rattle.rib_tables.proofs.ChangeLemmas.{from_map, to_map, each_passes, within}
 use Rattle.rib_tables.proofs.ViewLemmas.{peer_or_not, no_row, no_peer}

@@ -19,7 +19,7 @@ use Rattle.rib_tables.specs.Places.{has}
 use Rattle.rib_tables.specs.Words.{path_in}
 use Rattle.rib_tables.specs.Choices.{IsChoice, IsFirstOrNone}
 use Rattle.rib_tables.specs.Rows.{RowHears, IsRow, IsRowBest, BestStays, StaysDecided, hearing}
-use Rattle.rib_tables.proofs.RouterLemmas.{table_stands}
+use Rattle.ranked_policy.proofs.OneTable.{table_stands}
 use Rattle.rib_tables.proofs.RowChoices.{some_of}
 use Rattle.rib_tables.proofs.RibLemmas.{set_here, set_there}
 

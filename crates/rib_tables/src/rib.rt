@@ -107,14 +107,6 @@ impl<'a> Rib<'a> {
         place_of_peer(self.peers.as_slice(), peer).unwrap()
     }
 
-    // The place of a prefix of the network among its prefixes.
-    fn prefix_place(&self, prefix: &Prefix) -> usize
-        requires { IsNamed self.now.net.origins prefix.now }
-        ensures { slice_get (map (λ origin. origin.prefix) self.now.net.origins) result ≡ Some prefix.now }
-    {
-        place_of(&self.keys, prefix).unwrap()
-    }
-
     /// The word heard last from a peer for a prefix. `None` exactly where it is the empty path.
     pub fn word_heard(&self, peer: Asn, prefix: &Prefix) -> Option<&Word>
         ensures { MatchOption result (word_of self.now.heard peer prefix.now ≡ nothing)
@@ -171,16 +163,6 @@ impl<'a> Rib<'a> {
         self.rows[at].originated
     }
 
-    /// Whether the session with a peer is Established.
-    pub fn is_established(&self, peer: Asn) -> bool
-        ensures { IsTrue result ↔ Contains self.now.established peer }
-    {
-        match place_of_peer(self.peers.as_slice(), peer) {
-            Some(place) => self.peers[place].up,
-            None => false,
-        }
-    }
-
     /// Takes an UPDATE of a peer (RFC 4271 sections 3.1 and 4.3). Each prefix of the network that the UPDATE mentions
     /// gets the word that it says; an announcement wins over a withdrawal. Nothing else changes. Refused with
     /// [`RibError::Memory`] if a growth is refused, and then all is as it was.
@@ -213,20 +195,9 @@ impl<'a> Rib<'a> {
         Ok(())
     }
 
-    /// Takes an UPDATE of a peer that tells a path of one prefix, as [`Rib::hear`] does; the empty path is a
-    /// withdrawal. Refused with [`RibError::Memory`] if a growth is refused, and then all is as it was.
-    pub fn hear_path(&mut self, peer: Asn, prefix: &Prefix, path: &[Asn]) -> Result<(), RibError>
-        requires { Linked self.old.net.links self.old.router peer }
-        ensures ok { OnOk result
-            ((u : updates.Update) → TellsPath u prefix.now path.now → HearsUpdate self.old self.new peer u) }
-        ensures err { OnErr result (self.new ≡ self.old) }
-    {
-        let place = self.peer_place(peer);
-        self.hear_path_at(place, peer, prefix, path)
-    }
-
-    /// Does what [`Rib::hear_path`] does, and is refused as it is, for the peer at a place among the router's peers, by
-    /// rising number.
+    /// Takes an UPDATE that tells a path of one prefix, as [`Rib::hear`] does, of the peer at a place among the router's
+    /// peers, by rising number; the empty path is a withdrawal. Refused with [`RibError::Memory`] if a growth is
+    /// refused, and then all is as it was.
     pub fn hear_path_at(
         &mut self,
         place: usize,
@@ -253,21 +224,9 @@ impl<'a> Rib<'a> {
         Ok(())
     }
 
-    /// Records that a peer was told the kept path of a prefix. Refused with [`RibError::Memory`] if a growth is
-    /// refused, and then all is as it was.
-    pub fn tell(&mut self, peer: Asn, prefix: &Prefix) -> Result<(), RibError>
-        requires linked { Linked self.old.net.links self.old.router peer }
-        requires named { IsNamed self.old.net.origins prefix.now }
-        ensures ok { OnOk result (TellsKept self.old self.new peer prefix.now) }
-        ensures err { OnErr result (self.new ≡ self.old) }
-    {
-        let place = self.peer_place(peer);
-        let at = self.prefix_place(prefix);
-        self.tell_at(place, peer, at, prefix)
-    }
-
-    /// Does what [`Rib::tell`] does, and is refused as it is, for the peer at a place among the router's peers, by
-    /// rising number, and the prefix at the place `at` of [`Network::origins`].
+    /// Records that the peer at a place among the router's peers, by rising number, was told the kept path of the prefix
+    /// at the place `at` of [`Network::origins`]. Refused with [`RibError::Memory`] if a growth is refused, and then all
+    /// is as it was.
     pub fn tell_at(
         &mut self,
         place: usize,
@@ -330,14 +289,23 @@ impl<'a> Rib<'a> {
         self.waits[place] = PlaceSet::new();
     }
 
+    // Originates a prefix from now on, or no longer.
+    fn set_originated(&mut self, prefix: &Prefix, now: bool)
+        requires { IsOrigin self.old.net.origins self.old.router prefix.now }
+        ensures originating { now ≡ true → Originating self.old self.new prefix.now }
+        ensures withdrawing { now ≡ false → Withdrawing self.old self.new prefix.now }
+    {
+        let place = place_of(&self.keys, prefix).unwrap();
+        originate_at(&mut self.rows, place, now);
+        self.dirty.put(place);
+    }
+
     /// Originates a prefix from now on. It takes no memory.
     pub fn originate(&mut self, prefix: &Prefix)
         requires { IsOrigin self.old.net.origins self.old.router prefix.now }
         ensures { Originating self.old self.new prefix.now }
     {
-        let place = place_of(&self.keys, prefix).unwrap();
-        originate_at(&mut self.rows, place, true);
-        self.dirty.put(place);
+        self.set_originated(prefix, true);
     }
 
     /// Originates a prefix no longer. It takes no memory.
@@ -345,9 +313,7 @@ impl<'a> Rib<'a> {
         requires { IsOrigin self.old.net.origins self.old.router prefix.now }
         ensures { Withdrawing self.old self.new prefix.now }
     {
-        let place = place_of(&self.keys, prefix).unwrap();
-        originate_at(&mut self.rows, place, false);
-        self.dirty.put(place);
+        self.set_originated(prefix, false);
     }
 
     /// Keeps a path for a prefix of the network in place of what was kept. It takes no memory.
@@ -384,26 +350,10 @@ impl<'a> Rib<'a> {
         Ok(path_along(alloc, self.router, way)?)
     }
 
-    /// The prefix that is to be decided: the least of the network, by address and then by length, whose kept path is
-    /// not the best (RFC 4271 section 9.1). `None` exactly where each kept path is the best. Nothing that a clause sees
-    /// changes: a path found to be the best is not looked at again until something changes. It takes no memory.
-    pub fn dirty(&mut self) -> Option<Prefix>
-        ensures least { MatchOption result (HoldsOfAll self.old.net.origins (IsSettled self.old))
-            (IsLeastWithout self.old.net.origins (IsSettled self.old)) }
-        ensures same { self.new ≡ self.old }
-    {
-        let (place, _) = first_undecided(
-            self.router,
-            self.peers.as_slice(),
-            self.rows.as_slice(),
-            &mut self.dirty,
-        )?;
-        Some(self.rows[place].prefix)
-    }
-
     /// The prefix that [`Rib::decide`] decides next: the least of the network, by address and then by length, whose
-    /// kept path is not the best. `None` exactly where each kept path is the best. It takes no memory.
-    pub fn undecided(&self) -> Option<Prefix>
+    /// kept path is not the best (RFC 4271 section 9.1). `None` exactly where each kept path is the best. It takes no
+    /// memory.
+    pub fn dirty(&self) -> Option<Prefix>
         ensures { MatchOption result (HoldsOfAll self.now.net.origins (IsSettled self.now))
             (IsLeastWithout self.now.net.origins (IsSettled self.now)) }
     {
@@ -500,11 +450,10 @@ impl<'a> Rib<'a> {
     }
 
     /// Whether anything is still to be done: some kept path is not the best, or some Established
-    /// peer was not told some kept path. Nothing that a clause sees changes. It takes no memory.
-    pub fn is_pending(&mut self) -> bool
-        ensures some { result ≡ true → IsPending self.old }
-        ensures none { result ≡ false → HoldsOfAll self.old.net.origins (IsSettled self.old) × AllServed self.old }
-        ensures same { self.new ≡ self.old }
+    /// peer was not told some kept path. It takes no memory.
+    pub fn is_pending(&self) -> bool
+        ensures some { result ≡ true → IsPending self.now }
+        ensures none { result ≡ false → HoldsOfAll self.now.net.origins (IsSettled self.now) × AllServed self.now }
     {
         self.dirty().is_some() || self.is_awaited()
     }

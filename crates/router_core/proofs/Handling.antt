@@ -73,12 +73,7 @@ clash e = absurd cc
 -- ---- the UPDATE that is acted on
 
 pub seen_is : (b : Bool) (h : AtHand) (v : ℕ) (x : Snapshots) → seen_where v (update_acted b h) x ≡ seen b h v x
-seen_is true NoMessage v x = refl
-seen_is true (HasFault fault) v x = refl
-seen_is true (HasUpdate u) v x = refl
-seen_is false NoMessage v x = refl
-seen_is false (HasFault fault) v x = refl
-seen_is false (HasUpdate u) v x = refl
+seen_is b h v x = grind arith
 
 last_on : (w : Word) (us : List Update) (u : Update) (q : PrefixView) → last_word w (us ++ u ∷ []) q ≡ word_after (last_word w us q) u q
 last_on w [] u q = refl

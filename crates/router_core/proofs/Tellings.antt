@@ -5,7 +5,6 @@ use Rattle.std.proofs.lemmas.Bool.Decides.{not_from_Decides}
 use Rattle.prefix_lanes.specs.Bits.{PrefixView, is_prefix}
 use Rattle.bgp_codec.specs.declared.update.Update.{Update}
 use Rattle.session_fsm.specs.declared.state.State.{State}
-use Rattle.session_fsm.specs.declared.state.State.TheVariants.{Idle, Connect, Active, OpenSent, OpenConfirm, Established}
 use Rattle.ranked_policy.specs.Plans.{IsNamed}
 use Rattle.rib_tables.specs.declared.word.Word.{Word}
 use Rattle.rib_tables.specs.declared.word.Word.TheVariants.{Sequence}
@@ -29,10 +28,6 @@ last_more : (w : Word) (us : List Update) (u : Update) (p : PrefixView) → last
 last_more w [] u p = refl
 last_more w (t ∷ us) u p = last_more (word_after w t p) us u p
 
-or_nothing : (b : Bool) → (b || false) ≡ b
-or_nothing true = refl
-or_nothing false = refl
-
 module _ (id : ℕ) (q p : PrefixView) where
   says_here : is_prefix q p ≡ true → (path : List ℕ) (w : Word) → word_after w (telling id q path) p ≡ Sequence path
   says_here e [] w = rw e refl
@@ -45,20 +40,10 @@ module _ (id : ℕ) (q p : PrefixView) where
 -- ---- the side that tells
 
 not_opening : (state : State) → is_established state ≡ true → is_opening state ≡ true → ⊥
-not_opening Idle e h = absurd cc
-not_opening Connect e h = absurd cc
-not_opening Active e h = absurd cc
-not_opening OpenSent e h = absurd cc
-not_opening OpenConfirm e h = absurd cc
-not_opening Established e h = absurd cc
+not_opening state h k = grind arith
 
 not_away : (state : State) → is_established state ≡ true → is_away state ≡ true → ⊥
-not_away Idle e h = absurd cc
-not_away Connect e h = absurd cc
-not_away Active e h = absurd cc
-not_away OpenSent e h = absurd cc
-not_away OpenConfirm e h = absurd cc
-not_away Established e h = absurd cc
+not_away state h k = grind arith
 
 module _ (s : Side) (up : is_up s ≡ true) (u : Update) where
   sent_later : (n : ℕ) → s.link.epoch < n → (told s u).sent n ≡ s.sent n

@@ -47,32 +47,6 @@ use Rattle.router_core.proofs.Moving.{overflow_is, left_is}
 abbrev pub at_stamp : RouterView → RibView → ℕ → RouterView
 at_stamp x t stamp = record { net = x.net; number = x.number; own_open = x.own_open; peers = x.peers; tables = t; marks = x.marks; stamp = stamp }
 
-pub stamped_sound : (x : RouterView) (stamp : ℕ) → IsSound x → stamp ≤ GREATEST_STAMP → IsSound (at_stamp x x.tables stamp)
-stamped_sound x stamp s few =
-    let t = s.tabled in
-    record {
-      network = s.network;
-      router = s.router;
-      numbers = s.numbers;
-      links = s.links;
-      own_open = s.own_open;
-      sayable = s.sayable;
-      stamp = few;
-      tabled = record {
-        net = t.net;
-        router = t.router;
-        peers = t.peers;
-        fresh = t.fresh;
-        width = t.width;
-        short = t.short;
-        sent = t.sent;
-        kept = t.kept;
-        tellable = t.tellable;
-        originated = t.originated;
-      };
-      marked = record { over = s.marked.over; unfinished = s.marked.unfinished; queue = s.marked.queue };
-    }
-
 pub cleared_sound : (x : RouterView) (t : RibView) (stamp : ℕ) → IsSound x → stamp ≤ GREATEST_STAMP → Clears x.tables t → IsSound (at_stamp x t stamp)
 cleared_sound x t stamp s few c =
     let h = s.tabled in

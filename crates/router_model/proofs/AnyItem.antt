@@ -11,7 +11,6 @@ use Rattle.link_epoch.specs.declared.link_end.Heard.{Heard}
 use Rattle.link_epoch.specs.declared.link_end.Heard.TheVariants as heard
 use Rattle.session_fsm.specs.Table.{SessionView, on_event}
 use Rattle.session_fsm.specs.declared.state.State.{State}
-use Rattle.session_fsm.specs.declared.state.State.TheVariants.{Idle, Connect, Active, OpenSent, OpenConfirm, Established}
 use Rattle.session_fsm.specs.declared.event.FsmEvent.{FsmEvent}
 use Rattle.session_fsm.specs.declared.event.FsmEvent.TheVariants as event
 use Rattle.session_fsm.specs.declared.actions.Action.{Action}
@@ -59,28 +58,13 @@ came o g a e h = obeyed o g (record a { session = (on_event a.session e).session
 -- ---- no sign of the peer makes the session dial by itself
 
 acked : (st : State) (s : SessionView) → s.state ≡ st → NoDial (on_event s event.TcpCrAcked).actions
-acked Idle s h = rw h tt
-acked Connect s h = rw h tt
-acked Active s h = rw h tt
-acked OpenSent s h = rw h tt
-acked OpenConfirm s h = rw h tt
-acked Established s h = rw h tt
+acked st s h = grind arith
 
 confirmed : (st : State) (s : SessionView) → s.state ≡ st → NoDial (on_event s event.TcpConnectionConfirmed).actions
-confirmed Idle s h = rw h tt
-confirmed Connect s h = rw h tt
-confirmed Active s h = rw h tt
-confirmed OpenSent s h = rw h tt
-confirmed OpenConfirm s h = rw h tt
-confirmed Established s h = rw h tt
+confirmed st s h = grind arith
 
 failed : (st : State) (s : SessionView) → s.state ≡ st → NoDial (on_event s event.TcpConnectionFails).actions
-failed Idle s h = rw h tt
-failed Connect s h = rw h tt
-failed Active s h = rw h tt
-failed OpenSent s h = rw h tt
-failed OpenConfirm s h = rw h tt
-failed Established s h = rw h tt
+failed st s h = grind arith
 
 -- ---- a sign is answered by a number that fits
 

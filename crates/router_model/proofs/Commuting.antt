@@ -174,23 +174,7 @@ module _ (g : Setting) (u : ℕ) (x : Router) where
   said_with (offers made) o w = refl
 
   overflows_with : (e : RouterEvent) (o : ℕ → List (Passing Message)) → overflows g u (with_outboxes x o) e ≡ overflows g u x e
-  overflows_with (alone (Obeys (command.Start v))) o = refl
-  overflows_with (alone (Obeys (command.Stop v))) o = refl
-  overflows_with (alone (Obeys (command.Reset v))) o = refl
-  overflows_with (alone (Obeys (command.Originate q))) o = refl
-  overflows_with (alone (Obeys (command.Withdraw q))) o = refl
-  overflows_with (alone (Obeys (command.Snapshot s))) o = refl
-  overflows_with (alone (Obeys command.Restart)) o = refl
-  overflows_with (alone Ticks) o = refl
-  overflows_with (alone (Handles v)) o = refl
-  overflows_with (alone Decides) o = refl
-  overflows_with (alone (Advertises v)) o = refl
-  overflows_with (puts v j) o = refl
-  overflows_with (takes v (item.Dial e)) o = refl
-  overflows_with (takes v (item.Piece e octets)) o = refl
-  overflows_with (takes v (item.Mark e s)) o = refl
-  overflows_with (takes v (item.Shut e)) o = refl
-  overflows_with (offers made) o = refl
+  overflows_with e o = grind arith
 
   not_towards : (b : Bool) (j : What) → (if b then j ∷ [] else []) ≡ [] → b ≡ false
   not_towards true j h = absurd cc

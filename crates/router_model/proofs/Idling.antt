@@ -27,11 +27,7 @@ use Rattle.router_model.proofs.Peers.{is_peer}
 
 -- what a judgement that answers nothing has passed
 idle : (why : Option RouterError) (event : Option RouterEvent) (ends over : Bool) → judged why event ends over ≡ Idle → (why ≡ None) × (event ≡ None)
-idle (Some why) event ends over h = absurd cc
-idle None None ends over h = (refl, refl)
-idle None (Some d) true over h = absurd cc
-idle None (Some d) false true h = absurd cc
-idle None (Some d) false false h = absurd cc
+idle why event ends over h = grind arith
 
 not_so : (b : Bool) (d : RouterEvent) → if_so b d ≡ None → b ≡ false
 not_so true d h = absurd cc

@@ -1,5 +1,5 @@
 -- When a session leaves Established, and what that loses.
-use Rattle.std.proofs.Common.{◌≡◌, ℕ, ◌==◌, Bool, true, false, cond, List, [], ◌∷◌, refl, ap, sym, ◌∙◌, subst, Option, None, Some}
+use Rattle.std.proofs.Common.{◌≡◌, ℕ, ◌==◌, Bool, true, false, cond, List, [], ◌∷◌, refl, ap, sym, ◌∙◌, subst, Option, None, Some, arith}
 use Rattle.std.specs.Prelude.{nat_lt}
 use Rattle.bgp_codec.specs.declared.message.Message.{Message}
 use Rattle.link_epoch.specs.Ends.{LinkView, next_number, number_shut, heard_by, meaning_of, phase_at_dial}
@@ -63,20 +63,10 @@ does_all_left o g a (action.Up ∷ xs) h = does_all_left o g (does o g a action.
 does_all_left o g a (action.Down ∷ xs) h = absurd h
 
 acked : (st : State) (s : SessionView) → s.state ≡ st → NoDown (on_event s event.TcpCrAcked).actions
-acked Idle s h = rw h tt
-acked Connect s h = rw h tt
-acked Active s h = rw h tt
-acked OpenSent s h = rw h tt
-acked OpenConfirm s h = rw h tt
-acked Established s h = rw h tt
+acked st s h = grind arith
 
 confirmed : (st : State) (s : SessionView) → s.state ≡ st → NoDown (on_event s event.TcpConnectionConfirmed).actions
-confirmed Idle s h = rw h tt
-confirmed Connect s h = rw h tt
-confirmed Active s h = rw h tt
-confirmed OpenSent s h = rw h tt
-confirmed OpenConfirm s h = rw h tt
-confirmed Established s h = rw h tt
+confirmed st s h = grind arith
 
 obeyed_left : (o : Message) (g : AtHand) (a : Draft) (xs : List Action) → NoDown xs → (obeys_all o g a xs).left ≡ a.left
 unfolding obeys meets
@@ -180,99 +170,19 @@ leaves a event.UpdateMsg l n h = record { none = tt; is = rw h refl }
 leaves a event.UpdateMsgErr l n h = record { none = tt; is = refl }
 
 idle_row : (a : SessionView) (e : FsmEvent) → NoDown (sessions.on_idle a e).actions
-idle_row a event.ManualStart = tt
-idle_row a event.ManualStop = tt
-idle_row a event.AutomaticStart = tt
-idle_row a event.ConnectRetryTimerExpires = tt
-idle_row a event.HoldTimerExpires = tt
-idle_row a event.KeepaliveTimerExpires = tt
-idle_row a event.TcpCrAcked = tt
-idle_row a event.TcpConnectionConfirmed = tt
-idle_row a event.TcpConnectionFails = tt
-idle_row a (event.BgpOpen hold) = tt
-idle_row a event.BgpHeaderErr = tt
-idle_row a event.BgpOpenMsgErr = tt
-idle_row a event.NotifMsgVerErr = tt
-idle_row a event.NotifMsg = tt
-idle_row a event.KeepAliveMsg = tt
-idle_row a event.UpdateMsg = tt
-idle_row a event.UpdateMsgErr = tt
+idle_row a e = grind arith
 
 connect_row : (a : SessionView) (e : FsmEvent) → NoDown (sessions.on_connect a e).actions
-connect_row a event.ManualStart = tt
-connect_row a event.ManualStop = tt
-connect_row a event.AutomaticStart = tt
-connect_row a event.ConnectRetryTimerExpires = tt
-connect_row a event.HoldTimerExpires = tt
-connect_row a event.KeepaliveTimerExpires = tt
-connect_row a event.TcpCrAcked = tt
-connect_row a event.TcpConnectionConfirmed = tt
-connect_row a event.TcpConnectionFails = tt
-connect_row a (event.BgpOpen hold) = tt
-connect_row a event.BgpHeaderErr = tt
-connect_row a event.BgpOpenMsgErr = tt
-connect_row a event.NotifMsgVerErr = tt
-connect_row a event.NotifMsg = tt
-connect_row a event.KeepAliveMsg = tt
-connect_row a event.UpdateMsg = tt
-connect_row a event.UpdateMsgErr = tt
+connect_row a e = grind arith
 
 active_row : (a : SessionView) (e : FsmEvent) → NoDown (sessions.on_active a e).actions
-active_row a event.ManualStart = tt
-active_row a event.ManualStop = tt
-active_row a event.AutomaticStart = tt
-active_row a event.ConnectRetryTimerExpires = tt
-active_row a event.HoldTimerExpires = tt
-active_row a event.KeepaliveTimerExpires = tt
-active_row a event.TcpCrAcked = tt
-active_row a event.TcpConnectionConfirmed = tt
-active_row a event.TcpConnectionFails = tt
-active_row a (event.BgpOpen hold) = tt
-active_row a event.BgpHeaderErr = tt
-active_row a event.BgpOpenMsgErr = tt
-active_row a event.NotifMsgVerErr = tt
-active_row a event.NotifMsg = tt
-active_row a event.KeepAliveMsg = tt
-active_row a event.UpdateMsg = tt
-active_row a event.UpdateMsgErr = tt
+active_row a e = grind arith
 
 open_sent_row : (a : SessionView) (e : FsmEvent) → NoDown (sessions.on_open_sent a e).actions
-open_sent_row a event.ManualStart = tt
-open_sent_row a event.ManualStop = tt
-open_sent_row a event.AutomaticStart = tt
-open_sent_row a event.ConnectRetryTimerExpires = tt
-open_sent_row a event.HoldTimerExpires = tt
-open_sent_row a event.KeepaliveTimerExpires = tt
-open_sent_row a event.TcpCrAcked = tt
-open_sent_row a event.TcpConnectionConfirmed = tt
-open_sent_row a event.TcpConnectionFails = tt
-open_sent_row a (event.BgpOpen hold) = tt
-open_sent_row a event.BgpHeaderErr = tt
-open_sent_row a event.BgpOpenMsgErr = tt
-open_sent_row a event.NotifMsgVerErr = tt
-open_sent_row a event.NotifMsg = tt
-open_sent_row a event.KeepAliveMsg = tt
-open_sent_row a event.UpdateMsg = tt
-open_sent_row a event.UpdateMsgErr = tt
+open_sent_row a e = grind arith
 
 open_confirm_row : (a : SessionView) (e : FsmEvent) → NoDown (sessions.on_open_confirm a e).actions
-open_confirm_row a event.ManualStart = tt
-open_confirm_row a event.ManualStop = tt
-open_confirm_row a event.AutomaticStart = tt
-open_confirm_row a event.ConnectRetryTimerExpires = tt
-open_confirm_row a event.HoldTimerExpires = tt
-open_confirm_row a event.KeepaliveTimerExpires = tt
-open_confirm_row a event.TcpCrAcked = tt
-open_confirm_row a event.TcpConnectionConfirmed = tt
-open_confirm_row a event.TcpConnectionFails = tt
-open_confirm_row a (event.BgpOpen hold) = tt
-open_confirm_row a event.BgpHeaderErr = tt
-open_confirm_row a event.BgpOpenMsgErr = tt
-open_confirm_row a event.NotifMsgVerErr = tt
-open_confirm_row a event.NotifMsg = tt
-open_confirm_row a event.KeepAliveMsg = tt
-open_confirm_row a event.UpdateMsg = tt
-open_confirm_row a event.UpdateMsgErr = tt
+open_confirm_row a e = grind arith
 
 -- ---- an event that comes
 
@@ -384,12 +294,7 @@ signed_left o s x =
 
 -- a reset: the stop leaves, and the start leaves nothing more
 started : (st : State) (s : SessionView) → s.state ≡ st → NoDown (on_event s event.ManualStart).actions
-started Idle s h = rw h tt
-started Connect s h = rw h tt
-started Active s h = rw h tt
-started OpenSent s h = rw h tt
-started OpenConfirm s h = rw h tt
-started Established s h = rw h tt
+started st s h = grind arith
 
 stopped_is : (o : Message) (s : Side) → is_up s ≡ true → s.session.state ≡ Established → is_established (met o s event.ManualStop).session.state ≡ false
 unfolding comes
@@ -400,12 +305,7 @@ stopped_is o s up h =
     ap (λ w. is_established w.state) k.same ∙ ap (λ w. is_established w.session.state) row
 
 established_is : (st : State) → is_established st ≡ true → st ≡ Established
-established_is Idle h = absurd cc
-established_is Connect h = absurd cc
-established_is Active h = absurd cc
-established_is OpenSent h = absurd cc
-established_is OpenConfirm h = absurd cc
-established_is Established h = refl
+established_is st h = grind arith
 
 pub reset_left : (o : Message) (s : Side) → is_up s ≡ true → (reset o s).left ≡ Some s.link.epoch
 reset_left o s up =

@@ -1,5 +1,5 @@
 -- The UPDATEs of lists, and the messages of an incarnation among entries.
-use Rattle.std.proofs.Common.{◌≡◌, ℕ, ◌==◌, Bool, true, false, cond, List, [], ◌∷◌, ◌++◌, refl, ap, ◌∙◌}
+use Rattle.std.proofs.Common.{◌≡◌, ℕ, ◌==◌, Bool, true, false, cond, List, [], ◌∷◌, ◌++◌, refl, ap, ◌∙◌, arith}
 use Rattle.std.proofs.lemmas.List.{append-nil}
 use Rattle.bgp_codec.specs.declared.message.Message.{Message}
 use Rattle.bgp_codec.specs.declared.message.Message.TheVariants.{OpenMsg, UpdateMsg, NoticeMsg, AliveMsg}
@@ -14,10 +14,7 @@ updates-append (NoticeMsg n ∷ xs) ys = updates-append xs ys
 updates-append (AliveMsg ∷ xs) ys = updates-append xs ys
 
 no_update : (n : Message) → is_update n ≡ false → updates_in (n ∷ []) ≡ []
-no_update (OpenMsg o) h = refl
-no_update (UpdateMsg u) h = absurd cc
-no_update (NoticeMsg x) h = refl
-no_update AliveMsg h = refl
+no_update n h = grind arith
 
 front : (b : Bool) (n : Message) (ms : List Message) → is_update n ≡ false → updates_in ms ≡ [] → updates_in (cond b (n ∷ ms) ms) ≡ []
 front true n ms h none = updates-append (n ∷ []) ms ∙ rw (no_update n h, none) refl

@@ -53,10 +53,7 @@ stays q w [] qw m = absurd cc
 stays q w (x ∷ xs) qw m = stays_at q w x xs (nat_eq w x) (q x) refl refl qw m (stays q w xs qw)
 
 or_turned : (p q : Bool) → (p || q) ≡ (q || p)
-or_turned true true = refl
-or_turned true false = refl
-or_turned false true = refl
-or_turned false false = refl
+or_turned p q = grind arith
 
 links_turned : (u v : ℕ) (ls : List Link) → list_any (joins u v) ls ≡ list_any (joins v u) ls
 links_turned u v [] = refl

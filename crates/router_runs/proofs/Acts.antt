@@ -77,10 +77,7 @@ module _ (laws : Laws) where
   taken_by (Takes x ∷ ms) = x ∷ taken_by ms
 
   taking_keeps : (a : End Message) (x : Entry Message) → ((links.taking a x).appended ≡ a.appended) × ((links.taking a x).taken ≡ a.taken ++ x ∷ [])
-  taking_keeps a (Dial e) = (refl, refl)
-  taking_keeps a (Says e m) = (refl, refl)
-  taking_keeps a (Mark e n) = (refl, refl)
-  taking_keeps a (Shut e) = (refl, refl)
+  taking_keeps a x = grind arith
 
   appends : (ms : List (Move Message)) (a : End Message) → (afters a ms).appended ≡ a.appended ++ appended_by a ms
   appends [] a = sym (append-nil a.appended)

@@ -1,5 +1,5 @@
 -- What the run of the laws beside a run of routers says of its snapshots.
-use Rattle.std.proofs.Common.{◌≡◌, ℕ, ◌==◌, Bool, true, false, cond, List, [], ◌∷◌, ◌++◌, map, refl, ap, sym, subst, ◌∙◌, Some, inl, inr}
+use Rattle.std.proofs.Common.{◌≡◌, ℕ, ◌==◌, Bool, true, false, cond, List, [], ◌∷◌, ◌++◌, map, refl, ap, sym, subst, ◌∙◌, Some, inl, inr, arith}
 use Rattle.std.specs.Prelude.{filter}
 use mathlib.Core.List.{IsPrefix}
 use mathlib.Core.Logic.{◌⊎◌}
@@ -112,12 +112,7 @@ taken_grows g (d ∷ ds) old new u v r =
 -- ---- a snapshot of a run, by the run of the laws beside it
 
 up_in : (st : State) → is_up_in (state_of st) ≡ is_established st
-up_in state.Idle = refl
-up_in state.Connect = refl
-up_in state.Active = refl
-up_in state.OpenSent = refl
-up_in state.OpenConfirm = refl
-up_in state.Established = refl
+up_in st = grind arith
 
 pub runs_join : (g : Setting) (before later : RunOrder) (old at last : RunState) → runs.Run (logged_steps g) old before at → runs.Run (logged_steps g) at later last → runs.Run (logged_steps g) old (before ++ later) last
 runs_join g [] later old at last r on = subst (λ z. runs.Run (logged_steps g) z later last) (sym r) on

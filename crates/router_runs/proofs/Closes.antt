@@ -1,5 +1,5 @@
 -- What a close of a session may do.
-use Rattle.std.proofs.Common.{◌≡◌, [], ◌∷◌, refl, arith}
+use Rattle.std.proofs.Common.{◌≡◌, [], ◌∷◌, arith}
 use Rattle.bgp_codec.specs.declared.message.Message.{Message}
 use Rattle.session_fsm.specs.declared.state.State.{State}
 use Rattle.session_fsm.specs.declared.state.State.TheVariants as state
@@ -8,12 +8,7 @@ use Rattle.run_model.specs.Sessions as model
 use Rattle.router_runs.specs.Reading.{state_of}
 
 pub not_idle : (st : State) → state_of st ≡ model.Idle → st ≡ state.Idle
-not_idle state.Idle h = refl
-not_idle state.Connect h = absurd cc
-not_idle state.Active h = absurd cc
-not_idle state.OpenSent h = absurd cc
-not_idle state.OpenConfirm h = absurd cc
-not_idle state.Established h = absurd cc
+not_idle st h = grind arith
 
 -- a joined end may tell a NOTIFICATION
 pub one_message : (p : links.Phase) (n : Message) → p ≡ links.Joined → model.MayNotify p (n ∷ [])

@@ -1,5 +1,5 @@
 -- One event of a session, and several.
-use Rattle.std.proofs.Common.{◌≡◌, Bool, true, false, ◌&&◌, ◌||◌, not, List, [], ◌∷◌, ◌++◌, refl, ap, sym, ◌∙◌, append_assoc, subst, inl, inr, ◌⊎◌}
+use Rattle.std.proofs.Common.{◌≡◌, Bool, true, false, ◌&&◌, ◌||◌, not, List, [], ◌∷◌, ◌++◌, refl, ap, sym, ◌∙◌, append_assoc, subst, inl, inr, ◌⊎◌, arith}
 use Rattle.session_fsm.specs.declared.state.State.{State}
 use Rattle.session_fsm.specs.declared.state.State.TheVariants as state
 use Rattle.std.proofs.lemmas.List.{append-nil}
@@ -45,12 +45,7 @@ module _ (laws : Laws) where
   -- ---- what leaves Established
 
   pub up_in : (st : State) → is_up_in (state_of st) ≡ is_established st
-  up_in state.Idle = refl
-  up_in state.Connect = refl
-  up_in state.Active = refl
-  up_in state.OpenSent = refl
-  up_in state.OpenConfirm = refl
-  up_in state.Established = refl
+  up_in st = grind arith
 
   pub same_up : (s t : Side) → state_of s.session.state ≡ state_of t.session.state → is_up s ≡ is_up t
   same_up s t h = sym (up_in s.session.state) ∙ (ap is_up_in h ∙ up_in t.session.state)
@@ -65,20 +60,10 @@ module _ (laws : Laws) where
   never_up false q h = refl
 
   restarts : (st : SessionState) → MayRestart st → is_up_in st ≡ false
-  restarts model.Idle h = refl
-  restarts model.Active h = refl
-  restarts model.Connect h = absurd h
-  restarts model.OpenSent h = absurd h
-  restarts model.OpenConfirm h = absurd h
-  restarts model.Established h = absurd h
+  restarts st h = grind arith
 
   waits : (st : SessionState) → WaitsForPeer st → is_up_in st ≡ false
-  waits model.Connect h = refl
-  waits model.Active h = refl
-  waits model.Idle h = absurd h
-  waits model.OpenSent h = absurd h
-  waits model.OpenConfirm h = absurd h
-  waits model.Established h = absurd h
+  waits st h = grind arith
 
   leaves_one : (x : model.Side Message) (b : End Message) (e : SessionEvent Message) → MayCome x b e → (is_up_in x.state && closes e) ≡ (is_up_in x.state && not (is_up_in (state_after x e)))
   leaves_one x b (model.Starts m) may = never_up (is_up_in x.state) (is_up_in (state_after x (model.Starts m))) (restarts x.state may)

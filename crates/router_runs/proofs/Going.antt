@@ -71,11 +71,7 @@ module _ (g : Setting) (u : ℕ) (far : ℕ → End Message) where
 
 or_choice : (p q : Bool) (unfinished : Option ℕ) (v d e : ℕ)
     → lost_by_close {M = Message} {P = PrefixView} {W = List ℕ} p unfinished v d ++ lost_by_close q (cond p None unfinished) v e ≡ lost_by_close (p || q) unfinished v (cond p d e)
-or_choice true true None v d e = refl
-or_choice true true (Some s) v d e = refl
-or_choice true false None v d e = refl
-or_choice true false (Some s) v d e = refl
-or_choice false q unfinished v d e = refl
+or_choice p q unfinished v d e = grind arith
 
 twice_none : (p q : Bool) (unfinished : Option ℕ) → cond q None (cond p None unfinished) ≡ cond (p || q) None unfinished
 twice_none true true unfinished = refl
@@ -83,16 +79,7 @@ twice_none true false unfinished = refl
 twice_none false q unfinished = refl
 
 unfinished_is : (up : Bool) (m : Move Message) (unfinished : Option ℕ) → unfinished_after up m unfinished ≡ cond (up && hangs_up m) None unfinished
-unfinished_is true Dials n = refl
-unfinished_is true (Tells m) n = refl
-unfinished_is true (Marks k) n = refl
-unfinished_is true HangsUp n = refl
-unfinished_is true (Takes x) n = refl
-unfinished_is false Dials n = refl
-unfinished_is false (Tells m) n = refl
-unfinished_is false (Marks k) n = refl
-unfinished_is false HangsUp n = refl
-unfinished_is false (Takes x) n = refl
+unfinished_is up m unfinished = grind arith
 
 -- what moves at v leave of a router
 pub record IsMoved (n m : ModelRouter) (v : ℕ) (c : End Message) (lost : Bool) (used : List Message) : Type 0 where

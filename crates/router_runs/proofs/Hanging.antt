@@ -4,7 +4,7 @@ use Rattle.std.specs.Prelude.{nat_lt}
 use Rattle.std.proofs.lemmas.Bool.Decides.{nat_tests}
 use Rattle.bgp_codec.specs.declared.message.Message.{Message}
 use Rattle.run_model.specs.Links as links
-use Rattle.run_model.specs.Links.{Entry, Dial, Says, Mark, Shut, End, Move, Dials, Tells, Marks, HangsUp, Takes, incarnation, said, greatest_dial, is_joined, answers}
+use Rattle.run_model.specs.Links.{Entry, Dial, Says, Mark, End, Move, Dials, Tells, Marks, HangsUp, Takes, incarnation, said, greatest_dial, is_joined, answers}
 use Rattle.run_model.specs.Sessions as model
 use Rattle.run_model.specs.Sessions.{SessionEvent, SessionState, Fits, MayCome, moves_of, state_after, afters, side_after}
 use Rattle.run_model.specs.Routes.{hangs_up}
@@ -218,10 +218,7 @@ module _ (laws : Laws) where
     number : incarnation (afters x.end (moves_of x.end e)) ≡ incarnation x.end
 
   taking_number : (a : End Message) (y : Entry Message) → incarnation (links.after a (Takes y)) ≡ incarnation a
-  taking_number a (Dial e) = refl
-  taking_number a (Says e m) = refl
-  taking_number a (Mark e n) = refl
-  taking_number a (Shut e) = refl
+  taking_number a y = grind arith
 
   event_stays : (x : model.Side Message) (b : End Message) (e : SessionEvent Message) → MayCome x b e → is_up_in x.state ≡ true → closes e ≡ false → Stays x e
   event_stays x b (model.Starts m) may up h = absurd (low x.state may up)

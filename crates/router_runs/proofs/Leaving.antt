@@ -10,7 +10,7 @@ use Rattle.link_epoch.specs.declared.link_end.Phase.TheVariants as phase
 use Rattle.session_fsm.specs.declared.state.State.{State}
 use Rattle.session_fsm.specs.declared.state.State.TheVariants as state
 use Rattle.run_model.specs.Links as links
-use Rattle.run_model.specs.Links.{Entry, Dial, Says, Mark, Shut, End, Move, Tells, HangsUp, Takes, taking, incarnation, greatest_dial, said}
+use Rattle.run_model.specs.Links.{Entry, Says, Mark, Shut, End, Move, Tells, HangsUp, Takes, taking, incarnation, greatest_dial, said}
 use Rattle.run_model.specs.Sessions as model
 use Rattle.run_model.specs.Sessions.{SessionState, SessionEvent, Starts, Retries, Confirms, Yields, AcceptsOpen, AcceptsKeepalive, Accepts, Speaks, SendsMarker, Closes, Fails, Passes, Fits, MayCome, moves_of, state_after, afters, side_after, first_sides, hanging, telling}
 use Rattle.run_model.specs.Octets.{passing}
@@ -60,10 +60,7 @@ module _ (laws : Laws) where
   closed_past (n ∷ ns) a e l = closed_past ns (links.after a (Tells n)) e (omega (arith, l, greatest_dial-append laws a.appended (Says (greatest_dial a.appended) n ∷ [])))
 
   taken_keeps : (a : End Message) (x : Entry Message) → (taking a x).appended ≡ a.appended
-  taken_keeps a (Dial e) = refl
-  taken_keeps a (Says e m) = refl
-  taken_keeps a (Mark e n) = refl
-  taken_keeps a (Shut e) = refl
+  taken_keeps a x = grind arith
 
   -- events that lead out of Established close it
   leaving : (es : List (SessionEvent Message)) (x : model.Side Message) (b : End Message) (e : ℕ) → x.state ≡ model.Established → MayComeAll x b es → Fits x.state x.end → EndFacts x.end b → EndFacts b x.end

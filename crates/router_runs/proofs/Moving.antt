@@ -68,12 +68,7 @@ module _ (laws : Laws) where
   last_false false = refl
 
   joins_alike : (p : Phase) (c : Bool) → cond c (phase_joining (phase_of p)) (phase_of p) ≡ phase_of (ends.phase_at_dial p c)
-  joins_alike phase.Shut true = refl
-  joins_alike phase.Shut false = refl
-  joins_alike phase.Offered true = refl
-  joins_alike phase.Offered false = refl
-  joins_alike phase.Joined true = refl
-  joins_alike phase.Joined false = refl
+  joins_alike p c = grind arith
 
   -- a dial that is taken, above what was heard or not
   dial_read : (s : Side) (a b : End Message) (e : ℕ) (h : Bool) → nat_lt s.link.heard e ≡ h → Reads s a → EndFacts a b → EndFacts b a

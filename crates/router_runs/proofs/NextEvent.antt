@@ -73,10 +73,7 @@ made_one a (k ∷ ms) m = at (a == k.router) (made_one a ms m)
     at false h = h
 
 none_offered : (e : RouterEvent) → IsNoOffer e → offered_by e ≡ []
-none_offered (alone o) is = refl
-none_offered (puts v i) is = refl
-none_offered (takes v i) is = refl
-none_offered (offers made) is = absurd is
+none_offered e h = grind arith
 
 pub apart_of : (u a : ℕ) → (u == a) ≡ false → u ≡ a → ⊥
 apart_of u a h same = absurd (false≢true (sym h ∙ eq-eqb u a same))

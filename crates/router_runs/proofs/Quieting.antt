@@ -1,9 +1,9 @@
 -- What a step of sessions says: no UPDATE and no marker, and it takes no marker.
-use Rattle.std.proofs.Common.{◌≡◌, ℕ, ◌==◌, Bool, true, false, cond, List, [], ◌∷◌, ◌++◌, refl, sym, subst, append_assoc, Option, None, Some}
+use Rattle.std.proofs.Common.{◌≡◌, ℕ, ◌==◌, Bool, true, false, cond, List, [], ◌∷◌, ◌++◌, refl, sym, subst, append_assoc, Option, None, Some, arith}
 use Rattle.std.specs.Prelude.{Ok, Result}
 use Rattle.bgp_codec.specs.declared.fault.Fault.{Fault}
 use Rattle.bgp_codec.specs.declared.message.Message.{Message}
-use Rattle.bgp_codec.specs.declared.message.Message.TheVariants.{OpenMsg, UpdateMsg, NoticeMsg, AliveMsg}
+use Rattle.bgp_codec.specs.declared.message.Message.TheVariants.{AliveMsg}
 use Rattle.link_epoch.specs.Ends.{next_number, number_shut, heard_by, meaning_of}
 use Rattle.link_epoch.specs.declared.link_end.Heard.{Heard}
 use Rattle.link_epoch.specs.declared.link_end.Heard.TheVariants as heard
@@ -116,10 +116,7 @@ module _ (own_open : Message) (is_open : is_update own_open ≡ false) where
   handled_quiet s m = comes_quiet (at_hand (Ok m)) (none m) (draft_of s.session s.link) (event_of (Ok m)) tt
     where
       none : (k : Message) → NoFault (at_hand (Ok k))
-      none (OpenMsg o) = tt
-      none (UpdateMsg u) = tt
-      none (NoticeMsg i) = tt
-      none AliveMsg = tt
+      none k = grind arith
 
 -- ---- events of sessions: no marker, no UPDATE told
 

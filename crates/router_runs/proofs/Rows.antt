@@ -299,24 +299,7 @@ module _ (laws : Laws) where
   phase_fits s a b x = both s.link.phase s.session.state (sym x.reads.phase ∙ x.fits.phase)
     where
       both : (p : Phase) (st : State) → phase_of p ≡ model.phase_in (state_of st) → p ≡ phase_in st
-      both phase.Shut state.Idle h = refl
-      both phase.Shut state.Active h = refl
-      both phase.Shut state.Connect h = absurd cc
-      both phase.Shut state.OpenSent h = absurd cc
-      both phase.Shut state.OpenConfirm h = absurd cc
-      both phase.Shut state.Established h = absurd cc
-      both phase.Offered state.Idle h = absurd cc
-      both phase.Offered state.Active h = absurd cc
-      both phase.Offered state.Connect h = refl
-      both phase.Offered state.OpenSent h = absurd cc
-      both phase.Offered state.OpenConfirm h = absurd cc
-      both phase.Offered state.Established h = absurd cc
-      both phase.Joined state.Idle h = absurd cc
-      both phase.Joined state.Active h = absurd cc
-      both phase.Joined state.Connect h = absurd cc
-      both phase.Joined state.OpenSent h = refl
-      both phase.Joined state.OpenConfirm h = refl
-      both phase.Joined state.Established h = refl
+      both p st h = grind arith
 
   pub at_own : (s : Side) (a b : End Message) → Stands s a b → at s.session.state s ≡ s
   at_own s a b x = ap (λ (p : Phase). record s { link = record s.link { phase = p } }) (sym (phase_fits s a b x))

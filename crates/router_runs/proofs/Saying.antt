@@ -136,10 +136,7 @@ module _ (laws : Laws) where
     handled_said s m = comes_said (at_hand (Ok m)) (none m) (draft_of s.session s.link) (event_of (Ok m)) tt
       where
         none : (k : Message) → NoFault (at_hand (Ok k))
-        none (OpenMsg o) = tt
-        none (UpdateMsg u) = tt
-        none (NoticeMsg i) = tt
-        none AliveMsg = tt
+        none k = grind arith
 
   -- ---- prefixes that are named
 

@@ -45,12 +45,7 @@ acted_on o u s up = acted_at o u s s.session.state refl up
 
 -- the session of an UPDATE that comes in Established
 held_at : (x : SessionView) (state : State) → x.state ≡ state → is_established state ≡ true → (on_event x event.UpdateMsg).session ≡ held x
-held_at x Idle is up = absurd cc
-held_at x Connect is up = absurd cc
-held_at x Active is up = absurd cc
-held_at x OpenSent is up = absurd cc
-held_at x OpenConfirm is up = absurd cc
-held_at x Established is up = rw is refl
+held_at x state h k = grind arith
 
 -- a side in which that was done
 pub act_is : (s z : Side) (u : Update) → is_up s ≡ true → z.session ≡ (on_event s.session event.UpdateMsg).session → z.link ≡ s.link → z.outbox ≡ s.outbox → z.held ≡ rest_behind (header_fault s.held) s.held

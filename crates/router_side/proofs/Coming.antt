@@ -217,12 +217,7 @@ acted_elsewhere true (HasUpdate u) e h n d = rw (ne_eqb n e (d refl)) refl
 acted_elsewhere false g e h n d = refl
 
 opening_down : (c : State) → is_opening c ≡ true → is_established c ≡ true → ⊥
-opening_down Idle h k = absurd cc
-opening_down Connect h k = absurd cc
-opening_down Active h k = absurd cc
-opening_down OpenSent h k = absurd cc
-opening_down OpenConfirm h k = absurd cc
-opening_down Established h k = absurd cc
+opening_down c h k = grind arith
 
 handled_keeps : (g : AtHand) (s : Side) (e : FsmEvent) (a : Draft) → IsFresh s → Handled s e a → IsFresh (carried g (without_front s) a)
 handled_keeps g s e a f d = record {

@@ -7,7 +7,7 @@ use Rattle.bgp_values.specs.declared.width.Width.{Width}
 use Rattle.bgp_codec.specs.declared.attributes.Attrs.{Attrs}
 use Rattle.bgp_codec.specs.declared.fault.Fault.{Fault}
 use Rattle.bgp_codec.specs.declared.message.Message.{Message}
-use Rattle.bgp_codec.specs.declared.message.Message.TheVariants.{OpenMsg, UpdateMsg, NoticeMsg, AliveMsg}
+use Rattle.bgp_codec.specs.declared.message.Message.TheVariants.{OpenMsg, UpdateMsg, AliveMsg}
 use Rattle.bgp_codec.specs.declared.open.Open.{Open}
 use Rattle.bgp_codec.specs.declared.update.Update.{Update}
 use Rattle.bgp_codec.specs.Faults.{reading, read_as, notice_reading}
@@ -97,11 +97,7 @@ read_anyones width w v octets u e = by_kind width w v (drop 19 octets) u (kind_f
 -- ---- the frame in front
 
 of_update : (r : Result Message Fault) (u : Update) → HasUpdate u ≡ at_hand r → r ≡ Ok (UpdateMsg u)
-of_update (Ok (OpenMsg o)) u e = absurd cc
-of_update (Ok (UpdateMsg w)) u e = cc
-of_update (Ok (NoticeMsg n)) u e = absurd cc
-of_update (Ok AliveMsg) u e = absurd cc
-of_update (Err first) u e = absurd cc
+of_update r u h = grind arith
 
 -- an UPDATE at hand is what the frame in front reads as
 pub front_reads : HeaderIsItsFront → (width : Width) (octets : List ℕ) (end w v : ℕ) (u : Update) → end ≤ length octets → IsFrame (take end octets) → HasUpdate u ≡ at_hand (front (naming width w v) octets)

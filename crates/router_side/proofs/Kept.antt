@@ -20,10 +20,7 @@ use Rattle.router_side.specs.Histories.{Place, history, updates_read, dated, tol
 use Rattle.router_side.specs.Sayings.{nobody, IsSayable}
 
 under : (b c : Bool) (t u : Update) (us : List Update) → cond b (t ∷ cond c (us ++ u ∷ []) us) (cond c (us ++ u ∷ []) us) ≡ cond c (cond b (t ∷ us) us ++ u ∷ []) (cond b (t ∷ us) us)
-under true true t u us = refl
-under true false t u us = refl
-under false true t u us = refl
-under false false t u us = refl
+under b c t u us = grind arith
 
 history_at : (ts : List Told) (t : Told) (n : ℕ) → history (ts ++ t ∷ []) n ≡ with_update (history ts) t.epoch t.update n
 history_at [] t n = refl
@@ -54,12 +51,6 @@ told_on width (q ∷ ps) octets new more (le, is, kept) =
     ∙ ap (λ (os : List ℕ). one (take q.len octets) ++ told_in width (ps ++ more) os) behind
     ∙ ap (λ (ts : List Told). one (take q.len octets) ++ ts) (told_on width ps (drop q.len octets) new more kept)
     ∙ sym (append_assoc (one (take q.len octets)) (told_in width ps (drop q.len octets)) (told_in width more new))
-
--- one UPDATE
-pub one_kept : (p : Place) (octets : List ℕ) → IsFrame octets → p.len ≡ length octets → AreKept (p ∷ []) octets
-one_kept p octets kept len =
-    let whole = ap (λ (n : ℕ). take n octets) len ∙ take-length octets in
-    (omega (arith, len), subst IsFrame (sym whole) kept, ap (λ (n : ℕ). drop n octets) len ∙ drop-length octets)
 
 pub one_told : (width : Width) (p : Place) (octets : List ℕ) (u : Update) → reading (nobody width) octets ≡ Ok (UpdateMsg u) → p.len ≡ length octets → told_in width (p ∷ []) octets ≡ record { epoch = p.epoch; update = u } ∷ []
 one_told width p octets u read len =
@@ -204,10 +195,6 @@ octets_more [] b = append-nil (spelt_in b.places.items b.octets.items)
 octets_more (a ∷ bs) b =
     let spelt = spelt_in a.places.items a.octets.items in
     ap (λ (os : List ℕ). spelt ++ os) (octets_more bs b) ∙ sym (append_assoc spelt (octets_in bs) (spelt_in b.places.items b.octets.items))
-
-pub all_stored_more : (bs : List Block) (b : Block) → AreAllStored bs → AreStored b.places.items b.octets.items → AreAllStored (bs ++ b ∷ [])
-all_stored_more [] b kept one = (one, kept)
-all_stored_more (a ∷ bs) b (first, kept) one = (first, all_stored_more bs b kept one)
 
 -- the histories of what is told behind
 history_behind : (ts us : List Told) (n : ℕ) → history (ts ++ us) n ≡ history ts n ++ history us n

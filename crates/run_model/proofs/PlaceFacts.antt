@@ -24,12 +24,7 @@ module _ {M : Type 0} where
   last_grows u x far linked (Finishes k) can = omega arith
 
   copy_stays : (x : Recorder M) (d : Act M) (s : ℕ) → records d s ≡ false → (recorder_after x d).copy s ≡ x.copy s
-  copy_stays x (Moves v act) s e = refl
-  copy_stays x (EndsChannel v f k) s e = refl
-  copy_stays x (IgnoresMarker v f k) s e = refl
-  copy_stays x (Begins k whole) s e = rw e refl
-  copy_stays x (Follows v f k whole) s e = rw e refl
-  copy_stays x (Finishes k) s e = refl
+  copy_stays x d s h = grind arith
 
 module _ {M P W : Type 0} where
   pub record Stands (s : ℕ) (a : Option (ℕ → End M)) (k : P → W) (o : P → Bool) (n : Router M P W) : Type 0 where

@@ -71,10 +71,7 @@ module _ {M : Type 0} where
       )
 
 joined_by : (b : Bool) (p : Phase) → b ≡ true → p ≡ Offered → cond b (phase_joining p) p ≡ Joined
-joined_by true Closed h o = absurd cc
-joined_by true Offered h o = refl
-joined_by true Joined h o = refl
-joined_by false p h o = absurd cc
+joined_by b p h k = grind arith
 
 no_join : (b : Bool) (e o n : ℕ) (p : Phase) → (nat_lt n e && (e == o)) ≡ b → o < e → cond b (phase_joining p) p ≡ p
 no_join true e o n p is above = absurd (let q : e ≡ o = grind (arith, nat_tests, is) in omega (arith, q, above))

@@ -1,5 +1,5 @@
 -- Events whose items lose their stamps keep their order and their causes.
-use Rattle.std.proofs.Common.{◌≡◌, ℕ, ◌==◌, if◌then◌else◌, Bool, true, false, List, [], ◌∷◌, ◌++◌, refl, sym, ap, ◌∙◌, subst}
+use Rattle.std.proofs.Common.{◌≡◌, ℕ, ◌==◌, if◌then◌else◌, Bool, true, false, List, [], ◌∷◌, ◌++◌, refl, sym, ap, ◌∙◌, subst, arith}
 use Rattle.std.specs.Prelude.{map}
 use Rattle.std.proofs.lemmas.List.{map-append}
 use mathlib.Core.List.{IsPrefix}
@@ -36,10 +36,7 @@ module _ {Own Item Offer : Type 0} where
   take_strip u (offers o) = refl
 
   offer_strip : (e : Event Own (StampedItem Item) Offer) → offered_by (without_stamp e) ≡ offered_by e
-  offer_strip (offers o) = refl
-  offer_strip (takes from x) = refl
-  offer_strip (puts to x) = refl
-  offer_strip (alone e) = refl
+  offer_strip e = grind arith
 
   puts_strip : (u v : ℕ) (ds : Order Own (StampedItem Item) Offer) → puts_in u v (stripped_order ds) ≡ map bare (puts_in u v ds)
   puts_strip u v [] = refl

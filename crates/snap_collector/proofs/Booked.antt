@@ -5,7 +5,6 @@ use Rattle.std.proofs.lemmas.Bool.{eqb-true, ne_eqb, false≢true, true≢false}
 use Rattle.std.proofs.lemmas.List.{append-nil, length-append, length-map, length-take-le, map-append, take-append-le}
 use Rattle.std.proofs.lemmas.List.Folds.{list_any-append}
 use Rattle.snap_marker.specs.declared.part.Part.{Part}
-use Rattle.snap_marker.specs.declared.part.Lost.{Lost}
 use Rattle.snap_marker.specs.declared.part.Offer.{Offer}
 use Rattle.snap_marker.specs.declared.part.Offer.TheVariants as offer
 use Rattle.snap_marker.specs.Recordings.{MadeOffer}
@@ -94,14 +93,6 @@ with_fewer members ms p awaited n left unlost has is many sub =
 
 pub times_within : (members : List Member) (ms : List MadeOffer) (p : Part) → has_part ms p.router (λ part. true) ≡ false → times members p.router ≤ missing members ms
 times_within members ms p has = let fewer = fewer_missing members ms p has in omega (arith, fewer)
-
-pub with_lost : (members : List Member) (ms : List MadeOffer) (l : Lost) → 0 ≡ awaited_of members (ms ++ made_by (offer.Lost l) ∷ [])
-with_lost members ms l =
-    sym (ap (λ b. cond b 0 (missing members (ms ++ made_by (offer.Lost l) ∷ []))) (list_any-append (λ m. is_lost m.offer) ms (made_by (offer.Lost l) ∷ []) ∙ or_true (any_lost ms)))
-  where
-    or_true : (b : Bool) → (b || true) ≡ true
-    or_true true = refl
-    or_true false = refl
 
 -- ---- what is kept
 

@@ -2,7 +2,7 @@
 use Rattle.std.proofs.Common.{inl, inr, ◌≡◌, ◌≢◌, ℕ, ◌==◌, Bool, true, false, ◌&&◌, ◌||◌, not, List, [], ◌∷◌, refl, ap, ◌∙◌, subst}
 use Rattle.std.proofs.lemmas.Bool.{eqb-true, eq-eqb, false≢true}
 use Rattle.bgp_codec.specs.declared.message.Message.{Message}
-use Rattle.run_model.specs.Offers.{Finished, Lost, Cause, made_of, made_for, number_of, IsIn}
+use Rattle.run_model.specs.Offers.{Finished, Lost, Cause, made_of, number_of, IsIn}
 use Rattle.snap_marker.specs.Parts.{is_empty}
 use Rattle.snap_marker.specs.Recordings.{RouterOffer, MadeOffer, RouterPart}
 use Rattle.snap_collector.specs.Verdicts.{of_part, has_part, any_lost, is_lost, AreFor}
@@ -65,10 +65,6 @@ pub number_is : (s : ℕ) (ms : List MadeOffer) (m : MadeOffer) → AreFor s ms 
 number_is s [] m are i = absurd i
 number_is s (x ∷ ms) m are (inl e) = ap (λ (y : MadeOffer). number_of y.offer) e ∙ are.0
 number_is s (x ∷ ms) m are (inr i) = number_is s ms m are.1 i
-
-pub all_for : (s : ℕ) (ms : List MadeOffer) → AreFor s ms → made_for s ms ≡ ms
-all_for s [] are = refl
-all_for s (m ∷ ms) are = rw (eq-eqb (number_of m.offer) s are.0) (ap (λ (l : List MadeOffer). m ∷ l) (all_for s ms are.1))
 
 -- ---- a channel is empty or not
 

@@ -8,7 +8,6 @@ use Rattle.std.proofs.lemmas.List.{take_all}
 use Rattle.snap_marker.specs.declared.part.Offer.{Offer}
 use Rattle.snap_marker.specs.declared.part.Offer.TheVariants as offer
 use Rattle.snap_marker.specs.declared.part.Part.{Part}
-use Rattle.snap_marker.specs.declared.part.Lost.{Lost}
 use Rattle.snap_marker.specs.Parts.{part_of, is_empty}
 use Rattle.snap_marker.specs.Recordings.{MadeOffer, RouterPart}
 use Rattle.run_model.specs.Offers.{Pending, InFlight, Mismatch}
@@ -30,18 +29,6 @@ past false c h = refl
 never : (b : Bool) → (b && false) ≡ false
 never true = refl
 never false = refl
-
-pub past_part : (os : List Offer) (at u : ℕ) (p : Part) (holds : RouterPart → Bool) → at < length os → offer.Part p ≡ get_or os at (offer.Part p) → (u == p.router) ≡ false
-    → has_part (made_in (drop at os)) u holds ≡ has_part (made_in (drop (at + 1) os)) u holds
-past_part os at u p holds l is h =
-    ap (λ (l : List Offer). has_part (made_in l) u holds) (split_at os at (offer.Part p) l is)
-    ∙ ap (λ b. b || has_part (made_in (drop (at + 1) os)) u holds) (past (u == p.router) (holds (part_of p)) h)
-
-pub past_lost : (os : List Offer) (at u : ℕ) (x : Lost) (holds : RouterPart → Bool) → at < length os → offer.Lost x ≡ get_or os at (offer.Lost x)
-    → has_part (made_in (drop at os)) u holds ≡ has_part (made_in (drop (at + 1) os)) u holds
-past_lost os at u x holds l is =
-    ap (λ (l : List Offer). has_part (made_in l) u holds) (split_at os at (offer.Lost x) l is)
-    ∙ ap (λ b. b || has_part (made_in (drop (at + 1) os)) u holds) (never (u == x.router))
 
 -- ---- the only one
 

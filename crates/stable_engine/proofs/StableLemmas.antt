@@ -29,11 +29,6 @@ and_true : (b : Bool) → (b && true) ≡ b
 and_true true = refl
 and_true false = refl
 
--- no answer yet
-pub answered_none : (limits : Limits) (net : Plan) (old : List ℕ) → PutsAnswers limits net [] old old true
-answered_none limits net old =
-    ([], record { answers = []; prefixes = refl; each = λ k d below. absurd (omega (arith, below)); printed = refl; all_known = refl }, sym (append-nil old))
-
 -- an answer more
 pub answered_more : (limits : Limits) (net : Plan) (os : List Origin) (i : ℕ) (o : Origin) (old mid new : List ℕ) (known is_known : Bool)
     → i < length os → o ≡ get_or os i o → PutsAnswers limits net (take i os) old mid known → PutsFound limits net o.prefix mid new is_known

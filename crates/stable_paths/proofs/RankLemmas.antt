@@ -14,7 +14,8 @@ use Rattle.ranked_policy.specs.Policies.{Table, IsTableOf, Originates, IsPermitt
 use Rattle.ranked_policy.specs.Tests.{originates, best_of, BestIsFirst, PermitsIsATest}
 use Rattle.stable_paths.specs.Stable.{IsChoice, IsFirstOrNone, IsBestOf, IsBest}
 use Rattle.stable_paths.specs.ByRank.{rules_of, table_of, peers_over, with_choice, choices_of, best_by_rank, BestByRankIsBest, EachNetworkHasItsModel}
-use Rattle.stable_paths.proofs.TableLemmas.{table_stands, linked_is}
+use Rattle.ranked_policy.proofs.OneTable.{table_stands}
+use Rattle.stable_paths.proofs.TableLemmas.{linked_is}
 
 -- ---- the table of a router
 

@@ -1,5 +1,5 @@
 -- The number of assignments, part by part.
-use Rattle.std.proofs.Common.{◌≡◌, ℕ, zero, suc, ◌<◌, ◌≤◌, ◌+◌, ◌*◌, ◌^◌, List, [], ◌∷◌, ◌++◌, length, take, get_or, sym, ap, ◌∙◌, arith}
+use Rattle.std.proofs.Common.{◌≡◌, ℕ, zero, suc, ◌<◌, ◌+◌, ◌*◌, List, [], ◌∷◌, ◌++◌, length, take, get_or, sym, ap, ◌∙◌, arith}
 use Rattle.std.proofs.lemmas.List.{take_more}
 use Rattle.std.proofs.Math.Nat.{mul_assoc}
 use Rattle.stable_search.specs.declared.every.Part.{Part}
@@ -26,10 +26,3 @@ number_none (first ∷ parts) (suc i) part lt is none =
   where
     zero_right : (n : ℕ) → n * 0 ≡ 0
     zero_right n = omega arith
-
-pub more_than : (number choices : ℕ) → 2 ^ 64 ≤ number → 0 < choices → 2 ^ 64 ≤ number * choices
-more_than number choices big some = (let le = mul_le number choices some in omega (arith, le, big))
-  where
-    mul_le : (n c : ℕ) → 0 < c → n ≤ n * c
-    mul_le n zero some = absurd (omega (arith, some))
-    mul_le n (suc c) some = omega arith

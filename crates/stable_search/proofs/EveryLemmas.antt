@@ -8,7 +8,8 @@ use Rattle.ranked_policy.specs.Paths.{BeginsWith}
 use Rattle.ranked_policy.specs.Plans.{Linked, IsRouter, numbers}
 use Rattle.ranked_policy.specs.Policies.{IsTableOf, Originates}
 use Rattle.stable_paths.specs.Stable.{Problem, IsInstance, IsStable}
-use Rattle.stable_paths.proofs.TableLemmas.{one_table, linked_is}
+use Rattle.ranked_policy.proofs.OneTable.{one_table}
+use Rattle.stable_paths.proofs.TableLemmas.{linked_is}
 use Rattle.stable_search.specs.declared.every.Every.{Every}
 use Rattle.stable_search.specs.declared.every.Part.{Part}
 use Rattle.stable_search.specs.declared.group.Group.{Group}

@@ -13,7 +13,8 @@ use Rattle.ranked_policy.specs.Plans.{Plan, IsRouter, Linked, numbers}
 use Rattle.ranked_policy.specs.Policies.{Table, IsTableOf, Originates, IsPermitted, IsPreferred}
 use Rattle.ranked_policy.specs.Promises.{EachPolicyIsAnOrder}
 use Rattle.stable_paths.specs.Stable.{Problem, IsInstance, IsStable, IsBest, IsBestOf, IsChoice, IsFirstOrNone}
-use Rattle.stable_paths.proofs.TableLemmas.{linked_is, own_is, one_best, one_table}
+use Rattle.ranked_policy.proofs.OneTable.{one_table}
+use Rattle.stable_paths.proofs.TableLemmas.{linked_is, own_is, one_best}
 use Rattle.stable_search.specs.declared.chooser.Chooser.{Chooser}
 use Rattle.stable_search.specs.Choosers.{IsChooser, MayChoose}
 use Rattle.stable_search.specs.Fits.{GoesOver}

@@ -14,7 +14,8 @@ use Rattle.ranked_policy.specs.Plans.{IsRouter, Linked, numbers}
 use Rattle.ranked_policy.specs.Policies.{Table, IsTableOf, Originates, IsPermitted, IsPreferred}
 use Rattle.ranked_policy.specs.Promises.{EachPolicyIsAnOrder, OneRule}
 use Rattle.stable_paths.specs.Stable.{Problem, IsInstance, IsStable, IsBestOf, IsChoice, IsFirst, Speaks}
-use Rattle.stable_paths.proofs.TableLemmas.{linked_is, one_table, table_stands}
+use Rattle.ranked_policy.proofs.OneTable.{one_table, table_stands}
+use Rattle.stable_paths.proofs.TableLemmas.{linked_is}
 use Rattle.stable_search.specs.declared.chooser.Chooser.{Chooser}
 use Rattle.stable_search.specs.declared.seat.Seat.{Seat}
 use Rattle.stable_search.specs.Choosers.{IsChooser}

@@ -485,14 +485,6 @@ module _ (sets labels : List ℕ) (ways : List Way) (n : ℕ) (groups : List Gro
           let size = length-append groups (group ∷ []) in
           (h.0, h.1, omega (arith, size, h.2), get_or_append_left groups (group ∷ []) h.1 h.0 h.2 ∙ h.3, h.4)
 
-pub grouped_start : (sets labels : List ℕ) (ways : List Way) (groups : List Group) → groups ≡ [] → AreGrouped sets labels ways 0 groups
-grouped_start sets labels ways groups e = subst (AreGrouped sets labels ways 0) (sym e) (record {
-  each = λ k d lt. absurd (omega (arith, lt));
-  all = λ place lt under. absurd (omega (arith, under));
-  some = λ k d lt. absurd (omega (arith, lt));
-  order = λ i j d lt inside. absurd (omega (arith, inside));
-})
-
 pub grouped_all : (sets labels : List ℕ) (ways : List Way) (n : ℕ) (groups : List Group) → AreWithin (length sets) ways → AreLabels sets ways labels → length sets ≤ n → AreGrouped sets labels ways n groups → AreGroups ways sets groups
 grouped_all sets labels ways n groups within of le are = record {
   exact = λ pick size low. (

@@ -177,10 +177,6 @@ paths_refused p limits (refusals.TooManyChoices routers) r = absurd r
 paths_refused p limits (refusals.TooManySteps routers) r = absurd r
 paths_refused p limits refusals.Memory r = tt
 
-pub memory_paths : {T : Type 0} (p : Problem) (r : Result T SearchError) → IsErrAnd r (λ why. why ≡ refusals.Memory) → IfErr r (IsPathsRefusal p)
-memory_paths p (Ok x) h = tt
-memory_paths p (Err why) h = subst (IsPathsRefusal p) (sym h) tt
-
 pub memory_refused : {T : Type 0} (p : Problem) (limits : Limits) (r : Result T SearchError) → IsErrAnd r (λ why. why ≡ refusals.Memory) → IfErr r (IsRefusal p limits)
 memory_refused p limits (Ok x) h = tt
 memory_refused p limits (Err why) h = subst (IsRefusal p limits) (sym h) tt

@@ -10,7 +10,7 @@ use Rattle.ranked_policy.specs.Plans.{AreRanked}
 use Rattle.ranked_policy.specs.Policies.{Table, IsTable, IsTableOf, Originates, IsRuleFor, NoRuleFor, IsPermitted}
 use Rattle.ranked_policy.specs.Promises.{OneRule}
 use Rattle.stable_paths.specs.Stable.{Problem, IsInstance}
-use Rattle.stable_paths.proofs.TableLemmas.{table_stands}
+use Rattle.ranked_policy.proofs.OneTable.{table_stands}
 use Rattle.stable_search.specs.Fits.{MayStand}
 
 -- ---- no more different numbers than there are

@@ -3,9 +3,8 @@ use Rattle.std.proofs.Common.{◌≡◌, ◌≢◌, ℕ, zero, suc, ◌<◌, ◌
 use Rattle.std.specs.Prelude.{◌↔◌, ◌≤◌, IsTrue, Result, Ok, Err, IfOk, IfSome, IfNone}
 use Rattle.std.proofs.Common.{Vec, Global, Option, Some, None, true, false, refl}
 use Rattle.std.specs.List.{All, AllPairs, Contains}
-use Rattle.std.proofs.lemmas.List.{take_more, get_or_default}
+use Rattle.std.proofs.lemmas.List.{take_more}
 use Rattle.std.proofs.lemmas.List.Elements.{Contains-append_left, Contains-get_or, Contains-push, Contains-push_cases}
-use Rattle.std.proofs.lemmas.List.Quantifiers.{all_pairs_push}
 use Rattle.ranked_policy.specs.declared.network.Link.{Link}
 use Rattle.ranked_policy.specs.declared.policy.Chosen.{Chosen}
 use Rattle.ranked_policy.specs.Choosing.{chosen_permits}
@@ -26,18 +25,6 @@ use Rattle.stable_search.proofs.RuleLemmas.{no_rule}
 pub record Lists (links : List Link) (policy : Chosen) (router : ℕ) (passed values : List (List ℕ)) : Type 0 where
   pub exact : (path : List ℕ) → (Contains values path ↔ (Contains passed path × chosen_permits policy path × GoesOver links router path))
   pub distinct : AllPairs (λ path later. path ≢ later) values
-
-none_in : (path : List ℕ) → Contains [] path → ⊥
-none_in path c = omega (arith, c.1)
-
-none_pairs : AllPairs {X = List ℕ} (λ a b. a ≢ b) []
-none_pairs i j d lt inside = absurd (omega (arith, lt, inside))
-
-pub lists_start : (links : List Link) (policy : Chosen) (router : ℕ) → Lists links policy router [] []
-lists_start links policy router = record {
-  exact = λ path. (λ c. absurd (none_in path c), λ x. absurd (none_in path x.0));
-  distinct = none_pairs;
-}
 
 module _ {X : Type 0} (xs : List X) (i : ℕ) (x : X) (lt : i < length xs) (is : x ≡ get_or xs i x) where
   one_more : take (i + 1) xs ≡ take i xs ++ x ∷ []
@@ -97,10 +84,6 @@ pushed values new path e other = (
     | inr same ↦ subst (Contains (values ++ path ∷ [])) same (Contains-push values path)
   ]),
 )
-
-pub pushed_apart : (values new : List (List ℕ)) (path : List ℕ) → new ≡ values ++ path ∷ [] → (Contains values path → ⊥) → AllPairs (λ a b. a ≢ b) values → AllPairs (λ a b. a ≢ b) new
-pushed_apart values new path e none all =
-    subst (AllPairs (λ a b. a ≢ b)) (sym e) (all_pairs_push (λ a b. a ≢ b) values path all (λ k d lt same. none (k, lt, get_or_default values k path d lt ∙ same)))
 
 pub there : (values : List (List ℕ)) (path : List ℕ) → Contains values path → (other : List ℕ) → (Contains values other ↔ Contains values other ⊎ (path ≡ other))
 there values path c other = (λ x. inl x, λ x. elim x [ inl before ↦ before | inr same ↦ subst (Contains values) same c ])

@@ -7,7 +7,6 @@ use Rattle.std.proofs.lemmas.List.{take_more, drop_more, take_all, take-append-d
 use Rattle.prefix_lanes.specs.Bits.{PrefixView, is_prefix}
 use Rattle.ranked_policy.specs.Plans.{Plan}
 use Rattle.ranked_policy.specs.declared.network.Origin.{Origin}
-use Rattle.stable_paths.specs.Stable.{Problem}
 use Rattle.stable_paths.specs.Judging.{IsMoving, IsVerdict}
 use Rattle.stable_paths.specs.declared.verdict.Check.{Check}
 use Rattle.net_text.specs.declared.assignment.Entry.{Entry}
@@ -103,10 +102,6 @@ if_ok P Q (Err e) f h = tt
 pub both_ok : {X E : Type 0} (P Q S : X → Type 0) (r : Result X E) → ((x : X) → P x → Q x → S x) → IfOk r P → IfOk r Q → IfOk r S
 both_ok P Q S (Ok x) f h k = f x h k
 both_ok P Q S (Err e) f h k = tt
-
--- a verdict on a problem is one on the problem that it is
-pub verdict_of : (p : Problem) (net : Plan) (q : PrefixView) (paths : ℕ → List ℕ) (check : Check) → p ≡ at_prefix net q → IsVerdict p paths check → IsVerdict (at_prefix net q) paths check
-verdict_of p net q paths check e v = subst (λ (x : Problem). IsVerdict x paths check) e v
 
 -- ---- what is printed for what was read
 

@@ -5,7 +5,7 @@ use Rattle.std.specs.List.{AllPairs}
 use Rattle.std.specs.List.Sorted.{IsPartitionedBy, IsPartitionPoint}
 use Rattle.std.proofs.lemmas.Bool.{cases_order, lt-ltb, eq-eqb, ne_eqb, or_left, or_right, and_from, and_left, and_right, and_parts}
 use Rattle.std.proofs.lemmas.Bool.Decides.{nat_tests}
-use Rattle.std.proofs.lemmas.List.{length-set, take_all}
+use Rattle.std.proofs.lemmas.List.{length-set}
 use Rattle.prefix_lanes.specs.Bits.{PrefixView, is_prefix}
 use Rattle.ranked_policy.specs.Plans.{Plan, IsBefore}
 use Rattle.ranked_policy.specs.declared.network.Origin.{Origin}
@@ -14,7 +14,7 @@ use Rattle.stable_paths.specs.Stable.{path_of}
 use Rattle.stable_paths.specs.Judging.{IsVerdict}
 use Rattle.stable_paths.specs.declared.verdict.Check.{Check}
 use Rattle.net_text.specs.declared.assignment.Entry.{Entry}
-use Rattle.text_engines.specs.Checking.{is_before, IsPlace, HasNoPlace, AssignNothing, Assign, paths_of, at_prefix}
+use Rattle.text_engines.specs.Checking.{is_before, IsPlace, HasNoPlace, Assign, paths_of, at_prefix}
 use Rattle.text_engines.proofs.CheckLemmas.{within, verdict_as, paths_on, paths_pass, paths_give}
 
 -- ---- the order of prefixes
@@ -118,9 +118,6 @@ place_behind origins q place rise parts le i o below = elsewhere origins q place
 
 -- ---- what entries give, by one more
 
-pub assign_start : (origins : List Origin) (all : List (List Assigned)) → AssignNothing (length origins) all → Assign origins [] all
-assign_start origins all none = record { as_many = none.as_many; each = λ i o below u. none.nothing i u }
-
 -- an entry of a prefix that no origin has gives nothing
 pub assign_pass : (origins : List Origin) (entries : List Entry) (n : ℕ) (entry : Entry) (all : List (List Assigned)) → n < length entries → entry ≡ get_or entries n entry → HasNoPlace origins entry.prefix
     → Assign origins (take n entries) all → Assign origins (take (n + 1) entries) all
@@ -154,9 +151,6 @@ assign_more origins entries n entry all place new lt is at gives h = record {
           let there : get_or (set all place new) i [] ≡ get_or all i [] = get_or-set_other all place i new [] ne in
           λ u. ap (λ (p : List Assigned). path_of p u) there ∙ paths_pass entry q (path_of (get_or all i [])) (sym (e ∙ ne_eqb i place ne)) u
     ]
-
-pub assign_all : (origins : List Origin) (entries : List Entry) (n : ℕ) (all : List (List Assigned)) → length entries ≤ n → Assign origins (take n entries) all → Assign origins entries all
-assign_all origins entries n all le h = subst (λ (es : List Entry). Assign origins es all) (take_all n entries le) h
 
 -- a verdict on what stands at the place of an origin is one on what the entries give for its prefix
 pub verdict_here : (net : Plan) (origins : List Origin) (entries : List Entry) (all : List (List Assigned)) (place : ℕ) (origin : Origin) (mine : List Assigned) (check : Check) → place < length origins

@@ -1,7 +1,7 @@
 -- What calls give and leave, one behind the other.
 use Rattle.std.proofs.Common.{◌≡◌, ◌≢◌, ℕ, ◌+◌, ◌-◌, ◌<◌, true, List, [], ◌∷◌, ◌++◌, length, take, drop, get_or, refl, ap, sym, subst, ◌∙◌, inl, inr, Ok, Err, append_assoc}
 use Rattle.std.specs.Prelude.{Option}
-use Rattle.std.proofs.lemmas.List.{append-nil, take_more}
+use Rattle.std.proofs.lemmas.List.{take_more}
 use Rattle.ranked_policy.specs.Plans.{Plan}
 use Rattle.router_model.specs.Settings.{Setting, ChoosesByRank}
 use Rattle.schedule_text.specs.declared.schedule.ScheduledOrder.{ScheduledOrder}
@@ -64,9 +64,6 @@ order_halts x y o old one new why first work = λ g e ranks kind. halts_by g (pl
 abbrev pub AreTraced : WorldView → List ScheduledOrder → List ℕ → WorldView → List ℕ → Type 0
 AreTraced x orders old y new =
     (g : Setting) → g.net ≡ x.net → ChoosesByRank g → LeadTo g (plain_world x) orders (plain_world y) × Adds old new (OrdersText g (plain_world x) orders)
-
-pub none_are : (x : WorldView) (old : List ℕ) → AreTraced x [] old x old
-none_are x old = λ g e ranks. (refl, ([], refl, sym (append-nil old)))
 
 pub orders_on : (x y z : WorldView) (orders : List ScheduledOrder) (i : ℕ) (o : ScheduledOrder) (old mid new : List ℕ) → i < length orders → o ≡ get_or orders i o → y.net ≡ x.net
     → AreTraced x (take i orders) old y mid → TracesOrder (Ok tt) y o mid z new → AreTraced x (take (i + 1) orders) old z new

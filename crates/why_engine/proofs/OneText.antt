@@ -5,7 +5,7 @@ use Rattle.std.proofs.lemmas.List.{length-map, get_or-map}
 use Rattle.ranked_policy.specs.declared.network.Router as network
 use Rattle.ranked_policy.specs.Plans.{Plan, IsRouter, numbers}
 use Rattle.ranked_policy.specs.Policies.{Table, IsTableOf}
-use Rattle.rib_tables.proofs.RouterLemmas.{one_table}
+use Rattle.ranked_policy.proofs.OneTable.{one_table}
 use Rattle.router_model.specs.Settings.{Setting, IsSetting, is_router}
 use Rattle.world_core.proofs.Stepping.{known}
 use Rattle.text_engines.specs.declared.status.TheConstants.{DONE}

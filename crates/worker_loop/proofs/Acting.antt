@@ -16,10 +16,7 @@ use Rattle.worker_loop.specs.Whole.{entry}
 -- ---- one event leads on
 
 pub unstamped : (s : ℕ) (e : RouterEvent) → without_stamp (with_stamp s e) ≡ e
-unstamped s (alone e) = refl
-unstamped s (puts v i) = refl
-unstamped s (takes v i) = refl
-unstamped s (offers o) = refl
+unstamped s e = grind arith
 
 pub moves : (g : Setting) (u s : ℕ) (x y : Stamped) (e : RouterEvent) → x.stamp < y.stamp → FitsItem y.stamp (with_stamp s e) → Step g u x.router e y.router
     → Moves g u x (act_of u y.stamp s e) y

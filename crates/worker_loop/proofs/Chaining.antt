@@ -37,9 +37,6 @@ each_more P [] x a m b front here (none, still) p =
 each_more P (y ∷ xs) x a m b front here (k, first, rest, whole, one, others) p =
     (k, first, rest ++ here, ap (λ l. l ++ here) whole ∙ append_assoc first rest here, one, each_more P xs x k m b rest here others p)
 
-pub did_none : {X : Type 0} → (P : Setting → X → Stage) (net : Plan) (a b : Seen) → a ≡ b → Did (λ g. Each (P g) []) net a b
-did_none P net a b same = λ g is set. ([], (refl, same))
-
 pub did_more : {X : Type 0} → (P : Setting → X → Stage) (net : Plan) (xs ys : List X) (x : X) (a m b : Seen) → ys ≡ xs ++ x ∷ []
     → Did (λ g. Each (P g) xs) net a m → Did (λ g. P g x) net m b → Did (λ g. Each (P g) ys) net a b
 did_more P net xs ys x a m b more p q =

@@ -1,5 +1,5 @@
 -- What a router gave, as what its worker tries.
-use Rattle.std.proofs.Common.{◌≡◌, ℕ, ◌+◌, ◌<◌, ◌≤◌, length, Bool, true, false, List, [], ◌∷◌, ◌++◌, refl, ap, sym, ◌∙◌, subst, Option, None, Some, inl, inr}
+use Rattle.std.proofs.Common.{◌≡◌, ℕ, ◌+◌, ◌<◌, ◌≤◌, length, Bool, true, List, [], ◌∷◌, ◌++◌, refl, ap, sym, ◌∙◌, subst, Option, None, Some, inl, inr, arith}
 use Rattle.std.specs.Prelude.{Ok, Err, IfOk, max, nat_lt}
 use Rattle.outbox.specs.declared.item.Item.{Item}
 use Rattle.outbox.specs.declared.item.What.{What}
@@ -139,11 +139,7 @@ pub put_full : (g : Setting) (u v s : ℕ) (a b : Seen) (item : Item) → Shows 
 put_full g u v s a b item h full router rests events = full_by g u v s a b item (answer g u a.router (Put v)) refl h full router rests events
 
 never_memory : (link : Bool) (event : Option RouterEvent) (ends over : Bool) → judged (unless link error.NoSuchPeer) event ends over ≡ Refuses error.Memory → ⊥
-never_memory false event ends over e = absurd cc
-never_memory true None ends over e = absurd cc
-never_memory true (Some v) true over e = absurd cc
-never_memory true (Some v) false true e = absurd cc
-never_memory true (Some v) false false e = absurd cc
+never_memory link event ends over h = grind arith
 
 wanting_by : (g : Setting) (u v s : ℕ) (a b : Seen) (r : Answer) → answer g u a.router (Put v) ≡ r → Shows s (Err error.Memory) r → a.room v ≤ length (a.put v)
     → b.router ≡ a.router → Rests a b → b.events ≡ a.events → (acts : List Act) × Puts g u v a acts b
@@ -199,9 +195,6 @@ put_did g u v a b item law set h shows put taken room made noted = put_by g u v 
 
 -- ---- takes
 
-pub take_none : (g : Setting) (u v : ℕ) (a b : Seen) → b.router ≡ a.router → Rests a b → b.events ≡ a.events → (acts : List Act) × Takes g u v a acts b
-take_none g u v a b router rests events = ([], record { only = inl refl; does = does_none g u a b router rests events })
-
 take_by : (g : Setting) (u v : ℕ) (a b : Seen) (i : Item) (r : Answer) → AnswersAreSteps → IsSetting g → answer g u a.router (Take v i.stamp i.what) ≡ r
     → Gives g u (Ok stepped.Did) r a.router (Take v i.stamp i.what) b.router
     → b.taken ≡ grown a.taken v i → b.put ≡ a.put → b.room ≡ a.room → b.made ≡ a.made
@@ -231,10 +224,7 @@ take_did g u v a b i law set h taken put room made noted = take_by g u v a b i (
 
 -- a take is never idle
 not_idle : (bar : Option RouterError) (e : RouterEvent) (late over : Bool) → judged bar (Some e) late over ≡ Idle → ⊥
-not_idle (Some why) e late over h = cc
-not_idle None e true over h = cc
-not_idle None e false true h = cc
-not_idle None e false false h = cc
+not_idle bar e late over h = grind arith
 
 nothing_taken : (g : Setting) (u v stamp : ℕ) (x y : Stamped) (w : What) (r : Answer) → answer g u x (Take v stamp w) ≡ r
     → Gives g u (Ok stepped.Nothing) r x (Take v stamp w) y → ⊥
@@ -242,9 +232,6 @@ nothing_taken g u v stamp x y w (Steps e) is h = (let k = h.0 in cc)
 nothing_taken g u v stamp x y w Idle is h =
     not_idle (bars g u x.router (Take v stamp w)) (takes v w) (nat_lt GREATEST_STAMP (stamp_of g u x (Take v stamp w))) (overflows_at g u x.router (event_of g u x.router (Take v stamp w))) is
 nothing_taken g u v stamp x y w (Refuses why) is h = (let k = h.0 in cc)
-
-pub take_never_idle : (g : Setting) (u v stamp : ℕ) (x y : Stamped) (w : What) → Gives g u (Ok stepped.Nothing) (answer g u x (Take v stamp w)) x (Take v stamp w) y → ⊥
-take_never_idle g u v stamp x y w h = nothing_taken g u v stamp x y w (answer g u x (Take v stamp w)) refl h
 
 -- ---- offers
 

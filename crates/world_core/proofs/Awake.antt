@@ -1,6 +1,6 @@
 -- A router that rests does so until a turn of a peer does something.
 use Rattle.std.proofs.Common.{◌≡◌, ◌≢◌, ℕ, zero, suc, ◌+◌, ◌<◌, ◌≤◌, ◌==◌, Bool, true, false, ◌&&◌, cond, List, [], ◌∷◌, ◌++◌, drop, length, get_or, refl, ap, sym, ◌∙◌, arith, subst, Option, None, Some}
-use Rattle.std.specs.Prelude.{nat_lt, max, Result, Ok, Err, OnOk, slice_get}
+use Rattle.std.specs.Prelude.{nat_lt, max, Ok, slice_get}
 use Rattle.std.specs.List.{flat_map, AllByRecursion, AllPairs, HoldsAt}
 use Rattle.std.proofs.lemmas.Bool.{eqb-true, eqb-false}
 use Rattle.std.proofs.lemmas.Bool.Decides.{nat_tests}
@@ -20,7 +20,6 @@ use Rattle.router_model.specs.Calls.{Stamped, Call, Obey, Tick, Put, Take, Handl
 use Rattle.run_model.specs.declared.stamps.TheConstants.{GREATEST_STAMP}
 use Rattle.world_core.specs.declared.schedule.Event.{Event}
 use Rattle.world_core.specs.declared.schedule.Event.TheVariants as schedule
-use Rattle.world_core.specs.declared.schedule.StepFault.{StepFault}
 use Rattle.world_core.specs.declared.schedule.StepFault.TheVariants.{NoSuchRouter, Refused}
 use Rattle.world_core.specs.World.{World, WorldAnswer, Does, Nothing, Stops, of_answer, of_offer, called, taking_of, where_router, where_linked, world_answer, world_after, world_of, onward, played, name_of}
 use Rattle.world_core.specs.Orders.{with_peer, turn}
@@ -220,12 +219,6 @@ module _ (x y : WorldView) (u : ℕ) (net : y.net ≡ x.net) where
   beside_still events marks done still was i b mark is =
       let k = was i b mark (number_is x y i b net is) in
       (k.0, rests_still x y net events b done still k.1)
-
--- the same of a call that may be refused
-pub own_on : (x y : WorldView) (u : ℕ) → y.net ≡ x.net → AnswersAreSteps → IsNetwork x.net → (events : List Event) (marks : List Bool) → ((b : ℕ) → u ≢ b → AllByRecursion (Spares b) events)
-    → (r : Result (Unit {0}) StepFault) → Obeys r x events y → AreRestingBeside x u marks → OnOk r (AreRestingBeside y u marks)
-own_on x y u net law is_net events marks spares (Ok t) done was = beside_own x y u net law is_net events marks spares done was
-own_on x y u net law is_net events marks spares (Err why) done was = tt
 
 pub takes_spare : (u v b : ℕ) → u ≢ b → AllByRecursion (Spares b) (schedule.Take u v ∷ schedule.Handle u v ∷ [])
 takes_spare u v b n = (n, (n, tt))

@@ -140,10 +140,7 @@ other_first needed put b e never es counts = (
 -- ---- what is taken inside
 
 swapped : (s t : Bool) → (s && t) ≡ (t && s)
-swapped true true = refl
-swapped true false = refl
-swapped false true = refl
-swapped false false = refl
+swapped s t = grind arith
 
 -- the next of a list
 pub next : {A : Type 0} (xs : List A) (i : ℕ) (x d : A) → i < length xs → x ≡ get_or xs i d → take (i + 1) xs ≡ take i xs ++ x ∷ []

@@ -4,11 +4,10 @@ use Rattle.std.specs.Prelude.{nat_lt, Ok, Err}
 use Rattle.std.proofs.Math.Seq.{take-suc}
 use Rattle.std.proofs.lemmas.List.{append-nil, length-take-le}
 use Rattle.ranked_policy.specs.Plans.{Plan, IsNetwork, IsRouter}
-use Rattle.run_model.specs.Network.{alone, puts, takes, offers}
 use Rattle.router_model.specs.declared.refusal.Stepped.TheVariants as stepped
 use Rattle.router_model.specs.Laws.{AnswersAreSteps}
 use Rattle.router_model.specs.Settings.{Setting, ChoosesByRank}
-use Rattle.router_model.specs.Step.{RouterEvent, Obeys, Ticks, Handles, Decides, Advertises}
+use Rattle.router_model.specs.Step.{RouterEvent}
 use Rattle.router_runs.specs.Existence.{EachNetworkHasASetting}
 use Rattle.world_core.specs.declared.schedule.Event.{Event}
 use Rattle.world_core.specs.declared.schedule.StepFault.{StepFault}
@@ -27,14 +26,7 @@ use Rattle.world_core.proofs.Worlds.{step_to, played_then, is_refused, cut_at}
 -- ---- one event
 
 named_router : (u : ℕ) (e : RouterEvent) → router_of (name_of u e) ≡ u
-named_router u (alone (Obeys c)) = refl
-named_router u (alone Ticks) = refl
-named_router u (alone (Handles v)) = refl
-named_router u (alone Decides) = refl
-named_router u (alone (Advertises v)) = refl
-named_router u (puts v i) = refl
-named_router u (takes v i) = refl
-named_router u (offers made) = refl
+named_router u e = grind arith
 
 -- the flag of an event that is done
 abbrev IsFlag : ℕ → WorldView → Event → Bool → Type 0

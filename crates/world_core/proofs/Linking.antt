@@ -87,16 +87,10 @@ no_link g net u v a e p q l = rw (p, q, ap (λ (n : Plan). linked n u v) e ∙ l
 -- ---- a link is one of both
 
 or_turned : (a b : Bool) → (a || b) ≡ (b || a)
-or_turned true true = refl
-or_turned true false = refl
-or_turned false true = refl
-or_turned false false = refl
+or_turned a b = grind arith
 
 and_turned : (a b : Bool) → (a && b) ≡ (b && a)
-and_turned true true = refl
-and_turned true false = refl
-and_turned false true = refl
-and_turned false false = refl
+and_turned a b = grind arith
 
 joins_back : (u v : ℕ) (links : List Link) → list_any (joins u v) links ≡ list_any (joins v u) links
 joins_back u v [] = refl

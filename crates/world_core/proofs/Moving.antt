@@ -1,5 +1,5 @@
 -- A put, a take and an offer, as steps of the world.
-use Rattle.std.proofs.Common.{◌≡◌, ℕ, ◌+◌, ◌==◌, Bool, true, false, ◌&&◌, cond, List, [], ◌∷◌, ◌++◌, map, refl, ap, sym, ◌∙◌, subst, get_or, set, Option, None, Some}
+use Rattle.std.proofs.Common.{◌≡◌, ℕ, ◌+◌, ◌==◌, Bool, true, false, ◌&&◌, cond, List, [], ◌∷◌, ◌++◌, map, refl, ap, sym, ◌∙◌, subst, get_or, set, Option, None, Some, arith}
 use Rattle.std.specs.Prelude.{Result, Ok, Err, drop, slice_get, nat_lt, max}
 use Rattle.std.specs.List.{AllByRecursion}
 use Rattle.std.proofs.Math.Path.{fun_ext}
@@ -57,10 +57,7 @@ pipe_peer : (x : WorldView) (b a to k : ℕ) (old new : Inbox) (p q : Pipe) → 
 pipe_peer x b a to k old new p q at = at.peer ∙ ap (λ (r : Pipe). r.peer) at.held ∙ number_here (λ p. p.peer) old.pipes.items a k p (pipe_at x b a to k old new p q at)
 
 both_by : (c d : Bool) (new all : List Item) → cond d (cond c new all) all ≡ cond (c && d) new all
-both_by true true new all = refl
-both_by true false new all = refl
-both_by false true new all = refl
-both_by false false new all = refl
+both_by c d new all = grind arith
 
 to_by : (x : WorldView) (b a to k : ℕ) (old new : Inbox) (p q : Pipe) → PipeAt x b a to k old new p q → (m n : ℕ) (d : Bool) → (n == b) ≡ d
     → items_from (cond d new.pipes.items (pipes_to x.inboxes n)) m ≡ cond d (cond (m == a) q.items.items (pipes_of x.inboxes m n)) (pipes_of x.inboxes m n)

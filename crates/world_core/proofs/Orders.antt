@@ -18,7 +18,7 @@ use Rattle.world_core.specs.World.{World, WorldAnswer, Does, Nothing, Stops, Giv
 use Rattle.world_core.specs.Orders.{StopsAt, repeated}
 use Rattle.world_core.specs.Views.{WorldView, plain_world, Answers, Obeys}
 use Rattle.world_core.specs.Steps.{IsIdle}
-use Rattle.world_core.proofs.Worlds.{played_then, one_more, is_refused}
+use Rattle.world_core.proofs.Worlds.{played_then, one_more}
 
 -- a schedule that leads on does so from any place
 any_by : (g : Setting) (w y : World) (x : Event) (xs : List Event) (i j : ℕ) (a : WorldAnswer) → ((next : World) → played g next (i + 1) xs ≡ Ok y → played g next (j + 1) xs ≡ Ok y)
@@ -64,9 +64,6 @@ obeys_behind x y z xs ys (Err why) same h k g e ranks =
     let s = k g (e ∙ sym same) ranks in
     (length xs + s.0, stops_behind g xs ys (plain_world x) (plain_world y) (plain_world z) s.0 why (h g e ranks) s.1)
 
-pub obeys_before : (x z : WorldView) (xs ys : List Event) (why : StepFault) → Obeys (Err why) x xs z → Obeys (Err why) x (xs ++ ys) z
-obeys_before x z xs ys why h g e ranks = (let s = h g e ranks in (s.0, stops_before g xs ys (plain_world x) (plain_world z) s.0 why s.1))
-
 pub obeys_one : (x y : WorldView) (event : Event) (s : Stepped) → Answers (Ok s) x event y → Obeys (Ok tt) x (event ∷ []) y
 obeys_one x y event s h g e ranks = one_more g [] event (plain_world x) (plain_world x) (plain_world y) s refl (h g e ranks)
 
@@ -81,23 +78,10 @@ still_is g w z event why (Does u e stamp) h = h.1
 still_is g w z event why Nothing h = h.1
 still_is g w z event why (Stops fault) h = h.1
 
-pub obeys_none : (x y : WorldView) (event : Event) (why : StepFault) → Answers (Err why) x event y → Obeys (Err why) x (event ∷ []) y
-obeys_none x y event why h g e ranks =
-    let w = plain_world x in
-    let gives = h g e ranks in (
-      0,
-      subst (λ k. StopsAt g w (event ∷ []) 0 why k) (sym (still_is g w (plain_world y) event why (world_answer g w event) gives))
-          (record { before = []; event = event; behind = []; parts = refl; place = refl; reached = refl; refused = is_refused g w (plain_world y) event why (world_answer g w event) refl gives }),
-    )
-
 -- ---- one behind what was done
 
 pub obeys_next : (x y z : WorldView) (done one more : List Event) → done ++ one ≡ more → y.net ≡ x.net → Obeys (Ok tt) x done y → Obeys (Ok tt) y one z → Obeys (Ok tt) x more z
 obeys_next x y z done one more is same h k = subst (λ (l : List Event). Obeys (Ok tt) x l z) is (obeys_behind x y z done one (Ok tt) same h k)
-
-pub obeys_until : (x y z : WorldView) (done one rest all : List Event) (why : StepFault) → (done ++ one) ++ rest ≡ all → y.net ≡ x.net → Obeys (Ok tt) x done y → Obeys (Err why) y one z → Obeys (Err why) x all z
-obeys_until x y z done one rest all why is same h k =
-    subst (λ (l : List Event). Obeys (Err why) x l z) is (obeys_before x z (done ++ one) rest why (obeys_behind x y z done one (Err why) same h k))
 
 pub all_done : {A : Type 0} (f : A → List Event) (xs : List A) (i : ℕ) → length xs ≤ i → flat_map f (take i xs) ≡ flat_map f xs
 all_done f xs i l = ap (flat_map f) (take_all i xs l)
@@ -116,10 +100,6 @@ one_among f xs i a l is =
     ap (λ k. k ++ flat_map f (drop (i + 1) xs)) (one_done f xs i a l is)
     ∙ sym (flat_map-append f (take (i + 1) xs) (drop (i + 1) xs))
     ∙ ap (flat_map f) (take-append-drop (i + 1) xs)
-
-pub singles : (events : List Event) → flat_map (λ e. e ∷ []) events ≡ events
-singles [] = refl
-singles (e ∷ events) = ap (λ k. e ∷ k) (singles events)
 
 pub repeated_more : (n k : ℕ) (events : List Event) → repeated n events ++ repeated k events ≡ repeated (n + k) events
 repeated_more zero k events = (let none : k ≡ 0 + k = omega arith in ap (λ n. repeated n events) none)

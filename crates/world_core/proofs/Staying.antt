@@ -24,31 +24,11 @@ use Rattle.world_core.proofs.Linking.{passes, passes_link}
 use Rattle.router_core.specs.Views.{RouterView}
 use Rattle.world_core.proofs.Stepping.{known, stands}
 
-pub place_stays : (x y : WorldView) (u i : ℕ) → IsWhole x → IsWhole y → y.net ≡ x.net → StandsAt x u i → StandsAt y u i
-place_stays x y u i wx wy same at =
-    let nets = ap (λ (n : Plan). numbers n.routers) same in
-    record {
-      router = moved (λ r. r.number) (λ r. r.number) x.routers y.routers u i (wy.routers ∙ nets ∙ sym wx.routers) at.router;
-      inbox = moved (λ b. b.router) (λ b. b.router) x.inboxes y.inboxes u i (wy.inboxes ∙ nets ∙ sym wx.inboxes) at.inbox;
-      known = λ g e. at.known g (e ∙ same);
-    }
-
 -- the pipes to a router are those from its peers
 peers_here : (x : WorldView) (u i : ℕ) (b : Inbox) → IsWhole x → StandsAt x u i → map (λ p. p.peer) (get_or x.inboxes i b).pipes.items ≡ peers x.net u
 peers_here x u i b whole at =
     all_here (λ b. b.router) (λ b. map (λ p. p.peer) b.pipes.items ≡ peers x.net b.router) x.inboxes u i b at.inbox whole.pipes
     ∙ ap (peers x.net) (number_here (λ b. b.router) x.inboxes u i b at.inbox)
-
-pub link_stays : (x y : WorldView) (u v i k : ℕ) → IsWhole x → IsWhole y → y.net ≡ x.net → LinkAt x u v i k → LinkAt y u v i k
-link_stays x y u v i k wx wy same at =
-    let here = place_stays x y u i wx wy same at.here in
-    record {
-      here = here;
-      pipe = λ b.
-          moved (λ p. p.peer) (λ p. p.peer) (get_or x.inboxes i b).pipes.items (get_or y.inboxes i b).pipes.items v k
-          (peers_here y u i b wy here ∙ ap (λ (n : Plan). peers n u) same ∙ sym (peers_here x u i b wx at.here)) (at.pipe b);
-      linked = λ g e a. at.linked g (e ∙ same) a;
-    }
 
 -- ---- places by what stands there
 

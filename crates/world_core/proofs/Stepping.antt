@@ -19,7 +19,6 @@ use Rattle.router_model.specs.Laws.{AnswersAreSteps}
 use Rattle.router_model.specs.Step.{RouterEvent, after}
 use Rattle.router_model.specs.Calls.{Stamped, Call, Obey, Tick, Put, Take, Handle, Decide, Advertise, Answer, Steps, Idle, Refuses, answer, stamp_of, stamped_after, IsEventOf}
 use Rattle.router_core.specs.declared.router.call.Call as core
-use Rattle.router_core.specs.declared.router.call.Call.TheVariants as asked
 use Rattle.router_core.specs.Calling.{call_of}
 use Rattle.router_core.specs.Views.{RouterView, plain_of, IsSame}
 use Rattle.world_core.specs.declared.schedule.Event.{Event}
@@ -112,11 +111,7 @@ Unmoved (takes v i) = ⊥
 Unmoved (offers made) = ⊥
 
 pub is_own : (c : core.Call) → IsOwn (call_of c)
-is_own (asked.Obey c) = tt
-is_own asked.Tick = tt
-is_own (asked.Handle v) = tt
-is_own asked.Decide = tt
-is_own asked.Advertise = tt
+is_own c = grind arith
 
 unmoved : (call : Call) (e : RouterEvent) → IsOwn call → IsEventOf call e → Unmoved e
 unmoved (Obey c) e own is = subst Unmoved (sym is) tt

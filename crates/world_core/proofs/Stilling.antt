@@ -6,7 +6,7 @@ use mathlib.Core.List.{IsPrefix}
 use Rattle.bgp_framing.specs.Held.{is_waiting}
 use Rattle.ranked_policy.specs.Plans.{IsNetwork}
 use Rattle.run_model.specs.Network as runs
-use Rattle.run_model.specs.Network.{NetworkEvent, alone, puts, takes, offers}
+use Rattle.run_model.specs.Network.{NetworkEvent, takes, offers}
 use Rattle.router_model.specs.declared.command.Command.{Command}
 use Rattle.router_model.specs.declared.command.Command.TheVariants as command
 use Rattle.outbox.specs.declared.item.Item.{Item}
@@ -33,84 +33,28 @@ use Rattle.router_model.specs.Laws.{IdleWhereNothingMayCome}
 -- ---- what an event of this name is
 
 commands : (u : ℕ) (e : RouterEvent) (k : ℕ) (x : Command) → name_of u e ≡ schedule.Command k x → (u ≡ k) × IsEventOf (Obey x) e
-commands u (alone (step.Obeys c)) k x h = (cc, cc)
-commands u (alone step.Ticks) k x h = absurd cc
-commands u (alone (step.Handles y)) k x h = absurd cc
-commands u (alone step.Decides) k x h = absurd cc
-commands u (alone (step.Advertises y)) k x h = absurd cc
-commands u (puts y i) k x h = absurd cc
-commands u (takes y i) k x h = absurd cc
-commands u (offers o) k x h = absurd cc
+commands u e k x h = grind arith
 
 ticks : (u : ℕ) (e : RouterEvent) (k : ℕ) → name_of u e ≡ schedule.Tick k → (u ≡ k) × IsEventOf Tick e
-ticks u (alone (step.Obeys c)) k h = absurd cc
-ticks u (alone step.Ticks) k h = (cc, refl)
-ticks u (alone (step.Handles y)) k h = absurd cc
-ticks u (alone step.Decides) k h = absurd cc
-ticks u (alone (step.Advertises y)) k h = absurd cc
-ticks u (puts y i) k h = absurd cc
-ticks u (takes y i) k h = absurd cc
-ticks u (offers o) k h = absurd cc
+ticks u e k h = grind arith
 
 puts_ : (u : ℕ) (e : RouterEvent) (k v : ℕ) → name_of u e ≡ schedule.Put k v → (u ≡ k) × IsEventOf (Put v) e
-puts_ u (alone (step.Obeys c)) k v h = absurd cc
-puts_ u (alone step.Ticks) k v h = absurd cc
-puts_ u (alone (step.Handles y)) k v h = absurd cc
-puts_ u (alone step.Decides) k v h = absurd cc
-puts_ u (alone (step.Advertises y)) k v h = absurd cc
-puts_ u (puts y i) k v h = (cc, (i, cc))
-puts_ u (takes y i) k v h = absurd cc
-puts_ u (offers o) k v h = absurd cc
+puts_ u e k v h = grind arith
 
 handles : (u : ℕ) (e : RouterEvent) (k v : ℕ) → name_of u e ≡ schedule.Handle k v → (u ≡ k) × IsEventOf (Handle v) e
-handles u (alone (step.Obeys c)) k v h = absurd cc
-handles u (alone step.Ticks) k v h = absurd cc
-handles u (alone (step.Handles y)) k v h = (cc, cc)
-handles u (alone step.Decides) k v h = absurd cc
-handles u (alone (step.Advertises y)) k v h = absurd cc
-handles u (puts y i) k v h = absurd cc
-handles u (takes y i) k v h = absurd cc
-handles u (offers o) k v h = absurd cc
+handles u e k v h = grind arith
 
 decides : (u : ℕ) (e : RouterEvent) (k : ℕ) → name_of u e ≡ schedule.Decide k → (u ≡ k) × IsEventOf Decide e
-decides u (alone (step.Obeys c)) k h = absurd cc
-decides u (alone step.Ticks) k h = absurd cc
-decides u (alone (step.Handles y)) k h = absurd cc
-decides u (alone step.Decides) k h = (cc, refl)
-decides u (alone (step.Advertises y)) k h = absurd cc
-decides u (puts y i) k h = absurd cc
-decides u (takes y i) k h = absurd cc
-decides u (offers o) k h = absurd cc
+decides u e k h = grind arith
 
 advertises : (u : ℕ) (e : RouterEvent) (k : ℕ) → name_of u e ≡ schedule.Advertise k → (u ≡ k) × IsEventOf Advertise e
-advertises u (alone (step.Obeys c)) k h = absurd cc
-advertises u (alone step.Ticks) k h = absurd cc
-advertises u (alone (step.Handles y)) k h = absurd cc
-advertises u (alone step.Decides) k h = absurd cc
-advertises u (alone (step.Advertises y)) k h = (cc, (y, refl))
-advertises u (puts y i) k h = absurd cc
-advertises u (takes y i) k h = absurd cc
-advertises u (offers o) k h = absurd cc
+advertises u e k h = grind arith
 
 takes_ : (u : ℕ) (e : RouterEvent) (k v : ℕ) → name_of u e ≡ schedule.Take k v → (u ≡ k) × ((j : What) × (e ≡ takes v j))
-takes_ u (alone (step.Obeys c)) k v h = absurd cc
-takes_ u (alone step.Ticks) k v h = absurd cc
-takes_ u (alone (step.Handles y)) k v h = absurd cc
-takes_ u (alone step.Decides) k v h = absurd cc
-takes_ u (alone (step.Advertises y)) k v h = absurd cc
-takes_ u (puts y i) k v h = absurd cc
-takes_ u (takes y i) k v h = (cc, (i, cc))
-takes_ u (offers o) k v h = absurd cc
+takes_ u e k v h = grind arith
 
 offers_ : (u : ℕ) (e : RouterEvent) (k : ℕ) → name_of u e ≡ schedule.Offer k → (u ≡ k) × ((m : MadeOffer) × (e ≡ offers m))
-offers_ u (alone (step.Obeys c)) k h = absurd cc
-offers_ u (alone step.Ticks) k h = absurd cc
-offers_ u (alone (step.Handles y)) k h = absurd cc
-offers_ u (alone step.Decides) k h = absurd cc
-offers_ u (alone (step.Advertises y)) k h = absurd cc
-offers_ u (puts y i) k h = absurd cc
-offers_ u (takes y i) k h = absurd cc
-offers_ u (offers o) k h = (cc, (o, refl))
+offers_ u e k h = grind arith
 
 -- ---- what an answer of nothing comes from
 
@@ -143,10 +87,6 @@ quiet : (k at : ℕ) (a : Answer) → of_answer k at a ≡ Nothing → Quiet a
 quiet k at (Steps e) h = absurd cc
 quiet k at calls.Idle h = IsIdle refl
 quiet k at (Refuses why) h = quiet_refusal why h
-
--- such a refusal bars the call
-is_bar : RouterError → Type 0
-is_bar why = (why ≢ error.StampEnd) × (why ≢ error.EpochEnd)
 
 barred : (why : Option RouterError) (event : Option RouterEvent) (ends over : Bool) (r : RouterError) → judged why event ends over ≡ Refuses r → r ≢ error.StampEnd → r ≢ error.EpochEnd → why ≡ Some r
 barred (Some why) event ends over r h p q = cc

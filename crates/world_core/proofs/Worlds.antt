@@ -1,9 +1,9 @@
 -- What a step keeps of a world that comes out of its own events.
-use Rattle.std.proofs.Common.{◌≡◌, ℕ, suc, ◌+◌, ◌<◌, ◌≤◌, arith, length, take, drop, get_or, ◌++◌, append_assoc, inl, inr, ◌==◌, Bool, true, false, cond, List, [], ◌∷◌, refl, ap, sym, ◌∙◌, subst}
+use Rattle.std.proofs.Common.{◌≡◌, ℕ, suc, ◌+◌, ◌<◌, arith, length, take, drop, get_or, ◌++◌, append_assoc, inl, inr, ◌==◌, Bool, true, false, cond, List, [], ◌∷◌, refl, ap, sym, ◌∙◌, subst}
 use Rattle.std.specs.List.{AllByRecursion}
 use Rattle.std.proofs.Math.Path.{fun_ext}
 use Rattle.std.proofs.Math.Seq.{take-suc}
-use Rattle.std.proofs.lemmas.List.{take-append-drop, length-take-le, take_all}
+use Rattle.std.proofs.lemmas.List.{take-append-drop, length-take-le}
 use Rattle.std.specs.Prelude.{Result, Ok, Err}
 use Rattle.router_model.specs.declared.refusal.Stepped.{Stepped}
 use Rattle.router_model.specs.Settings.{Setting}
@@ -128,9 +128,6 @@ reaches_next net events i event x y s l is was answers same promised = record {
   played = λ g e ranks. ap (played g (new_world g) 0) (take-suc events i event l ∙ ap (λ (k : Event). take i events ++ k ∷ []) (sym is))
       ∙ one_more g (take i events) event (new_world g) (plain_world x) (plain_world y) s (was.played g e ranks) (answers g (e ∙ sym was.net) ranks);
 }
-
-pub plays_all : (net : Plan) (events : List Event) (i : ℕ) (x : WorldView) → length events ≤ i → Reaches net events i x → Plays (Ok x) net events
-plays_all net events i x l reached g e ranks = sym (ap (played g (new_world g) 0) (take_all i events l)) ∙ reached.played g e ranks
 
 pub plays_until : (net : Plan) (events : List Event) (i : ℕ) (event : Event) (x y : WorldView) (why : StepFault) → i < length events → event ≡ get_or events i event → Reaches net events i x
     → Answers (Err why) x event y → Plays (Err (record { at = i; why = why })) net events

@@ -171,14 +171,13 @@ fn part_now(
     alloc: Global,
     number: Asn,
     origins: &[Origin],
-    tables: &mut Rib<'_>,
+    tables: &Rib<'_>,
     peers: &[Peer],
     snapshot: u32,
     first: Option<Asn>,
 ) -> Result<Part, AllocError>
-    requires { origins.now ≡ tables.old.net.origins }
-    ensures part { IfOk result (IsPart origins.now tables.old peers.now number snapshot first) }
-    ensures same { tables.new ≡ tables.old }
+    requires { origins.now ≡ tables.now.net.origins }
+    ensures { IfOk result (IsPart origins.now tables.now peers.now number snapshot first) }
 {
     let kept = kept_paths(alloc, origins, tables)?;
     let originated = originated(alloc, origins, tables)?;
@@ -210,7 +209,7 @@ impl Router<'_> {
             alloc,
             self.number,
             origins,
-            &mut self.tables,
+            &self.tables,
             peers,
             number,
             first,
@@ -230,25 +229,16 @@ impl Router<'_> {
     /// originates, the incarnation of each link, and whether a kept path is not the route or an Established peer was
     /// not told of one. Its number is 0, which no snapshot has. Its channels are empty, and wait for their markers.
     ///
-    /// Refused only with [`RouterError::Memory`]. The router stays as it was.
-    pub fn part_state(&mut self) -> Result<Part, RouterError>
-        ensures state { MatchResult result (IsStateOf self.old) (λ why. why ≡ Memory) }
-        ensures same { self.new ≡ self.old }
+    /// Refused only with [`RouterError::Memory`].
+    pub fn part_state(&self) -> Result<Part, RouterError>
+        ensures { MatchResult result (IsStateOf self.now) (λ why. why ≡ Memory) }
     {
         linked_routers_are_peers();
         the_best_is_the_route(&self.tables);
         let alloc = *self.peers.allocator();
         let origins = self.network.origins();
         let peers = self.peers.as_slice();
-        let made = part_now(
-            alloc,
-            self.number,
-            origins,
-            &mut self.tables,
-            peers,
-            0,
-            None,
-        );
+        let made = part_now(alloc, self.number, origins, &self.tables, peers, 0, None);
         let Ok(part) = made else {
             return Err(RouterError::Memory);
         };

@@ -114,7 +114,7 @@ impl Router<'_> {
         ensures { MatchOption result (HoldsOfAll self.now.tables.net.origins (IsSettled self.now.tables))
             (IsLeastWithout self.now.tables.net.origins (IsSettled self.now.tables)) }
     {
-        self.tables.undecided()
+        self.tables.dirty()
     }
 
     /// The peer that [`Router::advertise`] tells next, and the prefix: the least Established peer that was not told

@@ -59,8 +59,6 @@ enum Of {
     Keeps(&'static [Asn]),
     /// The router tells a peer the kept path.
     Tells(Asn),
-    /// The same, by the places of the peer and of the prefix.
-    TellsAt(Asn),
     /// A peer says a path, by the place of the peer.
     SaysAt(Asn, &'static [Asn]),
     /// The path heard last from a peer: the empty path where it gives none.
@@ -112,8 +110,6 @@ enum Row {
     Waits(Asn, Option<At>),
     /// The same with its place, by the place of the peer.
     WaitsAt(Asn, Option<(usize, At)>),
-    /// Whether a session is Established.
-    Up(Asn, bool),
     /// Whether some peer waits.
     Awaited(bool),
     /// Whether anything is still to be done.
@@ -389,13 +385,6 @@ fn keeps(alloc: Global, rib: &mut Rib, prefix: &Prefix, path: &[Asn]) -> bool {
 }
 
 fn tells(rib: &mut Rib, peer: Asn, prefix: &Prefix) -> bool {
-    if !rib.network().linked(rib.router(), peer) || !rib.network().names(prefix) {
-        return false;
-    }
-    rib.tell(peer, prefix).is_ok()
-}
-
-fn tells_at(rib: &mut Rib, peer: Asn, prefix: &Prefix) -> bool {
     match (peer_place(rib, peer), prefix_place(rib, prefix)) {
         (Some(place), Some(at)) => rib.tell_at(place, peer, at, prefix).is_ok(),
         _ => false,
@@ -412,7 +401,7 @@ fn decided(alloc: Global, rib: &mut Rib) -> Result<Option<Prefix>, RibError> {
 }
 
 // What is asked of the tables, in the same way.
-fn dirty(rib: &mut Rib) -> Option<Prefix> {
+fn dirty(rib: &Rib) -> Option<Prefix> {
     rib.dirty()
 }
 
@@ -516,10 +505,6 @@ fn is_originated_at(rib: &Rib, prefix: &Prefix) -> Option<bool> {
     Some(rib.is_originated_at(at, prefix))
 }
 
-fn is_established(rib: &Rib, peer: Asn) -> bool {
-    rib.is_established(peer)
-}
-
 fn is_awaited(rib: &Rib) -> bool {
     rib.is_awaited()
 }
@@ -568,7 +553,6 @@ fn is_of(alloc: Global, rib: &mut Rib, prefix: &Prefix, of: Of) -> bool {
         Of::Withdraws => withdraws(rib, prefix),
         Of::Keeps(path) => keeps(alloc, rib, prefix, path),
         Of::Tells(peer) => tells(rib, peer, prefix),
-        Of::TellsAt(peer) => tells_at(rib, peer, prefix),
         Of::SaysAt(peer, path) => hear_path_at(rib, peer, prefix, path),
         Of::Heard(peer, path) => hears_path(rib, peer, prefix, path),
         Of::Unheard(peer) => !is_heard(rib, peer, prefix),
@@ -609,7 +593,6 @@ fn is_so(alloc: Global, rib: &mut Rib, row: Row) -> bool {
         Row::Dirty(wanted) => is_at(dirty(rib), wanted),
         Row::Waits(peer, wanted) => waits_for(rib, peer, wanted),
         Row::WaitsAt(peer, wanted) => waits_at(rib, peer, wanted),
-        Row::Up(peer, wanted) => is_established(rib, peer) == wanted,
         Row::Awaited(wanted) => is_awaited(rib) == wanted,
         Row::Pending(wanted) => is_pending(rib) == wanted,
     }
@@ -642,7 +625,7 @@ fn tries(rt: &impl Abort, alloc: Global, router: Asn, rows: &[Row]) -> Result<()
 }
 
 // The calls by place: those of the peers 2 and 3 of router 4 are 0 and 1, those of the prefixes 0 to 2.
-static BY_PLACE: [Row; 20] = [
+static BY_PLACE: [Row; 19] = [
     Row::ComesUpAt(3),
     Row::ComesUpAt(2),
     Row::HearsAt(2, Along::Path(&[2, 1]), &[SHORT], &[]),
@@ -653,7 +636,7 @@ static BY_PLACE: [Row; 20] = [
     Row::At(LONG, Of::Keeps(&TEN_LONG)),
     Row::At(LONG, Of::KeptAt(&TEN_LONG)),
     Row::WaitsAt(3, Some((1, LONG))),
-    Row::At(LONG, Of::TellsAt(3)),
+    Row::At(LONG, Of::Tells(3)),
     Row::WaitsAt(3, None),
     Row::WaitsAt(2, Some((1, LONG))),
     Row::At(LONG, Of::Sent(3, &TEN_LONG)),
@@ -662,7 +645,6 @@ static BY_PLACE: [Row; 20] = [
     Row::At(FAR, Of::OriginatedAt(true)),
     Row::ForgetsAt(3),
     Row::At(LONG, Of::Unsent(3)),
-    Row::Up(3, false),
 ];
 
 #[test]
@@ -762,7 +744,7 @@ fn a_prefix_of_nobody(rt: HostRuntime) -> Result<(), Fail> {
 }
 
 // One of two peers is forgotten: what it said, what it was told, and that it was Established.
-static FORGETS_ONE_OF_TWO: [Row; 17] = [
+static FORGETS_ONE_OF_TWO: [Row; 15] = [
     Row::ComesUp(2),
     Row::ComesUp(3),
     Row::Hears(2, Along::Path(&[2, 1]), &[SHORT, LONG], &[]),
@@ -776,8 +758,6 @@ static FORGETS_ONE_OF_TWO: [Row; 17] = [
     Row::At(SHORT, Of::Unsent(2)),
     Row::At(LONG, Of::Heard(3, &[3, 1])),
     Row::At(SHORT, Of::Sent(3, &[4, 2, 1])),
-    Row::Up(2, false),
-    Row::Up(3, true),
     Row::Decides(Some(SHORT)),
     Row::At(SHORT, Of::Kept(&[4, 3, 1])),
 ];

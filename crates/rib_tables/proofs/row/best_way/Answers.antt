@@ -6,7 +6,7 @@ use Rattle.rib_tables.specs.declared.word.Word.{Word}
 use Rattle.rib_tables.specs.Choices.{IsFirstOrNone}
 use Rattle.rib_tables.specs.Rows.{RowHears, path_by}
 use Rattle.rib_tables.proofs.ChoiceLemmas.{not_empty}
-use Rattle.rib_tables.proofs.RouterLemmas.{table_stands}
+use Rattle.ranked_policy.proofs.OneTable.{table_stands}
 use Rattle.rib_tables.proofs.RowChoices.{path_by_some, path_by_none}
 use Rattle.rib_tables.proofs.DecidingLemmas.{own_best, own_none, heard_best}
 use Rattle.rib_tables.proofs.row.best_way.Goals as goal

@@ -243,10 +243,6 @@ fn step(
 }
 
 // Both say the same of a peer.
-fn same_session(rib: &Rib, lists: &Lists, peer: Asn) -> bool {
-    is_established(rib, peer) == lists.is_established(peer)
-}
-
 fn same_waiting(rib: &Rib, lists: &Lists, peer: Asn) -> bool {
     waiting(rib, peer) == Some(lists.waiting(peer))
 }
@@ -279,7 +275,6 @@ fn same_words(rt: &impl Abort, rib: &Rib, lists: &Lists, peer: Asn, prefix: &Pre
 }
 
 fn same_of_peer(rt: &impl Abort, rib: &Rib, lists: &Lists, peer: Asn, prefixes: &[Prefix]) {
-    assert!(rt; same_session(rib, lists, peer));
     assert!(rt; same_waiting(rib, lists, peer));
     for prefix in prefixes {
         same_words(rt, rib, lists, peer, prefix);

@@ -5,20 +5,11 @@ use Rattle.rib_tables.specs.declared.row.Row.{Row}
 use Rattle.rib_tables.specs.Least.{HoldsOfAll, IsLeastWithout}
 use Rattle.rib_tables.specs.Owners.{RibView, IsSettled}
 use Rattle.rib_tables.specs.Rows.{AreDecided, AreJudged, AllBest, IsFirstUndecided, view_of}
-use Rattle.rib_tables.proofs.AskingLemmas.{judged, all_settled, first_unsettled, dirty_keeps_rib}
+use Rattle.rib_tables.proofs.AskingLemmas.{judged, all_settled, first_unsettled}
 use Rattle.rib_tables.proofs.rib.Rib.dirty.Goals as goal
 
-pub invariant_of-self : goal.invariant_of-self
-invariant_of-self c =
-    let s = c.self.inside in
-    let net = s.network.now in
-    let After : List Peer → List Row → Type 0 = λ ps rs. AreJudged net s.router ps rs → AreDecided net s.router ps rs s.dirty → AreDecided net s.router ps rs c.first_undecided.new.dirty in
-    let decided = subst (λ (ps : List Peer). After ps s.rows.items) c.as_slice.ensures.value (subst (After c.as_slice.result.now) c.as_slice-2.ensures.value (c.in_err-place.ensures.decided net)) in
-    dirty_keeps_rib net s.router s.peers.items s.keys.keys s.rows.items s.dirty s.waits.items c.self.invariant c.first_undecided.new.dirty
-    (decided (judged net s.router s.peers.items s.keys.keys s.rows.items s.dirty s.waits.items c.self.invariant) c.self.invariant.decided)
-
-pub returns-in_err-place-clause-least : goal.returns-in_err-place-clause-least
-returns-in_err-place-clause-least c =
+pub returns-in_err-place : goal.returns-in_err-place
+returns-in_err-place c =
     let s = c.self.inside in
     let net = s.network.now in
     let Least : List Peer → List Row → Type 0 = λ ps rs. AreJudged net s.router ps rs → AreDecided net s.router ps rs s.dirty → AllBest net s.router ps rs in
@@ -39,17 +30,8 @@ index-requires c =
     let len : length s.rows.items ≡ s.rows.len = search rules in
     omega (arith, lt, len)
 
-pub invariant_of-self-2 : goal.invariant_of-self-2
-invariant_of-self-2 c =
-    let s = c.self.inside in
-    let net = s.network.now in
-    let After : List Peer → List Row → Type 0 = λ ps rs. AreJudged net s.router ps rs → AreDecided net s.router ps rs s.dirty → AreDecided net s.router ps rs c.first_undecided.new.dirty in
-    let decided = subst (λ (ps : List Peer). After ps s.rows.items) c.as_slice.ensures.value (subst (After c.as_slice.result.now) c.as_slice-2.ensures.value (c.in_ok-place.ensures.decided net)) in
-    dirty_keeps_rib net s.router s.peers.items s.keys.keys s.rows.items s.dirty s.waits.items c.self.invariant c.first_undecided.new.dirty
-    (decided (judged net s.router s.peers.items s.keys.keys s.rows.items s.dirty s.waits.items c.self.invariant) c.self.invariant.decided)
-
-pub returns-clause-least : goal.returns-clause-least
-returns-clause-least c =
+pub returns : goal.returns
+returns c =
     let s = c.self.inside in
     let net = s.network.now in
     let place = c.in_ok-place.place in

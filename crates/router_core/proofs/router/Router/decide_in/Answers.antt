@@ -18,20 +18,19 @@ pub returns-in_default-clause-answers : goal.returns-in_default-clause-answers
 returns-in_default-clause-answers c =
     let r : RouterView = record { net = c.self.inside.network.now; number = c.self.inside.number; own_open = c.self.inside.own_open; peers = c.self.inside.peers.items; tables = c.self.inside.tables; marks = c.self.inside.marks; stamp = c.self.inside.stamp } in
     let laws = c.the_best_is_the_route.ensures in
-    rw c.dirty.ensures.same
-    (subst (λ (x : RouterView). Answers (Ok stepped.Nothing) x Decide r) c.self.view_is (λ g e ranks.
-    decided_all laws.over laws.one g r (record { sound = c.self.invariant; net = e; ranks = ranks; linked = laws.linked }) c.in_default.ensures.least))
+    subst (λ (x : RouterView). Answers (Ok stepped.Nothing) x Decide x) c.self.view_is (λ g e ranks.
+    decided_all laws.over laws.one g r (record { sound = c.self.invariant; net = e; ranks = ranks; linked = laws.linked }) c.in_default.ensures)
 
 pub returns-in-Err-clause-answers : goal.returns-in-Err-clause-answers
 returns-in-Err-clause-answers c =
     let r : RouterView = record { net = c.self.inside.network.now; number = c.self.inside.number; own_open = c.self.inside.own_open; peers = c.self.inside.peers.items; tables = c.self.inside.tables; marks = c.self.inside.marks; stamp = c.self.inside.stamp } in
     let laws = c.the_best_is_the_route.ensures in
-    rw (c.dirty.ensures.same, c.in-Err.ensures.refused)
-    (subst (λ (x : RouterView). Answers (Err (no_step r.stamp)) x Decide r) c.self.view_is (λ g e ranks.
-    no_step_to_decide laws.over laws.one g r (record { sound = c.self.invariant; net = e; ranks = ranks; linked = laws.linked }) c.in-Some.field-0 c.in-Some.ensures.least))
+    rw c.in-Err.ensures.refused
+    (subst (λ (x : RouterView). Answers (Err (no_step r.stamp)) x Decide x) c.self.view_is (λ g e ranks.
+    no_step_to_decide laws.over laws.one g r (record { sound = c.self.invariant; net = e; ranks = ranks; linked = laws.linked }) c.in-Some.field-0 c.in-Some.ensures))
 
-pub invariant_of-self-in-Ok-Some : goal.invariant_of-self-in-Ok-Some
-invariant_of-self-in-Ok-Some c =
+pub invariant_of-self : goal.invariant_of-self
+invariant_of-self c =
     let r : RouterView = record { net = c.self.inside.network.now; number = c.self.inside.number; own_open = c.self.inside.own_open; peers = c.self.inside.peers.items; tables = c.self.inside.tables; marks = c.self.inside.marks; stamp = c.self.inside.stamp } in
     let t = c.decide.new.self in
     let few : r.stamp + 1 ≤ GREATEST_STAMP = grind (arith, nat_tests, c.in-Ok.ensures.next.1) in

@@ -7,4 +7,4 @@ use Rattle.router_core.proofs.router.Router.undecided.Goals as goal
 
 pub returns : goal.returns
 returns c =
-    subst (λ (x : RouterView). MatchOption c.undecided.result (HoldsOfAll x.tables.net.origins (IsSettled x.tables)) (IsLeastWithout x.tables.net.origins (IsSettled x.tables))) c.self.view_is c.undecided.ensures
+    subst (λ (x : RouterView). MatchOption c.dirty.result (HoldsOfAll x.tables.net.origins (IsSettled x.tables)) (IsLeastWithout x.tables.net.origins (IsSettled x.tables))) c.self.view_is c.dirty.ensures

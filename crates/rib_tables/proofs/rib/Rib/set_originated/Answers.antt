@@ -1,11 +1,11 @@
-use Rattle.std.proofs.Common.{true, length, refl, subst, sym}
+use Rattle.std.proofs.Common.{length, subst, sym}
 use Rattle.ranked_policy.specs.Plans.{IsOrigin}
-use Rattle.rib_tables.specs.Owners.{RibView, Originating}
+use Rattle.rib_tables.specs.Owners.{RibView, Originating, Withdrawing}
 use Rattle.rib_tables.specs.Rows.{view_of}
 use Rattle.rib_tables.proofs.ChangeLemmas.{place_fits}
 use Rattle.rib_tables.proofs.RibLemmas.{fit_of}
-use Rattle.rib_tables.proofs.OneRowLemmas.{named_origin, key_some, key_is, key_row, originate_keeps_rib, originates_view}
-use Rattle.rib_tables.proofs.rib.Rib.originate.Goals as goal
+use Rattle.rib_tables.proofs.OneRowLemmas.{named_origin, key_some, key_is, key_row, originate_keeps_rib, originates_view, withdraws_view}
+use Rattle.rib_tables.proofs.rib.Rib.set_originated.Goals as goal
 
 pub unwrap-place-requires : goal.unwrap-place-requires
 unwrap-place-requires c =
@@ -30,13 +30,21 @@ pub invariant_of-self : goal.invariant_of-self
 invariant_of-self c =
     let s = c.self.inside in
     let x = key_row s.network.now s.router s.peers.items s.keys.keys s.rows.items c.self.invariant.whole c.args.prefix.now c.place_of.result c.unwrap-place.result c.place_of.ensures c.unwrap-place.ensures in
-    originate_keeps_rib s.network.now s.router s.peers.items s.keys.keys s.rows.items s.dirty c.put.new.self s.waits.items c.self.invariant c.args.prefix.now c.unwrap-place.result x.0 x.1 x.2 c.put.ensures.here c.put.ensures.others true
+    originate_keeps_rib s.network.now s.router s.peers.items s.keys.keys s.rows.items s.dirty c.put.new.self s.waits.items c.self.invariant c.args.prefix.now c.unwrap-place.result x.0 x.1 x.2 c.put.ensures.here c.put.ensures.others c.args.now
     c.originate_at.new.rows.items (c.originate_at.ensures x.0 x.1)
 
-pub returns : goal.returns
-returns c =
+pub returns-clause-originating : goal.returns-clause-originating
+returns-clause-originating c = λ t.
     let s = c.self.inside in
     let x = key_row s.network.now s.router s.peers.items s.keys.keys s.rows.items c.self.invariant.whole c.args.prefix.now c.place_of.result c.unwrap-place.result c.place_of.ensures c.unwrap-place.ensures in
     subst (λ (v : RibView). Originating v (view_of s.network.now s.router s.peers.items c.originate_at.new.rows.items) c.args.prefix.now) c.self.view_is
-    (originates_view s.network.now s.router s.peers.items s.keys.keys s.rows.items s.dirty c.put.new.self s.waits.items c.self.invariant c.args.prefix.now c.unwrap-place.result x.0 x.1 x.2 c.put.ensures.here c.put.ensures.others true refl
+    (originates_view s.network.now s.router s.peers.items s.keys.keys s.rows.items s.dirty c.put.new.self s.waits.items c.self.invariant c.args.prefix.now c.unwrap-place.result x.0 x.1 x.2 c.put.ensures.here c.put.ensures.others c.args.now t
+    c.originate_at.new.rows.items (c.originate_at.ensures x.0 x.1))
+
+pub returns-clause-withdrawing : goal.returns-clause-withdrawing
+returns-clause-withdrawing c = λ n.
+    let s = c.self.inside in
+    let x = key_row s.network.now s.router s.peers.items s.keys.keys s.rows.items c.self.invariant.whole c.args.prefix.now c.place_of.result c.unwrap-place.result c.place_of.ensures c.unwrap-place.ensures in
+    subst (λ (v : RibView). Withdrawing v (view_of s.network.now s.router s.peers.items c.originate_at.new.rows.items) c.args.prefix.now) c.self.view_is
+    (withdraws_view s.network.now s.router s.peers.items s.keys.keys s.rows.items s.dirty c.put.new.self s.waits.items c.self.invariant c.args.prefix.now c.unwrap-place.result x.0 x.1 x.2 c.put.ensures.here c.put.ensures.others c.args.now n
     c.originate_at.new.rows.items (c.originate_at.ensures x.0 x.1))
