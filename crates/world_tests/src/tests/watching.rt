@@ -72,6 +72,14 @@ fn are_numbered(rounds: &[(u32, usize)], events: usize) -> bool {
     left == 0
 }
 
+// Whether a run has three events, and then these.
+fn ends_in(run: &[Event], done: &[Event]) -> bool {
+    match run {
+        [_, _, _, rest @ ..] => rest == done,
+        _ => false,
+    }
+}
+
 #[test]
 fn a_watcher_sees_each_event_that_was_done(rt: HostRuntime) -> Result<(), Fail> {
     let prefix = ten_one()?;
@@ -80,9 +88,9 @@ fn a_watcher_sees_each_event_that_was_done(rt: HostRuntime) -> Result<(), Fail> 
     let mut log = new_log(rt.alloc(), 100);
     assert!(rt; starts(&mut world, prefix));
     let rest = rounds(&mut world, &mut log)?;
-    assert!(rt; log.done.as_slice() == &world.run()[3..]);
+    assert!(rt; ends_in(world.run(), log.done.as_slice()));
     assert!(rt; log.done.len() == 26);
-    assert!(rt; rest == Some(log.rounds.len() as u32));
+    assert!(rt; rest == u32::try_from(log.rounds.len()).ok());
     assert!(rt; are_numbered(log.rounds.as_slice(), 26));
     Ok(())
 }
